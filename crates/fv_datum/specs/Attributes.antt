@@ -1,0 +1,25 @@
+-- The attributes of a constraint.
+use Rattle.std.specs.Prelude.{ℕ, ℤ, List, Bool, map, String, string_bytes}
+use Rattle.std.specs.declared.alloc.Global.{Global}
+use Rattle.fv_datum.specs.declared.attrs.Attribute.{Attribute}
+use Rattle.fv_datum.specs.declared.attrs.Attribute.TheVariants as v
+
+-- what an attribute's value is, without where it lies in memory
+pub data AttributeValue : Type 0 where
+  integer : ℤ → AttributeValue
+  text : List ℕ → AttributeValue
+  boolean : Bool → AttributeValue
+  texts : List (List ℕ) → AttributeValue
+
+-- a finite map from names, ascending by their bytes
+abbrev pub Attributes : Type 0
+Attributes = List (List ℕ × AttributeValue)
+
+abbrev pub attribute_view : Attribute → AttributeValue
+attribute_view (v.Integer n) = integer n
+attribute_view (v.Text s) = text (string_bytes s)
+attribute_view (v.Boolean b) = boolean b
+attribute_view (v.Texts ts) = texts (map string_bytes ts.items)
+
+abbrev pub entry_view : String Global × Attribute → List ℕ × AttributeValue
+entry_view e = (string_bytes e.0, attribute_view e.1)

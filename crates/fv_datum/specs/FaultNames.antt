@@ -1,0 +1,8 @@
+-- The names of faults.
+use Rattle.std.specs.Prelude.{ℕ, List, codes}
+use Rattle.fv_datum.specs.declared.fault.DatumFault.{DatumFault}
+use Rattle.fv_datum.specs.declared.fault.DatumFault.TheVariants.{WrongKind, Memory}
+
+abbrev pub datum_fault_name : DatumFault → List ℕ
+datum_fault_name WrongKind = codes "WrongKind"
+datum_fault_name Memory = codes "Memory"

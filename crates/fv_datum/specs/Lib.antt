@@ -1,0 +1,11 @@
+pub mod Answers
+pub mod Attributes
+pub mod Data
+pub mod FaultNames
+pub mod Json
+pub mod Kinds
+pub mod Lookup
+pub mod Moments
+pub mod Name
+pub mod View
+pub mod Written

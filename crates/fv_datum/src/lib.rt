@@ -1,0 +1,21 @@
+//! Data: what the field of a record holds, its kinds, names and attributes, and the JSON that
+//! spells it.
+#![tactic(auto)]
+
+mod attrs;
+mod datum;
+mod fault;
+mod kind;
+mod moment;
+mod name;
+mod reading;
+mod writing;
+
+pub use attrs::{Attribute, Attrs};
+pub use datum::Datum;
+pub use fault::DatumFault;
+pub use kind::Kind;
+pub use moment::moment_ok;
+pub use name::{Name, is_name};
+pub use reading::{read_datum, spells_datum};
+pub use writing::{is_null, write_datum};

@@ -1,0 +1,14 @@
+-- Whether some element passes a test, seen from an element on.
+use Rattle.std.proofs.Common.{◌≡◌, ℕ, ◌+◌, ◌<◌, List, length, get_or, drop, map, Bool, ◌||◌, refl, add-one, drop-cons}
+use Rattle.std.specs.List.{list_any}
+use Rattle.fv_model.specs.Draft as spec
+use Rattle.fv_model.specs.Views.{part_view}
+use Rattle.fv_model.specs.declared.draft.Part.{Part}
+
+turn : {X Y : Type 0} (view : X → Y) (test : Y → Bool) (xs : List X) (i : ℕ) (x : X) → i < length xs → x ≡ get_or xs i x
+    → list_any test (map view (drop i xs)) ≡ (test (view x) || list_any test (map view (drop (i + 1) xs)))
+turn view test xs i x h is = rw (add-one, drop-cons xs i x h, ← is) refl
+
+pub part_turn : (test : spec.Part → Bool) (ps : List Part) (i : ℕ) (p : Part) → i < length ps → p ≡ get_or ps i p
+    → list_any test (map part_view (drop i ps)) ≡ (test (part_view p) || list_any test (map part_view (drop (i + 1) ps)))
+part_turn = turn part_view

@@ -1,0 +1,4 @@
+pub mod Anys
+pub mod Fronts
+pub mod Lookups
+pub mod Readable

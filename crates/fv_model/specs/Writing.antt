@@ -1,0 +1,25 @@
+-- The JSON that a bundle is written as.
+use Rattle.std.specs.Prelude.{ℕ, List, [], ◌∷◌, codes, if◌then◌else◌, unwrap_or}
+use Rattle.serde_json.specs.Data as json
+use Rattle.fv_datum.specs.Data.{Data}
+use Rattle.fv_datum.specs.Written.{is_null, written}
+use Rattle.fv_model.specs.Bundles.{Thing, Bundled}
+
+-- a datum's JSON; null for a map whose keys aren't as said, which no bundle holds
+abbrev pub datum_json : Data → json.Data
+datum_json d = unwrap_or (written d) json.null
+
+-- the members with each field that isn't null put in
+abbrev pub added : json.Members → List (List ℕ × Data) → json.Members
+added ms [] = ms
+added ms (f ∷ fs) = added (if is_null f.1 then ms else json.put f.0 (datum_json f.1) ms) fs
+
+abbrev pub thing_json : Thing → json.Data
+thing_json t = json.object (json.member (codes "fields") (json.object (added json.no_members t.fields)) (json.member (codes "type") (json.string t.kind) json.no_members))
+
+abbrev pub objects_added : json.Members → List (List ℕ × Thing) → json.Members
+objects_added ms [] = ms
+objects_added ms (o ∷ os) = objects_added (json.put o.0 (thing_json o.1) ms) os
+
+abbrev pub bundle_json : Bundled → json.Data
+bundle_json b = json.object (json.member (codes "objects") (json.object (objects_added json.no_members b.objects)) (json.member (codes "root") (json.string b.root) json.no_members))

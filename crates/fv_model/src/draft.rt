@@ -1,0 +1,108 @@
+//! A bundle's JSON by its names, before any of them is judged.
+ghost use Rattle.std.specs.Prelude.{◌≡◌, ◌||◌, IfOk, map, option_map, Some, None, codes};
+ghost use Rattle.std.specs.List.{list_all};
+ghost use Rattle.std.specs.Str.{bytes_eq};
+ghost use Rattle.serde_json.specs.View.{view as json_view, members_view};
+ghost use Rattle.fv_model.specs.Draft.{pairs, has_only, part_of as spec_part, given_in as spec_given, each_some, draft_of as spec_draft};
+ghost use Rattle.fv_model.specs.Views.{given_view, part_view, draft_view};
+
+use serde_json::{Map, Value};
+use std::alloc::{AllocError, Global};
+
+/// An object as it is given.
+#[derive(Drop)]
+pub(crate) struct Part<'a> {
+    pub(crate) name: &'a str,
+    pub(crate) kind: &'a str,
+    /// Its fields, where there are any.
+    pub(crate) given: Option<&'a Map<String, Value>>,
+}
+
+/// A bundle as it is given.
+#[derive(Drop)]
+pub(crate) struct Draft<'a> {
+    pub(crate) root: &'a str,
+    pub(crate) objects: Vec<Part<'a>>,
+}
+
+/// Whether a value is an object with no member but these two.
+fn has_only(value: &Value, first: &str, second: &str) -> bool
+    ensures { result ≡ has_only first.now second.now (json_view value.now) }
+{
+    match value.as_object() {
+        None => false,
+        Some(members) => only_these(members, first, second),
+    }
+}
+
+fn only_these(members: &Map<String, Value>, first: &str, second: &str) -> bool
+    ensures { result ≡ list_all (λ m. bytes_eq first.now m.0 || bytes_eq second.now m.0) (pairs (members_view members.now.entries)) }
+{
+    for (name, _) in members.iter() {
+        if first != name.as_str() && second != name.as_str() {
+            return false;
+        }
+    }
+    true
+}
+
+/// The fields that an object gives: none where it has no such member, and `None` where that is no
+/// object.
+fn given_in<'a>(member: Option<&'a Value>) -> Option<Option<&'a Map<String, Value>>>
+    ensures { option_map given_view result ≡ spec_given (option_map (λ v. json_view v.now) member.entry) }
+{
+    match member {
+        None => Some(None),
+        Some(value) => match value.as_object() {
+            None => None,
+            Some(fields) => Some(Some(fields)),
+        },
+    }
+}
+
+fn part_of<'a>(name: &'a str, value: &'a Value) -> Option<Part<'a>>
+    ensures { option_map part_view result ≡ spec_part (name.now, json_view value.now) }
+{
+    if !has_only(value, "type", "fields") {
+        return None;
+    }
+    let kind = value.get("type").and_then(Value::as_str)?;
+    let given = given_in(value.get("fields"))?;
+    Some(Part { name, kind, given })
+}
+
+#[tactic(auto, using(crate::proofs::Fronts::front_more))]
+fn parts_of<'a>(
+    alloc: Global,
+    objects: &'a Map<String, Value>,
+) -> Result<Option<Vec<Part<'a>>>, AllocError>
+    ensures { IfOk result (λ o. option_map (λ v. map part_view v.items) o ≡ each_some spec_part (pairs (members_view objects.now.entries))) }
+{
+    let mut parts = Vec::with_capacity(alloc, objects.len())?;
+    for (name, value) in objects.iter() {
+        match part_of(name.as_str(), value) {
+            None => return Ok(None),
+            Some(part) => parts.push(part)?,
+        }
+    }
+    Ok(Some(parts))
+}
+
+/// The draft that a JSON value is, where it has the form of a bundle.
+pub(crate) fn draft_of<'a>(alloc: Global, value: &'a Value) -> Result<Option<Draft<'a>>, AllocError>
+    ensures { IfOk result (λ o. option_map draft_view o ≡ spec_draft (json_view value.now)) }
+{
+    if !has_only(value, "root", "objects") {
+        return Ok(None);
+    }
+    let Some(root) = value.get("root").and_then(Value::as_str) else {
+        return Ok(None);
+    };
+    let Some(objects) = value.get("objects").and_then(Value::as_object) else {
+        return Ok(None);
+    };
+    match parts_of(alloc, objects)? {
+        None => Ok(None),
+        Some(objects) => Ok(Some(Draft { root, objects })),
+    }
+}

@@ -1,0 +1,20 @@
+//! The types of a form's objects, and bundles: named objects of those types, read from JSON and
+//! written as JSON.
+#![tactic(auto)]
+
+mod build;
+mod bundle;
+mod draft;
+mod fault;
+mod faults;
+mod reading;
+mod type_use;
+mod types;
+mod writing;
+
+pub use bundle::{Bundle, Field, NamedObject, Object};
+pub use fault::{BundleFault, TypesFault};
+pub use reading::read_bundle;
+pub use type_use::TypeUse;
+pub use types::{Fields, TypeId, Types};
+pub use writing::write_bundle;

@@ -1,0 +1,37 @@
+ghost use Rattle.std.specs.Prelude.{◌≡◌, true, option_map};
+ghost use Rattle.serde_json.specs.View.{view as json_view};
+ghost use Rattle.fv_datum.specs.Answers.{Gives};
+ghost use Rattle.fv_model.specs.Types.{all_readable, name_at};
+ghost use Rattle.fv_model.specs.Views.{types_view, bundle_view};
+ghost use Rattle.fv_model.specs.Reading.{bundle_read};
+
+use crate::build::build;
+use crate::bundle::Bundle;
+use crate::draft::draft_of;
+use crate::fault::BundleFault;
+use crate::faults::draft_fault;
+use crate::types::{TypeId, Types};
+use serde_json::Value;
+use std::alloc::Global;
+
+/// The bundle that a JSON value spells, its root of the asked type where one is asked.
+///
+/// Refused by the first of `Shape`, `BadName`, `RootMissing`, `UnknownType`, `UnknownField`,
+/// `WrongKind`, `TooLarge` and `RootType` whose condition holds.
+pub fn read_bundle(
+    alloc: Global,
+    types: &Types,
+    asked: Option<TypeId>,
+    value: &Value,
+) -> Result<Bundle, BundleFault>
+    requires { all_readable (types_view types.now) ≡ true }
+    ensures { Gives BundleFault.Memory bundle_view result (bundle_read (types_view types.now) (option_map (λ t. name_at (types_view types.now) t.index) asked) (json_view value.now)) }
+{
+    match draft_of(alloc, value)? {
+        None => Err(BundleFault::Shape),
+        Some(draft) => match draft_fault(types, asked, &draft) {
+            Some(fault) => Err(fault),
+            None => Ok(build(alloc, types, &draft)?),
+        },
+    }
+}

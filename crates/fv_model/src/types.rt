@@ -1,0 +1,95 @@
+ghost use Rattle.std.specs.Prelude.{◌≡◌, ◌<◌, length, option_map, IfSome, MatchResult, true, false, position, map};
+ghost use Rattle.std.specs.Str.{bytes_eq};
+ghost use Rattle.fv_datum.specs.Lookup.{at_name};
+ghost use Rattle.fv_model.specs.Types.{declared_view, fields_view, has_large, too_many, name_at, number_of};
+ghost use Rattle.fv_model.specs.Views.{types_view};
+
+use crate::fault::TypesFault;
+use crate::type_use::TypeUse;
+use indexmap::IndexMap;
+
+/// The most types, and the most fields of a type.
+const MOST: usize = 256;
+
+/// A type's fields: what each holds, by its name.
+pub type Fields = IndexMap<String, TypeUse>;
+
+/// The number of a type among the declared ones.
+#[derive(Clone, Copy, Debug, PartialEq, Eq)]
+pub struct TypeId {
+    pub index: usize,
+}
+
+/// The declared types by their names, each with a number.
+#[derive(Drop)]
+pub struct Types {
+    types: IndexMap<String, Fields>,
+}
+
+impl Types {
+    /// The types of a map of type names to maps of field names to type uses, numbered in the map's
+    /// order. It takes no memory.
+    ///
+    /// `TooLarge` for more than 256 types, or a type of more than 256 fields.
+    pub fn build(declared: IndexMap<String, Fields>) -> Result<Types, TypesFault>
+        ensures { MatchResult result (λ ts. (too_many (declared_view declared) ≡ false) × (types_view ts ≡ declared_view declared)) (λ _. too_many (declared_view declared) ≡ true) }
+    {
+        if declared.len() > MOST || has_large(&declared) {
+            return Err(TypesFault::TooLarge);
+        }
+        Ok(Types { types: declared })
+    }
+
+    /// How many types there are.
+    pub fn count(&self) -> usize
+        ensures { result ≡ length (types_view self.now) }
+    {
+        self.types.len()
+    }
+
+    /// The number of the type of that name.
+    pub fn find(&self, name: &str) -> Option<TypeId>
+        ensures { option_map (λ t. t.index) result ≡ number_of (types_view self.now) name.now }
+    {
+        match self.types.get_index_of(name) {
+            Some(index) => Some(TypeId { index }),
+            None => None,
+        }
+    }
+
+    /// The name of a type; empty where no type has the number.
+    pub fn name(&self, id: TypeId) -> &str
+        ensures { result.now ≡ name_at (types_view self.now) id.index }
+    {
+        match self.types.get_index(id.index) {
+            Some((name, _)) => name.as_str(),
+            None => "",
+        }
+    }
+
+    /// The fields of the type of that name.
+    pub fn fields(&self, name: &str) -> Option<&Fields>
+        ensures { option_map (λ m. fields_view m.now) result ≡ at_name name.now (types_view self.now) }
+    {
+        self.types.get(name)
+    }
+}
+
+/// Whether a type has too many fields.
+fn has_large(declared: &IndexMap<String, Fields>) -> bool
+    ensures { result ≡ has_large (declared_view declared.now) }
+{
+    for (_, fields) in declared.iter() {
+        if fields.len() > MOST {
+            return true;
+        }
+    }
+    false
+}
+
+/// What the field of that name holds.
+pub fn use_in(fields: &Fields, name: &str) -> Option<TypeUse>
+    ensures { result ≡ at_name name.now (fields_view fields.now) }
+{
+    fields.get(name).copied()
+}

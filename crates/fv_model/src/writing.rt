@@ -1,0 +1,76 @@
+ghost use Rattle.std.specs.Prelude.{◌≡◌, IfOk, map, None, Ok};
+ghost use Rattle.serde_json.specs.Data as json;
+ghost use Rattle.serde_json.specs.View.{view as json_view, members_view};
+ghost use Rattle.fv_model.specs.Views.{field_view, object_view, named_view, bundle_view};
+ghost use Rattle.fv_model.specs.Writing.{datum_json, added, objects_added, thing_json, bundle_json};
+
+use crate::bundle::{Bundle, Field, NamedObject, Object};
+use fv_datum::{DatumFault, is_null, write_datum};
+use serde_json::{Map, Value, put};
+use std::alloc::{AllocError, Global};
+
+/// A field's datum as JSON.
+fn write_field(alloc: Global, field: &Field) -> Result<Value, AllocError>
+    ensures { IfOk result (λ v. json_view v ≡ datum_json (field_view field.now).1) }
+{
+    match write_datum(alloc, &field.datum) {
+        Ok(value) => Ok(value),
+        Err(DatumFault::WrongKind) => Ok(Value::Null),
+        Err(DatumFault::Memory) => Err(AllocError),
+    }
+}
+
+fn write_fields(alloc: Global, fields: &[Field]) -> Result<Map<String, Value>, AllocError>
+    ensures { IfOk result (λ m. members_view m.entries ≡ added json.no_members (map field_view fields.now)) }
+{
+    let mut members = Map::new(alloc);
+    for field in fields {
+        if !is_null(&field.datum) {
+            let value = write_field(alloc, field)?;
+            put(&mut members, alloc, field.name.as_str(), value)?;
+        }
+    }
+    Ok(members)
+}
+
+fn write_object(alloc: Global, object: &Object) -> Result<Value, AllocError>
+    ensures { IfOk result (λ v. json_view v ≡ thing_json (object_view object.now)) }
+{
+    let mut members = Map::new(alloc);
+    put(
+        &mut members,
+        alloc,
+        "type",
+        Value::String(object.kind.clone()?),
+    )?;
+    let fields = write_fields(alloc, &object.fields)?;
+    put(&mut members, alloc, "fields", Value::Object(fields))?;
+    Ok(Value::Object(members))
+}
+
+fn write_objects(alloc: Global, objects: &[NamedObject]) -> Result<Map<String, Value>, AllocError>
+    ensures { IfOk result (λ m. members_view m.entries ≡ objects_added json.no_members (map named_view objects.now)) }
+{
+    let mut members = Map::new(alloc);
+    for named in objects {
+        let value = write_object(alloc, &named.object)?;
+        put(&mut members, alloc, named.name.as_str(), value)?;
+    }
+    Ok(members)
+}
+
+/// A bundle as JSON: null fields left out, `fields` always there.
+pub fn write_bundle(alloc: Global, bundle: &Bundle) -> Result<Value, AllocError>
+    ensures { IfOk result (λ v. json_view v ≡ bundle_json (bundle_view bundle.now)) }
+{
+    let mut members = Map::new(alloc);
+    put(
+        &mut members,
+        alloc,
+        "root",
+        Value::String(bundle.root.clone()?),
+    )?;
+    let objects = write_objects(alloc, &bundle.objects)?;
+    put(&mut members, alloc, "objects", Value::Object(objects))?;
+    Ok(Value::Object(members))
+}
