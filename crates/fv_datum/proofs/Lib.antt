@@ -1,2 +1,3 @@
 pub mod Lookups
+pub mod Spelled
 pub mod Unfit

@@ -1,8 +1,10 @@
-ghost use Rattle.std.specs.Prelude.{◌≡◌, true, is_some};
+ghost use Rattle.std.specs.Prelude.{◌≡◌, true, is_some, IfOk, Ok};
 ghost use Rattle.serde_json.specs.View.{view as json_view};
 ghost use Rattle.fv_datum.specs.Answers.{Gives};
 ghost use Rattle.fv_datum.specs.Json.{spelled, datum_read};
-ghost use Rattle.fv_datum.specs.Kinds.{is_readable};
+ghost use Rattle.fv_datum.specs.Data.{Data};
+ghost use Rattle.fv_datum.specs.Kinds.{is_readable, FitsKind};
+ghost use Rattle.fv_datum.specs.Written.{datum_written};
 ghost use Rattle.fv_datum.specs.View.{view};
 
 use crate::datum::Datum;
@@ -13,9 +15,18 @@ use std::alloc::Global;
 
 /// The datum of a kind that a JSON value spells; `null` is null in every kind.
 ///
-/// `WrongKind` where the value spells no datum of the kind.
+/// What `write_datum` gave for a datum of the kind is read as that datum. `WrongKind` where the
+/// value spells no datum of the kind.
 pub fn read_datum(alloc: Global, kind: Kind, value: &Value) -> Result<Datum, DatumFault>
     requires { is_readable kind ≡ true }
+    ensures exact { Gives DatumFault.Memory view result (datum_read kind (json_view value.now)) }
+    ensures fits { IfOk result (λ d. FitsKind kind (view d)) }
+    ensures read_back { (d : Data) → FitsKind kind d → datum_written d ≡ Ok (json_view value.now) → Gives DatumFault.Memory view result (Ok d) }
+{
+    spelled_datum(alloc, kind, value)
+}
+
+fn spelled_datum(alloc: Global, kind: Kind, value: &Value) -> Result<Datum, DatumFault>
     ensures { Gives DatumFault.Memory view result (datum_read kind (json_view value.now)) }
 {
     if value.is_null() {
@@ -44,7 +55,7 @@ pub fn spells_datum(kind: Kind, value: &Value) -> bool
     }
     match kind {
         Kind::Text => value.is_string(),
-        Kind::Integer => value.is_i64(),
+        Kind::Integer => value.as_i64().is_some(),
         _ => false,
     }
 }

@@ -91,8 +91,9 @@ abbrev pub root_type : Option (List ℕ) → List ℕ → List Part → Bool
 root_type None root ps = false
 root_type (Some type) root ps = not (list_any (λ p. bytes_eq root p.name && bytes_eq type p.kind) ps)
 
-abbrev pub draft_fault : Declared → Option (List ℕ) → Drafted → Option BundleFault
-draft_fault ts asked d = first (
+-- what can be wrong, in the order in which it is answered
+abbrev pub conditions : Declared → Option (List ℕ) → Drafted → List (Bool × BundleFault)
+conditions ts asked d =
     (bad_name d.objects, BadName)
     ∷ (root_missing d.root d.objects, RootMissing)
     ∷ (unknown_type ts d.objects, UnknownType)
@@ -100,7 +101,10 @@ draft_fault ts asked d = first (
     ∷ (wrong_kind ts d.objects, WrongKind)
     ∷ (too_large ts d.objects, TooLarge)
     ∷ (root_type asked d.root d.objects, RootType)
-    ∷ [])
+    ∷ []
+
+abbrev pub draft_fault : Declared → Option (List ℕ) → Drafted → Option BundleFault
+draft_fault ts asked d = first (conditions ts asked d)
 
 -- ---- what it spells where nothing is wrong
 

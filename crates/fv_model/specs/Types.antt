@@ -1,6 +1,6 @@
 -- The declared types.
-use Rattle.std.specs.Prelude.{ℕ, List, [], map, length, slice_get, position, Bool, ◌||◌, nat_lt, Option, option_map, option_and_then, unwrap_or, String, string_bytes}
-use Rattle.std.specs.List.{list_any, list_all}
+use Rattle.std.specs.Prelude.{◌≢◌, ℕ, List, [], map, length, slice_get, position, Bool, ◌||◌, nat_lt, Option, option_map, option_and_then, unwrap_or, String, string_bytes}
+use Rattle.std.specs.List.{All, AllPairs, list_any, list_all}
 use Rattle.std.specs.Str.{bytes_eq}
 use Rattle.std.specs.HashMap.{HashMap}
 use Rattle.std.specs.declared.alloc.Global.{Global}
@@ -48,6 +48,14 @@ declared_view m = map type_view m.entries
 -- a type of more than 256 fields
 abbrev pub has_large : Declared → Bool
 has_large = list_any (λ t. nat_lt 256 (length t.1))
+
+-- no name stands twice
+abbrev pub AreApart : {X : Type 0} → List (List ℕ × X) → Type 0
+AreApart es = AllPairs (λ e f. e.0 ≢ f.0) es
+
+-- the fields of each type have names of their own
+abbrev pub FieldsApart : Declared → Type 0
+FieldsApart ts = All (λ t. AreApart t.1) ts
 
 -- more than 256 types, or a type of more than 256 fields
 abbrev pub too_many : Declared → Bool

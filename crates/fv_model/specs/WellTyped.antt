@@ -1,21 +1,21 @@
 -- The bundles that are well-typed.
-use Rattle.std.specs.Prelude.{◌≡◌, ◌≢◌, ◌≤◌, ◌⊎◌, ℕ, ℤ, List, [], ◌∷◌, length, true, Some}
-use Rattle.std.specs.List.{AllByRecursion}
-use Rattle.std.specs.Int.{w64}
-use mir.Val.{SFits}
-use Rattle.fv_datum.specs.Data.{Data, null, text, integer}
+use Rattle.std.specs.Prelude.{◌≡◌, ◌≤◌, ℕ, List, [], ◌∷◌, length, true, Some}
+use Rattle.fv_datum.specs.Data.{Data, text}
+use Rattle.fv_datum.specs.Kinds.{FitsKind}
 use Rattle.fv_datum.specs.Lookup.{at_name}
 use Rattle.fv_datum.specs.Name.{names}
-use Rattle.fv_model.specs.Types.{DeclaredFields, Declared}
+use Rattle.fv_model.specs.Types.{DeclaredFields, Declared, kind_of}
 use Rattle.fv_model.specs.Bundles.{Thing, Bundled}
 use Rattle.fv_model.specs.declared.type_use.TypeUse.{TypeUse}
-use Rattle.fv_model.specs.declared.type_use.TypeUse.TheVariants.{Text, Integer}
 
--- null, or a datum of the type use: a text of at most 65,536 bytes, a whole number of 64 bits
+-- no text of more than 65,536 bytes
+abbrev pub IsWithinLimits : Data → Type 0
+IsWithinLimits (text s) = length s ≤ 65536
+IsWithinLimits _ = Unit {0}
+
+-- null, or a datum of the type use's kind, within the limits
 abbrev pub FitsUse : TypeUse → Data → Type 0
-FitsUse type d = (d ≡ null)
-    ⊎ (((type ≡ Text) × (s : List ℕ) × (d ≡ text s) × (length s ≤ 65536))
-    ⊎ ((type ≡ Integer) × (n : ℤ) × SFits w64 n × (d ≡ integer n)))
+FitsUse type d = FitsKind (kind_of type) d × IsWithinLimits d
 
 -- each field of a type, in order, with a datum that fits
 abbrev pub FieldsFit : DeclaredFields → List (List ℕ × Data) → Type 0
@@ -24,16 +24,10 @@ FieldsFit (d ∷ ds) (f ∷ fs) = (f.0 ≡ d.0) × FitsUse d.1 f.1 × FieldsFit 
 FieldsFit [] (f ∷ fs) = ⊥
 FieldsFit (d ∷ ds) [] = ⊥
 
--- no name stands twice
-abbrev pub AreApart : {X : Type 0} → List (List ℕ × X) → Type 0
-AreApart [] = Unit {0}
-AreApart (e ∷ es) = AllByRecursion (λ f. f.0 ≢ e.0) es × AreApart es
-
 -- an object of a declared type
 pub record FitsType (ts : Declared) (t : Thing) : Type 0 where
   pub fields : DeclaredFields
   pub declared : at_name t.kind ts ≡ Some fields
-  pub apart : AreApart fields
   pub fit : FieldsFit fields t.fields
 
 -- one object, under a name, which the root names; its type is declared, and each datum fits its field

@@ -1,8 +1,8 @@
 ghost use Rattle.std.specs.Prelude.{◌≡◌, ◌<◌, length, option_map, IfSome, MatchResult, true, false, position, map};
+ghost use Rattle.std.specs.Bool.{OnFalse};
 ghost use Rattle.std.specs.Str.{bytes_eq};
 ghost use Rattle.fv_datum.specs.Lookup.{at_name};
-ghost use Rattle.fv_model.specs.Types.{declared_view, fields_view, has_large, too_many, name_at, number_of};
-ghost use Rattle.fv_model.specs.Views.{types_view};
+ghost use Rattle.fv_model.specs.Types.{FieldsApart, declared_view, fields_view, has_large, too_many, name_at, number_of};
 
 use crate::fault::TypesFault;
 use crate::type_use::TypeUse;
@@ -24,9 +24,12 @@ pub struct TypeId {
 #[derive(Drop)]
 pub struct Types {
     types: IndexMap<String, Fields>,
+    ghost apart: { FieldsApart (declared_view types) },
 }
 
 impl Types {
+    ghost use Rattle.fv_model.specs.Views.{types_view};
+
     /// The types of a map of type names to maps of field names to type uses, numbered in the map's
     /// order. It takes no memory.
     ///
@@ -77,7 +80,8 @@ impl Types {
 
 /// Whether a type has too many fields.
 fn has_large(declared: &IndexMap<String, Fields>) -> bool
-    ensures { result ≡ has_large (declared_view declared.now) }
+    ensures exact { result ≡ has_large (declared_view declared.now) }
+    ensures apart { OnFalse result (FieldsApart (declared_view declared.now)) }
 {
     for (_, fields) in declared.iter() {
         if fields.len() > MOST {

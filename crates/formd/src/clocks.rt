@@ -1,0 +1,71 @@
+ghost use Rattle.std.specs.Prelude.{◌≡◌};
+ghost use Rattle.fv_datum.specs.Moments.{IsMoment};
+
+use fv_datum::moment_ok;
+use fv_engine::Clock;
+use std::rt::Clock as TimeSource;
+use std::time::{SystemTime, UNIX_EPOCH};
+
+/// The last moment, in seconds since 1970-01-01T00:00:00Z.
+const LAST_MOMENT: i64 = 253402128000;
+
+/// A clock that stands still at 1970-01-01T00:00:00Z.
+#[derive(Drop)]
+pub(crate) struct StoppedClock;
+
+impl Clock for StoppedClock {
+    ghost use Rattle.std.specs.Prelude.{◌≡◌, pos};
+
+    ghost ticks = { λ _ moment _. moment ≡ pos 0 };
+
+    fn now(&mut self) -> i64 {
+        0
+    }
+}
+
+/// The machine's clock, clamped to the range of moments. Where it fails it gives its last answer,
+/// 0 at first.
+pub(crate) struct MachineClock<'a, T: TimeSource> {
+    source: &'a T,
+    last: i64,
+    ghost in_range: { IsMoment last },
+}
+
+impl<'a, T: TimeSource> MachineClock<'a, T> {
+    pub(crate) fn new(source: &'a T) -> MachineClock<'a, T> {
+        MachineClock { source, last: 0 }
+    }
+}
+
+impl<T: TimeSource> Drop for MachineClock<'_, T> {
+    fn drop(self) {
+        let MachineClock { source: _, last: _ } = self;
+    }
+}
+
+/// Seconds since 1970-01-01T00:00:00Z as a moment: those past the last are the last.
+fn clamped(seconds: u64) -> i64
+    ensures { IsMoment result }
+{
+    match i64::try_from(seconds) {
+        Ok(seconds) => if moment_ok(seconds) {
+            seconds
+        } else {
+            LAST_MOMENT
+        },
+        Err(_) => LAST_MOMENT,
+    }
+}
+
+impl<T: TimeSource> Clock for MachineClock<'_, T> {
+    ghost ticks = { λ _ moment new. new.last ≡ moment };
+
+    fn now(&mut self) -> i64 {
+        if let Ok(time) = SystemTime::now(self.source) {
+            if let Ok(passed) = time.duration_since(UNIX_EPOCH) {
+                self.last = clamped(passed.as_secs());
+            }
+        }
+        self.last
+    }
+}

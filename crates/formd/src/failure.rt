@@ -1,0 +1,62 @@
+use fv_engine::{DeclFault, OpenFault, ServeFault};
+use fv_store::OpenStoreFault;
+use std::io::Write;
+
+/// Why the program ended early: its line on standard error and its exit status.
+#[derive(Clone, Copy, Debug, PartialEq, Eq)]
+pub(crate) enum Failure {
+    /// The declarations aren't taken.
+    Declarations(DeclFault),
+    /// The database isn't taken.
+    Store(OpenStoreFault),
+    Read,
+    Write,
+    Memory,
+}
+
+impl Failure {
+    /// The failure of an engine that wasn't opened.
+    pub(crate) fn of_open(fault: OpenFault) -> Failure {
+        match fault {
+            OpenFault::Declarations(fault) => Failure::Declarations(fault),
+            OpenFault::Store(fault) => Failure::Store(fault),
+            OpenFault::Memory => Failure::Memory,
+        }
+    }
+
+    /// The failure of serving that ended before the input did.
+    pub(crate) fn of_serve(fault: ServeFault) -> Failure {
+        match fault {
+            ServeFault::Read => Failure::Read,
+            ServeFault::Write => Failure::Write,
+            ServeFault::Memory => Failure::Memory,
+        }
+    }
+
+    /// The exit status: 3 for declarations, else 4.
+    fn status(self) -> u8 {
+        match self {
+            Failure::Declarations(_) => 3,
+            _ => 4,
+        }
+    }
+
+    /// Writes the line and gives the exit status, also where the line isn't taken.
+    pub(crate) fn report<E: Write>(self, error: &mut E) -> u8 {
+        let _ = match self {
+            Failure::Declarations(fault) => {
+                let code = fault.code();
+                let name = fault.name();
+                writeln!(error, "formd: declarations refused: {code} {name}")
+            }
+            Failure::Store(fault) => {
+                let name = fault.name();
+                writeln!(error, "formd: store: {name}")
+            }
+            Failure::Read => writeln!(error, "formd: read"),
+            Failure::Write => writeln!(error, "formd: write"),
+            Failure::Memory => writeln!(error, "formd: memory"),
+        };
+        self.status()
+    }
+}

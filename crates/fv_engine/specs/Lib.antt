@@ -1,0 +1,4 @@
+pub mod Lines
+pub mod Reply
+pub mod Runs
+pub mod Writes

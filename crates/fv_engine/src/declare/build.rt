@@ -1,0 +1,98 @@
+//! The schema that declarations without fault declare.
+ghost use Rattle.std.specs.Prelude.{◌≡◌, true, IfOk, ◌+◌};
+ghost use Rattle.fv_model.specs.Types.{fields_readable, fields_view, all_readable, declared_view};
+
+use super::draft::{Draft, FieldDraft, FormDraft, TypeDraft, UseDraft};
+use super::fault::DeclFault;
+use super::schema::{Occurrence, Schema, TypeRules};
+use crate::builtin::Builtin;
+use fv_datum::Kind;
+use fv_model::{Fields, TypeId, Types};
+use indexmap::IndexMap;
+use std::alloc::{AllocError, Global};
+
+fn fields_for(alloc: Global, fields: &[FieldDraft]) -> Result<Fields, AllocError>
+    ensures { IfOk result (λ m. fields_readable (fields_view m) ≡ true) }
+{
+    let mut uses = IndexMap::new(alloc);
+    for field in fields {
+        let _ = uses.insert(String::from_str(alloc, field.name)?, field.type_use)?;
+    }
+    Ok(uses)
+}
+
+fn types_for(alloc: Global, types: &[TypeDraft]) -> Result<IndexMap<String, Fields>, AllocError>
+    ensures { IfOk result (λ m. all_readable (declared_view m) ≡ true) }
+{
+    let mut declared = IndexMap::new(alloc);
+    for given in types {
+        let fields = fields_for(alloc, &given.fields)?;
+        let _ = declared.insert(String::from_str(alloc, given.name)?, fields)?;
+    }
+    Ok(declared)
+}
+
+/// Adds the uses at a field of that number and kind.
+fn add_uses(
+    occurrences: &mut Vec<Occurrence>,
+    field: usize,
+    kind: Kind,
+    uses: &[UseDraft],
+) -> Result<(), DeclFault> {
+    for given in uses {
+        match Builtin::read(given.constraint, &given.with, kind) {
+            Ok(constraint) => occurrences.push(Occurrence { field, constraint })?,
+            Err(_) => return Err(DeclFault::Attribute),
+        }
+    }
+    Ok(())
+}
+
+/// The uses in a type's fields, in order.
+fn occurrences_for(alloc: Global, fields: &[FieldDraft]) -> Result<Vec<Occurrence>, DeclFault> {
+    let mut occurrences = Vec::new(alloc);
+    for (number, field) in fields.iter().enumerate() {
+        add_uses(&mut occurrences, number, field.type_use.kind(), &field.uses)?;
+    }
+    Ok(occurrences)
+}
+
+fn rules_for(alloc: Global, types: &[TypeDraft]) -> Result<Vec<TypeRules>, DeclFault> {
+    let mut rules = Vec::with_capacity(alloc, types.len())?;
+    let mut first: usize = 0;
+    for declared in types {
+        let occurrences = occurrences_for(alloc, &declared.fields)?;
+        let next = first.saturating_add(occurrences.len());
+        rules.push(TypeRules { first, occurrences })?;
+        first = next;
+    }
+    Ok(rules)
+}
+
+fn forms_for(
+    alloc: Global,
+    types: &Types,
+    forms: &[FormDraft],
+) -> Result<IndexMap<String, TypeId>, DeclFault> {
+    let mut declared = IndexMap::new(alloc);
+    for form in forms {
+        let Some(root) = types.find(form.root) else {
+            return Err(DeclFault::UnknownName);
+        };
+        let _ = declared.insert(String::from_str(alloc, form.name)?, root)?;
+    }
+    Ok(declared)
+}
+
+pub(crate) fn build(alloc: Global, draft: &Draft) -> Result<Schema, DeclFault> {
+    let Ok(types) = Types::build(types_for(alloc, &draft.types)?) else {
+        return Err(DeclFault::TooLarge);
+    };
+    let rules = rules_for(alloc, &draft.types)?;
+    let forms = forms_for(alloc, &types, &draft.forms)?;
+    Ok(Schema {
+        types,
+        rules,
+        forms,
+    })
+}

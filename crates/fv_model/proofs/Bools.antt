@@ -1,0 +1,13 @@
+-- What a disjunction says of its parts.
+use Rattle.std.proofs.Common.{◌≡◌, Bool, true, false, ◌||◌, refl, true≢false}
+
+pub or_false : (a b : Bool) → a ≡ false → b ≡ false → (a || b) ≡ false
+or_false a b p q = rw (p, q) refl
+
+pub or_left : (a b : Bool) → (a || b) ≡ false → a ≡ false
+or_left true b e = absurd (true≢false e)
+or_left false b e = refl
+
+pub or_right : (a b : Bool) → (a || b) ≡ false → b ≡ false
+or_right true b e = absurd (true≢false e)
+or_right false b e = e

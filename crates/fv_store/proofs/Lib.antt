@@ -1,0 +1,9 @@
+pub mod Texts
+pub mod RowEdits
+pub mod OneTable
+pub mod Inserts
+pub mod Removes
+pub mod Creates
+pub mod Queries
+pub mod Steps
+pub mod Integers

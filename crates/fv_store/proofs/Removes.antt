@@ -1,0 +1,75 @@
+-- What the DELETE does.
+use Rattle.std.proofs.Common.{◌≡◌, ℕ, ℤ, List, [], ◌∷◌, None, Ok, refl, sym, ap, subst, ◌∙◌}
+use Rattle.std.proofs.lemmas.Slice.Eq.{bytes_eq-Decides}
+use Rattle.sqlite.specs.declared.types.Value.TheVariants.{Null, Int, Text}
+use Rattle.sqlite.specs.Order.{Row, column}
+use Rattle.sqlite.specs.Term.{col}
+use Rattle.sqlite.specs.Command.TheVariants.{Delete}
+use Rattle.sqlite.specs.Edit.{Edit, edit_of, without_all, id_in}
+use Rattle.sqlite.specs.Rowids.TheVariants.{Given}
+use Rattle.sqlite.specs.Query.{IsAnswer}
+use Rattle.sqlite.specs.Program.{overlay}
+use Rattle.sqlite.specs.Does.{Tally, Does}
+use Rattle.sqlite.specs.Rows.{Written}
+use Rattle.sqlite.specs.Tree.{Trees, rowid}
+use Rattle.sqlite.specs.Listing.{understood}
+use Rattle.sqlite.specs.Effect.{Database}
+use Rattle.sqlite.specs.State.{State, mode_of, Executes}
+use Rattle.sqlite.proofs.Callers.{statement_of, runs_as, one_step}
+use Rattle.sqlite_rules.specs.Lists.{Has}
+use Rattle.sqlite_rules.specs.Calls.{ids_of}
+use Rattle.sqlite_rules.proofs.ProbeLemmas.{has_mapped, mapped_has}
+use Rattle.fv_store.specs.Tables.{store_schema, kept_table}
+use Rattle.fv_store.specs.Records.{Records, without_record}
+use Rattle.fv_store.specs.Stands.{Spells, Spelled}
+use Rattle.fv_store.proofs.Texts.{remove_text, remove_query, remove_is, remove_plain}
+use Rattle.fv_store.proofs.RowEdits.{AreOf, spells_left}
+use Rattle.fv_store.proofs.OneTable.{by_id, by_id_is, shown_sound, shown_complete}
+use Rattle.fv_store.proofs.Inserts.{went, same_value, zero_is_not_one}
+
+module _ (db : Trees) (m : Records) (id : List ℕ) (rows : List Row) (s : Spells (db 1) m) (a : IsAnswer remove_query (overlay db []) (Text id ∷ []) rows) where
+  found_sound : (i : ℤ) → Has (ids_of rows) i → (row : Row) × Has (db 1) row × (column row 1 ≡ Text id) × (rowid row ≡ Int i)
+  found_sound i h =
+      let x = has_mapped (λ r. id_in (rowid r)) rows i h in
+      let r = shown_sound 1 by_id (col 1 0 ∷ []) [] (overlay db []) (Text id ∷ []) rows a x.0 x.1 in
+      let it = s.sound r.0 r.1 in
+      let key : it.id ≡ id = (bytes_eq-Decides it.id id).0 (sym (by_id_is m r.0 id it) ∙ r.2) in
+      let number : i ≡ it.number = x.2 ∙ ap (λ (v : Row). id_in (rowid v)) r.3 ∙ ap (λ (v : Row). id_in (rowid v)) it.is in
+      (r.0, r.1, ap (λ (v : Row). column v 1) it.is ∙ ap Text key, ap rowid it.is ∙ ap Int (sym number))
+
+  found_complete : (row : Row) (i : ℤ) → Has (db 1) row → column row 1 ≡ Text id → rowid row ≡ Int i → Has (ids_of rows) i
+  found_complete row i h is number =
+      let it = s.sound row h in
+      let words : Text it.id ≡ Text id = ap (λ (v : Row). column v 1) (sym it.is) ∙ is in
+      let key : it.id ≡ id = cc in
+      let passes = by_id_is m row id it ∙ (bytes_eq-Decides it.id id).1 key in
+      let there = shown_complete 1 by_id (col 1 0 ∷ []) [] (overlay db []) (Text id ∷ []) rows a row h passes in
+      subst (Has (ids_of rows)) (ap id_in number) (mapped_has (λ r. id_in (rowid r)) rows (rowid row ∷ []) there)
+
+  found : AreOf (db 1) id (ids_of rows)
+  found = record { sound = found_sound; complete = found_complete }
+
+  pub spells_removed : Spells (without_all (db 1) (ids_of rows)) (without_record id m)
+  spells_removed = spells_left (db 1) m id (ids_of rows) s found
+
+pub removes : (old new : State) (id : List ℕ) (count : ℕ) (d : List ℕ) (m : Records) → Spelled old.now d m
+    → Executes remove_text (Text id ∷ []) old new (Ok count) → Spelled new.now d (without_record id m)
+removes old new id count d m stood h =
+    let params = Text id ∷ [] in
+    let db = old.now.trees in
+    let command = Delete 1 (record { lets = []; body = remove_query }) in
+    let w = runs_as remove_text params old new store_schema stood.schema command remove_is remove_plain count h in
+    let text = statement_of remove_text (understood store_schema remove_text) in
+    let done = went (subst (λ s. Does old.step_limit (mode_of old) params (record old.now { schema = s }) text None command (Ok (w.tally, new.now))) stood.schema w.changed) in
+    let now = ap (λ (p : Tally × Database). p.1) (same_value (went (went done.2).2).2) in
+    let given = went done.1 in
+    let written = went given.2 in
+    let trees : done.0.trees ≡ written.0 = ap (λ (it : Written). it.trees) (same_value written.2) in
+    let edit : Edit = edit_of db kept_table (ids_of given.0) Given 0 [] in
+    let applied = one_step store_schema _ db written.0 edit refl written.1 in
+    let at : (t : ℕ) → new.now.trees t ≡ written.0 t = λ t. ap (λ (b : Database). b.trees t) now ∙ ap (λ (ts : Trees). ts t) trees in
+    record {
+      schema = ap (λ (b : Database). b.schema) now;
+      about = at 0 ∙ applied.tables.0 zero_is_not_one ∙ stood.about;
+      records = subst (λ rs. Spells rs (without_record id m)) (sym (at 1 ∙ applied.rows)) (spells_removed db m id given.0 stood.records (given.1.answer Null));
+    }

@@ -1,0 +1,154 @@
+-- What the texts of the statements mean.
+use Rattle.std.proofs.Common.{◌≡◌, ℕ, pos, negsuc, List, [], ◌∷◌, codes, false, Ok, None, refl}
+use Rattle.sqlite.specs.Compile.{table_defined_by}
+use Rattle.sqlite.specs.Change.{created}
+use Rattle.sqlite.specs.Term.{Term, lit, col, op2}
+use Rattle.sqlite_sql.specs.declared.ops.BinaryOp.TheVariants.{Compare}
+use Rattle.sqlite_sql.specs.declared.ops.CompareOp.TheVariants.{Eq}
+use Rattle.sqlite.specs.Collation.TheVariants.{Binary}
+use Rattle.sqlite.specs.Schema.{Schema}
+use Rattle.sqlite.specs.Query.{Query, inner, end}
+use Rattle.sqlite.specs.declared.types.Value.TheVariants.{Null, Int}
+use Rattle.sqlite.specs.Source.TheVariants.{Values}
+use Rattle.sqlite.specs.Command.TheVariants.{Insert, Select, Delete, CreateTable}
+use Rattle.sqlite_tied.specs.Compute.{everything}
+use Rattle.sqlite.specs.Listing.{understood, reads_listing}
+use Rattle.sqlite.proofs.Callers.{IsPlain, command_of, statement_of}
+use Rattle.fv_store.specs.Tables.{about_text, record_text, about_table, record_table, no_schema, store_schema}
+
+pub about_is : table_defined_by about_text ≡ Ok about_table
+unfolding everything
+about_is = refl
+
+pub record_is : table_defined_by record_text ≡ Ok record_table
+unfolding everything
+record_is = refl
+
+abbrev pub insert_text : List ℕ
+insert_text = codes "INSERT INTO record (id, form, bundle) VALUES (?1, ?2, ?3)"
+
+abbrev pub insert_terms : List Term
+insert_terms = lit Null ∷ col 0 0 ∷ col 0 1 ∷ col 0 2 ∷ []
+
+pub insert_is : command_of (understood store_schema insert_text) ≡ Insert 1 (Values insert_terms 4)
+unfolding understood everything
+insert_is = refl
+
+pub insert_plain : IsPlain (understood store_schema insert_text)
+unfolding understood everything
+insert_plain = (refl, refl)
+
+abbrev pub find_text : List ℕ
+find_text = codes "SELECT form, bundle FROM record WHERE id = ?1"
+
+abbrev pub find_query : Query
+find_query = record {
+  from = inner 1 end;
+  filter = op2 (Compare Eq Binary) (col 1 1) (col 0 0) ∷ [];
+  group = None;
+  project = col 1 2 ∷ col 1 3 ∷ [];
+  distinct = false;
+  collations = [];
+  order = [];
+  limit = lit (Int (negsuc 0));
+  offset = lit (Int (pos 0));
+}
+
+pub find_is : command_of (understood store_schema find_text) ≡ Select (record { lets = []; body = find_query }) (codes "form" ∷ codes "bundle" ∷ [])
+unfolding understood everything
+find_is = refl
+
+abbrev pub remove_text : List ℕ
+remove_text = codes "DELETE FROM record WHERE id = ?1"
+
+abbrev pub remove_query : Query
+remove_query = record {
+  from = inner 1 end;
+  filter = op2 (Compare Eq Binary) (col 1 1) (col 0 0) ∷ [];
+  group = None;
+  project = col 1 0 ∷ [];
+  distinct = false;
+  collations = [];
+  order = [];
+  limit = lit (Int (negsuc 0));
+  offset = lit (Int (pos 0));
+}
+
+pub remove_is : command_of (understood store_schema remove_text) ≡ Delete 1 (record { lets = []; body = remove_query })
+unfolding understood everything
+remove_is = refl
+
+pub remove_plain : IsPlain (understood store_schema remove_text)
+unfolding understood everything
+remove_plain = (refl, refl)
+
+pub find_plain : IsPlain (understood store_schema find_text)
+unfolding understood everything
+find_plain = (refl, refl)
+
+pub find_unlisted : reads_listing store_schema find_text ≡ false
+unfolding everything
+find_unlisted = refl
+
+-- ---- the tables are made
+
+abbrev pub about_schema : Schema
+about_schema = created no_schema about_table
+
+pub create_about_is : (command_of (understood no_schema about_text) ≡ CreateTable) × (statement_of about_text (understood no_schema about_text) ≡ about_text)
+unfolding understood everything
+create_about_is = (refl, refl)
+
+pub create_about_plain : IsPlain (understood no_schema about_text)
+unfolding understood everything
+create_about_plain = (refl, refl)
+
+pub create_record_is : (command_of (understood about_schema record_text) ≡ CreateTable) × (statement_of record_text (understood about_schema record_text) ≡ record_text)
+unfolding understood everything
+create_record_is = (refl, refl)
+
+pub create_record_plain : IsPlain (understood about_schema record_text)
+unfolding understood everything
+create_record_plain = (refl, refl)
+
+abbrev pub version_text : List ℕ
+version_text = codes "INSERT INTO about (one, version, declarations) VALUES (1, 1, ?1)"
+
+abbrev pub version_terms : List Term
+version_terms = lit (Int (pos 1)) ∷ lit Null ∷ lit (Int (pos 1)) ∷ col 0 0 ∷ []
+
+pub version_is : command_of (understood store_schema version_text) ≡ Insert 0 (Values version_terms 4)
+unfolding understood everything
+version_is = refl
+
+pub version_plain : IsPlain (understood store_schema version_text)
+unfolding understood everything
+version_plain = (refl, refl)
+
+abbrev pub read_text : List ℕ
+read_text = codes "SELECT version, declarations FROM about"
+
+abbrev pub read_query : Query
+read_query = record {
+  from = inner 0 end;
+  filter = [];
+  group = None;
+  project = col 1 2 ∷ col 1 3 ∷ [];
+  distinct = false;
+  collations = [];
+  order = [];
+  limit = lit (Int (negsuc 0));
+  offset = lit (Int (pos 0));
+}
+
+pub read_is : command_of (understood store_schema read_text) ≡ Select (record { lets = []; body = read_query }) (codes "version" ∷ codes "declarations" ∷ [])
+unfolding understood everything
+read_is = refl
+
+pub read_plain : IsPlain (understood store_schema read_text)
+unfolding understood everything
+read_plain = (refl, refl)
+
+pub read_unlisted : reads_listing store_schema read_text ≡ false
+unfolding everything
+read_unlisted = refl

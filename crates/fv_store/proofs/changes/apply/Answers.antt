@@ -1,0 +1,7 @@
+use Rattle.fv_store.proofs.changes.apply.Goals as goal
+
+pub returns-clause-done : goal.returns-clause-done
+returns-clause-done g c clean inside =
+    let put = c.id-1.given.1 in
+    let done = rw (c.as_str.ensures.value, c.as_str-2.ensures.value) at (c.put_record.ensures.done clean inside) in
+    rw put (rw put at done)

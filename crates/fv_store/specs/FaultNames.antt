@@ -1,0 +1,16 @@
+-- The names of faults.
+use Rattle.std.specs.Prelude.{ℕ, List, codes}
+use Rattle.fv_store.specs.declared.fault.OpenStoreFault.{OpenStoreFault}
+use Rattle.fv_store.specs.declared.fault.OpenStoreFault.TheVariants as refusal
+use Rattle.fv_store.specs.declared.fault.StoreFault.{StoreFault}
+use Rattle.fv_store.specs.declared.fault.StoreFault.TheVariants.{Store, Memory}
+
+abbrev pub store_fault_name : StoreFault → List ℕ
+store_fault_name Store = codes "Store"
+store_fault_name Memory = codes "Memory"
+
+abbrev pub open_store_fault_name : OpenStoreFault → List ℕ
+open_store_fault_name refusal.OtherVersion = codes "OtherVersion"
+open_store_fault_name refusal.OtherDeclarations = codes "OtherDeclarations"
+open_store_fault_name refusal.Store = codes "Store"
+open_store_fault_name refusal.Memory = codes "Memory"

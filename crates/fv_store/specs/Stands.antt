@@ -1,0 +1,59 @@
+-- The records that a database stands for.
+use Rattle.std.specs.Prelude.{◌≡◌, ◌⊎◌, ℕ, ℤ, pos, IsTrue, List, [], ◌∷◌, Some}
+use Rattle.sqlite.specs.declared.types.Value.TheVariants.{Null, Int, Text as Words, Blob as Raw}
+use Rattle.sqlite.specs.Order.{Row, column}
+use Rattle.sqlite.specs.Tree.{IsTable}
+use Rattle.sqlite.specs.Effect.{Database}
+use Rattle.sqlite.specs.State.{State, HasCleanDisk}
+use Rattle.sqlite_rules.specs.Lists.{Has}
+use Rattle.fv_model.specs.Types.{Declared}
+use Rattle.fv_store.specs.Records.{Kept, Records, Roots, AllFit, no_records, bundle_text}
+use Rattle.fv_store.specs.Tables.{no_schema, store_schema}
+
+-- a row of `record`: its rowid, the id, the form and the bundle's text
+abbrev pub record_row : ℤ → List ℕ → Kept → Row
+record_row n id k = Int n ∷ Words id ∷ Words k.form ∷ Words (bundle_text k.bundle) ∷ []
+
+-- the row of `about`: its key stands for the rowid and is kept as NULL
+abbrev pub about_row : ℕ → List ℕ → Row
+about_row version declarations = Int (pos 1) ∷ Null ∷ Int (pos version) ∷ Raw declarations ∷ []
+
+-- the row of one of the records, under some rowid
+pub record IsRowOf (m : Records) (row : Row) : Type 0 where
+  pub number : ℤ
+  pub id : List ℕ
+  pub kept : Kept
+  pub is : row ≡ record_row number id kept
+  pub known : m id ≡ Some kept
+
+-- the rows are one for each record, in some order
+pub record Spells (rows : List Row) (m : Records) : Type 0 where
+  -- no two have one rowid
+  pub apart : IsTable rows
+  pub sound : (row : Row) → Has rows row → IsRowOf m row
+  pub complete : (id : List ℕ) (k : Kept) → m id ≡ Some k → (n : ℤ) × Has rows (record_row n id k)
+  -- no two have one id
+  pub once : (a b : Row) → Has rows a → Has rows b → column a 1 ≡ column b 1 → a ≡ b
+
+-- the tables of version 1, with one row of `about`, and the rows of the records
+pub record Spelled (db : Database) (declarations : List ℕ) (m : Records) : Type 0 where
+  pub schema : db.schema ≡ store_schema
+  pub about : db.trees 0 ≡ about_row 1 declarations ∷ []
+  pub records : Spells (db.trees 1) m
+
+-- The database stands for the records under these declarations, with these types and roots of forms: it spells them, and each fits.
+pub record Stands (db : Database) (declarations : List ℕ) (types : Declared) (roots : Roots) (m : Records) : Type 0 where
+  pub spelled : Spelled db declarations m
+  pub fit : AllFit types roots m
+
+-- What a connection outside a transaction stands for, now and as committed. It says nothing once the disk has lied or has shut the connection.
+abbrev pub Holds : State → List ℕ → Declared → Roots → Records → Type 0
+Holds s declarations types roots m = HasCleanDisk s → IsTrue s.is_open → Stands s.now declarations types roots m × Stands s.committed declarations types roots m
+
+-- no table, index or view
+abbrev pub IsBlank : Database → Type 0
+IsBlank db = db.schema ≡ no_schema
+
+-- the records that a database hands to a store that is opened over it: none where it is blank, else those that it stands for
+abbrev pub Opens : State → List ℕ → Declared → Roots → Records → Type 0
+Opens s declarations types roots m = (HasCleanDisk s → IsTrue s.is_open → IsBlank s.now × (m ≡ no_records)) ⊎ Holds s declarations types roots m

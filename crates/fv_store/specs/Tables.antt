@@ -1,0 +1,68 @@
+-- The tables, as their texts define them.
+use Rattle.std.specs.Prelude.{Bool, true, false, [], ◌∷◌, Some, None, codes, List, ℕ, pos}
+use Rattle.sqlite.specs.Term.{lit, col, op2}
+use Rattle.sqlite_sql.specs.declared.ops.BinaryOp.TheVariants.{Compare}
+use Rattle.sqlite_sql.specs.declared.ops.CompareOp.TheVariants.{Eq}
+use Rattle.sqlite.specs.Collation.TheVariants.{Binary}
+use Rattle.sqlite.specs.declared.types.Value.TheVariants.{Null, Int}
+use Rattle.sqlite_schema.specs.declared.schema.Column.{Column}
+use Rattle.sqlite.specs.Table.{Table}
+use Rattle.sqlite.specs.Schema.{Schema}
+use Rattle.sqlite.specs.Change.{created}
+use Rattle.sqlite.specs.Kind.{Kind}
+use Rattle.sqlite.specs.Kind.TheVariants.{Integer, Text, Any}
+
+abbrev pub about_text : List ℕ
+about_text = codes "CREATE TABLE about (one INTEGER PRIMARY KEY CHECK (one = 1), version INTEGER NOT NULL, declarations BLOB NOT NULL)"
+
+abbrev pub record_text : List ℕ
+record_text = codes "CREATE TABLE record (id TEXT NOT NULL PRIMARY KEY, form TEXT NOT NULL, bundle TEXT NOT NULL)"
+
+abbrev pub column_of : List ℕ → Kind → Bool → Column
+column_of name kind required = record { name = name; kind = kind; is_strict = false; not_null = required; default = Null; collation = Binary }
+
+-- the version of the tables, and the declarations
+abbrev pub about_table : Table
+about_table = record {
+  name = codes "about";
+  tree = 0;
+  columns = column_of (codes "one") Integer false ∷ column_of (codes "version") Integer true ∷ column_of (codes "declarations") Any true ∷ [];
+  key = Some 0;
+  primary = 0 ∷ [];
+  uniques = [];
+  orders = [];
+  checks = op2 (Compare Eq Binary) (col 1 0) (lit (Int (pos 1))) ∷ [];
+  references = [];
+  computed = [];
+  stamps = record { places = []; terms = []; formats = [] };
+  is_counted = false;
+}
+
+-- a row for each record
+abbrev pub record_table : Table
+record_table = record {
+  name = codes "record";
+  tree = 0;
+  columns = column_of (codes "id") Text true ∷ column_of (codes "form") Text true ∷ column_of (codes "bundle") Text true ∷ [];
+  key = None;
+  primary = 1 ∷ [];
+  uniques = (1 ∷ []) ∷ [];
+  orders = (record { digits = 0 }) ∷ [];
+  checks = [];
+  references = [];
+  computed = [];
+  stamps = record { places = []; terms = []; formats = [] };
+  is_counted = false;
+}
+
+-- no table, index or view
+abbrev pub no_schema : Schema
+no_schema = record { tables = []; indexes = []; views = [] }
+
+-- the schema that the two texts make: `about` is tree 0, `record` tree 1
+abbrev pub store_schema : Schema
+store_schema = created (created no_schema about_table) record_table
+
+-- the table of records as it stands in that schema
+abbrev pub kept_table : Table
+kept_table = record record_table { tree = 1 }

@@ -1,0 +1,42 @@
+//! The row of `about`: the tables' version and the declarations.
+ghost use Rattle.std.specs.Prelude.{◌≡◌, ℕ, List, false, IsTrue, IfOk};
+ghost use Rattle.sqlite.specs.State.{HasCleanDisk};
+ghost use Rattle.sqlite.specs.Held.{state};
+ghost use Rattle.fv_datum.specs.Answers.{Gives, unless_fault};
+ghost use Rattle.fv_store.specs.Faults.{about_fault};
+ghost use Rattle.fv_store.specs.Steps.{Keeps, ShowsAbout, shown_about};
+
+use crate::fault::OpenStoreFault;
+use sqlite::{Alter, Connection, Error, Row};
+
+const READ_ABOUT: &str = "SELECT version, declarations FROM about";
+
+/// The version of the tables that are made and read here.
+const VERSION: i64 = 1;
+
+/// The rows that show the version and the declarations: one.
+pub(crate) fn read_about<S: Alter>(conn: &mut Connection<S>) -> Result<Vec<Row>, Error>
+    ensures mode { conn.old.in_transaction ≡ false → conn.new.in_transaction ≡ false }
+    ensures clean { HasCleanDisk (state S.Store conn.new) → HasCleanDisk (state S.Store conn.old) }
+    ensures was_open { HasCleanDisk (state S.Store conn.new) → IsTrue (state S.Store conn.new).is_open → IsTrue (state S.Store conn.old).is_open }
+    ensures shown { HasCleanDisk (state S.Store conn.new) → IfOk result (λ rows. IsTrue (state S.Store conn.old).is_open × ((d : _) (m : _) → Keeps (state S.Store conn.old) d m → ShowsAbout rows.items d)) }
+    ensures stays { (d : _) (m : _) → Keeps (state S.Store conn.old) d m → Keeps (state S.Store conn.new) d m }
+{
+    conn.query_all(READ_ABOUT, &[])
+}
+
+/// Whether a row shows this version and these declarations. The version is asked first, so that
+/// tables of another version may keep their declarations in another way.
+pub(crate) fn agrees(row: &Row, declarations: &[u8]) -> Result<(), OpenStoreFault>
+    ensures { (version : ℕ) (stored : List ℕ) → row.now ≡ shown_about version stored → Gives OpenStoreFault.Memory (λ u. u) result (unless_fault (about_fault version stored declarations.now) tt) }
+{
+    let version: i64 = row.get(0)?;
+    if version != VERSION {
+        return Err(OpenStoreFault::OtherVersion);
+    }
+    let stored: Vec<u8> = row.get(1)?;
+    if stored.as_slice() != declarations {
+        return Err(OpenStoreFault::OtherDeclarations);
+    }
+    Ok(())
+}

@@ -1,0 +1,14 @@
+//! Changes of the records.
+
+use fv_model::Bundle;
+
+/// A change of the records.
+#[derive(Drop)]
+pub enum Change {
+    /// The record of the id is this one from now on, whether or not there was one.
+    Put {
+        id: String,
+        form: String,
+        bundle: Bundle,
+    },
+}

@@ -1,0 +1,108 @@
+//! How a call of the store fails.
+ghost use Rattle.std.specs.Prelude.{◌≡◌};
+ghost use Rattle.fv_store.specs.FaultNames.{store_fault_name, open_store_fault_name};
+ghost use Rattle.fv_store.specs.Faults.{fault_of, json_fault, bundle_fault, open_fault_of};
+ghost use Rattle.fv_store.specs.declared.fault.StoreFault.TheVariants.{Memory};
+
+use fv_model::BundleFault;
+use sqlite::{Error, ErrorCode};
+use std::alloc::AllocError;
+
+/// Why a call of the store was refused. Nothing has changed.
+#[derive(Clone, Copy, Debug, PartialEq, Eq, thiserror::Error)]
+pub enum StoreFault {
+    /// The database refused, for another cause than want of memory, or a row spells no record.
+    #[error("the database refused, or a row spells no record")]
+    Store,
+    /// An allocation was refused.
+    #[error("out of memory")]
+    Memory,
+}
+
+impl StoreFault {
+    /// The fault's name.
+    pub fn name(&self) -> &str
+        ensures { result.now ≡ store_fault_name self.now }
+    {
+        match self {
+            StoreFault::Store => "Store",
+            StoreFault::Memory => "Memory",
+        }
+    }
+}
+
+impl From<Error> for StoreFault {
+    ghost from_gives = { λ e fault. fault ≡ fault_of e };
+
+    fn from(error: Error) -> StoreFault {
+        match error {
+            Error::SqliteFailure(ErrorCode::OutOfMemory) => StoreFault::Memory,
+            _ => StoreFault::Store,
+        }
+    }
+}
+
+impl From<serde_json::Error> for StoreFault {
+    ghost from_gives = { λ e fault. fault ≡ json_fault e };
+
+    fn from(error: serde_json::Error) -> StoreFault {
+        if error.is_memory() {
+            StoreFault::Memory
+        } else {
+            StoreFault::Store
+        }
+    }
+}
+
+impl From<BundleFault> for StoreFault {
+    ghost from_gives = { λ e fault. fault ≡ bundle_fault e };
+
+    fn from(fault: BundleFault) -> StoreFault {
+        match fault {
+            BundleFault::Memory => StoreFault::Memory,
+            _ => StoreFault::Store,
+        }
+    }
+}
+
+/// Why a store wasn't opened. The database is as it was.
+#[derive(Clone, Copy, Debug, PartialEq, Eq, thiserror::Error)]
+pub enum OpenStoreFault {
+    /// The tables are of another version.
+    #[error("tables of another version")]
+    OtherVersion,
+    /// The declarations that are stored are others.
+    #[error("other declarations")]
+    OtherDeclarations,
+    /// The database refused, for another cause than want of memory, or isn't of this form.
+    #[error("the database refused")]
+    Store,
+    /// An allocation was refused.
+    #[error("out of memory")]
+    Memory,
+}
+
+impl OpenStoreFault {
+    /// The fault's name.
+    pub fn name(&self) -> &str
+        ensures { result.now ≡ open_store_fault_name self.now }
+    {
+        match self {
+            OpenStoreFault::OtherVersion => "OtherVersion",
+            OpenStoreFault::OtherDeclarations => "OtherDeclarations",
+            OpenStoreFault::Store => "Store",
+            OpenStoreFault::Memory => "Memory",
+        }
+    }
+}
+
+impl From<Error> for OpenStoreFault {
+    ghost from_gives = { λ e fault. fault ≡ open_fault_of e };
+
+    fn from(error: Error) -> OpenStoreFault {
+        match error {
+            Error::SqliteFailure(ErrorCode::OutOfMemory) => OpenStoreFault::Memory,
+            _ => OpenStoreFault::Store,
+        }
+    }
+}

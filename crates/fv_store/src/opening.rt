@@ -1,0 +1,69 @@
+//! A database is made ready, or is compared with what it is asked to be.
+ghost use Rattle.std.specs.Prelude.{◌≡◌, ◌≢◌, ◌↔◌, false, IsTrue, IfErr, OnOk, OnErr};
+ghost use Rattle.sqlite.specs.State.{HasCleanDisk};
+ghost use Rattle.sqlite.specs.Held.{state};
+ghost use Rattle.fv_store.specs.Records.{no_records};
+ghost use Rattle.fv_store.specs.Stands.{IsBlank};
+ghost use Rattle.fv_store.specs.Steps.{Keeps, Stays};
+
+use crate::about::{agrees, read_about};
+use crate::fault::OpenStoreFault;
+use crate::tables::create_tables;
+use sqlite::{Alter, Connection, Error};
+
+/// Whether the database has no table, index or view.
+fn is_blank<S: Alter>(conn: &Connection<S>) -> bool
+    ensures { IsTrue result ↔ IsBlank (state S.Store conn.now).now }
+{
+    let schema = conn.schema();
+    schema.tables.is_empty() && schema.indexes.is_empty() && schema.views.is_empty()
+}
+
+/// Makes the tables in one transaction.
+fn create<S: Alter>(conn: &mut Connection<S>, declarations: &[u8]) -> Result<(), Error>
+    requires mode { conn.old.in_transaction ≡ false }
+    requires settled { IsTrue (state S.Store conn.old).is_open → (state S.Store conn.old).now ≡ (state S.Store conn.old).committed }
+    ensures mode { conn.new.in_transaction ≡ false }
+    ensures clean { HasCleanDisk (state S.Store conn.new) → HasCleanDisk (state S.Store conn.old) }
+    ensures was_open { HasCleanDisk (state S.Store conn.new) → IsTrue (state S.Store conn.new).is_open → IsTrue (state S.Store conn.old).is_open }
+    ensures done { OnOk result (IsBlank (state S.Store conn.old).now → Keeps (state S.Store conn.new) declarations.now no_records) }
+    ensures undone { OnErr result (Stays (state S.Store conn.old) (state S.Store conn.new)) }
+{
+    let mut tx = conn.transaction();
+    create_tables(&mut tx, declarations)?;
+    tx.commit()
+}
+
+/// Compares what is stored with this version and these declarations. A row that isn't there is
+/// refused as one that can't be read.
+fn compare<S: Alter>(conn: &mut Connection<S>, declarations: &[u8]) -> Result<(), OpenStoreFault>
+    ensures mode { conn.old.in_transaction ≡ false → conn.new.in_transaction ≡ false }
+    ensures clean { HasCleanDisk (state S.Store conn.new) → HasCleanDisk (state S.Store conn.old) }
+    ensures was_open { HasCleanDisk (state S.Store conn.new) → IsTrue (state S.Store conn.new).is_open → IsTrue (state S.Store conn.old).is_open }
+    ensures stays { (d : _) (m : _) → Keeps (state S.Store conn.old) d m → Keeps (state S.Store conn.new) d m }
+{
+    let rows = read_about(conn)?;
+    match rows.first() {
+        Some(row) => agrees(row, declarations),
+        None => Err(OpenStoreFault::Store),
+    }
+}
+
+/// Makes the tables in a database that has none, and compares what is stored otherwise. A
+/// connection that is inside a transaction is refused.
+pub(crate) fn settle<S: Alter>(
+    conn: &mut Connection<S>,
+    declarations: &[u8],
+) -> Result<(), OpenStoreFault>
+    ensures mode { OnOk result (conn.new.in_transaction ≡ false) }
+    ensures clean { HasCleanDisk (state S.Store conn.new) → HasCleanDisk (state S.Store conn.old) }
+{
+    if !conn.is_autocommit() {
+        return Err(OpenStoreFault::Store);
+    }
+    if is_blank(conn) {
+        create(conn, declarations)?;
+        return Ok(());
+    }
+    compare(conn, declarations)
+}

@@ -1,0 +1,78 @@
+//! The statements on the rows of `record`.
+ghost use Rattle.std.specs.Prelude.{◌≡◌, false, IsTrue, IfOk, OnOk, string_bytes, option_map};
+ghost use Rattle.sqlite.specs.State.{HasCleanDisk, KeepsCommit};
+ghost use Rattle.sqlite.specs.Held.{state};
+ghost use Rattle.fv_model.specs.Views.{bundle_view};
+ghost use Rattle.fv_store.specs.Records.{Kept, with_record, without_record, bundle_text};
+ghost use Rattle.fv_store.specs.Steps.{Advances, Makes, Always, Lacks, Keeps, Answers};
+
+use crate::text::text_of;
+use fv_model::Bundle;
+use sqlite::{Alter, Connection, Error, Row, Transaction, params};
+use std::alloc::Global;
+
+const REMOVE_RECORD: &str = "DELETE FROM record WHERE id = ?1";
+
+const INSERT_RECORD: &str = "INSERT INTO record (id, form, bundle) VALUES (?1, ?2, ?3)";
+
+const FIND_RECORD: &str = "SELECT form, bundle FROM record WHERE id = ?1";
+
+/// Takes the record of the id out, if there is one.
+fn remove_record<S: Alter>(tx: &mut Transaction<'_, S>, id: &str) -> Result<usize, Error>
+    ensures same_reference { tx.new.conn.ghost_name ≡ tx.old.conn.ghost_name }
+    ensures clean { HasCleanDisk (state S.Store tx.new.conn.now) → HasCleanDisk (state S.Store tx.old.conn.now) }
+    ensures kept { HasCleanDisk (state S.Store tx.new.conn.now) → IsTrue (state S.Store tx.old.conn.now).in_transaction
+        → KeepsCommit (state S.Store tx.old.conn.now) (state S.Store tx.new.conn.now) }
+    ensures done { HasCleanDisk (state S.Store tx.new.conn.now) → IsTrue (state S.Store tx.old.conn.now).in_transaction
+        → OnOk result (Advances (state S.Store tx.old.conn.now) (state S.Store tx.new.conn.now) (Makes Always (without_record id.now))) }
+{
+    tx.execute(REMOVE_RECORD, params![id])
+}
+
+/// Writes the row of a record whose id has none.
+fn insert_record<S: Alter>(
+    tx: &mut Transaction<'_, S>,
+    id: &str,
+    form: &str,
+    text: &str,
+) -> Result<usize, Error>
+    ensures same_reference { tx.new.conn.ghost_name ≡ tx.old.conn.ghost_name }
+    ensures clean { HasCleanDisk (state S.Store tx.new.conn.now) → HasCleanDisk (state S.Store tx.old.conn.now) }
+    ensures kept { HasCleanDisk (state S.Store tx.new.conn.now) → IsTrue (state S.Store tx.old.conn.now).in_transaction
+        → KeepsCommit (state S.Store tx.old.conn.now) (state S.Store tx.new.conn.now) }
+    ensures done { HasCleanDisk (state S.Store tx.new.conn.now) → IsTrue (state S.Store tx.old.conn.now).in_transaction → (k : Kept) → k.form ≡ form.now → bundle_text k.bundle ≡ text.now
+        → OnOk result (Advances (state S.Store tx.old.conn.now) (state S.Store tx.new.conn.now) (Makes (Lacks id.now) (with_record id.now k))) }
+{
+    tx.execute(INSERT_RECORD, params![id, form, text])
+}
+
+/// Writes the record, in place of the one that is there.
+pub(crate) fn put_record<S: Alter>(
+    tx: &mut Transaction<'_, S>,
+    alloc: Global,
+    id: &str,
+    form: &str,
+    bundle: &Bundle,
+) -> Result<usize, Error>
+    ensures same_reference { tx.new.conn.ghost_name ≡ tx.old.conn.ghost_name }
+    ensures clean { HasCleanDisk (state S.Store tx.new.conn.now) → HasCleanDisk (state S.Store tx.old.conn.now) }
+    ensures kept { HasCleanDisk (state S.Store tx.new.conn.now) → IsTrue (state S.Store tx.old.conn.now).in_transaction
+        → KeepsCommit (state S.Store tx.old.conn.now) (state S.Store tx.new.conn.now) }
+    ensures done { HasCleanDisk (state S.Store tx.new.conn.now) → IsTrue (state S.Store tx.old.conn.now).in_transaction
+        → OnOk result (Advances (state S.Store tx.old.conn.now) (state S.Store tx.new.conn.now) (Makes Always (with_record id.now (record { form = form.now; bundle = bundle_view bundle.now })))) }
+{
+    let text = text_of(alloc, bundle)?;
+    remove_record(tx, id)?;
+    insert_record(tx, id, form, text.as_str())
+}
+
+/// The rows that show the record of the id: one, or none.
+pub(crate) fn find_record<S: Alter>(conn: &mut Connection<S>, id: &str) -> Result<Vec<Row>, Error>
+    ensures mode { conn.old.in_transaction ≡ false → conn.new.in_transaction ≡ false }
+    ensures clean { HasCleanDisk (state S.Store conn.new) → HasCleanDisk (state S.Store conn.old) }
+    ensures was_open { HasCleanDisk (state S.Store conn.new) → IsTrue (state S.Store conn.new).is_open → IsTrue (state S.Store conn.old).is_open }
+    ensures shown { HasCleanDisk (state S.Store conn.new) → IfOk result (λ rows. IsTrue (state S.Store conn.old).is_open × ((d : _) (m : _) → Keeps (state S.Store conn.old) d m → Answers rows.items (m id.now))) }
+    ensures stays { (d : _) (m : _) → Keeps (state S.Store conn.old) d m → Keeps (state S.Store conn.new) d m }
+{
+    conn.query_all(FIND_RECORD, params![id])
+}

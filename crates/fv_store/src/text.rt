@@ -1,0 +1,27 @@
+//! Bundles as texts.
+ghost use Rattle.std.specs.Prelude.{◌≡◌, IfOk, true, Ok, string_bytes};
+ghost use Rattle.fv_datum.specs.Answers.{Gives};
+ghost use Rattle.fv_model.specs.Types.{all_readable};
+ghost use Rattle.fv_model.specs.Views.{types_view, bundle_view};
+ghost use Rattle.fv_store.specs.Records.{bundle_text};
+
+use crate::fault::StoreFault;
+use fv_model::{Bundle, Types, read_bundle, write_bundle};
+use serde_json::Value;
+use std::alloc::{AllocError, Global};
+
+/// The text that a bundle is kept as.
+pub(crate) fn text_of(alloc: Global, bundle: &Bundle) -> Result<String, AllocError>
+    ensures { IfOk result (λ s. string_bytes s ≡ bundle_text (bundle_view bundle.now)) }
+{
+    let value = write_bundle(alloc, bundle)?;
+    value.to_string(alloc)
+}
+
+/// The bundle that a text spells. `Store` where it spells none.
+pub(crate) fn bundle_of(alloc: Global, types: &Types, text: &str) -> Result<Bundle, StoreFault>
+    requires { all_readable (types_view types.now) ≡ true }
+{
+    let value = Value::from_str(alloc, text)?;
+    Ok(read_bundle(alloc, types, None, &value)?)
+}
