@@ -1,10 +1,9 @@
 -- What is spelled is of the kind, and what was written of a datum of the kind spells it.
 use Rattle.std.proofs.Common.{◌≡◌, ℤ, pos, negsuc, ◌^◌, Bool, true, false, cond, ◌⊎◌, inl, inr, Option, Some, None, option_map, option_and_then, Result, Ok, Err, IfOk, refl, sym, ap, ◌∙◌}
-use Rattle.std.proofs.lemmas.Bool.{lt-ltb}
+use Rattle.std.proofs.lemmas.Bool.{lt-ltb, ltb-true}
 use Rattle.std.specs.Prelude.{FitsSigned}
 use Rattle.std.specs.Int.{w64}
 use Rattle.std.specs.Option.{ok_or}
-use borrow.Author.Tests.{ltb-true}
 use Rattle.serde_json.specs.Data as json
 use Rattle.serde_json.specs.Find.{as_str, as_number, as_integer, of_integer}
 use Rattle.fv_datum.specs.Answers.{Gives}

@@ -15,11 +15,13 @@ pub data AttributeValue : Type 0 where
 abbrev pub Attributes : Type 0
 Attributes = List (List ℕ × AttributeValue)
 
+-- an attribute's value as contracts see it
 abbrev pub attribute_view : Attribute → AttributeValue
 attribute_view (v.Integer n) = integer n
 attribute_view (v.Text s) = text (string_bytes s)
 attribute_view (v.Boolean b) = boolean b
 attribute_view (v.Texts ts) = texts (map string_bytes ts.items)
 
+-- an attribute with its name
 abbrev pub entry_view : String Global × Attribute → List ℕ × AttributeValue
 entry_view e = (string_bytes e.0, attribute_view e.1)

@@ -9,6 +9,7 @@ use Rattle.fv_datum.specs.declared.kind.Kind.TheVariants.{Text, Integer}
 use Rattle.fv_datum.specs.declared.fault.DatumFault.{DatumFault}
 use Rattle.fv_datum.specs.declared.fault.DatumFault.TheVariants.{WrongKind}
 
+-- the JSON value is `null`
 abbrev pub is_null_json : json.Data → Bool
 is_null_json json.null = true
 is_null_json _ = false

@@ -10,10 +10,12 @@ use Rattle.fv_datum.specs.Data.{Data, null, text, integer, decimal, boolean, dat
 use Rattle.fv_datum.specs.declared.fault.DatumFault.{DatumFault}
 use Rattle.fv_datum.specs.declared.fault.DatumFault.TheVariants.{WrongKind}
 
+-- the datum is null
 abbrev pub is_null : Data → Bool
 is_null null = true
 is_null _ = false
 
+-- the datum is a text
 abbrev pub is_text : Data → Bool
 is_text (text s) = true
 is_text _ = false
@@ -23,6 +25,7 @@ abbrev pub key_of : Data → List ℕ
 key_of (text s) = s
 key_of _ = []
 
+-- a key is below the first of the entries after it, by its bytes
 abbrev pub below_first : Data → Entries → Bool
 below_first k no_entries = true
 below_first k (entry l d es) = is_lt (slice_cmp nat_cmp (key_of k) (key_of l))

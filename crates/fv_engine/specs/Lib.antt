@@ -1,4 +1,14 @@
+pub mod CommandView
+pub mod Constraints
+pub mod Declarations
+pub mod Judging
 pub mod Lines
+pub mod Replies
 pub mod Reply
+pub mod Requests
 pub mod Runs
+pub mod SchemaView
+pub mod Step
+pub mod ViolationView
+pub mod Violations
 pub mod Writes

@@ -16,12 +16,14 @@ Ticks C = C → ℤ → C → Type 0
 -- these lines have these replies, one step after another, each at the moment of the clock's next tick
 abbrev pub Run : {M C : Type 0} → Steps M → Ticks C → M → C → List (List ℕ) → List (List ℕ) → M → C → Type 0
 Run step ticks m c [] [] n d = (n ≡ m) × (d ≡ c)
-Run {M} {C} step ticks m c (line ∷ lines) (reply ∷ replies) n d = (mid : M) × (later : C) × (moment : ℤ) × ticks c moment later × step m line moment reply mid × Run step ticks mid later lines replies n d
+Run {M} {C} step ticks m c (line ∷ lines) (reply ∷ replies) n d = (mid : M) × (later : C) × (moment : ℤ) × ticks c moment later ×
+    step m line moment reply mid × Run step ticks mid later lines replies n d
 Run step ticks m c [] (reply ∷ replies) n d = ⊥
 Run step ticks m c (line ∷ lines) [] n d = ⊥
 
 -- one line was answered, and what was written of the reply and its end grows the output
-pub record Answered {M C : Type 0} (grows : Option (List ℕ) → Option (List ℕ) → List ℕ → Type 0) (step : Steps M) (ticks : Ticks C) (m : M) (c : C) (w : Option (List ℕ)) (line : List ℕ) (n : M) (d : C) (v : Option (List ℕ)) : Type 0 where
+pub record Answered {M C : Type 0} (grows : Option (List ℕ) → Option (List ℕ) → List ℕ → Type 0) (step : Steps M) (ticks : Ticks C)
+    (m : M) (c : C) (w : Option (List ℕ)) (line : List ℕ) (n : M) (d : C) (v : Option (List ℕ)) : Type 0 where
   pub reply : List ℕ
   pub moment : ℤ
   pub ticked : ticks c moment d
@@ -29,7 +31,8 @@ pub record Answered {M C : Type 0} (grows : Option (List ℕ) → Option (List �
   pub wrote : grows w v (ended reply)
 
 -- each whole line of the bytes was answered, and of the rest the line buffer keeps the front
-pub record Served {M C : Type 0} (step : Steps M) (ticks : Ticks C) (m : M) (c : C) (w : Option (List ℕ)) (bytes buffer : List ℕ) (n : M) (d : C) (v : Option (List ℕ)) : Type 0 where
+pub record Served {M C : Type 0} (step : Steps M) (ticks : Ticks C) (m : M) (c : C) (w : Option (List ℕ)) (bytes buffer : List ℕ) (n : M)
+    (d : C) (v : Option (List ℕ)) : Type 0 where
   pub lines : List (List ℕ)
   pub rest : List ℕ
   pub replies : List (List ℕ)
@@ -39,7 +42,8 @@ pub record Served {M C : Type 0} (step : Steps M) (ticks : Ticks C) (m : M) (c :
   pub wrote : Appends w v (flat_map ended replies)
 
 -- a front of the bytes was served, and then a line was answered whose reply was not written whole
-pub record Broken {M C : Type 0} (step : Steps M) (ticks : Ticks C) (m : M) (c : C) (w : Option (List ℕ)) (bytes : List ℕ) (n : M) (d : C) (v : Option (List ℕ)) : Type 0 where
+pub record Broken {M C : Type 0} (step : Steps M) (ticks : Ticks C) (m : M) (c : C) (w : Option (List ℕ)) (bytes : List ℕ) (n : M) (d : C)
+    (v : Option (List ℕ)) : Type 0 where
   pub front : List ℕ
   pub back : List ℕ
   pub parts : bytes ≡ front ++ back
@@ -56,7 +60,8 @@ last_line [] = []
 last_line (b ∷ bs) = (b ∷ bs) ∷ []
 
 -- all of the bytes were answered as lines, the last also without its end
-pub record Finished {M C : Type 0} (step : Steps M) (ticks : Ticks C) (m : M) (c : C) (w : Option (List ℕ)) (bytes : List ℕ) (n : M) (d : C) (v : Option (List ℕ)) : Type 0 where
+pub record Finished {M C : Type 0} (step : Steps M) (ticks : Ticks C) (m : M) (c : C) (w : Option (List ℕ)) (bytes : List ℕ) (n : M)
+    (d : C) (v : Option (List ℕ)) : Type 0 where
   pub lines : List (List ℕ)
   pub rest : List ℕ
   pub replies : List (List ℕ)
@@ -65,19 +70,22 @@ pub record Finished {M C : Type 0} (step : Steps M) (ticks : Ticks C) (m : M) (c
   pub wrote : Appends w v (flat_map ended replies)
 
 -- what was read so far has been served
-pub record Taken {M C : Type 0} (step : Steps M) (ticks : Ticks C) (r : Option (List ℕ)) (m : M) (c : C) (w : Option (List ℕ)) (buffer : List ℕ) (q : Option (List ℕ)) (n : M) (d : C) (v : Option (List ℕ)) : Type 0 where
+pub record Taken {M C : Type 0} (step : Steps M) (ticks : Ticks C) (r : Option (List ℕ)) (m : M) (c : C) (w : Option (List ℕ))
+    (buffer : List ℕ) (q : Option (List ℕ)) (n : M) (d : C) (v : Option (List ℕ)) : Type 0 where
   pub input : List ℕ
   pub consumed : Consumes r q input
   pub served : Served step ticks m c w input buffer n d v
 
 -- what was read was served up to a line whose reply was not written whole
-pub record Stopped {M C : Type 0} (step : Steps M) (ticks : Ticks C) (r : Option (List ℕ)) (m : M) (c : C) (w : Option (List ℕ)) (q : Option (List ℕ)) (n : M) (d : C) (v : Option (List ℕ)) : Type 0 where
+pub record Stopped {M C : Type 0} (step : Steps M) (ticks : Ticks C) (r : Option (List ℕ)) (m : M) (c : C) (w : Option (List ℕ))
+    (q : Option (List ℕ)) (n : M) (d : C) (v : Option (List ℕ)) : Type 0 where
   pub input : List ℕ
   pub consumed : Consumes r q input
   pub broken : Broken step ticks m c w input n d v
 
 -- all of the input was read and answered
-pub record Complete {M C : Type 0} (step : Steps M) (ticks : Ticks C) (r : Option (List ℕ)) (m : M) (c : C) (w : Option (List ℕ)) (q : Option (List ℕ)) (n : M) (d : C) (v : Option (List ℕ)) : Type 0 where
+pub record Complete {M C : Type 0} (step : Steps M) (ticks : Ticks C) (r : Option (List ℕ)) (m : M) (c : C) (w : Option (List ℕ))
+    (q : Option (List ℕ)) (n : M) (d : C) (v : Option (List ℕ)) : Type 0 where
   pub input : List ℕ
   pub consumed : Consumes r q input
   pub ended : IsAtEnd q

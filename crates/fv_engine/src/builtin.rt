@@ -1,5 +1,9 @@
 //! The built-in constraints: what each asks of its attributes and of the kind of its place, and
 //! what it says of a datum.
+ghost use Rattle.std.specs.Prelude.{◌≡◌, IfOk, string_bytes};
+ghost use Rattle.fv_datum.specs.View.{view};
+ghost use Rattle.fv_engine.specs.Constraints.{says, constraint_name, message_of, is_builtin, builtin_given, takes, builtin_read};
+
 mod min;
 mod not_null;
 mod size;
@@ -27,25 +31,56 @@ pub(crate) enum Builtin {
 }
 
 /// Whether a name is that of a built-in constraint.
-pub(crate) fn is_builtin(name: &str) -> bool {
-    matches!(name, "NotNull" | "Size" | "Min")
+pub(crate) fn is_builtin(name: &str) -> bool
+    ensures { result ≡ is_builtin name.now }
+{
+    name == "NotNull" || name == "Size" || name == "Min"
+}
+
+/// The constraint of that name with these attributes, if there is one that takes them.
+fn builtin_given(name: &str, attrs: &Attrs) -> Option<Builtin>
+    ensures { result ≡ builtin_given name.now attrs.now }
+{
+    match name {
+        "NotNull" => not_null::given(attrs),
+        "Size" => size::given(attrs),
+        "Min" => min::given(attrs),
+        _ => None,
+    }
 }
 
 impl Builtin {
     /// The constraint of that name with these attributes, at a place of that kind.
     ///
     /// `Attribute`, then `UnexpectedType`. A name that is no built-in's is refused as `Attribute`.
-    pub(crate) fn read(name: &str, attrs: &Attrs, kind: Kind) -> Result<Builtin, BuiltinFault> {
-        match name {
-            "NotNull" => not_null::read(attrs),
-            "Size" => size::read(attrs, kind),
-            "Min" => min::read(attrs, kind),
-            _ => Err(BuiltinFault::Attribute),
+    pub(crate) fn read(name: &str, attrs: &Attrs, kind: Kind) -> Result<Builtin, BuiltinFault>
+        ensures { result ≡ builtin_read name.now attrs.now kind }
+    {
+        let Some(constraint) = builtin_given(name, attrs) else {
+            return Err(BuiltinFault::Attribute);
+        };
+        if constraint.takes(kind) {
+            Ok(constraint)
+        } else {
+            Err(BuiltinFault::UnexpectedType)
+        }
+    }
+
+    /// Whether the constraint has a meaning for data of that kind.
+    fn takes(&self, kind: Kind) -> bool
+        ensures { result ≡ takes self.now kind }
+    {
+        match self {
+            Builtin::NotNull => true,
+            Builtin::Size { .. } => matches!(kind, Kind::Text),
+            Builtin::Min { .. } => matches!(kind, Kind::Integer),
         }
     }
 
     /// Whether the constraint holds for a datum.
-    pub(crate) fn holds(&self, datum: &Datum) -> bool {
+    pub(crate) fn holds(&self, datum: &Datum) -> bool
+        ensures { result ≡ says self.now (view datum.now) }
+    {
         match self {
             Builtin::NotNull => not_null::holds(datum),
             Builtin::Size { min, max } => size::holds(*min, *max, datum),
@@ -54,7 +89,9 @@ impl Builtin {
     }
 
     /// The constraint's name.
-    pub(crate) fn name(&self) -> &'static str {
+    pub(crate) fn name(&self) -> &'static str
+        ensures { result.now ≡ constraint_name self.now }
+    {
         match self {
             Builtin::NotNull => "NotNull",
             Builtin::Size { .. } => "Size",
@@ -63,12 +100,12 @@ impl Builtin {
     }
 
     /// The constraint's message, its attributes put in.
-    pub(crate) fn message(&self, alloc: Global) -> Result<String, AllocError> {
+    pub(crate) fn message(&self, alloc: Global) -> Result<String, AllocError>
+        ensures { IfOk result (λ s. string_bytes s ≡ message_of self.now) }
+    {
         match self {
             Builtin::NotNull => String::from_str(alloc, "must not be null"),
-            Builtin::Size { min, max } => {
-                format!(in alloc; "size must be between {min} and {max}")
-            }
+            Builtin::Size { min, max } => size::message(alloc, *min, *max),
             Builtin::Min { value } => {
                 format!(in alloc; "must be greater than or equal to {value}")
             }

@@ -1,5 +1,12 @@
 //! Replies: one line of JSON each.
-ghost use Rattle.std.specs.Prelude.{◌≡◌, string_bytes};
+ghost use Rattle.std.specs.Prelude.{◌≡◌, ◌⊎◌, false, IfOk, MatchResult, map, string_bytes};
+ghost use Rattle.serde_json.specs.View.{view as json_view};
+ghost use Rattle.serde_json.specs.Written.{compact_text, has_float};
+ghost use Rattle.fv_datum.specs.View.{view};
+ghost use Rattle.fv_model.specs.Views.{bundle_view};
+ghost use Rattle.fv_model.specs.Writing.{datum_json};
+ghost use Rattle.fv_engine.specs.Replies.{out_of_memory, bundle_refused_json, bundle_refused, violation_json, judged_json, refusal_json, violations_refused_json, violations_refused, record_json, record_shown};
+ghost use Rattle.fv_engine.specs.ViolationView.{violation_view};
 
 use crate::validate::Violation;
 use fv_datum::{DatumFault, write_datum};
@@ -67,7 +74,9 @@ impl Reply {
     }
 
     /// The reply of a text that was made, or the refusal for want of memory.
-    fn made_or_memory(text: Result<String, AllocError>) -> Reply {
+    fn made_or_memory(text: Result<String, AllocError>) -> Reply
+        ensures { MatchResult text (λ s. result ≡ string_bytes s) (λ _. result ≡ out_of_memory) }
+    {
         match text {
             Ok(text) => Reply::made(text),
             Err(_) => Reply::fixed(MEMORY),
@@ -75,17 +84,23 @@ impl Reply {
     }
 
     /// The refusal of a put's bundle.
-    pub(crate) fn bundle_refused(alloc: Global, fault: BundleFault) -> Reply {
+    pub(crate) fn bundle_refused(alloc: Global, fault: BundleFault) -> Reply
+        ensures { (result ≡ bundle_refused fault) ⊎ (result ≡ out_of_memory) }
+    {
         Reply::made_or_memory(bundle_refused(alloc, fault))
     }
 
     /// The refusal for the violations of one record.
-    pub(crate) fn violations(alloc: Global, id: &str, violations: &[Violation]) -> Reply {
+    pub(crate) fn violations(alloc: Global, id: &str, violations: &[Violation]) -> Reply
+        ensures { (result ≡ violations_refused id.now (map violation_view violations.now)) ⊎ (result ≡ out_of_memory) }
+    {
         Reply::made_or_memory(violations_refused(alloc, id, violations))
     }
 
     /// A record as it is shown.
-    pub(crate) fn record(alloc: Global, id: &str, form: &str, bundle: &Bundle) -> Reply {
+    pub(crate) fn record(alloc: Global, id: &str, form: &str, bundle: &Bundle) -> Reply
+        ensures { (result ≡ record_shown id.now form.now (bundle_view bundle.now)) ⊎ (result ≡ out_of_memory) }
+    {
         Reply::made_or_memory(record_shown(alloc, id, form, bundle))
     }
 
@@ -100,13 +115,33 @@ impl Reply {
     }
 }
 
-fn bundle_refused(alloc: Global, fault: BundleFault) -> Result<String, AllocError> {
+/// The compact text of JSON without floats.
+fn text_of(alloc: Global, value: &Value) -> Result<String, AllocError>
+    requires { has_float (json_view value.now) ≡ false }
+    ensures { IfOk result (λ s. string_bytes s ≡ compact_text (json_view value.now)) }
+{
+    value.to_string(alloc)
+}
+
+fn bundle_refused_value(alloc: Global, fault: BundleFault) -> Result<Value, AllocError>
+    ensures { IfOk result (λ v. json_view v ≡ bundle_refused_json fault) }
+{
     let code = fault.code();
-    json!(in alloc; {"error": "C5", "fault": code, "name": "Bundle"})?.to_string(alloc)
+    json!(in alloc; {"error": "C5", "fault": code, "name": "Bundle"})
+}
+
+#[tactic(auto, unfolding(crate::specs::Replies::bundle_refused))]
+fn bundle_refused(alloc: Global, fault: BundleFault) -> Result<String, AllocError>
+    ensures { IfOk result (λ s. string_bytes s ≡ bundle_refused fault) }
+{
+    let value = bundle_refused_value(alloc, fault)?;
+    text_of(alloc, &value)
 }
 
 /// A datum as JSON; null for one that can't be written, which no bundle holds.
-fn value_of(alloc: Global, violation: &Violation) -> Result<Value, AllocError> {
+fn value_of(alloc: Global, violation: &Violation) -> Result<Value, AllocError>
+    ensures { IfOk result (λ v. json_view v ≡ datum_json (view violation.now.value)) }
+{
     match write_datum(alloc, &violation.value) {
         Ok(value) => Ok(value),
         Err(DatumFault::WrongKind) => Ok(Value::Null),
@@ -115,7 +150,9 @@ fn value_of(alloc: Global, violation: &Violation) -> Result<Value, AllocError> {
 }
 
 /// `{"constraint":..,"message":..,"occurrence":..,"path":..,"value":..}`.
-fn violation_shown(alloc: Global, violation: &Violation) -> Result<Value, AllocError> {
+fn violation_value(alloc: Global, violation: &Violation) -> Result<Value, AllocError>
+    ensures { IfOk result (λ v. json_view v ≡ violation_json (violation_view violation.now)) }
+{
     let value = value_of(alloc, violation)?;
     let constraint = violation.constraint;
     let message = violation.message.as_str();
@@ -130,30 +167,64 @@ fn violation_shown(alloc: Global, violation: &Violation) -> Result<Value, AllocE
     })
 }
 
-fn violations_shown(alloc: Global, violations: &[Violation]) -> Result<Value, AllocError> {
-    let mut shown = Vec::with_capacity(alloc, violations.len())?;
+fn violation_values(alloc: Global, violations: &[Violation]) -> Result<Vec<Value>, AllocError>
+    ensures { IfOk result (λ v. map json_view v.items ≡ map violation_json (map violation_view violations.now)) }
+{
+    let mut values = Vec::with_capacity(alloc, violations.len())?;
     for violation in violations {
-        push(&mut shown, violation_shown(alloc, violation)?)?;
+        push(&mut values, violation_value(alloc, violation)?)?;
     }
-    Ok(Value::Array(shown))
+    Ok(values)
 }
 
+/// `{"id":..,"violations":[..]}`.
+fn judged_value(alloc: Global, id: &str, violations: Value) -> Result<Value, AllocError>
+    ensures { IfOk result (λ v. json_view v ≡ judged_json id.now (json_view violations)) }
+{
+    json!(in alloc; {"id": id, "violations": violations})
+}
+
+fn refusal_value(alloc: Global, judged: Value) -> Result<Value, AllocError>
+    ensures { IfOk result (λ v. json_view v ≡ refusal_json (json_view judged)) }
+{
+    json!(in alloc; {"error": "C10", "name": "Violations", "records": [judged]})
+}
+
+fn violations_refused_value(
+    alloc: Global,
+    id: &str,
+    violations: &[Violation],
+) -> Result<Value, AllocError>
+    ensures { IfOk result (λ v. json_view v ≡ violations_refused_json id.now (map violation_view violations.now)) }
+{
+    let values = Value::Array(violation_values(alloc, violations)?);
+    let judged = judged_value(alloc, id, values)?;
+    refusal_value(alloc, judged)
+}
+
+#[tactic(auto, unfolding(crate::specs::Replies::violations_refused))]
 fn violations_refused(
     alloc: Global,
     id: &str,
     violations: &[Violation],
-) -> Result<String, AllocError> {
-    let shown = violations_shown(alloc, violations)?;
-    let record = json!(in alloc; {"id": id, "violations": shown})?;
-    json!(in alloc; {"error": "C10", "name": "Violations", "records": [record]})?.to_string(alloc)
+) -> Result<String, AllocError>
+    ensures { IfOk result (λ s. string_bytes s ≡ violations_refused id.now (map violation_view violations.now)) }
+{
+    let value = violations_refused_value(alloc, id, violations)?;
+    text_of(alloc, &value)
 }
 
-fn record_shown(
-    alloc: Global,
-    id: &str,
-    form: &str,
-    bundle: &Bundle,
-) -> Result<String, AllocError> {
+fn record_value(alloc: Global, id: &str, form: &str, bundle: &Bundle) -> Result<Value, AllocError>
+    ensures { IfOk result (λ v. json_view v ≡ record_json id.now form.now (bundle_view bundle.now)) }
+{
     let bundle = write_bundle(alloc, bundle)?;
-    json!(in alloc; {"bundle": bundle, "form": form, "id": id, "ok": "get"})?.to_string(alloc)
+    json!(in alloc; {"bundle": bundle, "form": form, "id": id, "ok": "get"})
+}
+
+#[tactic(auto, unfolding(crate::specs::Replies::record_shown))]
+fn record_shown(alloc: Global, id: &str, form: &str, bundle: &Bundle) -> Result<String, AllocError>
+    ensures { IfOk result (λ s. string_bytes s ≡ record_shown id.now form.now (bundle_view bundle.now)) }
+{
+    let value = record_value(alloc, id, form, bundle)?;
+    text_of(alloc, &value)
 }

@@ -1,7 +1,18 @@
 //! Judging: the violations of a bundle's declared constraints.
+ghost use Rattle.std.specs.Prelude.{◌≡◌, ℕ, Some, IfOk, map, option_map};
+ghost use Rattle.fv_datum.specs.Lookup.{at_name};
+ghost use Rattle.fv_model.specs.Bundles.{Thing};
+ghost use Rattle.fv_model.specs.Types.{number_of};
+ghost use Rattle.fv_model.specs.Views.{types_view, field_view, bundle_view};
+ghost use Rattle.fv_engine.specs.Constraints.{constraint_name, message_of};
+ghost use Rattle.fv_engine.specs.SchemaView.{occurrence_view};
+ghost use Rattle.fv_engine.specs.ViolationView.{violation_view};
+ghost use Rattle.fv_engine.specs.Judging.{report_at, reported_in, reported_all};
+
+use crate::builtin::Builtin;
 use crate::declare::{Occurrence, Schema};
 use fv_datum::Datum;
-use fv_model::{Bundle, Field};
+use fv_model::{Bundle, Field, TypeId};
 use std::alloc::{AllocError, Global};
 
 /// A reported constraint (constraint violation).
@@ -21,33 +32,58 @@ pub(crate) struct Violation {
 fn violation_of(
     alloc: Global,
     number: usize,
-    occurrence: &Occurrence,
+    constraint: Builtin,
     field: &Field,
-) -> Result<Violation, AllocError> {
+) -> Result<Violation, AllocError>
+    ensures { IfOk result (λ v. violation_view v ≡ report_at number constraint (field_view field.now)) }
+{
     Ok(Violation {
         path: String::from_str(alloc, field.name())?,
-        constraint: occurrence.constraint.name(),
+        constraint: constraint.name(),
         occurrence: number,
-        message: occurrence.constraint.message(alloc)?,
+        message: constraint.message(alloc)?,
         value: field.datum().copy(alloc)?,
     })
 }
 
-/// The violations of a list of uses in an object with these fields, in the order of the uses. The
-/// first use has the number `first`.
-fn violations_of(
+/// The violation of the use of that number in an object of a type with these fields, if there is
+/// one.
+#[tactic(auto, unfolding(crate::specs::Judging::reported_in, crate::specs::Judging::reported_of))]
+fn judged(
     alloc: Global,
-    first: usize,
-    occurrences: &[Occurrence],
+    number: usize,
+    occurrence: &Occurrence,
+    type_id: TypeId,
     fields: &[Field],
-) -> Result<Vec<Violation>, AllocError> {
+) -> Result<Option<Violation>, AllocError>
+    ensures { IfOk result (λ o. option_map violation_view o ≡ reported_in number (occurrence_view occurrence.now) type_id.index (map field_view fields.now)) }
+{
+    if occurrence.type_id.index != type_id.index {
+        return Ok(None);
+    }
+    match fields.get(occurrence.field) {
+        None => Ok(None),
+        Some(field) => if occurrence.constraint.holds(field.datum()) {
+            Ok(None)
+        } else {
+            Ok(Some(violation_of(alloc, number, occurrence.constraint, field)?))
+        },
+    }
+}
+
+/// The violations in an object of a type with these fields, in the order of the uses' numbers.
+fn violations_in(
+    alloc: Global,
+    occurrences: &[Occurrence],
+    type_id: TypeId,
+    fields: &[Field],
+) -> Result<Vec<Violation>, AllocError>
+    ensures { IfOk result (λ v. map violation_view v.items ≡ reported_all 0 (map occurrence_view occurrences.now) type_id.index (map field_view fields.now)) }
+{
     let mut violations = Vec::new(alloc);
-    for (place, occurrence) in occurrences.iter().enumerate() {
-        if let Some(field) = fields.get(occurrence.field) {
-            if !occurrence.constraint.holds(field.datum()) {
-                let number = first.saturating_add(place);
-                violations.push(violation_of(alloc, number, occurrence, field)?)?;
-            }
+    for (number, occurrence) in occurrences.iter().enumerate() {
+        if let Some(violation) = judged(alloc, number, occurrence, type_id, fields)? {
+            violations.push(violation)?;
         }
     }
     Ok(violations)
@@ -60,12 +96,15 @@ pub(crate) fn validate(
     alloc: Global,
     schema: &Schema,
     bundle: &Bundle,
-) -> Result<Vec<Violation>, AllocError> {
+) -> Result<Vec<Violation>, AllocError>
+    ensures { IfOk result (λ v. (root : Thing) (type : ℕ) → at_name (bundle_view bundle.now).root (bundle_view bundle.now).objects ≡ Some root → number_of (types_view schema.now.types) root.kind ≡ Some type
+        → map violation_view v.items ≡ reported_all 0 (map occurrence_view schema.now.occurrences.items) type root.fields) }
+{
     let Some(root) = bundle.object(bundle.root()) else {
         return Ok(Vec::new(alloc));
     };
-    match schema.rules_of(root.type_name()) {
+    match schema.types.find(root.type_name()) {
         None => Ok(Vec::new(alloc)),
-        Some(rules) => violations_of(alloc, rules.first, &rules.occurrences, root.fields()),
+        Some(type_id) => violations_in(alloc, &schema.occurrences, type_id, root.fields()),
     }
 }

@@ -11,6 +11,7 @@ pub record Part : Type 0 where
   pub kind : List ℕ
   pub given : json.Members
 
+-- the root's name, and the objects in the order of their names
 pub record Drafted : Type 0 where
   pub root : List ℕ
   pub objects : List Part
@@ -20,6 +21,7 @@ abbrev pub pairs : json.Members → List (List ℕ × json.Data)
 pairs json.no_members = []
 pairs (json.member k d ms) = (k, d) ∷ pairs ms
 
+-- the same, none where there are no members
 abbrev pub pairs_of : Option json.Members → List (List ℕ × json.Data)
 pairs_of None = []
 pairs_of (Some ms) = pairs ms
@@ -38,20 +40,24 @@ abbrev pub given_in : Option json.Data → Option json.Members
 given_in None = Some json.no_members
 given_in (Some j) = as_object j
 
+-- the string that is the member of a name
 abbrev pub text_at : List ℕ → json.Data → Option (List ℕ)
 text_at name j = option_and_then as_str (get name j)
 
 -- `{"type":TYPE,"fields":{..}}`, `fields` may be missing
 abbrev pub part_of : List ℕ × json.Data → Option Part
 part_of m = if has_only (codes "type") (codes "fields") m.1
-    then option_and_then (λ kind. option_map (λ given. record { name = m.0; kind = kind; given = given }) (given_in (get (codes "fields") m.1))) (text_at (codes "type") m.1)
+    then option_and_then (λ kind. option_map (λ given. record { name = m.0; kind = kind; given = given }) (given_in (get
+    (codes "fields") m.1))) (text_at (codes "type") m.1)
     else None
 
+-- the objects that are the members of a JSON object
 abbrev pub parts_at : json.Data → Option (List Part)
 parts_at j = option_and_then (λ ms. each_some part_of (pairs ms)) (as_object j)
 
 -- `{"root":NAME,"objects":{..}}`
 abbrev pub draft_of : json.Data → Option Drafted
 draft_of j = if has_only (codes "root") (codes "objects") j
-    then option_and_then (λ root. option_map (λ parts. record { root = root; objects = parts }) (option_and_then parts_at (get (codes "objects") j))) (text_at (codes "root") j)
+    then option_and_then (λ root. option_map (λ parts. record { root = root; objects = parts }) (option_and_then parts_at (get
+    (codes "objects") j))) (text_at (codes "root") j)
     else None

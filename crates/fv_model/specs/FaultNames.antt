@@ -5,9 +5,11 @@ use Rattle.fv_model.specs.declared.fault.TypesFault.TheVariants as types
 use Rattle.fv_model.specs.declared.fault.BundleFault.{BundleFault}
 use Rattle.fv_model.specs.declared.fault.BundleFault.TheVariants.{Shape, BadName, RootMissing, UnknownType, UnknownField, WrongKind, TooLarge, RootType, Memory}
 
+-- the name of a fault of declared types
 abbrev pub types_fault_name : TypesFault → List ℕ
 types_fault_name types.TooLarge = codes "TooLarge"
 
+-- the name of a fault of a bundle
 abbrev pub bundle_fault_name : BundleFault → List ℕ
 bundle_fault_name Shape = codes "Shape"
 bundle_fault_name BadName = codes "BadName"
@@ -19,6 +21,7 @@ bundle_fault_name TooLarge = codes "TooLarge"
 bundle_fault_name RootType = codes "RootType"
 bundle_fault_name Memory = codes "Memory"
 
+-- a fault's code in replies, none for want of memory
 abbrev pub bundle_fault_code : BundleFault → List ℕ
 bundle_fault_code Shape = codes "B0"
 bundle_fault_code BadName = codes "B1"

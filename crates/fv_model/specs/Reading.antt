@@ -44,9 +44,11 @@ fails_in test (Some fields) given = test fields (pairs given)
 abbrev pub undeclared_in : DeclaredFields → List (List ℕ × json.Data) → Bool
 undeclared_in fields = list_any (λ g. not (is_some (at_name g.0 fields)))
 
+-- a field is given that the object's type doesn't have
 unfoldable pub has_undeclared : Declared → Part → Bool
 has_undeclared ts p = fails_in undeclared_in (at_name p.kind ts) p.given
 
+-- a field is given that its object's type doesn't have
 abbrev pub unknown_field : Declared → List Part → Bool
 unknown_field ts = list_any (has_undeclared ts)
 
@@ -55,12 +57,15 @@ abbrev pub misfits : Option TypeUse → json.Data → Bool
 misfits None j = false
 misfits (Some type) j = not (is_some (spelled (kind_of type) j))
 
+-- a given datum isn't of its field's type use
 abbrev pub misfits_in : DeclaredFields → List (List ℕ × json.Data) → Bool
 misfits_in fields = list_any (λ g. misfits (at_name g.0 fields) g.1)
 
+-- the same, of an object
 unfoldable pub has_misfit : Declared → Part → Bool
 has_misfit ts p = fails_in misfits_in (at_name p.kind ts) p.given
 
+-- a datum isn't of its field's type use
 abbrev pub wrong_kind : Declared → List Part → Bool
 wrong_kind ts = list_any (has_misfit ts)
 
@@ -69,16 +74,20 @@ abbrev pub is_long_text : Option (List ℕ) → Bool
 is_long_text None = false
 is_long_text (Some s) = nat_lt 65536 (length s)
 
+-- a text that is too long is given for a text field
 abbrev pub is_long : Option TypeUse → json.Data → Bool
 is_long (Some Text) j = is_long_text (as_str j)
 is_long _ j = false
 
+-- one of the given texts is too long
 abbrev pub long_in : DeclaredFields → List (List ℕ × json.Data) → Bool
 long_in fields = list_any (λ g. is_long (at_name g.0 fields) g.1)
 
+-- the same, of an object
 unfoldable pub has_long : Declared → Part → Bool
 has_long ts p = fails_in long_in (at_name p.kind ts) p.given
 
+-- a text is too long
 abbrev pub long_text : Declared → List Part → Bool
 long_text ts = list_any (has_long ts)
 
@@ -103,6 +112,7 @@ conditions ts asked d =
     ∷ (root_type asked d.root d.objects, RootType)
     ∷ []
 
+-- the first of them that holds
 abbrev pub draft_fault : Declared → Option (List ℕ) → Drafted → Option BundleFault
 draft_fault ts asked d = first (conditions ts asked d)
 
@@ -113,15 +123,19 @@ abbrev pub datum_at : TypeUse → Option json.Data → Data
 datum_at type None = null
 datum_at type (Some j) = unwrap_or (spelled (kind_of type) j) null
 
+-- a field with its datum among those that are given
 abbrev pub field_of : json.Members → List ℕ × TypeUse → List ℕ × Data
 field_of given f = (f.0, datum_at f.1 (get_member f.0 given))
 
+-- an object with its name: each field of its type, in the type's order
 abbrev pub object_of : Declared → Part → List ℕ × Thing
 object_of ts p = (p.name, record { kind = p.kind; fields = map (field_of p.given) (fields_of ts p.kind) })
 
+-- the bundle that a draft is
 abbrev pub bundle_of : Declared → Drafted → Bundled
 bundle_of ts d = record { root = d.root; objects = map (object_of ts) d.objects }
 
+-- the same of a draft, where the JSON has the form of a bundle
 abbrev pub judged : Declared → Option (List ℕ) → Option Drafted → Result Bundled BundleFault
 judged ts asked None = Err Shape
 judged ts asked (Some d) = unless_fault (draft_fault ts asked d) (bundle_of ts d)

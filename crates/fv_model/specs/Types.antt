@@ -13,6 +13,7 @@ use Rattle.fv_datum.specs.declared.kind.Kind.TheVariants as kind
 use Rattle.fv_model.specs.declared.type_use.TypeUse.{TypeUse}
 use Rattle.fv_model.specs.declared.type_use.TypeUse.TheVariants.{Text, Integer, Decimal, Boolean, Date, Instant}
 
+-- the kind of the data that a type use holds
 abbrev pub kind_of : TypeUse → Kind
 kind_of Text = kind.Text
 kind_of Integer = kind.Integer
@@ -33,15 +34,19 @@ Declared = List (List ℕ × DeclaredFields)
 abbrev pub TextMap : Type 0 → Type 0
 TextMap X = HashMap (String Global) X (BuildHasherDefault FoldHasher)
 
+-- a field with what it holds
 abbrev pub use_view : String Global × TypeUse → List ℕ × TypeUse
 use_view e = (string_bytes e.0, e.1)
 
+-- the fields that a map has
 abbrev pub fields_view : TextMap TypeUse → DeclaredFields
 fields_view m = map use_view m.entries
 
+-- a type with its fields
 abbrev pub type_view : String Global × TextMap TypeUse → List ℕ × DeclaredFields
 type_view e = (string_bytes e.0, fields_view e.1)
 
+-- the types that a map has
 abbrev pub declared_view : TextMap (TextMap TypeUse) → Declared
 declared_view m = map type_view m.entries
 
@@ -77,5 +82,6 @@ name_at ts n = unwrap_or (option_map (λ t. t.0) (slice_get ts n)) []
 abbrev pub fields_readable : DeclaredFields → Bool
 fields_readable = list_all (λ f. is_readable (kind_of f.1))
 
+-- each field of each type holds data of such a kind
 abbrev pub all_readable : Declared → Bool
 all_readable = list_all (λ t. fields_readable t.1)

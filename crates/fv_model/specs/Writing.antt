@@ -14,12 +14,17 @@ abbrev pub added : json.Members → List (List ℕ × Data) → json.Members
 added ms [] = ms
 added ms (f ∷ fs) = added (if is_null f.1 then ms else json.put f.0 (datum_json f.1) ms) fs
 
+-- an object's JSON: its fields that aren't null, and its type
 abbrev pub thing_json : Thing → json.Data
-thing_json t = json.object (json.member (codes "fields") (json.object (added json.no_members t.fields)) (json.member (codes "type") (json.string t.kind) json.no_members))
+thing_json t = json.object (json.member (codes "fields") (json.object (added json.no_members t.fields)) (json.member (codes "type")
+    (json.string t.kind) json.no_members))
 
+-- the members with each object put in
 abbrev pub objects_added : json.Members → List (List ℕ × Thing) → json.Members
 objects_added ms [] = ms
 objects_added ms (o ∷ os) = objects_added (json.put o.0 (thing_json o.1) ms) os
 
+-- a bundle's JSON: its objects, and its root's name
 abbrev pub bundle_json : Bundled → json.Data
-bundle_json b = json.object (json.member (codes "objects") (json.object (objects_added json.no_members b.objects)) (json.member (codes "root") (json.string b.root) json.no_members))
+bundle_json b = json.object (json.member (codes "objects") (json.object (objects_added json.no_members b.objects)) (json.member
+    (codes "root") (json.string b.root) json.no_members))

@@ -20,7 +20,8 @@ pub struct TypeId {
     pub index: usize,
 }
 
-/// The declared types by their names, each with a number.
+/// The declared types by their names, each with a number. The fields of a type have names of their
+/// own.
 #[derive(Drop)]
 pub struct Types {
     types: IndexMap<String, Fields>,
@@ -92,7 +93,7 @@ fn has_large(declared: &IndexMap<String, Fields>) -> bool
 }
 
 /// What the field of that name holds.
-pub fn use_in(fields: &Fields, name: &str) -> Option<TypeUse>
+pub(crate) fn use_in(fields: &Fields, name: &str) -> Option<TypeUse>
     ensures { result ≡ at_name name.now (fields_view fields.now) }
 {
     fields.get(name).copied()

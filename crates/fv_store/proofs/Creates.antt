@@ -111,8 +111,7 @@ versions old new declarations count has h =
     let rows : written.0 0 ≡ about_row 1 declarations ∷ [] = applied.rows ∙ ap (put_all (db 0)) news ∙ ap (λ l. put_all l (about_row 1 declarations ∷ [])) has.1 in
     let at : (t : ℕ) → new.now.trees t ≡ written.0 t = λ t. ap (λ (b : Database). b.trees t) now ∙ ap (λ (ts : Trees). ts t) trees in
     record {
-      schema = ap (λ (b : Database). b.schema) now;
-      about = at 0 ∙ rows;
+      tells = record { schema = ap (λ (b : Database). b.schema) now; about = at 0 ∙ rows };
       records = subst (λ rs. Spells rs no_records) (sym (at 1 ∙ applied.tables.1.0 one_is_not_zero ∙ has.2)) spells_none;
     }
 

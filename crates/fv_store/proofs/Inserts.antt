@@ -43,13 +43,13 @@ same_value e = cc
 
 pub inserts : (old new : State) (id : List ℕ) (e : Kept) (count : ℕ) (d : List ℕ) (m : Records) → Spelled old.now d m → m id ≡ None
     → Executes insert_text (Text id ∷ Text e.form ∷ Text (bundle_text e.bundle) ∷ []) old new (Ok count) → Spelled new.now d (with_record id e m)
-inserts old new id e count d m stood none h =
+inserts old new id e count d m spelled none h =
     let params = Text id ∷ Text e.form ∷ Text (bundle_text e.bundle) ∷ [] in
     let db = old.now.trees in
     let command = Insert 1 (Values insert_terms 4) in
-    let w = runs_as insert_text params old new store_schema stood.schema command insert_is insert_plain count h in
+    let w = runs_as insert_text params old new store_schema spelled.tells.schema command insert_is insert_plain count h in
     let text = statement_of insert_text (understood store_schema insert_text) in
-    let done = went (subst (λ s. Does old.step_limit (mode_of old) params (record old.now { schema = s }) text None command (Ok (w.tally, new.now))) stood.schema w.changed) in
+    let done = went (subst (λ s. Does old.step_limit (mode_of old) params (record old.now { schema = s }) text None command (Ok (w.tally, new.now))) spelled.tells.schema w.changed) in
     let now = ap (λ (p : Tally × Database). p.1) (same_value (went (went done.2).2).2) in
     let given = went done.1 in
     let written = went (went given.2).2 in
@@ -62,7 +62,6 @@ inserts old new id e count d m stood none h =
     let fresh : are_fresh (db 1) (record_row (next_rowid (db 1)) id e ∷ []) ≡ true = ap (are_fresh (db 1)) (sym news) ∙ applied.fresh in
     let at : (t : ℕ) → new.now.trees t ≡ written.0 t = λ t. ap (λ (b : Database). b.trees t) now ∙ ap (λ (ts : Trees). ts t) trees in
     record {
-      schema = ap (λ (b : Database). b.schema) now;
-      about = at 0 ∙ applied.tables.0 zero_is_not_one ∙ stood.about;
-      records = subst (λ rs. Spells rs (with_record id e m)) (sym (at 1 ∙ rows)) (spells_put (db 1) m (next_rowid (db 1)) id e stood.records none fresh);
+      tells = record { schema = ap (λ (b : Database). b.schema) now; about = at 0 ∙ applied.tables.0 zero_is_not_one ∙ spelled.tells.about };
+      records = subst (λ rs. Spells rs (with_record id e m)) (sym (at 1 ∙ rows)) (spells_put (db 1) m (next_rowid (db 1)) id e spelled.records none fresh);
     }

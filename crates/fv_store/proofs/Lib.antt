@@ -7,3 +7,8 @@ pub mod Creates
 pub mod Queries
 pub mod Steps
 pub mod Integers
+pub mod Members
+pub mod ReadBack
+pub mod Faults
+pub mod Openings
+pub mod Holdings

@@ -18,8 +18,8 @@ use Rattle.sqlite.proofs.Callers.{IsPlain, reads_as}
 use Rattle.sqlite_rules.specs.Lists.{Has}
 use Rattle.fv_store.specs.Tables.{store_schema}
 use Rattle.fv_store.specs.Records.{Kept, Records}
-use Rattle.fv_store.specs.Stands.{Spells, Spelled, about_row}
-use Rattle.fv_store.specs.Steps.{Keeps, shown_row, Answers, shown_about, ShowsAbout}
+use Rattle.fv_store.specs.Stands.{Spells, Spelled, Tells, Stays, about_row}
+use Rattle.fv_store.specs.Steps.{Keeps, IsSettled, shown_row, Answers, shown_about, ShowsAbout}
 use Rattle.fv_store.proofs.Texts.{find_text, find_query, find_is, find_plain, find_unlisted, read_text, read_query, read_is, read_plain, read_unlisted}
 use Rattle.fv_store.proofs.OneTable.{by_id, by_id_is, shown_sound, shown_complete}
 
@@ -49,7 +49,7 @@ module _ (db : Trees) (m : Records) (id : List ℕ) (rows : List Row) (s : Spell
 
 pub finds : (old new : State) (id : List ℕ) (rows : List Row) (d : List ℕ) (m : Records) → Spelled old.now d m → Shown find_text (Text id ∷ []) old new rows → Answers rows (m id)
 finds old new id rows d m was h =
-    let read = reads_as find_text (Text id ∷ []) old new store_schema was.schema (Select (record { lets = []; body = find_query }) (codes "form" ∷ codes "bundle" ∷ [])) find_is find_plain find_unlisted rows h in
+    let read = reads_as find_text (Text id ∷ []) old new store_schema was.tells.schema (Select (record { lets = []; body = find_query }) (codes "form" ∷ codes "bundle" ∷ [])) find_is find_plain find_unlisted rows h in
     answered old.now.trees m id rows was.records (read.answer Null) (m id) refl rows refl
 
 -- a query leaves the database as it was
@@ -61,8 +61,8 @@ still sql params old new rows plain h =
 
 -- ---- the row of `about`
 
-module _ (db : Trees) (d : List ℕ) (rows : List Row) (has : db 0 ≡ about_row 1 d ∷ []) (a : IsAnswer read_query (overlay db []) [] rows) where
-  about_sound : (x : Row) → Has rows x → x ≡ shown_about 1 d
+module _ (db : Trees) (version : ℕ) (d : List ℕ) (rows : List Row) (has : db 0 ≡ about_row version d ∷ []) (a : IsAnswer read_query (overlay db []) [] rows) where
+  about_sound : (x : Row) → Has rows x → x ≡ shown_about version d
   about_sound x h =
       let r = shown_sound 0 [] (col 1 2 ∷ col 1 3 ∷ []) [] (overlay db []) [] rows a x h in
       elim (subst (λ l. Has l r.0) has r.1) [
@@ -70,8 +70,8 @@ module _ (db : Trees) (d : List ℕ) (rows : List Row) (has : db 0 ≡ about_row
         | inr never ↦ absurd never
       ]
 
-  about_shown : (l : List Row) → rows ≡ l → ShowsAbout l d
-  about_shown [] same = subst (λ l. Has l (shown_about 1 d)) same (shown_complete 0 [] (col 1 2 ∷ col 1 3 ∷ []) [] (overlay db []) [] rows a (about_row 1 d) (subst (λ l. Has l (about_row 1 d)) (sym has) (inl refl)) refl)
+  about_shown : (l : List Row) → rows ≡ l → ShowsAbout l version d
+  about_shown [] same = subst (λ l. Has l (shown_about version d)) same (shown_complete 0 [] (col 1 2 ∷ col 1 3 ∷ []) [] (overlay db []) [] rows a (about_row version d) (subst (λ l. Has l (about_row version d)) (sym has) (inl refl)) refl)
   about_shown (x ∷ l) same = about_sound x (subst (λ k. Has k x) (sym same) (inl refl))
 
 -- ---- what a query leaves
@@ -113,7 +113,7 @@ module _ (sql : List ℕ) (params : Row) (old new : State) (plain : IsPlain (und
       → (d : List ℕ) (m : Records) → Keeps old d m → Keeps new d m
   query_keeps (Ok rows) ok err d m keeps =
       let was = (keeps clean (shown_open sql params old new rows.items ok)).0 in
-      unchanged_keeps old new d m (still sql params old new rows.items (subst (λ s. IsPlain (understood s sql)) (sym was.schema) plain) ok) keeps clean
+      unchanged_keeps old new d m (still sql params old new rows.items (subst (λ s. IsPlain (understood s sql)) (sym was.tells.schema) plain) ok) keeps clean
   query_keeps (Err e) ok err d m keeps = elim (refused_keeps sql params old new e err) [
     | inl same ↦ unchanged_keeps old new d m same keeps clean
     | inr back ↦ back_keeps old new d m back keeps clean
@@ -125,17 +125,28 @@ module _ (old new : State) (clean : HasCleanDisk old) where
   find_shown id (Err e) h = tt
   find_shown id (Ok rows) h = let live = shown_open _ _ old new rows.items h in (live, λ d m keeps. finds old new id rows.items d m (keeps clean live).0 h)
 
-  pub read_shown : (r : Result (Vec Row Global) Error) → IfOk r (λ rows. Shown read_text [] old new rows.items)
-      → IfOk r (λ rows. IsTrue old.is_open × ((d : List ℕ) (m : Records) → Keeps old d m → ShowsAbout rows.items d))
-  read_shown (Err e) h = tt
-  read_shown (Ok rows) h =
-      let live = shown_open _ _ old new rows.items h in (
-        live,
-        λ d m keeps.
-            let was = (keeps clean live).0 in
-            let read = reads_as read_text [] old new store_schema was.schema (Select (record { lets = []; body = read_query }) (codes "version" ∷ codes "declarations" ∷ [])) read_is read_plain read_unlisted rows.items h in
-            about_shown old.now.trees d rows.items was.about (read.answer Null) rows.items refl,
-      )
+pub read_shown : (old new : State) (r : Result (Vec Row Global) Error) → IfOk r (λ rows. Shown read_text [] old new rows.items)
+    → IfOk r (λ rows. IsTrue old.is_open × ((version : ℕ) (d : List ℕ) → Tells old.now version d → ShowsAbout rows.items version d))
+read_shown old new (Err e) h = tt
+read_shown old new (Ok rows) h = (
+  shown_open _ _ old new rows.items h,
+  λ version d tells.
+      let read = reads_as read_text [] old new store_schema tells.schema (Select (record { lets = []; body = read_query }) (codes "version" ∷ codes "declarations" ∷ [])) read_is read_plain read_unlisted rows.items h in
+      about_shown old.now.trees version d rows.items tells.about (read.answer Null) rows.items refl,
+)
+
+-- a plain query leaves a database as it was where nothing waits to be committed
+module _ (old new : State) (clean : HasCleanDisk old) (settled : IsSettled old) where
+  same_stays : IsUnchanged old new → Stays old new
+  same_stays same _ live = (clean, same.0.was_open, same.0.now_is, same.0.committed_is)
+
+  back_stays : IsRolledBack old new → Stays old new
+  back_stays back _ live = let undone = back.undone live in let was = back.was_open live in (clean, was, undone.0 ∙ sym (settled was), undone.1)
+
+  pub query_stays : (sql : List ℕ) (params : Row) → IsPlain (understood old.now.schema sql) → (r : Result (Vec Row Global) Error) → IfOk r (λ rows. Shown sql params old new rows.items)
+      → IfErr r (FailsToQuery sql params old new) → Stays old new
+  query_stays sql params plain (Ok rows) ok err = same_stays (still sql params old new rows.items plain ok)
+  query_stays sql params plain (Err e) ok err = elim (refused_keeps sql params old new e err) [ inl same ↦ same_stays same | inr back ↦ back_stays back ]
 
 pub query_open : (sql : List ℕ) (params : Row) (old new : State) (r : Result (Vec Row Global) Error) → IfOk r (λ rows. Shown sql params old new rows.items) → IfErr r (FailsToQuery sql params old new)
     → IsTrue new.is_open → IsTrue old.is_open
@@ -152,6 +163,6 @@ pub some_first : (rows : List Row) (o : Option Kept) (row : Row) → Some row �
 some_first [] o row some h = absurd cc
 some_first (r ∷ rows) o row some h = let same : row ≡ r = cc in (h.0, h.1, same ∙ h.2)
 
-pub about_first : (rows : List Row) (d : List ℕ) (row : Row) → Some row ≡ slice_get rows 0 → ShowsAbout rows d → row ≡ shown_about 1 d
-about_first [] d row some h = absurd cc
-about_first (r ∷ rows) d row some h = let same : row ≡ r = cc in same ∙ h
+pub about_first : (rows : List Row) (version : ℕ) (d : List ℕ) (row : Row) → Some row ≡ slice_get rows 0 → ShowsAbout rows version d → row ≡ shown_about version d
+about_first [] version d row some h = absurd cc
+about_first (r ∷ rows) version d row some h = let same : row ≡ r = cc in same ∙ h

@@ -54,13 +54,13 @@ module _ (db : Trees) (m : Records) (id : List ℕ) (rows : List Row) (s : Spell
 
 pub removes : (old new : State) (id : List ℕ) (count : ℕ) (d : List ℕ) (m : Records) → Spelled old.now d m
     → Executes remove_text (Text id ∷ []) old new (Ok count) → Spelled new.now d (without_record id m)
-removes old new id count d m stood h =
+removes old new id count d m spelled h =
     let params = Text id ∷ [] in
     let db = old.now.trees in
     let command = Delete 1 (record { lets = []; body = remove_query }) in
-    let w = runs_as remove_text params old new store_schema stood.schema command remove_is remove_plain count h in
+    let w = runs_as remove_text params old new store_schema spelled.tells.schema command remove_is remove_plain count h in
     let text = statement_of remove_text (understood store_schema remove_text) in
-    let done = went (subst (λ s. Does old.step_limit (mode_of old) params (record old.now { schema = s }) text None command (Ok (w.tally, new.now))) stood.schema w.changed) in
+    let done = went (subst (λ s. Does old.step_limit (mode_of old) params (record old.now { schema = s }) text None command (Ok (w.tally, new.now))) spelled.tells.schema w.changed) in
     let now = ap (λ (p : Tally × Database). p.1) (same_value (went (went done.2).2).2) in
     let given = went done.1 in
     let written = went given.2 in
@@ -69,7 +69,6 @@ removes old new id count d m stood h =
     let applied = one_step store_schema _ db written.0 edit refl written.1 in
     let at : (t : ℕ) → new.now.trees t ≡ written.0 t = λ t. ap (λ (b : Database). b.trees t) now ∙ ap (λ (ts : Trees). ts t) trees in
     record {
-      schema = ap (λ (b : Database). b.schema) now;
-      about = at 0 ∙ applied.tables.0 zero_is_not_one ∙ stood.about;
-      records = subst (λ rs. Spells rs (without_record id m)) (sym (at 1 ∙ applied.rows)) (spells_removed db m id given.0 stood.records (given.1.answer Null));
+      tells = record { schema = ap (λ (b : Database). b.schema) now; about = at 0 ∙ applied.tables.0 zero_is_not_one ∙ spelled.tells.about };
+      records = subst (λ rs. Spells rs (without_record id m)) (sym (at 1 ∙ applied.rows)) (spells_removed db m id given.0 spelled.records (given.1.answer Null));
     }

@@ -6,6 +6,7 @@ use Rattle.fv_store.specs.declared.change.Change.{Change}
 use Rattle.fv_store.specs.declared.change.Change.TheVariants.{Put}
 use Rattle.fv_store.specs.Records.{Records, Roots, Fits, with_record}
 
+-- after one change: what is put is the record of its id
 abbrev pub after : Change → Records → Records
 after (Put id form bundle) m = with_record (string_bytes id) (record { form = string_bytes form; bundle = bundle_view bundle }) m
 
@@ -18,6 +19,7 @@ after_all (c ∷ cs) m = after_all cs (after c m)
 abbrev pub ChangeFits : Declared → Roots → Change → Type 0
 ChangeFits types roots (Put id form bundle) = Fits types roots (record { form = string_bytes form; bundle = bundle_view bundle })
 
+-- the same of each change
 abbrev pub ChangesFit : Declared → Roots → List Change → Type 0
 ChangesFit types roots [] = Unit {0}
 ChangesFit types roots (c ∷ cs) = ChangeFits types roots c × ChangesFit types roots cs

@@ -38,6 +38,12 @@ abbrev pub open_fault_of : Error → OpenStoreFault
 open_fault_of (SqliteFailure OutOfMemory) = refusal.Memory
 open_fault_of _ = refusal.Store
 
+-- a fault of what is stored beside the tables
+abbrev pub IsAboutFault : OpenStoreFault → Type 0
+IsAboutFault refusal.OtherVersion = Unit {0}
+IsAboutFault refusal.OtherDeclarations = Unit {0}
+IsAboutFault _ = ⊥
+
 -- of what is stored beside the tables: the version first, and then the declarations
 abbrev pub about_fault : ℕ → List ℕ → List ℕ → Option OpenStoreFault
 about_fault version stored given = first ((not (version == 1), refusal.OtherVersion) ∷ (not (bytes_eq stored given), refusal.OtherDeclarations) ∷ [])

@@ -17,18 +17,25 @@ pub record Kept : Type 0 where
 abbrev pub Records : Type 0
 Records = List ℕ → Option Kept
 
+-- no id has a record
 abbrev pub no_records : Records
 no_records id = None
 
+-- the id has this record, and the others are as before
 abbrev pub with_record : List ℕ → Kept → Records → Records
 with_record id k m other = if bytes_eq other id then Some k else m other
 
+-- the id has no record, and the others are as before
 abbrev pub without_record : List ℕ → Records → Records
 without_record id m other = if bytes_eq other id then None else m other
 
 -- the text that a bundle is kept as: its JSON with no space
-abbrev pub bundle_text : Bundled → List ℕ
+unfoldable pub bundle_text : Bundled → List ℕ
 bundle_text b = compact_text (bundle_json b)
+
+-- a record with its bundle's text
+abbrev pub kept_text : Kept → List ℕ × List ℕ
+kept_text k = (k.form, bundle_text k.bundle)
 
 -- the type of each form's root
 abbrev pub Roots : Type 0

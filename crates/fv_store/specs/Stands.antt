@@ -35,10 +35,14 @@ pub record Spells (rows : List Row) (m : Records) : Type 0 where
   -- no two have one id
   pub once : (a b : Row) → Has rows a → Has rows b → column a 1 ≡ column b 1 → a ≡ b
 
--- the tables of version 1, with one row of `about`, and the rows of the records
-pub record Spelled (db : Database) (declarations : List ℕ) (m : Records) : Type 0 where
+-- these tables, with one row of `about`: this version and these declarations
+pub record Tells (db : Database) (version : ℕ) (declarations : List ℕ) : Type 0 where
   pub schema : db.schema ≡ store_schema
-  pub about : db.trees 0 ≡ about_row 1 declarations ∷ []
+  pub about : db.trees 0 ≡ about_row version declarations ∷ []
+
+-- the tables of version 1, with the declarations and the rows of the records
+pub record Spelled (db : Database) (declarations : List ℕ) (m : Records) : Type 0 where
+  pub tells : Tells db 1 declarations
   pub records : Spells (db.trees 1) m
 
 -- The database stands for the records under these declarations, with these types and roots of forms: it spells them, and each fits.
@@ -57,3 +61,11 @@ IsBlank db = db.schema ≡ no_schema
 -- the records that a database hands to a store that is opened over it: none where it is blank, else those that it stands for
 abbrev pub Opens : State → List ℕ → Declared → Roots → Records → Type 0
 Opens s declarations types roots m = (HasCleanDisk s → IsTrue s.is_open → IsBlank s.now × (m ≡ no_records)) ⊎ Holds s declarations types roots m
+
+-- the database is blank or has these tables
+abbrev pub IsKnown : Database → Type 0
+IsKnown db = IsBlank db ⊎ (db.schema ≡ store_schema)
+
+-- the database is as it was, unless the disk has lied or has shut the connection
+abbrev pub Stays : State → State → Type 0
+Stays old new = HasCleanDisk new → IsTrue new.is_open → HasCleanDisk old × IsTrue old.is_open × (new.now ≡ old.now) × (new.committed ≡ old.committed)

@@ -7,7 +7,9 @@ use Rattle.sqlite.specs.Effect.{Database}
 use Rattle.sqlite.specs.State.{State, HasCleanDisk}
 use Rattle.fv_store.specs.Records.{Kept, Records, no_records, bundle_text}
 use Rattle.fv_store.specs.Tables.{no_schema, about_table, store_schema}
-use Rattle.fv_store.specs.Stands.{Spelled}
+use Rattle.fv_store.specs.Faults.{about_fault, IsAboutFault}
+use Rattle.fv_store.specs.Stands.{Tells, Spelled, IsBlank}
+use Rattle.fv_store.specs.declared.fault.OpenStoreFault.{OpenStoreFault}
 
 -- a statement was run inside a transaction, which is still open: nothing is committed, and the database has changed so
 pub record Advances (old new : State) (Change : Database → Database → Type 0) : Type 0 where
@@ -20,9 +22,11 @@ pub record Advances (old new : State) (Change : Database → Database → Type 0
 abbrev pub Makes : (Records → Type 0) → (Records → Records) → Database → Database → Type 0
 Makes Applies change old new = (d : List ℕ) (m : Records) → Spelled old d m → Applies m → Spelled new d (change m)
 
+-- to any records
 abbrev pub Always : Records → Type 0
 Always m = Unit {0}
 
+-- to records with none of that id
 abbrev pub Lacks : List ℕ → Records → Type 0
 Lacks id m = m id ≡ None
 
@@ -30,12 +34,15 @@ Lacks id m = m id ≡ None
 abbrev pub Turns : (Database → Type 0) → (Database → Type 0) → Database → Database → Type 0
 Turns From To old new = From old → To new
 
+-- `about` is made, and has no row
 abbrev pub HasAbout : Database → Type 0
 HasAbout db = (db.schema ≡ created no_schema about_table) × (db.trees 0 ≡ [])
 
+-- both tables are made, and have no row
 abbrev pub HasTables : Database → Type 0
 HasTables db = (db.schema ≡ store_schema) × (db.trees 0 ≡ []) × (db.trees 1 ≡ [])
 
+-- both tables are made, with the declarations and no record
 abbrev pub HasNone : List ℕ → Database → Type 0
 HasNone declarations db = Spelled db declarations no_records
 
@@ -43,9 +50,9 @@ HasNone declarations db = Spelled db declarations no_records
 abbrev pub Keeps : State → List ℕ → Records → Type 0
 Keeps s declarations m = HasCleanDisk s → IsTrue s.is_open → Spelled s.now declarations m × Spelled s.committed declarations m
 
--- the database is as it was, unless the disk has lied or has shut the connection
-abbrev pub Stays : State → State → Type 0
-Stays old new = HasCleanDisk new → IsTrue new.is_open → HasCleanDisk old × IsTrue old.is_open × (new.now ≡ old.now) × (new.committed ≡ old.committed)
+-- nothing waits to be committed
+abbrev pub IsSettled : State → Type 0
+IsSettled s = IsTrue s.is_open → s.now ≡ s.committed
 
 -- what a query shows of a record
 abbrev pub shown_row : Kept → Row
@@ -60,7 +67,16 @@ Answers (row ∷ rows) o = (k : Kept) × (o ≡ Some k) × (row ≡ shown_row k)
 abbrev pub shown_about : ℕ → List ℕ → Row
 shown_about version declarations = Int (pos version) ∷ Raw declarations ∷ []
 
--- the first row shows version 1 and the declarations
-abbrev pub ShowsAbout : List Row → List ℕ → Type 0
-ShowsAbout [] declarations = ⊥
-ShowsAbout (row ∷ rows) declarations = row ≡ shown_about 1 declarations
+-- the first row shows the version and the declarations
+abbrev pub ShowsAbout : List Row → ℕ → List ℕ → Type 0
+ShowsAbout [] version declarations = ⊥
+ShowsAbout (row ∷ rows) version declarations = row ≡ shown_about version declarations
+
+-- the row of `about`, where there is one, is taken
+abbrev pub IsTaken : State → List ℕ → Type 0
+IsTaken s given = (version : ℕ) (stored : List ℕ) → Tells s.now version stored → about_fault version stored given ≡ None
+
+-- a refusal for the row of `about` comes where that is its first fault, and never for a blank database
+abbrev pub IsCaused : State → List ℕ → OpenStoreFault → Type 0
+IsCaused s given e = IsAboutFault e → IsTrue s.is_open × (IsBlank s.now → ⊥) × ((version : ℕ) (stored : List ℕ)
+    → Tells s.now version stored → about_fault version stored given ≡ Some e)

@@ -2,9 +2,10 @@
 use Rattle.std.specs.Prelude.{ℕ, List, string_bytes}
 use Rattle.fv_model.specs.Views.{bundle_view}
 use Rattle.fv_store.specs.declared.stored.Stored.{Stored}
-use Rattle.fv_store.specs.declared.stored.Shown.{Shown}
+use Rattle.fv_store.specs.declared.shown.Shown.{Shown}
 use Rattle.fv_store.specs.Records.{Kept}
 
+-- the record that it is
 abbrev pub stored_view : Stored → Kept
 stored_view s = record { form = string_bytes s.form; bundle = bundle_view s.bundle }
 

@@ -12,16 +12,19 @@ use Rattle.sqlite.specs.Change.{created}
 use Rattle.sqlite.specs.Kind.{Kind}
 use Rattle.sqlite.specs.Kind.TheVariants.{Integer, Text, Any}
 
+-- how the table of the version and the declarations is made
 abbrev pub about_text : List ℕ
 about_text = codes "CREATE TABLE about (one INTEGER PRIMARY KEY CHECK (one = 1), version INTEGER NOT NULL, declarations BLOB NOT NULL)"
 
+-- how the table of records is made
 abbrev pub record_text : List ℕ
 record_text = codes "CREATE TABLE record (id TEXT NOT NULL PRIMARY KEY, form TEXT NOT NULL, bundle TEXT NOT NULL)"
 
+-- a column with no default
 abbrev pub column_of : List ℕ → Kind → Bool → Column
 column_of name kind required = record { name = name; kind = kind; is_strict = false; not_null = required; default = Null; collation = Binary }
 
--- the version of the tables, and the declarations
+-- the first table: the version of the tables, and the declarations
 abbrev pub about_table : Table
 about_table = record {
   name = codes "about";
@@ -38,7 +41,7 @@ about_table = record {
   is_counted = false;
 }
 
--- a row for each record
+-- the second: a row for each record
 abbrev pub record_table : Table
 record_table = record {
   name = codes "record";

@@ -4,7 +4,9 @@ ghost use Rattle.sqlite.specs.State.{HasCleanDisk};
 ghost use Rattle.sqlite.specs.Held.{state};
 ghost use Rattle.fv_datum.specs.Answers.{Gives, unless_fault};
 ghost use Rattle.fv_store.specs.Faults.{about_fault};
-ghost use Rattle.fv_store.specs.Steps.{Keeps, ShowsAbout, shown_about};
+ghost use Rattle.fv_store.specs.Stands.{Tells, Stays};
+ghost use Rattle.fv_store.specs.Steps.{IsSettled, ShowsAbout, shown_about};
+ghost use Rattle.fv_store.specs.Tables.{store_schema};
 
 use crate::fault::OpenStoreFault;
 use sqlite::{Alter, Connection, Error, Row};
@@ -19,8 +21,8 @@ pub(crate) fn read_about<S: Alter>(conn: &mut Connection<S>) -> Result<Vec<Row>,
     ensures mode { conn.old.in_transaction ≡ false → conn.new.in_transaction ≡ false }
     ensures clean { HasCleanDisk (state S.Store conn.new) → HasCleanDisk (state S.Store conn.old) }
     ensures was_open { HasCleanDisk (state S.Store conn.new) → IsTrue (state S.Store conn.new).is_open → IsTrue (state S.Store conn.old).is_open }
-    ensures shown { HasCleanDisk (state S.Store conn.new) → IfOk result (λ rows. IsTrue (state S.Store conn.old).is_open × ((d : _) (m : _) → Keeps (state S.Store conn.old) d m → ShowsAbout rows.items d)) }
-    ensures stays { (d : _) (m : _) → Keeps (state S.Store conn.old) d m → Keeps (state S.Store conn.new) d m }
+    ensures shown { HasCleanDisk (state S.Store conn.new) → IfOk result (λ rows. IsTrue (state S.Store conn.old).is_open × ((version : _) (d : _) → Tells (state S.Store conn.old).now version d → ShowsAbout rows.items version d)) }
+    ensures untouched { IsSettled (state S.Store conn.old) → (state S.Store conn.old).now.schema ≡ store_schema → Stays (state S.Store conn.old) (state S.Store conn.new) }
 {
     conn.query_all(READ_ABOUT, &[])
 }

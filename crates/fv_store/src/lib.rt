@@ -7,6 +7,7 @@ mod changes;
 mod fault;
 mod opening;
 mod records;
+mod shown;
 mod store;
 mod stored;
 mod tables;

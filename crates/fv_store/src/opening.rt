@@ -3,8 +3,9 @@ ghost use Rattle.std.specs.Prelude.{◌≡◌, ◌≢◌, ◌↔◌, false, IsTr
 ghost use Rattle.sqlite.specs.State.{HasCleanDisk};
 ghost use Rattle.sqlite.specs.Held.{state};
 ghost use Rattle.fv_store.specs.Records.{no_records};
-ghost use Rattle.fv_store.specs.Stands.{IsBlank};
-ghost use Rattle.fv_store.specs.Steps.{Keeps, Stays};
+ghost use Rattle.fv_store.specs.Stands.{IsBlank, IsKnown, Stays};
+ghost use Rattle.fv_store.specs.Steps.{Keeps, IsSettled, IsTaken, IsCaused};
+ghost use Rattle.fv_store.specs.Tables.{store_schema};
 
 use crate::about::{agrees, read_about};
 use crate::fault::OpenStoreFault;
@@ -22,7 +23,7 @@ fn is_blank<S: Alter>(conn: &Connection<S>) -> bool
 /// Makes the tables in one transaction.
 fn create<S: Alter>(conn: &mut Connection<S>, declarations: &[u8]) -> Result<(), Error>
     requires mode { conn.old.in_transaction ≡ false }
-    requires settled { IsTrue (state S.Store conn.old).is_open → (state S.Store conn.old).now ≡ (state S.Store conn.old).committed }
+    requires settled { IsSettled (state S.Store conn.old) }
     ensures mode { conn.new.in_transaction ≡ false }
     ensures clean { HasCleanDisk (state S.Store conn.new) → HasCleanDisk (state S.Store conn.old) }
     ensures was_open { HasCleanDisk (state S.Store conn.new) → IsTrue (state S.Store conn.new).is_open → IsTrue (state S.Store conn.old).is_open }
@@ -40,7 +41,9 @@ fn compare<S: Alter>(conn: &mut Connection<S>, declarations: &[u8]) -> Result<()
     ensures mode { conn.old.in_transaction ≡ false → conn.new.in_transaction ≡ false }
     ensures clean { HasCleanDisk (state S.Store conn.new) → HasCleanDisk (state S.Store conn.old) }
     ensures was_open { HasCleanDisk (state S.Store conn.new) → IsTrue (state S.Store conn.new).is_open → IsTrue (state S.Store conn.old).is_open }
-    ensures stays { (d : _) (m : _) → Keeps (state S.Store conn.old) d m → Keeps (state S.Store conn.new) d m }
+    ensures untouched { IsSettled (state S.Store conn.old) → (state S.Store conn.old).now.schema ≡ store_schema → Stays (state S.Store conn.old) (state S.Store conn.new) }
+    ensures taken { HasCleanDisk (state S.Store conn.new) → OnOk result (IsTaken (state S.Store conn.old) declarations.now) }
+    ensures cause { HasCleanDisk (state S.Store conn.new) → (IsBlank (state S.Store conn.old).now → ⊥) → IfErr result (IsCaused (state S.Store conn.old) declarations.now) }
 {
     let rows = read_about(conn)?;
     match rows.first() {
@@ -57,6 +60,12 @@ pub(crate) fn settle<S: Alter>(
 ) -> Result<(), OpenStoreFault>
     ensures mode { OnOk result (conn.new.in_transaction ≡ false) }
     ensures clean { HasCleanDisk (state S.Store conn.new) → HasCleanDisk (state S.Store conn.old) }
+    ensures was_open { HasCleanDisk (state S.Store conn.new) → IsTrue (state S.Store conn.new).is_open → IsTrue (state S.Store conn.old).is_open }
+    ensures fresh { OnOk result (IsBlank (state S.Store conn.old).now → Keeps (state S.Store conn.new) declarations.now no_records) }
+    ensures kept { OnOk result ((state S.Store conn.old).now.schema ≡ store_schema → Stays (state S.Store conn.old) (state S.Store conn.new)) }
+    ensures taken { HasCleanDisk (state S.Store conn.new) → OnOk result (IsTaken (state S.Store conn.old) declarations.now) }
+    ensures untouched { OnErr result (IsKnown (state S.Store conn.old).now → Stays (state S.Store conn.old) (state S.Store conn.new)) }
+    ensures cause { HasCleanDisk (state S.Store conn.new) → IfErr result (IsCaused (state S.Store conn.old) declarations.now) }
 {
     if !conn.is_autocommit() {
         return Err(OpenStoreFault::Store);

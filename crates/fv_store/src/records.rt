@@ -3,9 +3,11 @@ ghost use Rattle.std.specs.Prelude.{◌≡◌, false, IsTrue, IfOk, OnOk, string
 ghost use Rattle.sqlite.specs.State.{HasCleanDisk, KeepsCommit};
 ghost use Rattle.sqlite.specs.Held.{state};
 ghost use Rattle.fv_model.specs.Views.{bundle_view};
-ghost use Rattle.fv_store.specs.Records.{Kept, with_record, without_record, bundle_text};
+ghost use Rattle.fv_store.specs.Records.{Kept, with_record, without_record, bundle_text, kept_text};
 ghost use Rattle.fv_store.specs.Steps.{Advances, Makes, Always, Lacks, Keeps, Answers};
+ghost use Rattle.fv_store.specs.Stored.{shown_view};
 
+use crate::shown::{Shown, shown_in};
 use crate::text::text_of;
 use fv_model::Bundle;
 use sqlite::{Alter, Connection, Error, Row, Transaction, params};
@@ -67,7 +69,7 @@ pub(crate) fn put_record<S: Alter>(
 }
 
 /// The rows that show the record of the id: one, or none.
-pub(crate) fn find_record<S: Alter>(conn: &mut Connection<S>, id: &str) -> Result<Vec<Row>, Error>
+fn find_record<S: Alter>(conn: &mut Connection<S>, id: &str) -> Result<Vec<Row>, Error>
     ensures mode { conn.old.in_transaction ≡ false → conn.new.in_transaction ≡ false }
     ensures clean { HasCleanDisk (state S.Store conn.new) → HasCleanDisk (state S.Store conn.old) }
     ensures was_open { HasCleanDisk (state S.Store conn.new) → IsTrue (state S.Store conn.new).is_open → IsTrue (state S.Store conn.old).is_open }
@@ -75,4 +77,19 @@ pub(crate) fn find_record<S: Alter>(conn: &mut Connection<S>, id: &str) -> Resul
     ensures stays { (d : _) (m : _) → Keeps (state S.Store conn.old) d m → Keeps (state S.Store conn.new) d m }
 {
     conn.query_all(FIND_RECORD, params![id])
+}
+
+/// What the database shows of the record of the id, if there is one.
+pub(crate) fn find<S: Alter>(conn: &mut Connection<S>, id: &str) -> Result<Option<Shown>, Error>
+    ensures mode { conn.old.in_transaction ≡ false → conn.new.in_transaction ≡ false }
+    ensures clean { HasCleanDisk (state S.Store conn.new) → HasCleanDisk (state S.Store conn.old) }
+    ensures was_open { HasCleanDisk (state S.Store conn.new) → IsTrue (state S.Store conn.new).is_open → IsTrue (state S.Store conn.old).is_open }
+    ensures found { HasCleanDisk (state S.Store conn.new) → IfOk result (λ o. IsTrue (state S.Store conn.old).is_open × ((d : _) (m : _) → Keeps (state S.Store conn.old) d m → option_map shown_view o ≡ option_map kept_text (m id.now))) }
+    ensures stays { (d : _) (m : _) → Keeps (state S.Store conn.old) d m → Keeps (state S.Store conn.new) d m }
+{
+    let rows = find_record(conn, id)?;
+    match rows.first() {
+        Some(row) => Ok(Some(shown_in(row)?)),
+        None => Ok(None),
+    }
 }

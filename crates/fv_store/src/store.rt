@@ -1,18 +1,22 @@
 //! The store.
-ghost use Rattle.std.specs.Prelude.{◌≡◌, IfOk, IfErr, true, false};
+ghost use Rattle.std.specs.Prelude.{◌≡◌, ◌≢◌, IsTrue, IfOk, IfErr, OnOk, OnErr, option_map, true, Some, None};
 ghost use Rattle.sqlite.specs.State.{HasCleanDisk};
 ghost use Rattle.sqlite.specs.Held.{state};
 ghost use Rattle.fv_model.specs.Types.{all_readable};
 ghost use Rattle.fv_model.specs.Views.{types_view};
+ghost use Rattle.fv_store.specs.Changes.{after_all, ChangesFit};
+ghost use Rattle.fv_store.specs.Stands.{Holds, Opens, IsKnown, Stays, Tells};
+ghost use Rattle.fv_store.specs.Faults.{about_fault, IsAboutFault};
+ghost use Rattle.fv_store.specs.Stored.{stored_view};
 
 use crate::change::Change;
 use crate::changes;
 use crate::fault::{OpenStoreFault, StoreFault};
 use crate::opening::settle;
-use crate::records::find_record;
-use crate::stored::{Shown, Stored, shown_in, stored_from};
+use crate::records::find;
+use crate::stored::{Stored, stored_if};
 use fv_model::Types;
-use sqlite::{Alter, Connection, Error};
+use sqlite::{Alter, Connection};
 use std::alloc::Global;
 use std::marker::Model;
 
@@ -54,6 +58,15 @@ impl<S: Alter + Drop> Store<S> {
         declarations: &[u8],
     ) -> Result<Store<S>, (OpenStoreFault, Connection<S>)>
         ensures clean { IfOk result (λ s. HasCleanDisk (state S.Store s) → HasCleanDisk (state S.Store connection)) }
+        ensures opened { IfOk result (λ s. (types : _) (roots : _) (m : _) → Opens (state S.Store connection) declarations.now types roots m → Holds (state S.Store s) declarations.now types roots m) }
+        ensures taken { IfOk result (λ s. HasCleanDisk (state S.Store s) → (version : _) (d : _) → Tells (state S.Store connection).now version d → about_fault version d declarations.now ≡ None) }
+        ensures same { IfOk result (λ s. HasCleanDisk (state S.Store s) → IsTrue (state S.Store s).is_open → (d : _) (types : _) (roots : _) (m : _) → Holds (state S.Store connection) d types roots m → d ≡ declarations.now) }
+        ensures refused { IfErr result (λ e. IsAboutFault e.0 → HasCleanDisk (state S.Store e.1) → (version : _) (d : _) → Tells (state S.Store connection).now version d → about_fault version d declarations.now ≡ Some e.0) }
+        ensures other_version { IfErr result (λ e. e.0 ≡ OpenStoreFault.OtherVersion → HasCleanDisk (state S.Store e.1) → (d : _) (types : _) (roots : _) (m : _) → Opens (state S.Store connection) d types roots m → ⊥) }
+        ensures other_declarations { IfErr result (λ e. e.0 ≡ OpenStoreFault.OtherDeclarations → HasCleanDisk (state S.Store e.1) → (d : _) (types : _) (roots : _) (m : _) → Opens (state S.Store connection) d types roots m → d ≢ declarations.now) }
+        ensures back { IfErr result (λ e. HasCleanDisk (state S.Store e.1) → HasCleanDisk (state S.Store connection)) }
+        ensures untouched { IfErr result (λ e. IsKnown (state S.Store connection).now → Stays (state S.Store connection) (state S.Store e.1)) }
+        ensures stays { IfErr result (λ e. (d : _) (types : _) (roots : _) (m : _) → Opens (state S.Store connection) d types roots m → Opens (state S.Store e.1) d types roots m) }
     {
         match settle(&mut connection, declarations) {
             Ok(()) => Ok(Store { connection }),
@@ -74,11 +87,11 @@ impl<S: Alter> Store<S> {
     ) -> Result<Option<Stored>, StoreFault>
         requires { all_readable (types_view types.now) ≡ true }
         ensures clean { HasCleanDisk (state S.Store self.new) → HasCleanDisk (state S.Store self.old) }
+        ensures found { HasCleanDisk (state S.Store self.new) → IfOk result (λ o. (d : _) (roots : _) (m : _) → Holds (state S.Store self.old) d (types_view types.now) roots m → option_map stored_view o ≡ m id.now) }
+        ensures stays { (d : _) (declared : _) (roots : _) (m : _) → Holds (state S.Store self.old) d declared roots m → Holds (state S.Store self.new) d declared roots m }
     {
-        match find(&mut self.connection, id)? {
-            Some(shown) => Ok(Some(stored_from(alloc, types, shown)?)),
-            None => Ok(None),
-        }
+        let shown = find(&mut self.connection, id)?;
+        stored_if(alloc, types, shown)
     }
 
     /// Makes the changes in order, all of them or none.
@@ -86,27 +99,18 @@ impl<S: Alter> Store<S> {
     /// Refused by `Store` and `Memory` at any place.
     pub fn commit(&mut self, alloc: Global, changes: &[Change]) -> Result<(), StoreFault>
         ensures clean { HasCleanDisk (state S.Store self.new) → HasCleanDisk (state S.Store self.old) }
+        ensures done { OnOk result ((d : _) (types : _) (roots : _) (m : _) → ChangesFit types roots changes.now → Holds (state S.Store self.old) d types roots m → Holds (state S.Store self.new) d types roots (after_all changes.now m)) }
+        ensures undone { OnErr result ((d : _) (types : _) (roots : _) (m : _) → Holds (state S.Store self.old) d types roots m → Holds (state S.Store self.new) d types roots m) }
     {
         Ok(changes::commit(&mut self.connection, alloc, changes)?)
     }
 
     /// The connection, its database as it is. It takes no memory.
     pub fn into_connection(self) -> Connection<S>
-        ensures { result ≡ self }
+        ensures same { result ≡ self }
+        ensures holds { (d : _) (types : _) (roots : _) (m : _) → Holds (state S.Store self) d types roots m → Holds (state S.Store result) d types roots m }
     {
         let Store { connection } = self;
         connection
-    }
-}
-
-/// What the row of that id shows, if there is one.
-fn find<S: Alter>(conn: &mut Connection<S>, id: &str) -> Result<Option<Shown>, Error>
-    ensures mode { conn.old.in_transaction ≡ false → conn.new.in_transaction ≡ false }
-    ensures clean { HasCleanDisk (state S.Store conn.new) → HasCleanDisk (state S.Store conn.old) }
-{
-    let rows = find_record(conn, id)?;
-    match rows.first() {
-        Some(row) => Ok(Some(shown_in(row)?)),
-        None => Ok(None),
     }
 }

@@ -87,43 +87,44 @@ fn other_forms_are_refused(rt: HostRuntime) -> Result<(), Fail> {
     Ok(())
 }
 
-/// Bundles of the right form that aren't taken.
+/// Bundles of the right form that aren't taken, with their faults.
+const REFUSED_BUNDLES: [(&str, &str); 10] = [
+    (
+        "B1",
+        r#"{"root":"aaaaaaaaaaaaaaaaaaaaaaaaaaaaaaaaaaaaaaaaaaaaaaaaaaaaaaaaaaaaaaaaa","objects":{"aaaaaaaaaaaaaaaaaaaaaaaaaaaaaaaaaaaaaaaaaaaaaaaaaaaaaaaaaaaaaaaaa":{"type":"Item"}}}"#,
+    ),
+    ("B2", r#"{"root":"a","objects":{}}"#),
+    ("B2", r#"{"root":"b","objects":{"a":{"type":"Item"}}}"#),
+    ("B3", r#"{"root":"a","objects":{"a":{"type":"Nope"}}}"#),
+    (
+        "B4",
+        r#"{"root":"a","objects":{"a":{"type":"Item","fields":{"zz":null}}}}"#,
+    ),
+    (
+        "B5",
+        r#"{"root":"a","objects":{"a":{"type":"Item","fields":{"count":1.0}}}}"#,
+    ),
+    (
+        "B5",
+        r#"{"root":"a","objects":{"a":{"type":"Item","fields":{"count":-0}}}}"#,
+    ),
+    (
+        "B5",
+        r#"{"root":"a","objects":{"a":{"type":"Item","fields":{"count":9223372036854775808}}}}"#,
+    ),
+    (
+        "B5",
+        r#"{"root":"a","objects":{"a":{"type":"Item","fields":{"name":1}}}}"#,
+    ),
+    (
+        "B8",
+        r#"{"root":"a","objects":{"a":{"type":"Item"},"b":{"type":"Item"}}}"#,
+    ),
+];
+
 #[test]
 fn bundles_are_refused(rt: HostRuntime) -> Result<(), Fail> {
-    let rows = [
-        (
-            "B1",
-            r#"{"root":"aaaaaaaaaaaaaaaaaaaaaaaaaaaaaaaaaaaaaaaaaaaaaaaaaaaaaaaaaaaaaaaaa","objects":{"aaaaaaaaaaaaaaaaaaaaaaaaaaaaaaaaaaaaaaaaaaaaaaaaaaaaaaaaaaaaaaaaa":{"type":"Item"}}}"#,
-        ),
-        ("B2", r#"{"root":"a","objects":{}}"#),
-        ("B2", r#"{"root":"b","objects":{"a":{"type":"Item"}}}"#),
-        ("B3", r#"{"root":"a","objects":{"a":{"type":"Nope"}}}"#),
-        (
-            "B4",
-            r#"{"root":"a","objects":{"a":{"type":"Item","fields":{"zz":null}}}}"#,
-        ),
-        (
-            "B5",
-            r#"{"root":"a","objects":{"a":{"type":"Item","fields":{"count":1.0}}}}"#,
-        ),
-        (
-            "B5",
-            r#"{"root":"a","objects":{"a":{"type":"Item","fields":{"count":-0}}}}"#,
-        ),
-        (
-            "B5",
-            r#"{"root":"a","objects":{"a":{"type":"Item","fields":{"count":9223372036854775808}}}}"#,
-        ),
-        (
-            "B5",
-            r#"{"root":"a","objects":{"a":{"type":"Item","fields":{"name":1}}}}"#,
-        ),
-        (
-            "B8",
-            r#"{"root":"a","objects":{"a":{"type":"Item"},"b":{"type":"Item"}}}"#,
-        ),
-    ];
-    for (code, bundle) in rows {
+    for (code, bundle) in REFUSED_BUNDLES {
         let line = format!(in rt.alloc();
             "{{\"do\":\"put\",\"id\":\"r1\",\"form\":\"item\",\"bundle\":{bundle}}}"
         )?;

@@ -1,14 +1,25 @@
 //! NotNull: the datum is not null. It takes data of every kind.
-use super::{Builtin, BuiltinFault};
-use fv_datum::{Attrs, Datum};
+ghost use Rattle.std.specs.Prelude.{◌≡◌, not};
+ghost use Rattle.fv_datum.specs.View.{view};
+ghost use Rattle.fv_datum.specs.Written.{is_null};
+ghost use Rattle.fv_engine.specs.Constraints.{not_null_given};
 
-pub(crate) fn read(attrs: &Attrs) -> Result<Builtin, BuiltinFault> {
-    if !attrs.entries().is_empty() {
-        return Err(BuiltinFault::Attribute);
+use super::Builtin;
+use fv_datum::{Attrs, Datum, is_null};
+
+/// NotNull, which has no attribute.
+pub(crate) fn given(attrs: &Attrs) -> Option<Builtin>
+    ensures { result ≡ not_null_given attrs.now }
+{
+    if attrs.entries().len() == 0 {
+        Some(Builtin::NotNull)
+    } else {
+        None
     }
-    Ok(Builtin::NotNull)
 }
 
-pub(crate) fn holds(datum: &Datum) -> bool {
-    !matches!(datum, Datum::Null)
+pub(crate) fn holds(datum: &Datum) -> bool
+    ensures { result ≡ not (is_null (view datum.now)) }
+{
+    !is_null(datum)
 }

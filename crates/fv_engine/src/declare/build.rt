@@ -4,7 +4,7 @@ ghost use Rattle.fv_model.specs.Types.{fields_readable, fields_view, all_readabl
 
 use super::draft::{Draft, FieldDraft, FormDraft, TypeDraft, UseDraft};
 use super::fault::DeclFault;
-use super::schema::{Occurrence, Schema, TypeRules};
+use super::schema::{Occurrence, Schema};
 use crate::builtin::Builtin;
 use fv_datum::Kind;
 use fv_model::{Fields, TypeId, Types};
@@ -32,41 +32,52 @@ fn types_for(alloc: Global, types: &[TypeDraft]) -> Result<IndexMap<String, Fiel
     Ok(declared)
 }
 
-/// Adds the uses at a field of that number and kind.
+/// Adds the uses at a field.
 fn add_uses(
     occurrences: &mut Vec<Occurrence>,
+    type_id: TypeId,
     field: usize,
     kind: Kind,
     uses: &[UseDraft],
 ) -> Result<(), DeclFault> {
     for given in uses {
         match Builtin::read(given.constraint, &given.with, kind) {
-            Ok(constraint) => occurrences.push(Occurrence { field, constraint })?,
+            Ok(constraint) => occurrences.push(Occurrence {
+                type_id,
+                field,
+                constraint,
+            })?,
             Err(_) => return Err(DeclFault::Attribute),
         }
     }
     Ok(())
 }
 
-/// The uses in a type's fields, in order.
-fn occurrences_for(alloc: Global, fields: &[FieldDraft]) -> Result<Vec<Occurrence>, DeclFault> {
-    let mut occurrences = Vec::new(alloc);
+/// Adds the uses in a type's fields, in order.
+fn add_type(
+    occurrences: &mut Vec<Occurrence>,
+    type_id: TypeId,
+    fields: &[FieldDraft],
+) -> Result<(), DeclFault> {
     for (number, field) in fields.iter().enumerate() {
-        add_uses(&mut occurrences, number, field.type_use.kind(), &field.uses)?;
+        add_uses(
+            occurrences,
+            type_id,
+            number,
+            field.type_use.kind(),
+            &field.uses,
+        )?;
     }
-    Ok(occurrences)
+    Ok(())
 }
 
-fn rules_for(alloc: Global, types: &[TypeDraft]) -> Result<Vec<TypeRules>, DeclFault> {
-    let mut rules = Vec::with_capacity(alloc, types.len())?;
-    let mut first: usize = 0;
-    for declared in types {
-        let occurrences = occurrences_for(alloc, &declared.fields)?;
-        let next = first.saturating_add(occurrences.len());
-        rules.push(TypeRules { first, occurrences })?;
-        first = next;
+/// The uses of constraints in the types' fields, in order.
+fn occurrences_for(alloc: Global, types: &[TypeDraft]) -> Result<Vec<Occurrence>, DeclFault> {
+    let mut occurrences = Vec::new(alloc);
+    for (index, declared) in types.iter().enumerate() {
+        add_type(&mut occurrences, TypeId { index }, &declared.fields)?;
     }
-    Ok(rules)
+    Ok(occurrences)
 }
 
 fn forms_for(
@@ -88,11 +99,11 @@ pub(crate) fn build(alloc: Global, draft: &Draft) -> Result<Schema, DeclFault> {
     let Ok(types) = Types::build(types_for(alloc, &draft.types)?) else {
         return Err(DeclFault::TooLarge);
     };
-    let rules = rules_for(alloc, &draft.types)?;
+    let occurrences = occurrences_for(alloc, &draft.types)?;
     let forms = forms_for(alloc, &types, &draft.forms)?;
     Ok(Schema {
         types,
-        rules,
+        occurrences,
         forms,
     })
 }

@@ -6,29 +6,22 @@ use crate::builtin::Builtin;
 use fv_model::{TypeId, Types};
 use indexmap::IndexMap;
 
-/// A use of a constraint at a field.
+/// A use of a constraint at a field of a type.
 #[derive(Drop)]
 pub(crate) struct Occurrence {
+    pub(crate) type_id: TypeId,
     /// The field's number in its type.
     pub(crate) field: usize,
     pub(crate) constraint: Builtin,
-}
-
-/// The uses of constraints in a type, in the order of their numbers: by fields, and in a field as
-/// they are declared.
-#[derive(Drop)]
-pub(crate) struct TypeRules {
-    /// The number of the first over the whole declarations. The others follow it.
-    pub(crate) first: usize,
-    pub(crate) occurrences: Vec<Occurrence>,
 }
 
 /// What declarations declare.
 #[derive(Drop)]
 pub(crate) struct Schema {
     pub(crate) types: Types,
-    /// The rules of each type, by the type's number.
-    pub(crate) rules: Vec<TypeRules>,
+    /// The uses of constraints, each at its number: by types, then by fields, and in a field as they
+    /// are declared.
+    pub(crate) occurrences: Vec<Occurrence>,
     /// The forms by their names, each with its root's type.
     pub(crate) forms: IndexMap<String, TypeId>,
     ghost readable: { all_readable (types_view types) ≡ true },
@@ -38,11 +31,5 @@ impl Schema {
     /// The type of a form's root.
     pub(crate) fn root_of(&self, form: &str) -> Option<TypeId> {
         self.forms.get(form).copied()
-    }
-
-    /// The rules of the type of that name.
-    pub(crate) fn rules_of(&self, type_name: &str) -> Option<&TypeRules> {
-        let id = self.types.find(type_name)?;
-        self.rules.get(id.index)
     }
 }

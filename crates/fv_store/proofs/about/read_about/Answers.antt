@@ -1,7 +1,9 @@
-use Rattle.std.proofs.Common.{[], arith}
+use Rattle.std.proofs.Common.{[], arith, sym, subst}
 use Rattle.sqlite.specs.Held.{state}
+use Rattle.sqlite.specs.Listing.{understood}
+use Rattle.sqlite.proofs.Callers.{IsPlain}
 use Rattle.fv_store.proofs.Texts.{read_text, read_plain}
-use Rattle.fv_store.proofs.Queries.{read_shown, query_keeps, query_open}
+use Rattle.fv_store.proofs.Queries.{read_shown, query_stays, query_open}
 use Rattle.fv_store.proofs.about.read_about.Goals as goal
 
 pub returns-clause-was_open : goal.returns-clause-was_open
@@ -9,10 +11,9 @@ returns-clause-was_open g c clean live =
     query_open read_text [] (state g.S.Store c.args.conn.now) (state g.S.Store c.query_all.new.self) c.query_all.result (c.query_all.ensures.ok clean) (c.query_all.ensures.err clean) live
 
 pub returns-clause-shown : goal.returns-clause-shown
-returns-clause-shown g c clean =
-    read_shown (state g.S.Store c.args.conn.now) (state g.S.Store c.query_all.new.self) (omega (arith, c.query_all.ensures.survives.clean)) c.query_all.result (c.query_all.ensures.ok clean)
+returns-clause-shown g c clean = read_shown (state g.S.Store c.args.conn.now) (state g.S.Store c.query_all.new.self) c.query_all.result (c.query_all.ensures.ok clean)
 
-pub returns-clause-stays : goal.returns-clause-stays
-returns-clause-stays g c d m keeps clean =
-    query_keeps read_text [] (state g.S.Store c.args.conn.now) (state g.S.Store c.query_all.new.self) read_plain (omega (arith, c.query_all.ensures.survives.clean)) c.query_all.result
-    (c.query_all.ensures.ok clean) (c.query_all.ensures.err clean) d m keeps clean
+pub returns-clause-untouched : goal.returns-clause-untouched
+returns-clause-untouched g c settled is clean =
+    query_stays (state g.S.Store c.args.conn.now) (state g.S.Store c.query_all.new.self) (omega (arith, c.query_all.ensures.survives.clean)) settled read_text []
+    (subst (λ s. IsPlain (understood s read_text)) (sym is) read_plain) c.query_all.result (c.query_all.ensures.ok clean) (c.query_all.ensures.err clean) clean

@@ -1,0 +1,196 @@
+-- What the uses report in the root is the listing of a bundle's violations.
+use Rattle.std.proofs.Common.{◌≡◌, ◌⊎◌, ◌<◌, ◌≤◌, ◌+◌, ℕ, zero, suc, List, [], ◌∷◌, Bool, true, false, nat_cmp, Option, Some, None, slice_get, if◌then◌else◌, refl, sym, ap, subst, ◌∙◌, inl, inr, arith, ◌==◌, eq-eqb}
+use Rattle.std.proofs.lemmas.Bool.{eqb-true}
+use Rattle.std.specs.List.{AllByRecursion}
+use Rattle.std.specs.Ordering.{is_lt}
+use Rattle.std.specs.Cmp.Lexicographic.{slice_cmp}
+use Rattle.fv_datum.specs.Data.{Data}
+use Rattle.fv_datum.specs.Lookup.{at_name}
+use Rattle.fv_model.specs.Bundles.{Thing, Bundled}
+use Rattle.fv_model.specs.Types.{number_of}
+use Rattle.fv_engine.specs.Constraints.{says, constraint_name, message_of}
+use Rattle.fv_engine.specs.Declarations.{Use, Declarations}
+use Rattle.fv_engine.specs.Judging.{report_at, reported_of, reported_in, reported_all, with_first}
+use Rattle.fv_engine.specs.Violations.{Reported, IsViolation, Precedes, IsAscending, IsListed, IsListing}
+
+-- a use reports a field of an object of the type of a number
+pub record Reports (n : ℕ) (u : Use) (type : ℕ) (fields : List (List ℕ × Data)) (v : Reported) : Type 0 where
+  pub typed : u.type ≡ type
+  pub field : List ℕ × Data
+  pub placed : slice_get fields u.field ≡ Some field
+  pub refused : says u.constraint field.1 ≡ false
+  pub is : v ≡ report_at n u.constraint field
+
+some_same : {X : Type 0} (x y : X) → Some x ≡ Some y → x ≡ y
+some_same x y e = cc
+
+refused_then : (b : Bool) (r v : Reported) → (if b then None else Some r) ≡ Some v → (b ≡ false) × (v ≡ r)
+refused_then true r v e = cc
+refused_then false r v e = (refl, sym (some_same r v e))
+
+of_field : (n : ℕ) (u : Use) (o : Option (List ℕ × Data)) (v : Reported) → reported_of n u o ≡ Some v
+    → (f : List ℕ × Data) × (o ≡ Some f) × (says u.constraint f.1 ≡ false) × (v ≡ report_at n u.constraint f)
+unfolding reported_of
+of_field n u None v e = cc
+of_field n u (Some f) v e = let both = refused_then (says u.constraint f.1) (report_at n u.constraint f) v e in (f, refl, both.0, both.1)
+
+chosen : (b : Bool) (o : Option Reported) (v : Reported) → (if b then o else None) ≡ Some v → (b ≡ true) × (o ≡ Some v)
+chosen true o v e = (refl, e)
+chosen false o v e = cc
+
+pub inverted : (n : ℕ) (u : Use) (type : ℕ) (fields : List (List ℕ × Data)) (v : Reported) → reported_in n u type fields ≡ Some v → Reports n u type fields v
+unfolding reported_in
+inverted n u type fields v e =
+    let here = chosen (u.type == type) (reported_of n u (slice_get fields u.field)) v e in
+    let found = of_field n u (slice_get fields u.field) v here.1 in
+    record { typed = eqb-true u.type type here.0; field = found.0; placed = found.1; refused = found.2; is = found.3 }
+
+-- and the other way round
+pub reported : (n : ℕ) (u : Use) (type : ℕ) (fields : List (List ℕ × Data)) (f : List ℕ × Data) → u.type ≡ type → slice_get fields u.field ≡ Some f → says u.constraint f.1 ≡ false
+    → reported_in n u type fields ≡ Some (report_at n u.constraint f)
+unfolding reported_in reported_of
+reported n u type fields f typed placed refused = rw (eq-eqb u.type type typed, placed, refused) refl
+
+-- ---- each that is reported is a violation
+
+sound_first : (ds : Declarations) (b : Bundled) (o : Option Reported) (rest : List Reported)
+    → ((v : Reported) → o ≡ Some v → IsViolation ds b v) → AllByRecursion (IsViolation ds b) rest → AllByRecursion (IsViolation ds b) (with_first o rest)
+sound_first ds b None rest one more = more
+sound_first ds b (Some v) rest one more = (one v refl, more)
+
+violation_at : (ds : Declarations) (b : Bundled) (root : Thing) (type : ℕ) → at_name b.root b.objects ≡ Some root → number_of ds.types root.kind ≡ Some type
+    → (n : ℕ) (u : Use) → slice_get ds.uses n ≡ Some u → (v : Reported) → Reports n u type root.fields v → IsViolation ds b v
+violation_at ds b root type rooted typed n u numbered v r =
+    let V : Reported → Type 0 = IsViolation ds b in
+    subst V (sym r.is) (record {
+      used = u;
+      root = root;
+      numbered = numbered;
+      rooted = rooted;
+      typed = typed ∙ ap (λ t. Some t) (sym r.typed);
+      placed = r.placed;
+      refused = r.refused;
+      named = refl;
+      worded = refl;
+    })
+
+sound_all : (ds : Declarations) (b : Bundled) (root : Thing) (type : ℕ) → at_name b.root b.objects ≡ Some root → number_of ds.types root.kind ≡ Some type
+    → (n : ℕ) (us : List Use) → ((i : ℕ) (u : Use) → slice_get us i ≡ Some u → slice_get ds.uses (n + i) ≡ Some u)
+    → AllByRecursion (IsViolation ds b) (reported_all n us type root.fields)
+sound_all ds b root type rooted typed n [] at = tt
+sound_all ds b root type rooted typed n (u ∷ us) at =
+    let here : slice_get ds.uses n ≡ Some u = let shown = at 0 u refl in let same : n + 0 ≡ n = omega arith in subst (λ (k : ℕ). slice_get ds.uses k ≡ Some u) same shown in
+    let later : (i : ℕ) (w : Use) → slice_get us i ≡ Some w → slice_get ds.uses (n + 1 + i) ≡ Some w
+    = λ i w e. let same : n + suc i ≡ n + 1 + i = omega arith in subst (λ (k : ℕ). slice_get ds.uses k ≡ Some w) same (at (suc i) w e) in
+    sound_first ds b (reported_in n u type root.fields) _
+    (λ v e. violation_at ds b root type rooted typed n u here v (inverted n u type root.fields v e))
+    (sound_all ds b root type rooted typed (n + 1) us later)
+
+-- ---- each violation is reported
+
+listed_first : (o : Option Reported) (rest : List Reported) (v : Reported) → o ≡ Some v → IsListed (with_first o rest) v
+listed_first None rest v e = cc
+listed_first (Some w) rest v e = inl (sym (some_same w v e))
+
+listed_later : (o : Option Reported) (rest : List Reported) (v : Reported) → IsListed rest v → IsListed (with_first o rest) v
+listed_later None rest v h = h
+listed_later (Some w) rest v h = inr h
+
+listed : (n : ℕ) (us : List Use) (type : ℕ) (fields : List (List ℕ × Data)) (v : Reported) (i : ℕ) (u : Use) → slice_get us i ≡ Some u
+    → reported_in (n + i) u type fields ≡ Some v → IsListed (reported_all n us type fields) v
+listed n [] type fields v i u at e = cc
+listed n (w ∷ us) type fields v zero u at e =
+    let same : w ≡ u = cc in
+    let here : n + 0 ≡ n = omega arith in
+    listed_first _ _ v (subst (λ (x : Use). reported_in n x type fields ≡ Some v) (sym same) (subst (λ (k : ℕ). reported_in k u type fields ≡ Some v) here e))
+listed n (w ∷ us) type fields v (suc i) u at e =
+    let same : n + suc i ≡ n + 1 + i = omega arith in
+    listed_later _ _ v (listed (n + 1) us type fields v i u at (subst (λ (k : ℕ). reported_in k u type fields ≡ Some v) same e))
+
+same_report : (v : Reported) (u : Use) → v.constraint ≡ constraint_name u.constraint → v.message ≡ message_of u.constraint → report_at v.occurrence u.constraint (v.path, v.value) ≡ v
+same_report v u named worded =
+    let R : List ℕ → List ℕ → Reported = λ c m. record { path = v.path; constraint = c; occurrence = v.occurrence; message = m; value = v.value } in
+    ap (λ (c : List ℕ). R c (message_of u.constraint)) (sym named) ∙ ap (λ (m : List ℕ). R v.constraint m) (sym worded)
+
+complete_all : (ds : Declarations) (b : Bundled) (root : Thing) (type : ℕ) → at_name b.root b.objects ≡ Some root → number_of ds.types root.kind ≡ Some type
+    → (v : Reported) → IsViolation ds b v → IsListed (reported_all 0 ds.uses type root.fields) v
+complete_all ds b root type rooted typed v is =
+    let same_root : is.root ≡ root = let e : Some is.root ≡ Some root = sym is.rooted ∙ rooted in some_same _ _ e in
+    let same_type : is.used.type ≡ type = let e : Some is.used.type ≡ Some type = sym is.typed ∙ ap (λ (t : Thing). number_of ds.types t.kind) same_root ∙ typed in some_same _ _ e in
+    let placed : slice_get root.fields is.used.field ≡ Some (v.path, v.value) = subst (λ (t : Thing). slice_get t.fields is.used.field ≡ Some (v.path, v.value)) same_root is.placed in
+    let here = reported v.occurrence is.used type root.fields (v.path, v.value) same_type placed is.refused ∙ ap (λ (w : Reported). Some w) (same_report v is.used is.named is.worded) in
+    let start : v.occurrence ≡ 0 + v.occurrence = omega arith in
+    listed 0 ds.uses type root.fields v v.occurrence is.used is.numbered (subst (λ (k : ℕ). reported_in k is.used type root.fields ≡ Some v) start here)
+
+-- ---- in order
+
+-- the names of the fields rise
+abbrev pub NamesRise : List (List ℕ × Data) → Type 0
+NamesRise [] = Unit {0}
+NamesRise (f ∷ fs) = AllByRecursion (λ g. is_lt (slice_cmp nat_cmp f.0 g.0) ≡ true) fs × NamesRise fs
+
+-- the uses of one type stand in the order of its fields
+abbrev pub UsesRise : List Use → Type 0
+UsesRise [] = Unit {0}
+UsesRise (u ∷ us) = AllByRecursion (λ w. w.type ≡ u.type → u.field ≤ w.field) us × UsesRise us
+
+all_at : {X : Type 0} (P : X → Type 0) (xs : List X) (i : ℕ) (x : X) → AllByRecursion P xs → slice_get xs i ≡ Some x → P x
+all_at P [] i x all e = cc
+all_at P (y ∷ ys) zero x all e = subst P (some_same y x e) all.0
+all_at P (y ∷ ys) (suc i) x all e = all_at P ys i x all.1 e
+
+names_rise : (fs : List (List ℕ × Data)) → NamesRise fs → (i j : ℕ) (f g : List ℕ × Data) → i < j → slice_get fs i ≡ Some f → slice_get fs j ≡ Some g → is_lt (slice_cmp nat_cmp f.0 g.0) ≡ true
+names_rise [] rise i j f g below at_f at_g = cc
+names_rise (h ∷ hs) rise i zero f g below at_f at_g = absurd (omega arith)
+names_rise (h ∷ hs) rise zero (suc j) f g below at_f at_g =
+    let same : h ≡ f = some_same h f at_f in
+    subst (λ (x : List ℕ × Data). is_lt (slice_cmp nat_cmp x.0 g.0) ≡ true) same (all_at (λ (x : List ℕ × Data). is_lt (slice_cmp nat_cmp h.0 x.0) ≡ true) hs j g rise.0 at_g)
+names_rise (h ∷ hs) rise (suc i) (suc j) f g below at_f at_g = names_rise hs rise.1 i j f g (omega arith) at_f at_g
+
+le_cases : (a b : ℕ) → a ≤ b → (a ≡ b) ⊎ (a < b)
+le_cases zero zero h = inl refl
+le_cases zero (suc b) h = inr (omega arith)
+le_cases (suc a) zero h = absurd (omega arith)
+le_cases (suc a) (suc b) h = elim (le_cases a b (omega arith)) [ inl e ↦ inl (ap suc e) | inr l ↦ inr (omega arith) ]
+
+precedes_at : (fields : List (List ℕ × Data)) → NamesRise fields → (m n i j : ℕ) (u w : Use) (f g : List ℕ × Data) → m < n → (i ≡ j) ⊎ (i < j) → slice_get fields i ≡ Some f → slice_get fields j ≡ Some g
+    → Precedes (report_at m u.constraint f) (report_at n w.constraint g)
+precedes_at fields rise m n i j u w f g below (inl e) at_f at_g =
+    let same : f ≡ g = let s : Some f ≡ Some g = sym at_f ∙ ap (slice_get fields) e ∙ at_g in some_same f g s in
+    inr (ap (λ (x : List ℕ × Data). x.0) same, below)
+precedes_at fields rise m n i j u w f g below (inr l) at_f at_g = inl (names_rise fields rise i j f g l at_f at_g)
+
+all_first : (P : Reported → Type 0) (o : Option Reported) (rest : List Reported) → ((v : Reported) → o ≡ Some v → P v) → AllByRecursion P rest → AllByRecursion P (with_first o rest)
+all_first P None rest one more = more
+all_first P (Some v) rest one more = (one v refl, more)
+
+precedes_all : (fields : List (List ℕ × Data)) → NamesRise fields → (type m : ℕ) (u : Use) (v : Reported) → Reports m u type fields v
+    → (n : ℕ) (us : List Use) → m < n → AllByRecursion (λ w. w.type ≡ u.type → u.field ≤ w.field) us → AllByRecursion (Precedes v) (reported_all n us type fields)
+precedes_all fields rise type m u v r n [] below rises = tt
+precedes_all fields rise type m u v r n (w ∷ us) below rises =
+    all_first (Precedes v) (reported_in n w type fields) _
+    (λ x e. let q = inverted n w type fields x e in
+    let order : u.field ≤ w.field = rises.0 (q.typed ∙ sym r.typed) in
+    let both = precedes_at fields rise m n u.field w.field u w r.field q.field below (le_cases u.field w.field order) r.placed q.placed in
+    subst (λ (y : Reported). Precedes y x) (sym r.is) (subst (λ (y : Reported). Precedes (report_at m u.constraint r.field) y) (sym q.is) both))
+    (precedes_all fields rise type m u v r (n + 1) us (omega arith) rises.1)
+
+ascending_first : (o : Option Reported) (rest : List Reported) → ((v : Reported) → o ≡ Some v → AllByRecursion (Precedes v) rest) → IsAscending rest → IsAscending (with_first o rest)
+ascending_first None rest one more = more
+ascending_first (Some v) rest one more = (one v refl, more)
+
+ascending_all : (fields : List (List ℕ × Data)) → NamesRise fields → (type n : ℕ) (us : List Use) → UsesRise us → IsAscending (reported_all n us type fields)
+ascending_all fields rise type n [] rises = tt
+ascending_all fields rise type n (u ∷ us) rises =
+    ascending_first (reported_in n u type fields) _
+    (λ v e. precedes_all fields rise type n u v (inverted n u type fields v e) (n + 1) us (omega arith) rises.0)
+    (ascending_all fields rise type (n + 1) us rises.1)
+
+-- what all uses report in the root is the listing
+pub listing : (ds : Declarations) (b : Bundled) (root : Thing) (type : ℕ) → at_name b.root b.objects ≡ Some root → number_of ds.types root.kind ≡ Some type
+    → NamesRise root.fields → UsesRise ds.uses → IsListing ds b (reported_all 0 ds.uses type root.fields)
+listing ds b root type rooted typed names uses = record {
+  sound = sound_all ds b root type rooted typed 0 ds.uses (λ i u e. let same : i ≡ 0 + i = omega arith in subst (λ (k : ℕ). slice_get ds.uses k ≡ Some u) same e);
+  complete = complete_all ds b root type rooted typed;
+  ascending = ascending_all root.fields names type 0 ds.uses uses;
+}

@@ -1,0 +1,9 @@
+-- The request that a command is.
+use Rattle.serde_json.specs.View.{view as json_view}
+use Rattle.fv_engine.specs.declared.command.Command.{Command}
+use Rattle.fv_engine.specs.declared.command.Command.TheVariants.{Put, Get}
+use Rattle.fv_engine.specs.Requests.{Request, put, get}
+
+abbrev pub command_view : Command → Request
+command_view (Put id form bundle) = put id.now form.now (json_view bundle.now)
+command_view (Get id) = get id.now

@@ -1,0 +1,16 @@
+-- What declarations declare.
+use Rattle.std.specs.Prelude.{ℕ, List}
+use Rattle.fv_model.specs.Types.{Declared}
+use Rattle.fv_engine.specs.declared.builtin.Builtin.{Builtin}
+
+-- a use of a constraint: the number of its type, the number of its field there, and the constraint with its attributes
+pub record Use : Type 0 where
+  pub type : ℕ
+  pub field : ℕ
+  pub constraint : Builtin
+
+-- the types, the uses of constraints by their numbers, and the forms by their names, each with its root's type
+pub record Declarations : Type 0 where
+  pub types : Declared
+  pub uses : List Use
+  pub forms : List (List ℕ × List ℕ)

@@ -1,0 +1,14 @@
+-- The report that a violation is.
+use Rattle.std.specs.Prelude.{string_bytes}
+use Rattle.fv_datum.specs.View.{view}
+use Rattle.fv_engine.specs.declared.validate.Violation.{Violation}
+use Rattle.fv_engine.specs.Violations.{Reported}
+
+abbrev pub violation_view : Violation → Reported
+violation_view v = record {
+  path = string_bytes v.path;
+  constraint = v.constraint.now;
+  occurrence = v.occurrence;
+  message = string_bytes v.message;
+  value = view v.value;
+}

@@ -1,0 +1,19 @@
+use Rattle.std.proofs.Common.{Some, ap, sym, ◌∙◌}
+use Rattle.fv_store.specs.Records.{kept_text}
+use Rattle.std.proofs.Common.{option_map}
+use Rattle.fv_store.proofs.Queries.{none_first, some_first}
+use Rattle.fv_store.proofs.records.find.Goals as goal
+
+pub returns-in-Some-clause-found : goal.returns-in-Some-clause-found
+returns-in-Some-clause-found g c clean =
+    let shown = c.in_ok-rows.ensures.shown clean in (
+      shown.0,
+      λ d m keeps.
+          let first = some_first _ _ c.in-Some.row.now (rw (c.in-Some.is, c.deref.ensures.value) at c.first.ensures.value) (shown.1 d m keeps) in
+          ap Some (c.in_ok-shown_in-in-Some.ensures first.0 first.2) ∙ sym (ap (option_map kept_text) first.1),
+    )
+
+pub returns-clause-found : goal.returns-clause-found
+returns-clause-found g c clean =
+    let shown = c.in_ok-rows.ensures.shown clean in
+    (shown.0, λ d m keeps. ap (option_map kept_text) (none_first _ _ (rw (c.in-None.is, c.deref.ensures.value) at c.first.ensures.value) (shown.1 d m keeps)))

@@ -1,0 +1,23 @@
+//! What a row shows of a record.
+ghost use Rattle.std.specs.Prelude.{◌≡◌, IfOk};
+ghost use Rattle.fv_store.specs.Records.{Kept, kept_text};
+ghost use Rattle.fv_store.specs.Steps.{shown_row};
+ghost use Rattle.fv_store.specs.Stored.{shown_view};
+
+use sqlite::{Error, Row};
+
+/// The name of a record's form, and its bundle's text.
+#[derive(Drop)]
+pub(crate) struct Shown {
+    pub(crate) form: String,
+    pub(crate) text: String,
+}
+
+/// Reads the row that shows a record.
+pub(crate) fn shown_in(row: &Row) -> Result<Shown, Error>
+    ensures { IfOk result (λ s. (k : Kept) → row.now ≡ shown_row k → shown_view s ≡ kept_text k) }
+{
+    let form = row.get(0)?;
+    let text = row.get(1)?;
+    Ok(Shown { form, text })
+}
