@@ -1,7 +1,16 @@
+pub mod DeclareAnys
+pub mod DeclareFound
+pub mod DeclareFronts
+pub mod DeclareNamed
+pub mod DeclareOrdered
+pub mod DeclareRead
+pub mod DeclareSorted
+pub mod DeclareSteps
 pub mod Lines
 pub mod Listings
 pub mod Members
+pub mod Movings
 pub mod NoFloats
 pub mod Readable
-pub mod Writes
 pub mod Units
+pub mod Writes

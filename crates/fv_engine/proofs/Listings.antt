@@ -1,6 +1,6 @@
 -- What the uses report in the root is the listing of a bundle's violations.
-use Rattle.std.proofs.Common.{◌≡◌, ◌⊎◌, ◌<◌, ◌≤◌, ◌+◌, ℕ, zero, suc, List, [], ◌∷◌, Bool, true, false, nat_cmp, Option, Some, None, slice_get, if◌then◌else◌, refl, sym, ap, subst, ◌∙◌, inl, inr, arith, ◌==◌, eq-eqb}
-use Rattle.std.proofs.lemmas.Bool.{eqb-true}
+use Rattle.std.proofs.Common.{cond, suc, zero, map, not, length, bytes_eq, nat_lt, Less, ◌≡◌, ◌⊎◌, ◌<◌, ◌≤◌, ◌+◌, ℕ, List, [], ◌∷◌, Bool, true, false, nat_cmp, Option, Some, None, slice_get, if◌then◌else◌, refl, sym, ap, subst, ◌∙◌, inl, inr, arith, ◌==◌, eq-eqb}
+use Rattle.std.proofs.lemmas.Bool.{eqb-true, lt-ltb}
 use Rattle.std.specs.List.{AllByRecursion}
 use Rattle.std.specs.Ordering.{is_lt}
 use Rattle.std.specs.Cmp.Lexicographic.{slice_cmp}
@@ -10,6 +10,12 @@ use Rattle.fv_model.specs.Bundles.{Thing, Bundled}
 use Rattle.fv_model.specs.Types.{number_of}
 use Rattle.fv_engine.specs.Constraints.{says, constraint_name, message_of}
 use Rattle.fv_engine.specs.Declarations.{Use, Declarations}
+use Rattle.fv_engine.specs.Ordered.{Ascends, Precedes as UsePrecedes, IsRising, UsesAscend, InOrder}
+use Rattle.std.specs.List.Sorted.{IsStrictlySortedBy}
+use Rattle.std.specs.List.{prefix_len}
+use Rattle.fv_model.specs.Types.{DeclaredFields, Declared}
+use Rattle.fv_model.specs.WellTyped.{FieldsFit, IsWellTyped}
+use Rattle.std.proofs.lemmas.Slice.Eq.{bytes_eq-Decides}
 use Rattle.fv_engine.specs.Judging.{report_at, reported_of, reported_in, reported_all, with_first}
 use Rattle.fv_engine.specs.Violations.{Reported, IsViolation, Precedes, IsAscending, IsListed, IsListing}
 
@@ -126,25 +132,37 @@ complete_all ds b root type rooted typed v is =
 
 -- the names of the fields rise
 abbrev pub NamesRise : List (List ℕ × Data) → Type 0
-NamesRise [] = Unit {0}
-NamesRise (f ∷ fs) = AllByRecursion (λ g. is_lt (slice_cmp nat_cmp f.0 g.0) ≡ true) fs × NamesRise fs
+NamesRise fs = Ascends (map (λ f. f.0) fs)
 
--- the uses of one type stand in the order of its fields
-abbrev pub UsesRise : List Use → Type 0
-UsesRise [] = Unit {0}
-UsesRise (u ∷ us) = AllByRecursion (λ w. w.type ≡ u.type → u.field ≤ w.field) us × UsesRise us
+in_order : (u w : Use) → (u.type < w.type) ⊎ ((u.type ≡ w.type) × (u.field ≤ w.field)) → w.type ≡ u.type → u.field ≤ w.field
+in_order u w (inl below) same = absurd (omega arith)
+in_order u w (inr both) same = both.1
+
+all_in_order : (u : Use) (us : List Use) → AllByRecursion (UsePrecedes u) us → AllByRecursion (λ w. w.type ≡ u.type → u.field ≤ w.field) us
+all_in_order u [] all = tt
+all_in_order u (w ∷ ws) all = (in_order u w all.0, all_in_order u ws all.1)
+
+pub uses_ascend : (us : List Use) → IsRising us → UsesAscend us
+uses_ascend [] rise = tt
+uses_ascend (u ∷ us) rise = (all_in_order u us rise.0, uses_ascend us rise.1)
 
 all_at : {X : Type 0} (P : X → Type 0) (xs : List X) (i : ℕ) (x : X) → AllByRecursion P xs → slice_get xs i ≡ Some x → P x
 all_at P [] i x all e = cc
 all_at P (y ∷ ys) zero x all e = subst P (some_same y x e) all.0
 all_at P (y ∷ ys) (suc i) x all e = all_at P ys i x all.1 e
 
+name_at : (fs : List (List ℕ × Data)) (j : ℕ) (g : List ℕ × Data) → slice_get fs j ≡ Some g → slice_get (map (λ f. f.0) fs) j ≡ Some g.0
+name_at [] j g e = cc
+name_at (f ∷ fs) zero g e = ap (λ (x : List ℕ × Data). Some x.0) (some_same f g e)
+name_at (f ∷ fs) (suc j) g e = name_at fs j g e
+
 names_rise : (fs : List (List ℕ × Data)) → NamesRise fs → (i j : ℕ) (f g : List ℕ × Data) → i < j → slice_get fs i ≡ Some f → slice_get fs j ≡ Some g → is_lt (slice_cmp nat_cmp f.0 g.0) ≡ true
+unfolding IsStrictlySortedBy
 names_rise [] rise i j f g below at_f at_g = cc
 names_rise (h ∷ hs) rise i zero f g below at_f at_g = absurd (omega arith)
 names_rise (h ∷ hs) rise zero (suc j) f g below at_f at_g =
     let same : h ≡ f = some_same h f at_f in
-    subst (λ (x : List ℕ × Data). is_lt (slice_cmp nat_cmp x.0 g.0) ≡ true) same (all_at (λ (x : List ℕ × Data). is_lt (slice_cmp nat_cmp h.0 x.0) ≡ true) hs j g rise.0 at_g)
+    subst (λ (x : List ℕ × Data). is_lt (slice_cmp nat_cmp x.0 g.0) ≡ true) same (ap is_lt (all_at (λ (x : List ℕ). slice_cmp nat_cmp h.0 x ≡ Less) (map (λ f. f.0) hs) j g.0 rise.0 (name_at hs j g at_g)))
 names_rise (h ∷ hs) rise (suc i) (suc j) f g below at_f at_g = names_rise hs rise.1 i j f g (omega arith) at_f at_g
 
 le_cases : (a b : ℕ) → a ≤ b → (a ≡ b) ⊎ (a < b)
@@ -179,7 +197,7 @@ ascending_first : (o : Option Reported) (rest : List Reported) → ((v : Reporte
 ascending_first None rest one more = more
 ascending_first (Some v) rest one more = (one v refl, more)
 
-ascending_all : (fields : List (List ℕ × Data)) → NamesRise fields → (type n : ℕ) (us : List Use) → UsesRise us → IsAscending (reported_all n us type fields)
+ascending_all : (fields : List (List ℕ × Data)) → NamesRise fields → (type n : ℕ) (us : List Use) → UsesAscend us → IsAscending (reported_all n us type fields)
 ascending_all fields rise type n [] rises = tt
 ascending_all fields rise type n (u ∷ us) rises =
     ascending_first (reported_in n u type fields) _
@@ -187,10 +205,54 @@ ascending_all fields rise type n (u ∷ us) rises =
     (ascending_all fields rise type (n + 1) us rises.1)
 
 -- what all uses report in the root is the listing
-pub listing : (ds : Declarations) (b : Bundled) (root : Thing) (type : ℕ) → at_name b.root b.objects ≡ Some root → number_of ds.types root.kind ≡ Some type
-    → NamesRise root.fields → UsesRise ds.uses → IsListing ds b (reported_all 0 ds.uses type root.fields)
+listing : (ds : Declarations) (b : Bundled) (root : Thing) (type : ℕ) → at_name b.root b.objects ≡ Some root → number_of ds.types root.kind ≡ Some type
+    → NamesRise root.fields → UsesAscend ds.uses → IsListing ds b (reported_all 0 ds.uses type root.fields)
 listing ds b root type rooted typed names uses = record {
   sound = sound_all ds b root type rooted typed 0 ds.uses (λ i u e. let same : i ≡ 0 + i = omega arith in subst (λ (k : ℕ). slice_get ds.uses k ≡ Some u) same e);
   complete = complete_all ds b root type rooted typed;
   ascending = ascending_all root.fields names type 0 ds.uses uses;
 }
+
+-- ---- of a well-typed bundle
+
+same_names : (ds : DeclaredFields) (fs : List (List ℕ × Data)) → FieldsFit ds fs → map (λ f. f.0) ds ≡ map (λ f. f.0) fs
+same_names [] [] fit = refl
+same_names (d ∷ ds) (f ∷ fs) fit = ap (λ (n : List ℕ). n ∷ map (λ d. d.0) ds) (sym fit.0) ∙ ap (λ (ns : List (List ℕ)). f.0 ∷ ns) (same_names ds fs fit.2)
+same_names [] (f ∷ fs) fit = absurd fit
+same_names (d ∷ ds) [] fit = absurd fit
+
+chosen_passes : {X : Type 0} (P : X → Type 0) (b : Bool) (first x : X) (rest : Option X) → P first → (rest ≡ Some x → P x) → cond b (Some first) rest ≡ Some x → P x
+chosen_passes P true first x rest here more e = subst P (some_same first x e) here
+chosen_passes P false first x rest here more e = more e
+
+found_in : {X : Type 0} (P : X → Type 0) (name : List ℕ) (es : List (List ℕ × X)) (x : X) → AllByRecursion (λ e. P e.1) es → at_name name es ≡ Some x → P x
+found_in P name [] x all e = cc
+found_in P name (f ∷ fs) x all e = chosen_passes P (bytes_eq name f.0) f.1 x (at_name name fs) all.0 (found_in P name fs x all.1) e
+
+chosen_within : {X : Type 0} (b : Bool) (first x : X) (rest : Option X) (m n : ℕ) → (rest ≡ Some x → m < n) → cond b (Some first) rest ≡ Some x → cond (not b) (1 + m) 0 < suc n
+chosen_within true first x rest m n more e = omega arith
+chosen_within false first x rest m n more e = let below : m < n = more e in omega arith
+
+within : {X : Type 0} (name : List ℕ) (es : List (List ℕ × X)) (x : X) → at_name name es ≡ Some x → prefix_len (λ e. not (bytes_eq name e.0)) es < length es
+within name [] x e = cc
+within name (f ∷ fs) x e = chosen_within (bytes_eq name f.0) f.1 x (at_name name fs) (prefix_len (λ e. not (bytes_eq name e.0)) fs) (length fs) (within name fs x) e
+
+numbered : (ts : Declared) (name : List ℕ) (fields : DeclaredFields) → at_name name ts ≡ Some fields → (i : ℕ) × (number_of ts name ≡ Some i)
+numbered ts name fields e =
+    let i = prefix_len (λ t. not (bytes_eq name t.0)) ts in
+    let below : nat_lt i (length ts) ≡ true = lt-ltb i (length ts) (within name ts fields e) in
+    (i, rw below refl)
+
+same_bytes : (s : List ℕ) → bytes_eq s s ≡ true
+same_bytes s = (bytes_eq-Decides s s).1 refl
+
+-- what was found in a well-typed bundle is its listing
+pub listed_all : (ds : Declarations) (b : Bundled) (vs : List Reported) → InOrder ds → IsWellTyped ds.types b
+    → ((root : Thing) (type : ℕ) → at_name b.root b.objects ≡ Some root → number_of ds.types root.kind ≡ Some type → vs ≡ reported_all 0 ds.uses type root.fields)
+    → IsListing ds b vs
+listed_all ds b vs ordered well is =
+    let rooted : at_name b.root b.objects ≡ Some well.thing = subst (λ (os : List (List ℕ × Thing)). at_name b.root os ≡ Some well.thing) (sym well.one) (rw (same_bytes b.root) refl) in
+    let number = numbered ds.types well.thing.kind well.typed.fields well.typed.declared in
+    let names : NamesRise well.thing.fields = subst Ascends (same_names well.typed.fields well.thing.fields well.typed.fit)
+    (found_in (λ (fs : DeclaredFields). Ascends (map (λ f. f.0) fs)) well.thing.kind ds.types well.typed.fields ordered.0 well.typed.declared) in
+    subst (IsListing ds b) (sym (is well.thing number.0 rooted number.1)) (listing ds b well.thing number.0 rooted number.1 names ordered.1)

@@ -1,8 +1,14 @@
 pub mod CommandView
 pub mod Constraints
+pub mod DeclFaultNames
 pub mod Declarations
+pub mod DeclareDraft
+pub mod Declares
+pub mod DraftViews
 pub mod Judging
 pub mod Lines
+pub mod Moves
+pub mod Ordered
 pub mod Replies
 pub mod Reply
 pub mod Requests

@@ -1,16 +1,16 @@
+ghost use Rattle.std.specs.Prelude.{◌≡◌};
 ghost use Rattle.fv_datum.specs.Moments.{IsMoment};
+ghost use Rattle.fv_engine.specs.Replies.{line_too_long};
 
-use crate::command::{Command, command_of};
+use crate::answering::answer;
 use crate::declare::{DeclFault, Schema, read_schema};
 use crate::machine::{LIMIT, Machine};
 use crate::reply;
 use crate::reply::Reply;
-use crate::validate::validate;
-use fv_model::{Bundle, BundleFault, read_bundle};
-use fv_store::{Change, OpenStoreFault, Store, StoreFault};
+use fv_store::{OpenStoreFault, Store};
 use serde_json::Value;
 use sqlite::{Alter, Connection};
-use std::alloc::{AllocError, Global};
+use std::alloc::Global;
 use std::str;
 use thiserror::Error;
 
@@ -104,7 +104,7 @@ impl<S: Alter> Engine<S> {
             return Reply::fixed(reply::NOT_JSON);
         };
         match Value::from_str(alloc, text) {
-            Ok(value) => self.answer(alloc, &value),
+            Ok(value) => answer(&mut self.store, alloc, &self.schema, &value),
             Err(error) => if error.is_memory() {
                 Reply::fixed(reply::MEMORY)
             } else {
@@ -114,88 +114,18 @@ impl<S: Alter> Engine<S> {
     }
 
     /// The database, without the engine.
-    pub fn into_connection(self) -> Connection<S> {
+    pub fn into_connection(self) -> Connection<S>
+        ensures { result ≡ self.store }
+    {
         let Engine { schema: _, store } = self;
         store.into_connection()
     }
 
-    fn refuse_long(&mut self, _now: i64) -> Reply {
+    fn refuse_long(&mut self, _now: i64) -> Reply
+        ensures refused { result ≡ line_too_long }
+        ensures same { self.new ≡ self.old }
+    {
         Reply::fixed(reply::LINE_TOO_LONG)
-    }
-
-    fn answer(&mut self, alloc: Global, value: &Value) -> Reply {
-        match command_of(value) {
-            None => Reply::fixed(reply::SHAPE),
-            Some(Command::Put { id, form, bundle }) => self.put(alloc, id, form, bundle),
-            Some(Command::Get { id }) => self.get(alloc, id),
-        }
-    }
-
-    /// Takes a put where its bundle has no violation.
-    fn put(&mut self, alloc: Global, id: &str, form: &str, bundle: &Value) -> Reply {
-        let root = self.schema.root_of(form);
-        match read_bundle(alloc, &self.schema.types, root, bundle) {
-            Err(BundleFault::Memory) => Reply::fixed(reply::MEMORY),
-            Err(BundleFault::Shape) => Reply::fixed(reply::SHAPE),
-            Err(fault) => match root {
-                None => Reply::fixed(reply::UNKNOWN_FORM),
-                Some(_) => Reply::bundle_refused(alloc, fault),
-            },
-            Ok(bundle) => match root {
-                None => Reply::fixed(reply::UNKNOWN_FORM),
-                Some(_) => self.judge(alloc, id, form, bundle),
-            },
-        }
-    }
-
-    /// Stores a bundle of a form under an id, where it has no violation.
-    fn judge(&mut self, alloc: Global, id: &str, form: &str, bundle: Bundle) -> Reply {
-        match validate(alloc, &self.schema, &bundle) {
-            Err(_) => Reply::fixed(reply::MEMORY),
-            Ok(violations) => if violations.is_empty() {
-                self.keep(alloc, id, form, bundle)
-            } else {
-                Reply::violations(alloc, id, &violations)
-            },
-        }
-    }
-
-    fn keep(&mut self, alloc: Global, id: &str, form: &str, bundle: Bundle) -> Reply {
-        match changes_of(alloc, id, form, bundle) {
-            Err(_) => Reply::fixed(reply::MEMORY),
-            Ok(changes) => match self.store.commit(alloc, &changes) {
-                Ok(()) => Reply::fixed(reply::PUT_TAKEN),
-                Err(fault) => refused_by_store(fault),
-            },
-        }
-    }
-
-    fn get(&mut self, alloc: Global, id: &str) -> Reply {
-        match self.store.get(alloc, &self.schema.types, id) {
-            Ok(None) => Reply::fixed(reply::NO_RECORD),
-            Ok(Some(stored)) => Reply::record(alloc, id, stored.form.as_str(), &stored.bundle),
-            Err(fault) => refused_by_store(fault),
-        }
-    }
-}
-
-/// The one change of a put.
-fn changes_of(
-    alloc: Global,
-    id: &str,
-    form: &str,
-    bundle: Bundle,
-) -> Result<Vec<Change>, AllocError> {
-    let id = String::from_str(alloc, id)?;
-    let form = String::from_str(alloc, form)?;
-    Ok(vec![in alloc; Change::Put { id, form, bundle }]?)
-}
-
-/// The refusal of a command that the store couldn't do.
-fn refused_by_store(fault: StoreFault) -> Reply {
-    match fault {
-        StoreFault::Store => Reply::fixed(reply::STORE),
-        StoreFault::Memory => Reply::fixed(reply::MEMORY),
     }
 }
 

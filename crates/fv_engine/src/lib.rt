@@ -2,6 +2,7 @@
 //! what has no violation is stored.
 #![tactic(auto)]
 
+mod answering;
 mod builtin;
 mod clock;
 mod command;

@@ -1,3 +1,6 @@
+ghost use Rattle.std.specs.Prelude.{◌≡◌};
+ghost use Rattle.fv_engine.specs.DeclFaultNames.{decl_fault_name, decl_fault_code};
+
 use std::alloc::{AllocError, AllocFailed};
 use thiserror::Error;
 
@@ -32,7 +35,9 @@ pub enum DeclFault {
 
 impl DeclFault {
     /// The fault's name.
-    pub fn name(&self) -> &str {
+    pub fn name(&self) -> &str
+        ensures { result.now ≡ decl_fault_name self.now }
+    {
         match self {
             DeclFault::NotJson => "NotJson",
             DeclFault::Shape => "Shape",
@@ -46,7 +51,9 @@ impl DeclFault {
     }
 
     /// The fault's code; empty for want of memory.
-    pub fn code(&self) -> &str {
+    pub fn code(&self) -> &str
+        ensures { result.now ≡ decl_fault_code self.now }
+    {
         match self {
             DeclFault::NotJson => "F1",
             DeclFault::Shape => "F2",

@@ -28,8 +28,15 @@ pub(crate) struct Schema {
 }
 
 impl Schema {
+    ghost use Rattle.std.specs.Prelude.{option_map};
+    ghost use Rattle.fv_datum.specs.Lookup.{at_name};
+    ghost use Rattle.fv_model.specs.Types.{name_at};
+    ghost use Rattle.fv_engine.specs.SchemaView.{schema_view};
+
     /// The type of a form's root.
-    pub(crate) fn root_of(&self, form: &str) -> Option<TypeId> {
+    pub(crate) fn root_of(&self, form: &str) -> Option<TypeId>
+        ensures { option_map (λ t. name_at (types_view self.now.types) t.index) result ≡ at_name form.now (schema_view self.now).forms }
+    {
         self.forms.get(form).copied()
     }
 }

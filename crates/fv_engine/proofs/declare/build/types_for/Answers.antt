@@ -1,7 +1,21 @@
-use Rattle.fv_model.specs.Types.{type_view, fields_readable}
+use Rattle.std.proofs.Common.{◌≡◌, map, string_bytes, ap, ◌∙◌, arith}
+use Rattle.fv_model.specs.Types.{type_view as entry_view, fields_view, fields_readable}
+use Rattle.fv_engine.specs.Declares.{field_declared, type_declared}
+use Rattle.fv_engine.specs.DraftViews.{field_view, type_view}
+use Rattle.fv_engine.proofs.DeclareSteps.{insert_names, insert_entries, map_twice}
 use Rattle.fv_engine.proofs.Readable.{list_all-insert_entry}
 use Rattle.fv_engine.proofs.declare.build.types_for.Goals as goal
 
 pub loop-given-preserved : goal.loop-given-preserved
 loop-given-preserved c =
-    rw c.in_ok-insert.ensures.entries (list_all-insert_entry type_view (λ t. fields_readable t.1) _ c.in_ok-from_str.field-0 c.in_ok-fields.fields c.loop-given.declared.entries (λ l. c.in_ok-fields.ensures) c.loop-given.invariant)
+    let l = c.loop-given in
+    let t = c.given-item.result in
+    let fields = c.in_ok-fields.fields in
+    let is : string_bytes c.in_ok-from_str.field-0 ≡ t.name.now = grind (arith, c.in_ok-from_str.ensures) in
+    let same : fields_view fields ≡ map field_declared (map field_view t.fields.items) = c.in_ok-fields.ensures.exact ∙ ap (map (λ f. field_declared (field_view f))) c.deref.ensures.value ∙ map_twice field_view field_declared t.fields.items in
+    record {
+      names = insert_names (λ x. x.name.now) c.args.types.now l.given-index t l.declared.entries c.insert.new.self.entries c.in_ok-from_str.field-0 fields (omega arith) c.given-item.is c.requires l.invariant.names is c.in_ok-insert.ensures.entries;
+      made = insert_entries (λ x. x.name.now) c.args.types.now l.given-index t l.declared.entries c.insert.new.self.entries c.in_ok-from_str.field-0 fields (omega arith) c.given-item.is c.requires l.invariant.names is c.in_ok-insert.ensures.entries
+          entry_view (λ x. type_declared (type_view x)) (ap (λ n. (n, fields_view fields)) is ∙ ap (λ fs. (t.name.now, fs)) same) l.invariant.made;
+      readable = rw c.in_ok-insert.ensures.entries (list_all-insert_entry entry_view (λ u. fields_readable u.1) _ c.in_ok-from_str.field-0 fields l.declared.entries (λ k. c.in_ok-fields.ensures.readable) l.invariant.readable);
+    }
