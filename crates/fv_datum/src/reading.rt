@@ -26,6 +26,7 @@ pub fn read_datum(alloc: Global, kind: Kind, value: &Value) -> Result<Datum, Dat
     spelled_datum(alloc, kind, value)
 }
 
+/// The same, by the definition alone.
 fn spelled_datum(alloc: Global, kind: Kind, value: &Value) -> Result<Datum, DatumFault>
     ensures { Gives DatumFault.Memory view result (datum_read kind (json_view value.now)) }
 {

@@ -94,6 +94,7 @@ form_of m = if has_only (codes "root") (codes "root") m.1
 -- `{"types":{..},"forms":{..}}`
 abbrev pub draft_of : json.Data → Option Drafted
 draft_of j = if has_only (codes "types") (codes "forms") j
-    then option_and_then (λ types. option_map (λ forms. record { types = types; forms = forms }) (option_and_then (each_member form_of) (get (codes "forms") j)))
+    then option_and_then (λ types. option_map (λ forms. record { types = types; forms = forms }) (option_and_then (each_member form_of)
+    (get (codes "forms") j)))
     (option_and_then (each_member type_of) (get (codes "types") j))
     else None

@@ -1,7 +1,7 @@
 //! The bundle that a draft without fault is.
 ghost use Rattle.std.specs.Prelude.{◌≡◌, true, IfOk, map, option_map};
 ghost use Rattle.serde_json.specs.Find.{get_member};
-ghost use Rattle.serde_json.specs.View.{view as json_view, members_view};
+ghost use Rattle.serde_json.specs.View.{view as json_view};
 ghost use Rattle.fv_datum.specs.View.{view};
 ghost use Rattle.fv_model.specs.Types.{kind_of, all_readable, fields_readable, fields_view};
 ghost use Rattle.fv_datum.specs.Kinds.{is_readable};

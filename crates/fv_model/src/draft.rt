@@ -1,5 +1,5 @@
 //! A bundle's JSON by its names, before any of them is judged.
-ghost use Rattle.std.specs.Prelude.{◌≡◌, ◌||◌, IfOk, map, option_map, Some, None, codes};
+ghost use Rattle.std.specs.Prelude.{◌≡◌, ◌||◌, IfOk, map, option_map, Some, None};
 ghost use Rattle.std.specs.List.{list_all};
 ghost use Rattle.std.specs.Str.{bytes_eq};
 ghost use Rattle.serde_json.specs.View.{view as json_view, members_view};

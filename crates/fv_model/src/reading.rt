@@ -38,6 +38,7 @@ pub fn read_bundle(
     spelled_bundle(alloc, types, asked, value)
 }
 
+/// The same, by the definition alone.
 fn spelled_bundle(
     alloc: Global,
     types: &Types,

@@ -1,6 +1,5 @@
-ghost use Rattle.std.specs.Prelude.{◌≡◌, ◌<◌, length, option_map, IfSome, MatchResult, true, false, position, map};
+ghost use Rattle.std.specs.Prelude.{◌≡◌, length, option_map, MatchResult, true, false};
 ghost use Rattle.std.specs.Bool.{OnFalse};
-ghost use Rattle.std.specs.Str.{bytes_eq};
 ghost use Rattle.fv_datum.specs.Lookup.{at_name};
 ghost use Rattle.fv_model.specs.Types.{FieldsApart, declared_view, fields_view, has_large, too_many, name_at, number_of};
 

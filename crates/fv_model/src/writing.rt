@@ -1,4 +1,4 @@
-ghost use Rattle.std.specs.Prelude.{◌≡◌, IfOk, map, None, Ok};
+ghost use Rattle.std.specs.Prelude.{◌≡◌, IfOk, map, Ok};
 ghost use Rattle.serde_json.specs.Data as json;
 ghost use Rattle.serde_json.specs.View.{view as json_view, members_view};
 ghost use Rattle.fv_model.specs.Views.{field_view, object_view, named_view, bundle_view};

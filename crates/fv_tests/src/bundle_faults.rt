@@ -1,133 +1,79 @@
 //! Why a JSON value is no bundle, and which fault comes first.
-use crate::bundles::read_and_written;
-use crate::types::item_and_note;
+use crate::bundles::check_bundles;
 use fv_model::BundleFault;
 use std::test::Fail;
 
 #[test]
 fn a_bundle_has_its_form(rt: HostRuntime) -> Result<(), Fail> {
-    let types = item_and_note(rt.alloc())?;
-    for text in [
-        "null",
-        "[]",
-        "\"a\"",
-        "{}",
-        "{\"root\":\"a\"}",
-        "{\"objects\":{\"a\":{\"type\":\"Item\"}}}",
-        "{\"root\":\"a\",\"objects\":{\"a\":{\"type\":\"Item\"}},\"more\":null}",
-        "{\"root\":null,\"objects\":{\"a\":{\"type\":\"Item\"}}}",
-        "{\"root\":\"a\",\"objects\":null}",
-        "{\"root\":\"a\",\"objects\":[]}",
-        "{\"root\":\"a\",\"objects\":{\"a\":null}}",
-        "{\"root\":\"a\",\"objects\":{\"a\":{}}}",
-        "{\"root\":\"a\",\"objects\":{\"a\":{\"fields\":{}}}}",
-        "{\"root\":\"a\",\"objects\":{\"a\":{\"type\":7}}}",
-        "{\"root\":\"a\",\"objects\":{\"a\":{\"type\":\"Item\",\"\":0}}}",
-        "{\"root\":\"a\",\"objects\":{\"a\":{\"type\":\"Item\",\"fields\":null}}}",
-        "{\"root\":\"a\",\"objects\":{\"a\":{\"type\":\"Item\",\"fields\":[]}}}",
-    ] {
-        let answer = read_and_written(rt.alloc(), &types, None, text)?;
-        assert_eq!(rt; answer.as_str(), "Shape", "{text}");
-    }
-    Ok(())
+    let table = r#"
+null => Shape
+[] => Shape
+"a" => Shape
+{} => Shape
+{"root":"a"} => Shape
+{"objects":{"a":{"type":"Item"}}} => Shape
+{"root":"a","objects":{"a":{"type":"Item"}},"more":null} => Shape
+{"root":null,"objects":{"a":{"type":"Item"}}} => Shape
+{"root":"a","objects":null} => Shape
+{"root":"a","objects":[]} => Shape
+{"root":"a","objects":{"a":null}} => Shape
+{"root":"a","objects":{"a":{}}} => Shape
+{"root":"a","objects":{"a":{"fields":{}}}} => Shape
+{"root":"a","objects":{"a":{"type":7}}} => Shape
+{"root":"a","objects":{"a":{"type":"Item","":0}}} => Shape
+{"root":"a","objects":{"a":{"type":"Item","fields":null}}} => Shape
+{"root":"a","objects":{"a":{"type":"Item","fields":[]}}} => Shape
+"#;
+    check_bundles(&rt, rt.alloc(), None, table)
 }
 
 #[test]
 fn names_and_types_are_judged(rt: HostRuntime) -> Result<(), Fail> {
-    let types = item_and_note(rt.alloc())?;
-    for (text, wanted) in [
-        (
-            "{\"root\":\"\",\"objects\":{\"\":{\"type\":\"Item\"}}}",
-            "BadName",
-        ),
-        (
-            "{\"root\":\"\u{e9}\",\"objects\":{\"\u{e9}\":{\"type\":\"Item\"}}}",
-            "BadName",
-        ),
-        (
-            "{\"root\":\"9\",\"objects\":{\"9\":{\"type\":\"Item\"}}}",
-            "BadName",
-        ),
-        ("{\"root\":\"a\",\"objects\":{}}", "RootMissing"),
-        (
-            "{\"root\":\"\",\"objects\":{\"a\":{\"type\":\"Item\"}}}",
-            "RootMissing",
-        ),
-        (
-            "{\"root\":\"A\",\"objects\":{\"a\":{\"type\":\"Item\"}}}",
-            "RootMissing",
-        ),
-        (
-            "{\"root\":\"a\",\"objects\":{\"a\":{\"type\":\"item\"}}}",
-            "UnknownType",
-        ),
-        (
-            "{\"root\":\"a\",\"objects\":{\"a\":{\"type\":\"\"}}}",
-            "UnknownType",
-        ),
-    ] {
-        let answer = read_and_written(rt.alloc(), &types, None, text)?;
-        assert_eq!(rt; answer.as_str(), wanted, "{text}");
-    }
-    Ok(())
+    let table = r#"
+{"root":"","objects":{"":{"type":"Item"}}} => BadName
+{"root":"é","objects":{"é":{"type":"Item"}}} => BadName
+{"root":"9","objects":{"9":{"type":"Item"}}} => BadName
+{"root":"a","objects":{}} => RootMissing
+{"root":"","objects":{"a":{"type":"Item"}}} => RootMissing
+{"root":"A","objects":{"a":{"type":"Item"}}} => RootMissing
+{"root":"a","objects":{"a":{"type":"item"}}} => UnknownType
+{"root":"a","objects":{"a":{"type":""}}} => UnknownType
+{"root":"a","objects":{"a":{"type":"Item"},"b":{"type":"Note"}}} => TooLarge
+"#;
+    check_bundles(&rt, rt.alloc(), None, table)
 }
 
 #[test]
 fn fields_and_data_are_judged(rt: HostRuntime) -> Result<(), Fail> {
-    let types = item_and_note(rt.alloc())?;
-    for (fields, wanted) in [
-        ("{\"zz\":1}", "UnknownField"),
-        ("{\"zz\":null}", "UnknownField"),
-        ("{\"\":\"\"}", "UnknownField"),
-        ("{\"text\":\"\"}", "UnknownField"),
-        ("{\"count\":1.5}", "WrongKind"),
-        ("{\"count\":-0}", "WrongKind"),
-        ("{\"count\":9223372036854775808}", "WrongKind"),
-        ("{\"count\":\"1\"}", "WrongKind"),
-        ("{\"name\":1}", "WrongKind"),
-        ("{\"name\":[]}", "WrongKind"),
-    ] {
-        let text = format!(in rt.alloc();
-            "{{\"root\":\"a\",\"objects\":{{\"a\":{{\"type\":\"Item\",\"fields\":{fields}}}}}}}"
-        )?;
-        let answer = read_and_written(rt.alloc(), &types, None, text.as_str())?;
-        assert_eq!(rt; answer.as_str(), wanted, "{fields}");
-    }
-    Ok(())
+    let table = r#"
+{"root":"a","objects":{"a":{"type":"Item","fields":{"zz":1}}}} => UnknownField
+{"root":"a","objects":{"a":{"type":"Item","fields":{"zz":null}}}} => UnknownField
+{"root":"a","objects":{"a":{"type":"Item","fields":{"":""}}}} => UnknownField
+{"root":"a","objects":{"a":{"type":"Item","fields":{"text":""}}}} => UnknownField
+{"root":"a","objects":{"a":{"type":"Item","fields":{"count":1.5}}}} => WrongKind
+{"root":"a","objects":{"a":{"type":"Item","fields":{"count":-0}}}} => WrongKind
+{"root":"a","objects":{"a":{"type":"Item","fields":{"count":9223372036854775808}}}} => WrongKind
+{"root":"a","objects":{"a":{"type":"Item","fields":{"count":"1"}}}} => WrongKind
+{"root":"a","objects":{"a":{"type":"Item","fields":{"name":1}}}} => WrongKind
+{"root":"a","objects":{"a":{"type":"Item","fields":{"name":[]}}}} => WrongKind
+"#;
+    check_bundles(&rt, rt.alloc(), None, table)
 }
 
-// Each text has the wanted fault and the next ones of the order.
+// Where `Note` is asked, each bundle has the wanted fault, and beside it the next ones.
 #[test]
 fn the_first_fault_is_answered(rt: HostRuntime) -> Result<(), Fail> {
-    let types = item_and_note(rt.alloc())?;
-    let asked = types.find("Note");
-    for (objects, wanted) in [
-        ("{\"9\":{\"type\":\"Nope\",\"x\":0}}", "Shape"),
-        ("{\"9\":{\"type\":\"Nope\"}}", "BadName"),
-        ("{\"b\":{\"type\":\"Nope\"}}", "RootMissing"),
-        (
-            "{\"a\":{\"type\":\"Item\",\"fields\":{\"zz\":0}},\"b\":{\"type\":\"Nope\"}}",
-            "UnknownType",
-        ),
-        (
-            "{\"a\":{\"type\":\"Item\",\"fields\":{\"name\":0}},\"b\":{\"type\":\"Item\",\"fields\":{\"zz\":0}}}",
-            "UnknownField",
-        ),
-        (
-            "{\"a\":{\"type\":\"Item\"},\"b\":{\"type\":\"Item\",\"fields\":{\"name\":0}}}",
-            "WrongKind",
-        ),
-        (
-            "{\"a\":{\"type\":\"Item\"},\"b\":{\"type\":\"Note\"}}",
-            "TooLarge",
-        ),
-        ("{\"a\":{\"type\":\"Item\"}}", "RootType"),
-    ] {
-        let text = format!(in rt.alloc(); "{{\"root\":\"a\",\"objects\":{objects}}}")?;
-        let answer = read_and_written(rt.alloc(), &types, asked, text.as_str())?;
-        assert_eq!(rt; answer.as_str(), wanted, "{objects}");
-    }
-    Ok(())
+    let table = r#"
+{"root":"a","objects":{"9":{"type":"Nope","x":0}}} => Shape
+{"root":"a","objects":{"9":{"type":"Nope"}}} => BadName
+{"root":"a","objects":{"b":{"type":"Nope"}}} => RootMissing
+{"root":"a","objects":{"a":{"type":"Item","fields":{"zz":0}},"b":{"type":"Nope"}}} => UnknownType
+{"root":"a","objects":{"a":{"type":"Item","fields":{"name":0}},"b":{"type":"Item","fields":{"zz":0}}}} => UnknownField
+{"root":"a","objects":{"a":{"type":"Item"},"b":{"type":"Item","fields":{"name":0}}}} => WrongKind
+{"root":"a","objects":{"a":{"type":"Item"},"b":{"type":"Note"}}} => TooLarge
+{"root":"a","objects":{"a":{"type":"Item"}}} => RootType
+"#;
+    check_bundles(&rt, rt.alloc(), Some("Note"), table)
 }
 
 #[test]

@@ -8,10 +8,11 @@ use fv_datum::Datum;
 use fv_model::{Bundle, Object, TypeId, Types, read_bundle, write_bundle};
 use serde_json::Value;
 use std::alloc::Global;
+use std::process::Abort;
 use std::test::Fail;
 
 /// The bundle that a text of JSON is read as, written again, or the name of the fault.
-pub(crate) fn read_and_written(
+fn read_and_written(
     alloc: Global,
     types: &Types,
     asked: Option<TypeId>,
@@ -26,83 +27,64 @@ pub(crate) fn read_and_written(
     }
 }
 
-/// The fields of the one object `a`, an `Item`, as they are read and written again.
-fn item_fields(alloc: Global, types: &Types, fields: &str) -> Result<String, Fail>
-    requires { all_readable (types_view types.now) ≡ true }
-{
-    let text = format!(in alloc;
-        "{{\"root\":\"a\",\"objects\":{{\"a\":{{\"type\":\"Item\",\"fields\":{fields}}}}}}}"
-    )?;
-    read_and_written(alloc, types, None, text.as_str())
-}
-
-#[test]
-fn fields_are_written_by_name_without_nulls(rt: HostRuntime) -> Result<(), Fail> {
-    let types = item_and_note(rt.alloc())?;
-    for (fields, wanted) in [
-        (
-            "{\"name\":\"abc\",\"count\":1}",
-            "{\"count\":1,\"name\":\"abc\"}",
-        ),
-        ("{}", "{}"),
-        ("{\"name\":null}", "{}"),
-        ("{\"count\":null,\"name\":\"\"}", "{\"name\":\"\"}"),
-        ("{\"count\":1,\"count\":2}", "{\"count\":2}"),
-        ("{\"count\":\"x\",\"count\":0}", "{\"count\":0}"),
-        ("{\"na\\u006de\":\"\\u0000\"}", "{\"name\":\"\\u0000\"}"),
-    ] {
-        let wanted = format!(in rt.alloc();
-            "{{\"objects\":{{\"a\":{{\"fields\":{wanted},\"type\":\"Item\"}}}},\"root\":\"a\"}}"
-        )?;
-        let written = item_fields(rt.alloc(), &types, fields)?;
-        assert_eq!(rt; written.as_str(), wanted.as_str());
+/// Each line of a table has a bundle and what is wanted of it: the types are `Item`, with a text
+/// `name` and an integer `count`, and `Note`, with a text `text`.
+pub(crate) fn check_bundles(
+    rt: &impl Abort,
+    alloc: Global,
+    asked: Option<&str>,
+    table: &str,
+) -> Result<(), Fail> {
+    let types = item_and_note(alloc)?;
+    let asked = asked.and_then(|name| types.find(name));
+    for row in table.trim().lines() {
+        let (given, wanted) = row.split_once(" => ").ok_or("a row")?;
+        let answer = read_and_written(alloc, &types, asked, given)?;
+        assert_eq!(rt; answer.as_str(), wanted, "{given}");
     }
     Ok(())
 }
 
 #[test]
-fn members_come_in_any_order_and_the_last_counts(rt: HostRuntime) -> Result<(), Fail> {
-    let types = item_and_note(rt.alloc())?;
-    for (text, wanted) in [
-        (
-            "{\"objects\":{\"b\":{\"fields\":{\"text\":\"t\"},\"type\":\"Note\"}},\"root\":\"b\"}",
-            "{\"objects\":{\"b\":{\"fields\":{\"text\":\"t\"},\"type\":\"Note\"}},\"root\":\"b\"}",
-        ),
-        (
-            "{\"root\":\"z\",\"root\":\"_\",\"objects\":7,\"objects\":{\"_\":{\"type\":\"Note\"}}}",
-            "{\"objects\":{\"_\":{\"fields\":{},\"type\":\"Note\"}},\"root\":\"_\"}",
-        ),
-        (
-            " { \"root\" : \"a\" , \"objects\" : { \"a\" : 1 , \"a\" : { \"type\" : \"Item\" } } } ",
-            "{\"objects\":{\"a\":{\"fields\":{},\"type\":\"Item\"}},\"root\":\"a\"}",
-        ),
-    ] {
-        let written = read_and_written(rt.alloc(), &types, None, text)?;
-        assert_eq!(rt; written.as_str(), wanted);
-    }
-    Ok(())
+fn bundles_are_written_by_name_without_nulls(rt: HostRuntime) -> Result<(), Fail> {
+    let table = r#"
+{"root":"a","objects":{"a":{"type":"Item","fields":{"name":"abc","count":1}}}} => {"objects":{"a":{"fields":{"count":1,"name":"abc"},"type":"Item"}},"root":"a"}
+{"objects":{"b":{"fields":{"text":"\u0000"},"type":"Note"}},"root":"b"} => {"objects":{"b":{"fields":{"text":"\u0000"},"type":"Note"}},"root":"b"}
+{"root":"a","objects":{"a":{"type":"Item","fields":{}}}} => {"objects":{"a":{"fields":{},"type":"Item"}},"root":"a"}
+{"root":"a","objects":{"a":{"type":"Item"}}} => {"objects":{"a":{"fields":{},"type":"Item"}},"root":"a"}
+{"root":"a","objects":{"a":{"type":"Item","fields":{"name":null}}}} => {"objects":{"a":{"fields":{},"type":"Item"}},"root":"a"}
+{"root":"a","objects":{"a":{"type":"Item","fields":{"count":null,"name":""}}}} => {"objects":{"a":{"fields":{"name":""},"type":"Item"}},"root":"a"}
+"#;
+    check_bundles(&rt, rt.alloc(), None, table)
+}
+
+#[test]
+fn of_members_given_twice_the_last_counts(rt: HostRuntime) -> Result<(), Fail> {
+    let table = r#"
+{"root":"z","root":"_","objects":7,"objects":{"_":{"type":"Note"}}} => {"objects":{"_":{"fields":{},"type":"Note"}},"root":"_"}
+{"root":"a","objects":{"a":1,"a":{"type":9,"type":"Note"}}} => {"objects":{"a":{"fields":{},"type":"Note"}},"root":"a"}
+{"root":"a","objects":{"a":{"type":"Item","fields":{"count":"x","count":0}}}} => {"objects":{"a":{"fields":{"count":0},"type":"Item"}},"root":"a"}
+{"root":"a","objects":{"a":{"type":"Item","fields":{"count":0,"count":"x"}}}} => WrongKind
+{"root":"a","objects":{"a":{"type":"Item","fields":{"na\u006de":"x","name":"y"}}}} => {"objects":{"a":{"fields":{"name":"y"},"type":"Item"}},"root":"a"}
+"#;
+    check_bundles(&rt, rt.alloc(), None, table)
 }
 
 #[test]
 fn the_root_is_of_the_asked_type(rt: HostRuntime) -> Result<(), Fail> {
-    let types = item_and_note(rt.alloc())?;
-    let text = "{\"root\":\"a\",\"objects\":{\"a\":{\"type\":\"Note\"}}}";
-    let written = "{\"objects\":{\"a\":{\"fields\":{},\"type\":\"Note\"}},\"root\":\"a\"}";
-    for (asked, wanted) in [("Note", written), ("Item", "RootType")] {
-        let id = types.find(asked).ok_or("declared")?;
-        let answer = read_and_written(rt.alloc(), &types, Some(id), text)?;
-        assert_eq!(rt; answer.as_str(), wanted);
-    }
-    Ok(())
+    let table = r#"
+{"root":"a","objects":{"a":{"type":"Note"}}} => {"objects":{"a":{"fields":{},"type":"Note"}},"root":"a"}
+{"root":"a","objects":{"a":{"type":"Item"}}} => RootType
+"#;
+    check_bundles(&rt, rt.alloc(), Some("Note"), table)
 }
 
-/// The object `a` of a bundle of one `Item`.
-fn item_of(alloc: Global, types: &Types) -> Result<Bundle, Fail>
-    requires { all_readable (types_view types.now) ≡ true }
-{
-    let text = "{\"root\":\"a\",\"objects\":{\"a\":{\"type\":\"Item\",\"fields\":{\"count\":-3}}}}";
+/// A bundle of one `Item`, whose `count` is -3.
+fn item_of(alloc: Global) -> Result<Bundle, Fail> {
+    let types = item_and_note(alloc)?;
+    let text = r#"{"root":"a","objects":{"a":{"type":"Item","fields":{"count":-3}}}}"#;
     let value = Value::from_str(alloc, text)?;
-    Ok(read_bundle(alloc, types, None, &value)?)
+    Ok(read_bundle(alloc, &types, None, &value)?)
 }
 
 fn integer_at(object: &Object, field: &str) -> Option<i64> {
@@ -114,10 +96,8 @@ fn integer_at(object: &Object, field: &str) -> Option<i64> {
 
 #[test]
 fn an_object_has_each_field_of_its_type(rt: HostRuntime) -> Result<(), Fail> {
-    let types = item_and_note(rt.alloc())?;
-    let bundle = item_of(rt.alloc(), &types)?;
+    let bundle = item_of(rt.alloc())?;
     assert_eq!(rt; bundle.root(), "a");
-    assert_eq!(rt; bundle.objects().len(), 1);
     assert!(rt; bundle.object("b").is_none());
     let object = bundle.object("a").ok_or("an object")?;
     assert_eq!(rt; object.type_name(), "Item");
@@ -129,12 +109,14 @@ fn an_object_has_each_field_of_its_type(rt: HostRuntime) -> Result<(), Fail> {
 
 #[test]
 fn fields_stand_in_the_order_of_the_type(rt: HostRuntime) -> Result<(), Fail> {
-    let types = item_and_note(rt.alloc())?;
-    let bundle = item_of(rt.alloc(), &types)?;
-    let object = bundle.object("a").ok_or("an object")?;
-    assert_eq!(rt; object.fields().len(), 2);
-    assert_eq!(rt; object.fields()[0].name(), "name");
-    assert_eq!(rt; object.fields()[1].name(), "count");
+    let bundle = item_of(rt.alloc())?;
+    let named = bundle.objects().first().ok_or("an object")?;
+    assert_eq!(rt; named.name(), "a");
+    let fields = named.object().fields();
+    assert_eq!(rt; fields.len(), 2);
+    assert_eq!(rt; fields[0].name(), "name");
+    assert!(rt; matches!(fields[0].datum(), Datum::Null));
+    assert_eq!(rt; fields[1].name(), "count");
     Ok(())
 }
 
@@ -147,43 +129,42 @@ fn repeated(alloc: Global, piece: &str, count: usize) -> Result<String, Fail> {
     Ok(text)
 }
 
+/// An object of that name with a `name` of that text is taken, or refused by the fault.
+fn check_lengths(
+    rt: &impl Abort,
+    alloc: Global,
+    (object, name): (&str, &str),
+    fault: Option<&str>,
+) -> Result<(), Fail> {
+    let types = item_and_note(alloc)?;
+    let taken = format!(in alloc;
+        "{{\"objects\":{{\"{object}\":{{\"fields\":{{\"name\":\"{name}\"}},\"type\":\"Item\"}}}},\"root\":\"{object}\"}}"
+    )?;
+    let answer = read_and_written(alloc, &types, None, taken.as_str())?;
+    assert!(rt; answer.as_str() == fault.unwrap_or(taken.as_str()));
+    Ok(())
+}
+
 #[test]
 fn texts_have_65536_bytes_at_most(rt: HostRuntime) -> Result<(), Fail> {
-    let types = item_and_note(rt.alloc())?;
-    for (piece, count, is_taken) in [
-        ("x", 65536, true),
-        ("x", 65537, false),
-        ("\u{e9}", 32768, true),
-        ("\u{e9}", 32769, false),
-        ("\u{1f600}", 16384, true),
-        ("\u{1f600}", 16385, false),
+    for (piece, count, fault) in [
+        ("x", 65536, None),
+        ("x", 65537, Some("TooLarge")),
+        ("\u{e9}", 32768, None),
+        ("\u{e9}", 32769, Some("TooLarge")),
+        ("\u{1f600}", 16384, None),
     ] {
         let text = repeated(rt.alloc(), piece, count)?;
-        let fields = format!(in rt.alloc(); "{{\"name\":\"{text}\"}}")?;
-        let taken = format!(in rt.alloc();
-            "{{\"objects\":{{\"a\":{{\"fields\":{fields},\"type\":\"Item\"}}}},\"root\":\"a\"}}"
-        )?;
-        let wanted = if is_taken { taken.as_str() } else { "TooLarge" };
-        let answer = item_fields(rt.alloc(), &types, fields.as_str())?;
-        assert!(rt; answer.as_str() == wanted, "{piece} {count}");
+        check_lengths(&rt, rt.alloc(), ("a", text.as_str()), fault)?;
     }
     Ok(())
 }
 
 #[test]
 fn names_of_objects_have_64_bytes_at_most(rt: HostRuntime) -> Result<(), Fail> {
-    let types = item_and_note(rt.alloc())?;
-    for (count, is_taken) in [(64, true), (65, false)] {
+    for (count, fault) in [(1, None), (64, None), (65, Some("BadName"))] {
         let name = repeated(rt.alloc(), "n", count)?;
-        let text = format!(in rt.alloc();
-            "{{\"root\":\"{name}\",\"objects\":{{\"{name}\":{{\"type\":\"Note\"}}}}}}"
-        )?;
-        let taken = format!(in rt.alloc();
-            "{{\"objects\":{{\"{name}\":{{\"fields\":{{}},\"type\":\"Note\"}}}},\"root\":\"{name}\"}}"
-        )?;
-        let wanted = if is_taken { taken.as_str() } else { "BadName" };
-        let answer = read_and_written(rt.alloc(), &types, None, text.as_str())?;
-        assert_eq!(rt; answer.as_str(), wanted);
+        check_lengths(&rt, rt.alloc(), (name.as_str(), ""), fault)?;
     }
     Ok(())
 }

@@ -1,4 +1,5 @@
-//! Data read from JSON and written as JSON.
+//! Data read from JSON and written as JSON. A table has a case a line, what is given and what is
+//! wanted.
 ghost use Rattle.std.specs.Prelude.{◌≡◌, true};
 ghost use Rattle.fv_datum.specs.Kinds.{is_readable};
 
@@ -7,6 +8,7 @@ use fv_datum::{
 };
 use serde_json::Value;
 use std::alloc::Global;
+use std::process::Abort;
 use std::test::Fail;
 
 /// What a text of JSON is read as, written again, or the name of the fault.
@@ -20,50 +22,58 @@ fn read_and_written(alloc: Global, kind: Kind, text: &str) -> Result<String, Fai
     }
 }
 
-#[test]
-fn integers_are_whole_numbers_of_64_bits(rt: HostRuntime) -> Result<(), Fail> {
-    for (text, wanted) in [
-        ("0", "0"),
-        ("-1", "-1"),
-        (" 7\n", "7"),
-        ("9223372036854775807", "9223372036854775807"),
-        ("-9223372036854775808", "-9223372036854775808"),
-        ("null", "null"),
-        ("-0", "WrongKind"),
-        ("1.0", "WrongKind"),
-        ("1e0", "WrongKind"),
-        ("1.5", "WrongKind"),
-        ("9223372036854775808", "WrongKind"),
-        ("-9223372036854775809", "WrongKind"),
-        ("18446744073709551615", "WrongKind"),
-        ("18446744073709551616", "WrongKind"),
-        ("\"1\"", "WrongKind"),
-        ("true", "WrongKind"),
-        ("[1]", "WrongKind"),
-        ("{}", "WrongKind"),
-    ] {
-        let written = read_and_written(rt.alloc(), Kind::Integer, text)?;
-        assert_eq!(rt; written.as_str(), wanted, "{text}");
+fn check_reads(rt: &impl Abort, alloc: Global, kind: Kind, table: &str) -> Result<(), Fail>
+    requires { is_readable kind ≡ true }
+{
+    for row in table.trim().lines() {
+        let (given, wanted) = row.split_once(" => ").ok_or("a row")?;
+        let answer = read_and_written(alloc, kind, given)?;
+        assert_eq!(rt; answer.as_str(), wanted, "{given}");
     }
     Ok(())
 }
 
 #[test]
+fn integers_are_whole_numbers_of_64_bits(rt: HostRuntime) -> Result<(), Fail> {
+    let table = r#"
+0 => 0
+-1 => -1
+9223372036854775807 => 9223372036854775807
+-9223372036854775808 => -9223372036854775808
+null => null
+-0 => WrongKind
+1.0 => WrongKind
+1e0 => WrongKind
+1.5 => WrongKind
+9223372036854775808 => WrongKind
+-9223372036854775809 => WrongKind
+18446744073709551615 => WrongKind
+18446744073709551616 => WrongKind
+"1" => WrongKind
+true => WrongKind
+[1] => WrongKind
+{} => WrongKind
+"#;
+    check_reads(&rt, rt.alloc(), Kind::Integer, table)
+}
+
+#[test]
 fn texts_are_strings(rt: HostRuntime) -> Result<(), Fail> {
-    for (text, wanted) in [
-        ("\"\"", "\"\""),
-        ("\"abc\"", "\"abc\""),
-        ("null", "null"),
-        ("\"null\"", "\"null\""),
-        ("0", "WrongKind"),
-        ("false", "WrongKind"),
-        ("[\"a\"]", "WrongKind"),
-        ("{\"a\":\"b\"}", "WrongKind"),
-    ] {
-        let written = read_and_written(rt.alloc(), Kind::Text, text)?;
-        assert_eq!(rt; written.as_str(), wanted, "{text}");
-    }
-    Ok(())
+    let table = r#"
+"" => ""
+"abc" => "abc"
+"null" => "null"
+null => null
+"\"\\\/\b\f\n\r\t" => "\"\\/\b\f\n\r\t"
+"\u0041\u00e9é" => "Aéé"
+"\u0000\u001f" => "\u0000\u001f"
+"\ud83d\ude00😀" => "😀😀"
+0 => WrongKind
+false => WrongKind
+["a"] => WrongKind
+{"a":"b"} => WrongKind
+"#;
+    check_reads(&rt, rt.alloc(), Kind::Text, table)
 }
 
 /// The text that a datum is, where it is one.
@@ -74,159 +84,152 @@ fn text_in(datum: &Datum) -> Option<&str> {
     }
 }
 
+fn check_text(rt: &impl Abort, alloc: Global, json: &str, text: &str) -> Result<(), Fail> {
+    let value = Value::from_str(alloc, json)?;
+    let datum = read_datum(alloc, Kind::Text, &value)?;
+    assert_eq!(rt; text_in(&datum).ok_or("a text")?, text, "{json}");
+    Ok(())
+}
+
 #[test]
 fn escapes_stand_for_characters(rt: HostRuntime) -> Result<(), Fail> {
-    for (json, text) in [
-        ("\"\\\"\\\\\\/\"", "\"\\/"),
-        ("\"\\b\\f\\n\\r\\t\"", "\u{8}\u{c}\n\r\t"),
-        ("\"\\u0041\\u00e9\"", "A\u{e9}"),
-        ("\"\u{e9}\"", "\u{e9}"),
-        ("\"\\u0000\"", "\0"),
-        ("\"\\u001f\u{7f}\"", "\u{1f}\u{7f}"),
-        ("\"\\ud83d\\ude00\"", "\u{1f600}"),
-        ("\"\u{1f600}\u{10ffff}\"", "\u{1f600}\u{10ffff}"),
-        ("\"\\uFFFF\\u2028\"", "\u{ffff}\u{2028}"),
-    ] {
-        let value = Value::from_str(rt.alloc(), json)?;
-        let datum = read_datum(rt.alloc(), Kind::Text, &value)?;
-        assert_eq!(rt; text_in(&datum).ok_or("a text")?, text, "{json}");
-    }
+    check_text(&rt, rt.alloc(), r#""\"\\\/""#, "\"\\/")?;
+    check_text(&rt, rt.alloc(), r#""\b\f\n\r\t""#, "\u{8}\u{c}\n\r\t")?;
+    check_text(&rt, rt.alloc(), r#""\u0041\u00E9""#, "A\u{e9}")?;
+    check_text(&rt, rt.alloc(), r#""\u0000\u001f""#, "\0\u{1f}")?;
+    check_text(&rt, rt.alloc(), r#""\ud83d\ude00""#, "\u{1f600}")?;
+    check_text(&rt, rt.alloc(), r#""\uffff\u2028""#, "\u{ffff}\u{2028}")?;
+    check_text(&rt, rt.alloc(), "\"\u{7f}\u{10ffff}\"", "\u{7f}\u{10ffff}")
+}
+
+fn check_spelling(
+    rt: &impl Abort,
+    alloc: Global,
+    json: &str,
+    kinds: (bool, bool),
+) -> Result<(), Fail> {
+    let value = Value::from_str(alloc, json)?;
+    assert_eq!(rt; spells_datum(Kind::Text, &value), kinds.0, "{json}");
+    assert_eq!(rt; spells_datum(Kind::Integer, &value), kinds.1, "{json}");
     Ok(())
 }
 
 #[test]
-fn characters_are_escaped_where_json_asks_it(rt: HostRuntime) -> Result<(), Fail> {
-    for (text, wanted) in [
-        ("\"\\/", "\"\\\"\\\\/\""),
-        ("\u{8}\u{c}\n\r\t", "\"\\b\\f\\n\\r\\t\""),
-        ("\0\u{1f}\u{7f}", "\"\\u0000\\u001f\u{7f}\""),
-        ("\u{e9}\u{1f600}", "\"\u{e9}\u{1f600}\""),
-    ] {
-        let datum = Datum::Text(String::from_str(rt.alloc(), text)?);
-        let written = write_datum(rt.alloc(), &datum)?.to_string(rt.alloc())?;
-        assert_eq!(rt; written.as_str(), wanted);
-    }
-    Ok(())
+fn a_value_spells_a_text_or_an_integer(rt: HostRuntime) -> Result<(), Fail> {
+    check_spelling(&rt, rt.alloc(), "null", (true, true))?;
+    check_spelling(&rt, rt.alloc(), "\"5\"", (true, false))?;
+    check_spelling(&rt, rt.alloc(), "5", (false, true))?;
+    check_spelling(&rt, rt.alloc(), "5.0", (false, false))?;
+    check_spelling(&rt, rt.alloc(), "-0", (false, false))?;
+    check_spelling(&rt, rt.alloc(), "[]", (false, false))
 }
 
-#[test]
-fn a_value_spells_a_datum_where_it_is_read(rt: HostRuntime) -> Result<(), Fail> {
-    for (text, is_text, is_integer) in [
-        ("null", true, true),
-        ("\"5\"", true, false),
-        ("5", false, true),
-        ("5.0", false, false),
-        ("-0", false, false),
-        ("[]", false, false),
-    ] {
-        let value = Value::from_str(rt.alloc(), text)?;
-        assert_eq!(rt; spells_datum(Kind::Text, &value), is_text, "{text}");
-        assert_eq!(rt; spells_datum(Kind::Integer, &value), is_integer, "{text}");
+/// A datum as JSON, or the name of the fault.
+fn written(alloc: Global, datum: &Datum) -> Result<String, Fail> {
+    match write_datum(alloc, datum) {
+        Ok(value) => Ok(value.to_string(alloc)?),
+        Err(fault) => Ok(String::from_str(alloc, fault.name())?),
     }
-    Ok(())
 }
 
-/// A datum and its copy, both as JSON.
-fn written_twice(alloc: Global, datum: &Datum) -> Result<(String, String), Fail> {
+/// The datum and its copy are written as wanted.
+fn check_written(rt: &impl Abort, alloc: Global, datum: Datum, wanted: &str) -> Result<(), Fail> {
     let copy = datum.copy(alloc)?;
-    let written = write_datum(alloc, datum)?.to_string(alloc)?;
-    Ok((written, write_datum(alloc, &copy)?.to_string(alloc)?))
-}
-
-#[test]
-fn plain_data_are_written_and_copied(rt: HostRuntime) -> Result<(), Fail> {
-    let alloc = rt.alloc();
-    let name = String::from_str(alloc, "b_2")?;
-    assert!(rt; is_name(name.as_str()));
-    for (datum, wanted) in vec![in alloc;
-        (Datum::Null, "null"),
-        (Datum::Text(String::from_str(alloc, "null")?), "\"null\""),
-        (Datum::Integer(-5), "-5"),
-        (
-            Datum::Decimal(String::from_str(alloc, "12.50")?),
-            "\"12.50\""
-        ),
-        (Datum::Boolean(true), "true"),
-        (
-            Datum::Date(String::from_str(alloc, "2024-02-29")?),
-            "\"2024-02-29\""
-        ),
-        (Datum::Instant(-62135596800), "-62135596800"),
-        (Datum::Ref(Name::new(name)), "\"b_2\""),
-    ]? {
-        let (written, copied) = written_twice(alloc, &datum)?;
-        assert_eq!(rt; written.as_str(), wanted);
-        assert_eq!(rt; copied.as_str(), wanted);
-    }
+    assert_eq!(rt; written(alloc, &datum)?.as_str(), wanted);
+    assert_eq!(rt; written(alloc, &copy)?.as_str(), wanted);
     Ok(())
 }
 
 #[test]
-fn containers_are_written_and_copied(rt: HostRuntime) -> Result<(), Fail> {
-    let alloc = rt.alloc();
-    let empty = Datum::Optional(Box::new(alloc, Datum::Null)?);
-    let nested = Datum::Optional(Box::new(alloc, empty.copy(alloc)?)?);
-    let held = Datum::Optional(Box::new(alloc, Datum::Integer(1))?);
-    for (datum, wanted) in vec![in alloc;
-        (empty, "[]"),
-        (nested, "[[]]"),
-        (held, "[1]"),
-        (Datum::List(Vec::new(alloc)), "[]"),
-        (
-            Datum::List(vec![in alloc; Datum::Null, Datum::Boolean(false)]?),
-            "[null,false]"
-        ),
-        (Datum::Map(Vec::new(alloc)), "{}"),
-    ]? {
-        let (written, copied) = written_twice(alloc, &datum)?;
-        assert_eq!(rt; written.as_str(), wanted);
-        assert_eq!(rt; copied.as_str(), wanted);
-    }
-    Ok(())
+fn plain_data_are_written(rt: HostRuntime) -> Result<(), Fail> {
+    check_written(&rt, rt.alloc(), Datum::Null, "null")?;
+    check_written(
+        &rt,
+        rt.alloc(),
+        Datum::Integer(i64::MIN),
+        "-9223372036854775808",
+    )?;
+    check_written(&rt, rt.alloc(), Datum::Boolean(true), "true")?;
+    check_written(
+        &rt,
+        rt.alloc(),
+        Datum::Instant(-62135596800),
+        "-62135596800",
+    )
 }
 
-/// A map of two texts to 1 and to null.
-fn pair_of(alloc: Global, first: &str, second: &str) -> Result<Datum, Fail> {
-    let first = Datum::Text(String::from_str(alloc, first)?);
-    let second = Datum::Text(String::from_str(alloc, second)?);
-    Ok(Datum::Map(vec![in alloc; (first, Datum::Integer(1)), (second, Datum::Null)]?))
+#[test]
+fn texts_of_all_kinds_are_written(rt: HostRuntime) -> Result<(), Fail> {
+    let text = String::from_str(rt.alloc(), "\"\\/\u{8}\u{c}\n\r\t\0\u{1f}\u{7f}\u{e9}")?;
+    let wanted = "\"\\\"\\\\/\\b\\f\\n\\r\\t\\u0000\\u001f\u{7f}\u{e9}\"";
+    check_written(&rt, rt.alloc(), Datum::Text(text), wanted)?;
+    let decimal = Datum::Decimal(String::from_str(rt.alloc(), "012.50")?);
+    check_written(&rt, rt.alloc(), decimal, "\"012.50\"")?;
+    let date = Datum::Date(String::from_str(rt.alloc(), "2024-02-29")?);
+    check_written(&rt, rt.alloc(), date, "\"2024-02-29\"")
+}
+
+#[test]
+fn names_are_copied_and_written(rt: HostRuntime) -> Result<(), Fail> {
+    let text = String::from_str(rt.alloc(), "left_2")?;
+    assert!(rt; is_name(text.as_str()));
+    let name = Name::new(text);
+    assert_eq!(rt; name.copy()?.as_str(), "left_2");
+    check_written(&rt, rt.alloc(), Datum::Ref(name), "\"left_2\"")
+}
+
+#[test]
+fn optionals_are_written(rt: HostRuntime) -> Result<(), Fail> {
+    let empty = Datum::Optional(Box::new(rt.alloc(), Datum::Null)?);
+    check_written(&rt, rt.alloc(), empty.copy(rt.alloc())?, "[]")?;
+    let nested = Datum::Optional(Box::new(rt.alloc(), empty)?);
+    check_written(&rt, rt.alloc(), nested, "[[]]")?;
+    let held = Datum::Optional(Box::new(rt.alloc(), Datum::Integer(1))?);
+    check_written(&rt, rt.alloc(), held, "[1]")
+}
+
+#[test]
+fn lists_are_written(rt: HostRuntime) -> Result<(), Fail> {
+    check_written(&rt, rt.alloc(), Datum::List(Vec::new(rt.alloc())), "[]")?;
+    let items = vec![in rt.alloc(); Datum::Null, Datum::Boolean(false)]?;
+    check_written(&rt, rt.alloc(), Datum::List(items), "[null,false]")
+}
+
+/// A map of two texts, the first with 1 and the second with null.
+fn check_pair(
+    rt: &impl Abort,
+    alloc: Global,
+    keys: (&str, &str),
+    wanted: &str,
+) -> Result<(), Fail> {
+    let first = Datum::Text(String::from_str(alloc, keys.0)?);
+    let second = Datum::Text(String::from_str(alloc, keys.1)?);
+    let entries = vec![in alloc; (first, Datum::Integer(1)), (second, Datum::Null)]?;
+    check_written(rt, alloc, Datum::Map(entries), wanted)
 }
 
 #[test]
 fn keys_ascend_by_their_bytes(rt: HostRuntime) -> Result<(), Fail> {
-    let alloc = rt.alloc();
-    for (first, second, wanted) in [
-        ("a", "b", Ok("{\"a\":1,\"b\":null}")),
-        ("", "a", Ok("{\"\":1,\"a\":null}")),
-        ("Z", "a", Ok("{\"Z\":1,\"a\":null}")),
-        ("z", "\u{e9}", Ok("{\"z\":1,\"\u{e9}\":null}")),
-        ("a", "a", Err(DatumFault::WrongKind)),
-        ("b", "a", Err(DatumFault::WrongKind)),
-        ("ab", "a", Err(DatumFault::WrongKind)),
-    ] {
-        match (write_datum(alloc, &pair_of(alloc, first, second)?), wanted) {
-            (Ok(value), Ok(text)) => assert_eq!(rt; value.to_string(alloc)?.as_str(), text),
-            (Err(fault), Err(expected)) => assert_eq!(rt; fault, expected),
-            _ => assert!(rt; false, "{first} {second}"),
-        }
-    }
-    Ok(())
+    check_written(&rt, rt.alloc(), Datum::Map(Vec::new(rt.alloc())), "{}")?;
+    check_pair(&rt, rt.alloc(), ("a", "b"), "{\"a\":1,\"b\":null}")?;
+    check_pair(&rt, rt.alloc(), ("", "a"), "{\"\":1,\"a\":null}")?;
+    check_pair(&rt, rt.alloc(), ("Z", "a"), "{\"Z\":1,\"a\":null}")?;
+    check_pair(
+        &rt,
+        rt.alloc(),
+        ("z", "\u{e9}"),
+        "{\"z\":1,\"\u{e9}\":null}",
+    )?;
+    check_pair(&rt, rt.alloc(), ("a", "a"), "WrongKind")?;
+    check_pair(&rt, rt.alloc(), ("b", "a"), "WrongKind")?;
+    check_pair(&rt, rt.alloc(), ("ab", "a"), "WrongKind")
 }
 
 #[test]
 fn keys_are_texts_at_any_depth(rt: HostRuntime) -> Result<(), Fail> {
-    let alloc = rt.alloc();
-    let numbered = Datum::Map(vec![in alloc; (Datum::Integer(1), Datum::Null)]?);
-    assert_eq!(rt;
-        write_datum(alloc, &numbered).err(),
-        Some(DatumFault::WrongKind)
-    );
-    let within = Datum::List(vec![in alloc; Datum::Null, numbered]?);
-    assert_eq!(rt;
-        write_datum(alloc, &within).err(),
-        Some(DatumFault::WrongKind)
-    );
-    Ok(())
+    let entries = vec![in rt.alloc(); (Datum::Integer(1), Datum::Null)]?;
+    let items = vec![in rt.alloc(); Datum::Map(entries)]?;
+    check_written(&rt, rt.alloc(), Datum::List(items), "WrongKind")
 }
 
 #[test]
@@ -248,12 +251,4 @@ fn moments_have_a_first_and_a_last(rt: HostRuntime) {
 fn faults_of_data_have_names(rt: HostRuntime) {
     assert_eq!(rt; DatumFault::WrongKind.name(), "WrongKind");
     assert_eq!(rt; DatumFault::Memory.name(), "Memory");
-}
-
-#[test]
-fn a_name_is_copied(rt: HostRuntime) -> Result<(), Fail> {
-    let text = String::from_str(rt.alloc(), "left_2")?;
-    assert!(rt; is_name(text.as_str()));
-    assert_eq!(rt; Name::new(text).copy()?.as_str(), "left_2");
-    Ok(())
 }

@@ -2,30 +2,32 @@
 use fv_datum::is_name;
 
 #[test]
-fn names_are_told_from_other_texts(rt: HostRuntime) {
-    for (text, wanted) in [
-        ("a", true),
-        ("_", true),
-        ("Z9", true),
-        ("__0_", true),
-        ("root", true),
-        ("", false),
-        ("9a", false),
-        ("a-b", false),
-        ("a b", false),
-        ("a.b", false),
-        ("\u{e9}", false),
-        ("caf\u{e9}", false),
-        ("a\0", false),
-        ("a\n", false),
-        ("@", false),
-        ("[", false),
-        ("`", false),
-        ("{", false),
-        ("/", false),
-        (":", false),
+fn names_are_letters_digits_and_low_lines(rt: HostRuntime) {
+    for text in ["a", "_", "Z9", "__0_", "root"] {
+        assert!(rt; is_name(text), "{text:?}");
+    }
+}
+
+#[test]
+fn other_texts_are_no_names(rt: HostRuntime) {
+    for text in [
+        "",
+        "9a",
+        "a-b",
+        "a b",
+        "a.b",
+        "\u{e9}",
+        "caf\u{e9}",
+        "a\0",
+        "a\n",
+        "@",
+        "[",
+        "`",
+        "{",
+        "/",
+        ":",
     ] {
-        assert_eq!(rt; is_name(text), wanted, "{text:?}");
+        assert!(rt; !is_name(text), "{text:?}");
     }
 }
 
