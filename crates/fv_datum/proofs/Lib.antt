@@ -1,3 +1,5 @@
+pub mod DayLemmas
+pub mod DigitLemmas
 pub mod Lookups
 pub mod Spelled
 pub mod Unfit

@@ -1,6 +1,9 @@
 pub mod Answers
+pub mod AttributeKinds
 pub mod Attributes
 pub mod Data
+pub mod Days
+pub mod Decimals
 pub mod FaultNames
 pub mod Json
 pub mod Kinds

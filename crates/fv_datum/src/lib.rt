@@ -2,8 +2,11 @@
 //! spells it.
 #![tactic(auto)]
 
+mod attribute_kind;
 mod attrs;
 mod datum;
+mod day;
+mod decimal;
 mod fault;
 mod kind;
 mod moment;
@@ -11,8 +14,11 @@ mod name;
 mod reading;
 mod writing;
 
+pub use attribute_kind::AttributeKind;
 pub use attrs::{Attribute, Attrs};
 pub use datum::Datum;
+pub use day::{day_of, today};
+pub use decimal::decimal_units;
 pub use fault::DatumFault;
 pub use kind::Kind;
 pub use moment::moment_ok;
