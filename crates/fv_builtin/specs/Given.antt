@@ -1,0 +1,155 @@
+-- The constraint that a built-in's name is with the attributes that are given.
+use Rattle.std.specs.Prelude.{◌≡◌, ℕ, ◌^◌, ◌*ℤ◌, ℤ, pos, List, Bool, true, false, not, nat_le, nat_lt, Option, Some, None, option_map, option_and_then, Result, Ok, Err, if◌then◌else◌, codes}
+use Rattle.std.specs.List.{list_any}
+use Rattle.fv_datum.specs.AttributeKinds.{attribute_kind}
+use Rattle.fv_datum.specs.Attributes.{AttributeValue, integer, text, boolean, Attributes}
+use Rattle.fv_datum.specs.Decimals.{decimal_units}
+use Rattle.fv_datum.specs.Lookup.{at_name}
+use Rattle.fv_datum.specs.declared.attribute_kind.AttributeKind.{AttributeKind}
+use Rattle.fv_datum.specs.declared.attribute_kind.AttributeKind.TheVariants as attribute
+use Rattle.regex.specs.Patterns.{Re}
+use Rattle.fv_builtin.specs.Matches.{anchored, IsPatternOf, IsRefused}
+use Rattle.fv_builtin.specs.Rules.{Rule}
+use Rattle.fv_builtin.specs.Rules as rule
+use Rattle.fv_builtin.specs.Table.{kind_of_attribute, default_of}
+use Rattle.fv_builtin.specs.declared.fault.BuiltinFault.{BuiltinFault}
+use Rattle.fv_builtin.specs.declared.fault.BuiltinFault.TheVariants.{Attribute, UnexpectedType, BadPattern, Memory}
+use Rattle.fv_builtin.specs.declared.name.BuiltinName.{BuiltinName}
+use Rattle.fv_builtin.specs.declared.name.BuiltinName.TheVariants.{Null, NotNull, AssertTrue, AssertFalse, Min, Max, DecimalMin, DecimalMax, Positive, PositiveOrZero, Negative, NegativeOrZero, Digits, Size, NotEmpty, NotBlank, Past, PastOrPresent, Future, FutureOrPresent, Pattern}
+
+-- ---- the values in effect
+
+-- an attribute's value as it is given, else its default
+abbrev pub given_or : Option AttributeValue → Option AttributeValue → Option AttributeValue
+given_or given None = given
+given_or None (Some default) = Some default
+given_or (Some a) (Some default) = Some a
+
+abbrev pub in_effect : BuiltinName → Attributes → List ℕ → Option AttributeValue
+in_effect which given name = given_or (at_name name given) (default_of which name)
+
+-- the value, if it is of the kind
+abbrev pub integer_in : AttributeValue → Option ℤ
+integer_in (integer n) = Some n
+integer_in _ = None
+
+abbrev pub text_in : AttributeValue → Option (List ℕ)
+text_in (text s) = Some s
+text_in _ = None
+
+abbrev pub boolean_in : AttributeValue → Option Bool
+boolean_in (boolean b) = Some b
+boolean_in _ = None
+
+-- a whole number from 0 to 2147483647
+abbrev pub count_in : ℤ → Option ℕ
+count_in (pos n) = if nat_le n 2147483647 then Some n else None
+count_in _ = None
+
+abbrev pub integer_at : BuiltinName → Attributes → List ℕ → Option ℤ
+integer_at which given name = option_and_then integer_in (in_effect which given name)
+
+abbrev pub text_at : BuiltinName → Attributes → List ℕ → Option (List ℕ)
+text_at which given name = option_and_then text_in (in_effect which given name)
+
+abbrev pub boolean_at : BuiltinName → Attributes → List ℕ → Option Bool
+boolean_at which given name = option_and_then boolean_in (in_effect which given name)
+
+abbrev pub count_at : BuiltinName → Attributes → List ℕ → Option ℕ
+count_at which given name = option_and_then count_in (integer_at which given name)
+
+-- ---- what is refused of them
+
+abbrev pub is_same : AttributeKind → AttributeKind → Bool
+is_same attribute.Integer attribute.Integer = true
+is_same attribute.Text attribute.Text = true
+is_same attribute.Boolean attribute.Boolean = true
+is_same attribute.Texts attribute.Texts = true
+is_same _ _ = false
+
+-- the constraint has the attribute, and it is of the kind
+abbrev pub has_kind : Option AttributeKind → AttributeKind → Bool
+has_kind None k = false
+has_kind (Some wanted) k = is_same wanted k
+
+-- an attribute is given that the constraint doesn't have, or has with another kind
+abbrev pub has_foreign : BuiltinName → Attributes → Bool
+has_foreign which = list_any (λ a. not (has_kind (kind_of_attribute which a.0) (attribute_kind a.1)))
+
+-- ---- the constraint
+
+-- a constraint with its attributes in effect, or the text of a pattern that is still to be read
+pub data Draft : Type 0 where
+  ready : Rule → Draft
+  to_match : List ℕ → Draft
+
+-- two values, if both are there
+abbrev pub both : {X Y : Type 0} → Option X → Option Y → Option (X × Y)
+both x y = option_and_then (λ a. option_map (λ b. (a, b)) y) x
+
+-- a bound that is a whole number, in units of 10^-9
+abbrev pub whole_bound : BuiltinName → Attributes → Option ℤ
+whole_bound which given = option_map (λ n. n *ℤ pos (10 ^ 9)) (integer_at which given (codes "value"))
+
+-- a bound that is a decimal, in the same units, and whether it is included
+abbrev pub decimal_bound : BuiltinName → Attributes → Option (ℤ × Bool)
+decimal_bound which given = both (option_and_then decimal_units (text_at which given (codes "value"))) (boolean_at which given (codes "inclusive"))
+
+-- how many digits
+abbrev pub digit_counts : Attributes → Option (ℕ × ℕ)
+digit_counts given = both (count_at Digits given (codes "integer")) (count_at Digits given (codes "fraction"))
+
+-- the least and the greatest size, of which the second is not below the first
+abbrev pub in_order : ℕ × ℕ → Option (ℕ × ℕ)
+in_order p = if nat_lt p.1 p.0 then None else Some p
+
+abbrev pub size_bounds : Attributes → Option (ℕ × ℕ)
+size_bounds given = option_and_then in_order (both (count_at Size given (codes "min")) (count_at Size given (codes "max")))
+
+-- the text of a pattern
+abbrev pub regexp_of : Attributes → Option (List ℕ)
+regexp_of given = text_at Pattern given (codes "regexp")
+
+-- none where an attribute is missing, or its value is one that the constraint refuses
+abbrev pub accepted : BuiltinName → Attributes → Option Draft
+accepted Null given = Some (ready rule.null)
+accepted NotNull given = Some (ready rule.not_null)
+accepted AssertTrue given = Some (ready rule.assert_true)
+accepted AssertFalse given = Some (ready rule.assert_false)
+accepted Min given = option_map (λ n. ready (rule.min n)) (whole_bound Min given)
+accepted Max given = option_map (λ n. ready (rule.max n)) (whole_bound Max given)
+accepted DecimalMin given = option_map (λ p. ready (rule.decimal_min p.0 p.1)) (decimal_bound DecimalMin given)
+accepted DecimalMax given = option_map (λ p. ready (rule.decimal_max p.0 p.1)) (decimal_bound DecimalMax given)
+accepted Positive given = Some (ready rule.positive)
+accepted PositiveOrZero given = Some (ready rule.positive_or_zero)
+accepted Negative given = Some (ready rule.negative)
+accepted NegativeOrZero given = Some (ready rule.negative_or_zero)
+accepted Digits given = option_map (λ p. ready (rule.digits p.0 p.1)) (digit_counts given)
+accepted Size given = option_map (λ p. ready (rule.size p.0 p.1)) (size_bounds given)
+accepted NotEmpty given = Some (ready rule.not_empty)
+accepted NotBlank given = Some (ready rule.not_blank)
+accepted Past given = Some (ready rule.past)
+accepted PastOrPresent given = Some (ready rule.past_or_present)
+accepted Future given = Some (ready rule.future)
+accepted FutureOrPresent given = Some (ready rule.future_or_present)
+accepted Pattern given = option_map (λ s. to_match s) (regexp_of given)
+
+-- the same, where no attribute is foreign
+abbrev pub drafted : BuiltinName → Attributes → Option Draft
+drafted which given = if has_foreign which given then None else accepted which given
+
+-- ---- what is read
+
+-- what a pattern's text is read as: the pattern of the text between its anchors, or a refusal of the regex crate
+abbrev pub IsBuilt : List ℕ → Result Rule BuiltinFault → Type 0
+IsBuilt regexp (Ok r) = (re : Re) × IsPatternOf (anchored regexp) re × (r ≡ rule.pattern re)
+IsBuilt regexp (Err BadPattern) = IsRefused (anchored regexp)
+IsBuilt regexp (Err Memory) = Unit {0}
+IsBuilt regexp (Err _) = ⊥
+
+-- what is wrong with the attributes comes before the kind, and that before the pattern
+abbrev pub IsRead : Option Draft → Bool → Result Rule BuiltinFault → Type 0
+IsRead None takes answer = answer ≡ Err Attribute
+IsRead (Some draft) false answer = answer ≡ Err UnexpectedType
+IsRead (Some (ready r)) true answer = answer ≡ Ok r
+IsRead (Some (to_match regexp)) true answer = IsBuilt regexp answer

@@ -1,0 +1,13 @@
+pub mod FaultNames
+pub mod Given
+pub mod Matches
+pub mod Messages
+pub mod Names
+pub mod Numbers
+pub mod Rules
+pub mod Says
+pub mod Sizes
+pub mod Table
+pub mod Times
+pub mod Truths
+pub mod Views

@@ -1,0 +1,22 @@
+//! NotBlank: a text has some character that is no white space, by Unicode's White_Space.
+ghost use Rattle.std.specs.Prelude.{◌≡◌};
+ghost use Rattle.fv_datum.specs.View.{view};
+ghost use Rattle.fv_builtin.specs.Sizes.{has_ink, is_not_blank};
+
+use fv_datum::{Datum, is_null};
+
+pub(crate) fn is_not_blank(datum: &Datum) -> bool
+    ensures { result ≡ is_not_blank (view datum.now) }
+{
+    match datum {
+        Datum::Text(text) => has_ink(text.as_str()),
+        _ => !is_null(datum),
+    }
+}
+
+/// Some character is no white space.
+fn has_ink(text: &str) -> bool
+    ensures { result ≡ has_ink text.now }
+{
+    text.chars().any(|c| !c.is_whitespace())
+}

@@ -1,0 +1,105 @@
+//! Min, Max, DecimalMin, DecimalMax, Positive, PositiveOrZero, Negative and NegativeOrZero: a
+//! number stands to a bound. Numbers are in units of 10^-9.
+ghost use Rattle.std.specs.Prelude.{◌≡◌, ◌^◌, ◌*ℤ◌, pos};
+ghost use Rattle.fv_datum.specs.View.{view};
+ghost use Rattle.fv_builtin.specs.Given.{whole_bound, decimal_bound};
+ghost use Rattle.fv_builtin.specs.declared.name.BuiltinName.TheVariants.{Min, DecimalMin};
+ghost use Rattle.fv_builtin.specs.Numbers.{number_of, is_at_least, is_above, is_at_most, is_below, is_from, is_up_to};
+
+use crate::given::{boolean_or, integer_or, text_of};
+use crate::table::INCLUSIVE;
+use fv_datum::{Attrs, Datum, decimal_units};
+
+/// The `value` of Min or Max, in units of 10^-9.
+pub(crate) fn whole_bound(attrs: &Attrs) -> Option<i128>
+    ensures { result ≡ whole_bound Min attrs.now }
+{
+    let value = integer_or(attrs.find("value"), None)?;
+    Some(whole_units(value))
+}
+
+/// The `value` of DecimalMin or DecimalMax, in units of 10^-9, and whether it is included.
+pub(crate) fn decimal_bound(attrs: &Attrs) -> Option<(i128, bool)>
+    ensures { result ≡ decimal_bound DecimalMin attrs.now }
+{
+    let value = text_of(attrs.find("value"))?;
+    let units = decimal_units(value)?;
+    let inclusive = boolean_or(attrs.find("inclusive"), Some(INCLUSIVE))?;
+    Some((units, inclusive))
+}
+
+/// The number of an integer or of a decimal, if the datum is one.
+pub(crate) fn number_of(datum: &Datum) -> Option<i128>
+    ensures { result ≡ number_of (view datum.now) }
+{
+    match datum {
+        Datum::Integer(number) => Some(whole_units(*number)),
+        Datum::Decimal(text) => decimal_units(text.as_str()),
+        _ => None,
+    }
+}
+
+/// A whole number in units of 10^-9.
+pub(crate) fn whole_units(number: i64) -> i128
+    ensures { result ≡ number *ℤ pos (10 ^ 9) }
+{
+    number as i128 * 1_000_000_000
+}
+
+pub(crate) fn is_at_least(bound: i128, datum: &Datum) -> bool
+    ensures { result ≡ is_at_least bound (view datum.now) }
+{
+    match number_of(datum) {
+        None => true,
+        Some(number) => bound <= number,
+    }
+}
+
+pub(crate) fn is_above(bound: i128, datum: &Datum) -> bool
+    ensures { result ≡ is_above bound (view datum.now) }
+{
+    match number_of(datum) {
+        None => true,
+        Some(number) => bound < number,
+    }
+}
+
+pub(crate) fn is_at_most(bound: i128, datum: &Datum) -> bool
+    ensures { result ≡ is_at_most bound (view datum.now) }
+{
+    match number_of(datum) {
+        None => true,
+        Some(number) => number <= bound,
+    }
+}
+
+pub(crate) fn is_below(bound: i128, datum: &Datum) -> bool
+    ensures { result ≡ is_below bound (view datum.now) }
+{
+    match number_of(datum) {
+        None => true,
+        Some(number) => number < bound,
+    }
+}
+
+/// At least the bound or, without `inclusive`, above it.
+pub(crate) fn is_from(bound: i128, inclusive: bool, datum: &Datum) -> bool
+    ensures { result ≡ is_from bound inclusive (view datum.now) }
+{
+    if inclusive {
+        is_at_least(bound, datum)
+    } else {
+        is_above(bound, datum)
+    }
+}
+
+/// At most the bound or, without `inclusive`, below it.
+pub(crate) fn is_up_to(bound: i128, inclusive: bool, datum: &Datum) -> bool
+    ensures { result ≡ is_up_to bound inclusive (view datum.now) }
+{
+    if inclusive {
+        is_at_most(bound, datum)
+    } else {
+        is_below(bound, datum)
+    }
+}

@@ -1,0 +1,23 @@
+//! The built-in constraints: what each asks of its attributes and of the kind of its place, and
+//! what it says of a datum at a moment.
+#![tactic(auto)]
+
+mod blank;
+mod bound;
+mod builtin;
+mod digits;
+mod draft;
+mod fault;
+mod given;
+mod message;
+mod name;
+mod pattern;
+mod size;
+mod table;
+mod time;
+mod truth;
+
+pub use builtin::Builtin;
+pub use fault::BuiltinFault;
+pub use message::builtin_message;
+pub use name::{BuiltinName, builtin_named, is_builtin};
