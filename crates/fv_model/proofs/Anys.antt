@@ -3,7 +3,7 @@ use Rattle.std.proofs.Common.{◌≡◌, ℕ, ◌+◌, ◌<◌, List, length, ge
 use Rattle.std.specs.List.{list_any}
 use Rattle.fv_model.specs.Draft as spec
 use Rattle.fv_model.specs.Views.{part_view}
-use Rattle.fv_model.specs.declared.draft.Part.{Part}
+use Rattle.fv_model.specs.declared.parts.Part.{Part}
 
 turn : {X Y : Type 0} (view : X → Y) (test : Y → Bool) (xs : List X) (i : ℕ) (x : X) → i < length xs → x ≡ get_or xs i x
     → list_any test (map view (drop i xs)) ≡ (test (view x) || list_any test (map view (drop (i + 1) xs)))

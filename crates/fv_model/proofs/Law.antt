@@ -1,57 +1,72 @@
 -- What was written of a well-typed bundle is read as that bundle.
-use Rattle.std.proofs.Common.{◌≡◌, ◌≢◌, ℕ, ◌≤◌, List, [], ◌∷◌, map, length, cond, Bool, true, false, not, nat_lt, Some, None, Ok, Ordering, Less, Equal, Greater, nat_cmp, bytes_eq, is_some, inl, inr, refl, sym, ap, subst, ◌∙◌, true≢false}
+use Rattle.std.proofs.Common.{◌≡◌, ◌≢◌, ℕ, ◌≤◌, List, [], ◌∷◌, ◌++◌, map, length, cond, Bool, true, false, not, nat_lt, Option, Some, None, Ok, Ordering, Less, Equal, Greater, nat_cmp, bytes_eq, is_some, option_map, ◌⊎◌, inl, inr, refl, sym, ap, subst, ◌∙◌, true≢false, append_assoc, append-nil}
 use Rattle.std.specs.List.{list_any, AllByRecursion}
-use Rattle.std.specs.Ordering.{match_ordering}
+use Rattle.std.specs.Map.{keys_of}
+use Rattle.std.specs.Option.{ForSome}
+use Rattle.std.specs.Ordering.{match_ordering, ordering_reverse}
 use Rattle.std.specs.Cmp.Lexicographic.{slice_cmp}
 use Rattle.std.proofs.lemmas.Bool.{le-ltb}
+use Rattle.std.proofs.lemmas.Cmp.{nat_list_cmp_total}
+use Rattle.std.proofs.lemmas.List.{length-map}
+use Rattle.std.proofs.lemmas.Map.Keys.{sorted_head, sorted_tail}
 use Rattle.std.proofs.lemmas.Map.Lookups.{exact_bytes}
 use Rattle.std.proofs.lemmas.Slice.Eq.{bytes_eq-Decides}
 use Rattle.serde_json.specs.Data as json
 use Rattle.serde_json.specs.Find.{get_member, as_str}
 use Rattle.serde_json.proofs.Views.{get_member-put, get_member-put_other}
+use Rattle.fv_datum.specs.Answers.{first, unless_fault}
 use Rattle.fv_datum.specs.Data.{Data, null}
 use Rattle.fv_datum.specs.Json.{spelled}
-use Rattle.fv_datum.specs.Kinds.{FitsKind}
+use Rattle.fv_datum.specs.Kinds.{FitsKind, IsOfKind}
 use Rattle.fv_datum.specs.Lookup.{at_name}
 use Rattle.fv_datum.specs.Name.{names}
 use Rattle.fv_datum.specs.Written.{is_null, datum_written}
 use Rattle.fv_datum.specs.declared.kind.Kind.{Kind}
+use Rattle.fv_datum.specs.declared.kind.Kind.TheVariants as kind
 use Rattle.fv_datum.proofs.Spelled.{spelled-written}
-use Rattle.fv_model.specs.Bundles.{Thing, Bundled}
-use Rattle.fv_model.specs.Draft.{Part, pairs}
-use Rattle.fv_model.specs.Reading.{undeclared_in, has_undeclared, misfits, misfits_in, has_misfit, is_long_text, is_long, long_in, has_long, datum_at, field_of, bundle_read}
-use Rattle.fv_model.specs.Types.{DeclaredFields, Declared, AreApart, FieldsApart, kind_of}
-use Rattle.fv_model.specs.WellTyped.{IsWithinLimits, FitsUse, FieldsFit, IsWellTyped}
-use Rattle.fv_model.specs.Writing.{datum_json, added, bundle_json}
-use Rattle.fv_model.specs.declared.type_use.TypeUse.{TypeUse}
-use Rattle.fv_model.specs.declared.type_use.TypeUse.TheVariants.{Text}
+use Rattle.fv_model.specs.Bundles.{IsAscending, Thing, Things, Bundled}
+use Rattle.fv_model.specs.Draft.{Part, pairs, each_some, part_of, draft_of}
+use Rattle.fv_model.specs.Reading.{Kinds, kinds_in, root_missing, undeclared_in, has_undeclared, misfits, misfits_in, has_misfit, dangles, dangles_in, has_dangling, strays, strays_in, has_stray, is_long_text, is_long, long_in, has_long, long_text, root_type, conditions, draft_fault, datum_at, field_of, object_of, bundle_of, judged, bundle_read}
+use Rattle.fv_model.specs.Types.{Held, texts, references, DeclaredFields, Declared, AreApart, FieldsApart, kind_of, name_at}
+use Rattle.fv_model.specs.WellTyped.{NamesObject, RefersTo, IsWithinLimits, FitsUse, FieldsFit, FitsType, IsWellTyped, HasRootType}
+use Rattle.fv_model.specs.Writing.{datum_json, added, thing_json, objects_added, bundle_json}
+use Rattle.fv_model.specs.declared.types.TypeId.{TypeId}
 use Rattle.fv_model.proofs.Apart.{apart-head, apart-tail, found_apart}
+use Rattle.fv_model.proofs.Listed.{below_middle}
 use Rattle.fv_model.proofs.Bools.{or_false, or_left, or_right}
 
 -- ---- one datum
 
+plain_json : (k : Kind) (d : Data) → IsOfKind k d → datum_written d ≡ Ok (datum_json d)
+plain_json kind.Text d (s, it) = rw it refl
+plain_json kind.Integer d (n, fits, it) = rw it refl
+plain_json kind.Decimal d (s, passes, it) = rw it refl
+plain_json kind.Boolean d (b, it) = rw it refl
+plain_json kind.Date d (s, passes, it) = rw it refl
+plain_json kind.Instant d (n, passes, it) = rw it refl
+plain_json kind.Ref d (s, passes, it) = rw it refl
+plain_json _ d none = absurd none
+
 has_json : (k : Kind) (d : Data) → FitsKind k d → datum_written d ≡ Ok (datum_json d)
 has_json k d (inl is) = rw is refl
-has_json k d (inr (inl (is, s, it))) = rw it refl
-has_json k d (inr (inr (is, n, fits, it))) = rw it refl
+has_json k d (inr of) = plain_json k d of
 
-again : (type : TypeUse) (d : Data) → FitsUse type d → spelled (kind_of type) (datum_json d) ≡ Some d
-again type d fits = spelled-written (kind_of type) d (datum_json d) fits.0 (has_json (kind_of type) d fits.0)
+again : (os : Things) (type : Held) (d : Data) → FitsUse os type d → spelled (kind_of type) (datum_json d) ≡ Some d
+again os type d fits = spelled-written (kind_of type) d (datum_json d) fits.0 (has_json (kind_of type) d fits.0)
 
 short : (n : ℕ) → n ≤ 65536 → nat_lt 65536 n ≡ false
 short n h = le-ltb 65536 n h
 
-short_text : (k : Kind) (d : Data) → FitsKind k d → IsWithinLimits d → is_long_text (as_str (datum_json d)) ≡ false
-short_text k d (inl is) within = rw is refl
-short_text k d (inr (inl (is, s, it))) within =
+short_text : (d : Data) → FitsKind kind.Text d → IsWithinLimits d → is_long_text (as_str (datum_json d)) ≡ false
+short_text d (inl is) within = rw is refl
+short_text d (inr (s, it)) within =
     let bound : length s ≤ 65536 = rw it at within in
     rw it (short (length s) bound)
-short_text k d (inr (inr (is, n, fits, it))) within = rw it refl
 
 -- only a text field's datum can be too long
-not_long : (type : TypeUse) (j : json.Data) → is_long_text (as_str j) ≡ false → is_long (Some type) j ≡ false
-not_long Text j e = e
-not_long _ j e = refl
+not_long : (type : Held) (d : Data) → FitsKind (kind_of type) d → IsWithinLimits d → is_long (Some type) (datum_json d) ≡ false
+not_long texts d fits within = short_text d fits within
+not_long _ d fits within = refl
 
 -- ---- the fields
 
@@ -64,42 +79,42 @@ added_other q [] ms h = refl
 added_other q (f ∷ fs) ms h = added_other q fs _ h.1 ∙ put_if (is_null f.1) q f.0 (datum_json f.1) ms h.0
 
 -- the names of the fields are those of the type
-same_names : (q : List ℕ) (ds : DeclaredFields) (fs : List (List ℕ × Data)) → FieldsFit ds fs → AllByRecursion (λ e. e.0 ≢ q) ds → AllByRecursion (λ f. q ≢ f.0) fs
-same_names q [] [] fit h = tt
-same_names q (d ∷ ds) (f ∷ fs) fit h = (λ e. h.0 (sym fit.0 ∙ sym e), same_names q ds fs fit.2 h.1)
-same_names q [] (f ∷ fs) fit h = absurd fit
-same_names q (d ∷ ds) [] fit h = absurd fit
+same_names : (os : Things) (q : List ℕ) (ds : DeclaredFields) (fs : List (List ℕ × Data)) → FieldsFit os ds fs → AllByRecursion (λ e. e.0 ≢ q) ds → AllByRecursion (λ f. q ≢ f.0) fs
+same_names os q [] [] fit h = tt
+same_names os q (d ∷ ds) (f ∷ fs) fit h = (λ e. h.0 (sym fit.0 ∙ sym e), same_names os q ds fs fit.2 h.1)
+same_names os q [] (f ∷ fs) fit h = absurd fit
+same_names os q (d ∷ ds) [] fit h = absurd fit
 
 is_null_null : (d : Data) → is_null d ≡ true → d ≡ null
 is_null_null null e = refl
 is_null_null _ e = absurd (true≢false (sym e))
 
 -- the datum that is read at a name where it was put, or where it is null
-at_put : (b : Bool) (type : TypeUse) (k : List ℕ) (d : Data) (ms : json.Members) → b ≡ is_null d → FitsUse type d → get_member k ms ≡ None
+at_put : (os : Things) (b : Bool) (type : Held) (k : List ℕ) (d : Data) (ms : json.Members) → b ≡ is_null d → FitsUse os type d → get_member k ms ≡ None
     → datum_at type (get_member k (cond b ms (json.put k (datum_json d) ms))) ≡ d
-at_put true type k d ms e fit none = rw none (sym (is_null_null d (sym e)))
-at_put false type k d ms e fit none = rw (get_member-put k (datum_json d) ms, again type d fit) refl
+at_put os true type k d ms e fit none = rw none (sym (is_null_null d (sym e)))
+at_put os false type k d ms e fit none = rw (get_member-put k (datum_json d) ms, again os type d fit) refl
 
 none_put : (b : Bool) (k : List ℕ) (d : json.Data) (ms : json.Members) (ds : DeclaredFields) → AllByRecursion (λ e. e.0 ≢ k) ds → AllByRecursion (λ e. get_member e.0 ms ≡ None) ds
     → AllByRecursion (λ e. get_member e.0 (cond b ms (json.put k d ms)) ≡ None) ds
 none_put b k d ms [] other none = tt
 none_put b k d ms (e ∷ ds) other none = (put_if b e.0 k d ms other.0 ∙ none.0, none_put b k d ms ds other.1 none.1)
 
-fields_back : (ds : DeclaredFields) (fs : List (List ℕ × Data)) (ms : json.Members) → AreApart ds → FieldsFit ds fs → AllByRecursion (λ e. get_member e.0 ms ≡ None) ds
+fields_back : (os : Things) (ds : DeclaredFields) (fs : List (List ℕ × Data)) (ms : json.Members) → AreApart ds → FieldsFit os ds fs → AllByRecursion (λ e. get_member e.0 ms ≡ None) ds
     → map (field_of (added ms fs)) ds ≡ fs
-fields_back [] [] ms apart fit none = refl
-fields_back (d ∷ ds) (f ∷ fs) ms apart fit none =
+fields_back os [] [] ms apart fit none = refl
+fields_back os (d ∷ ds) (f ∷ fs) ms apart fit none =
     let now = cond (is_null f.1) ms (json.put f.0 (datum_json f.1) ms) in
     let same : f.0 ≡ d.0 = fit.0 in
     let others : AllByRecursion (λ e. e.0 ≢ f.0) ds = rw same (apart-head d ds apart) in
     let here : get_member f.0 ms ≡ None = rw same none.0 in
-    let kept : get_member d.0 (added now fs) ≡ get_member f.0 now = rw (← same) (added_other f.0 fs now (same_names f.0 ds fs fit.2 others)) in
-    let datum : datum_at d.1 (get_member d.0 (added now fs)) ≡ f.1 = ap (datum_at d.1) kept ∙ at_put (is_null f.1) d.1 f.0 f.1 ms refl fit.1 here in
-    let tail = fields_back ds fs now (apart-tail d ds apart) fit.2 (none_put (is_null f.1) f.0 (datum_json f.1) ms ds others none.1) in
+    let kept : get_member d.0 (added now fs) ≡ get_member f.0 now = rw (← same) (added_other f.0 fs now (same_names os f.0 ds fs fit.2 others)) in
+    let datum : datum_at d.1 (get_member d.0 (added now fs)) ≡ f.1 = ap (datum_at d.1) kept ∙ at_put os (is_null f.1) d.1 f.0 f.1 ms refl fit.1 here in
+    let tail = fields_back os ds fs now (apart-tail d ds apart) fit.2 (none_put (is_null f.1) f.0 (datum_json f.1) ms ds others none.1) in
     let head : field_of (added now fs) d ≡ f = ap (λ x. (x, datum_at d.1 (get_member d.0 (added now fs)))) (sym same) ∙ ap (λ x. (f.0, x)) datum in
     ap (λ x. x ∷ map (field_of (added now fs)) ds) head ∙ ap (λ xs. f ∷ xs) tail
-fields_back [] (f ∷ fs) ms apart fit none = absurd fit
-fields_back (d ∷ ds) [] ms apart fit none = absurd fit
+fields_back os [] (f ∷ fs) ms apart fit none = absurd fit
+fields_back os (d ∷ ds) [] ms apart fit none = absurd fit
 
 -- ---- no given field is refused
 
@@ -132,7 +147,7 @@ other_bytes : (xs ys : List ℕ) (b : Bool) → bytes_eq xs ys ≡ b → xs ≢ 
 other_bytes xs ys true e other = absurd (other ((bytes_eq-Decides xs ys).0 e))
 other_bytes xs ys false e other = refl
 
-skip : (d : List ℕ × TypeUse) (all ds : DeclaredFields) → AllByRecursion (λ e. e.0 ≢ d.0) ds → AllByRecursion (λ e. at_name e.0 all ≡ Some e.1) ds → AllByRecursion (λ e. at_name e.0 (d ∷ all) ≡ Some e.1) ds
+skip : (d : List ℕ × Held) (all ds : DeclaredFields) → AllByRecursion (λ e. e.0 ≢ d.0) ds → AllByRecursion (λ e. at_name e.0 all ≡ Some e.1) ds → AllByRecursion (λ e. at_name e.0 (d ∷ all) ≡ Some e.1) ds
 skip d all [] other known = tt
 skip d all (e ∷ ds) other known = (rw (other_bytes e.0 d.0 _ refl other.0) known.0, skip d all ds other.1 known.1)
 
@@ -141,30 +156,57 @@ pub found_each : (ds : DeclaredFields) → AreApart ds → AllByRecursion (λ e.
 found_each [] apart = tt
 found_each (d ∷ ds) apart = (rw (same_bytes d.0) refl, skip d ds ds (apart-head d ds apart) (found_each ds (apart-tail d ds apart)))
 
--- no field is undeclared, of another kind or too long
-record Taken (all : DeclaredFields) (fs : List (List ℕ × Data)) : Type 0 where
+-- ---- references
+
+-- the names of types are those of the objects
+abbrev Agree : Kinds → Things → Type 0
+Agree kinds os = (name : List ℕ) → at_name name kinds ≡ option_map (λ t. t.kind) (at_name name os)
+
+known_kind : (os : Things) (kinds : Kinds) (type name : List ℕ) → Agree kinds os → NamesObject os type name → at_name name kinds ≡ Some type
+known_kind os kinds type name agree (t, found, kind) = agree name ∙ ap (option_map (λ (u : Thing). u.kind)) found ∙ ap (λ k. Some k) kind
+
+-- a reference is null, or a name whose object has the type
+referred : (os : Things) (kinds : Kinds) (type : List ℕ) (d : Data) → Agree kinds os → FitsKind kind.Ref d → RefersTo os (references type) d
+    → (as_str (datum_json d) ≡ None) ⊎ ((name : List ℕ) × (as_str (datum_json d) ≡ Some name) × (at_name name kinds ≡ Some type))
+referred os kinds type d agree (inl is) refers = inl (rw is refl)
+referred os kinds type d agree (inr (s, passes, it)) refers = inr (s, rw it refl, known_kind os kinds type s agree (refers s it))
+
+not_dangling : (os : Things) (kinds : Kinds) (type : Held) (d : Data) → Agree kinds os → FitsKind (kind_of type) d → RefersTo os type d → dangles kinds (Some type) (datum_json d) ≡ false
+not_dangling os kinds (references type) d agree fits refers = elim (referred os kinds type d agree fits refers) [ inl none ↦ rw none refl | inr some ↦ rw (some.1, some.2) refl ]
+not_dangling os kinds _ d agree fits refers = refl
+
+not_stray : (os : Things) (kinds : Kinds) (type : Held) (d : Data) → Agree kinds os → FitsKind (kind_of type) d → RefersTo os type d → strays kinds (Some type) (datum_json d) ≡ false
+not_stray os kinds (references type) d agree fits refers = elim (referred os kinds type d agree fits refers) [ inl none ↦ rw none refl | inr some ↦ rw (some.1, some.2, same_bytes type) refl ]
+not_stray os kinds _ d agree fits refers = refl
+
+-- no field is undeclared, of another kind, refers wrongly or is too long
+record Taken (kinds : Kinds) (all : DeclaredFields) (fs : List (List ℕ × Data)) : Type 0 where
   declared : AllByRecursion (λ f. not (is_some (at_name f.0 all)) ≡ false) fs
-  kinds : AllByRecursion (λ f. misfits (at_name f.0 all) (datum_json f.1) ≡ false) fs
+  fits : AllByRecursion (λ f. misfits (at_name f.0 all) (datum_json f.1) ≡ false) fs
+  there : AllByRecursion (λ f. dangles kinds (at_name f.0 all) (datum_json f.1) ≡ false) fs
+  own : AllByRecursion (λ f. strays kinds (at_name f.0 all) (datum_json f.1) ≡ false) fs
   lengths : AllByRecursion (λ f. is_long (at_name f.0 all) (datum_json f.1) ≡ false) fs
 
-taken : (all ds : DeclaredFields) (fs : List (List ℕ × Data)) → FieldsFit ds fs → AllByRecursion (λ e. at_name e.0 all ≡ Some e.1) ds → Taken all fs
-taken all [] [] fit known = record { declared = tt; kinds = tt; lengths = tt }
-taken all (d ∷ ds) (f ∷ fs) fit known =
+taken : (os : Things) (kinds : Kinds) (all ds : DeclaredFields) (fs : List (List ℕ × Data)) → Agree kinds os → FieldsFit os ds fs → AllByRecursion (λ e. at_name e.0 all ≡ Some e.1) ds → Taken kinds all fs
+taken os kinds all [] [] agree fit known = record { declared = tt; fits = tt; there = tt; own = tt; lengths = tt }
+taken os kinds all (d ∷ ds) (f ∷ fs) agree fit known =
     let found : at_name f.0 all ≡ Some d.1 = rw fit.0 known.0 in
-    let more = taken all ds fs fit.2 known.1 in
+    let more = taken os kinds all ds fs agree fit.2 known.1 in
     record {
       declared = (rw found refl, more.declared);
-      kinds = (rw (found, again d.1 f.1 fit.1) refl, more.kinds);
-      lengths = (rw found (not_long d.1 (datum_json f.1) (short_text (kind_of d.1) f.1 fit.1.0 fit.1.1)), more.lengths);
+      fits = (rw (found, again os d.1 f.1 fit.1) refl, more.fits);
+      there = (rw found (not_dangling os kinds d.1 f.1 agree fit.1.0 fit.1.2), more.there);
+      own = (rw found (not_stray os kinds d.1 f.1 agree fit.1.0 fit.1.2), more.own);
+      lengths = (rw found (not_long d.1 f.1 fit.1.0 fit.1.1), more.lengths);
     }
-taken all [] (f ∷ fs) fit known = absurd fit
-taken all (d ∷ ds) [] fit known = absurd fit
+taken os kinds all [] (f ∷ fs) agree fit known = absurd fit
+taken os kinds all (d ∷ ds) [] agree fit known = absurd fit
 
 none_there : (ds : DeclaredFields) → AllByRecursion (λ e. get_member e.0 json.no_members ≡ None) ds
 none_there [] = tt
 none_there (d ∷ ds) = (refl, none_there ds)
 
--- ---- the bundle
+-- ---- one object
 
 none_undeclared : (ts : Declared) (p : Part) (ds : DeclaredFields) → at_name p.kind ts ≡ Some ds → undeclared_in ds (pairs p.given) ≡ false → has_undeclared ts p ≡ false
 unfolding has_undeclared
@@ -174,25 +216,169 @@ none_misfits : (ts : Declared) (p : Part) (ds : DeclaredFields) → at_name p.ki
 unfolding has_misfit
 none_misfits ts p ds is e = rw is e
 
+none_dangling : (ts : Declared) (kinds : Kinds) (p : Part) (ds : DeclaredFields) → at_name p.kind ts ≡ Some ds → dangles_in kinds ds (pairs p.given) ≡ false → has_dangling ts kinds p ≡ false
+unfolding has_dangling
+none_dangling ts kinds p ds is e = rw is e
+
+none_stray : (ts : Declared) (kinds : Kinds) (p : Part) (ds : DeclaredFields) → at_name p.kind ts ≡ Some ds → strays_in kinds ds (pairs p.given) ≡ false → has_stray ts kinds p ≡ false
+unfolding has_stray
+none_stray ts kinds p ds is e = rw is e
+
 none_long : (ts : Declared) (p : Part) (ds : DeclaredFields) → at_name p.kind ts ≡ Some ds → long_in ds (pairs p.given) ≡ false → has_long ts p ≡ false
 unfolding has_long
 none_long ts p ds is e = rw is e
 
-law_at : (ts : Declared) (root kind : List ℕ) (fs : List (List ℕ × Data)) (ds : DeclaredFields) → names root ≡ true → at_name kind ts ≡ Some ds → AreApart ds → FieldsFit ds fs
-    → bundle_read ts None (bundle_json (record { root = root; objects = (root, record { kind = kind; fields = fs }) ∷ [] })) ≡ Ok (record { root = root; objects = (root, record { kind = kind; fields = fs }) ∷ [] })
-law_at ts root kind fs ds named is apart fit =
-    let given = added json.no_members fs in
-    let part : Part = record { name = root; kind = kind; given = given } in
-    let all = taken ds ds fs fit (found_each ds apart) in
-    let unknown : has_undeclared ts part ≡ false = none_undeclared ts part ds is (any_added (λ g. not (is_some (at_name g.0 ds))) fs json.no_members all.declared refl) in
-    let wrong : has_misfit ts part ≡ false = none_misfits ts part ds is (any_added (λ g. misfits (at_name g.0 ds) g.1) fs json.no_members all.kinds refl) in
-    let long : has_long ts part ≡ false = none_long ts part ds is (any_added (λ g. is_long (at_name g.0 ds) g.1) fs json.no_members all.lengths refl) in
-    let back : map (field_of given) ds ≡ fs = fields_back ds fs json.no_members apart fit (none_there ds) in
-    rw (named, same_bytes root, unknown, wrong, long, is, back) refl
+abbrev the_thing : List ℕ → List (List ℕ × Data) → Thing
+the_thing kind fields = record { kind = kind; fields = fields }
 
-pub law : (ts : Declared) (b : Bundled) → FieldsApart ts → IsWellTyped ts b → bundle_read ts None (bundle_json b) ≡ Ok b
-law ts b apart well =
-    let B : List (List ℕ × Thing) → Bundled = λ os. record { root = b.root; objects = os } in
-    let t = well.typed in
-    subst (λ (os : List (List ℕ × Thing)). bundle_read ts None (bundle_json (B os)) ≡ Ok (B os)) (sym well.one)
-    (law_at ts b.root well.thing.kind well.thing.fields t.fields well.named t.declared (found_apart well.thing.kind ts t.fields apart t.declared) t.fit)
+-- an object as it is given by what is written of it
+abbrev part_for : List ℕ × Thing → Part
+part_for o = record { name = o.0; kind = o.1.kind; given = added json.no_members o.1.fields }
+
+-- no fault at an object, which is read as it was
+record IsBack (ts : Declared) (kinds : Kinds) (o : List ℕ × Thing) : Type 0 where
+  typed : not (is_some (at_name o.1.kind ts)) ≡ false
+  declared : has_undeclared ts (part_for o) ≡ false
+  fits : has_misfit ts (part_for o) ≡ false
+  there : has_dangling ts kinds (part_for o) ≡ false
+  own : has_stray ts kinds (part_for o) ≡ false
+  short : has_long ts (part_for o) ≡ false
+  back : object_of ts (part_for o) ≡ o
+
+object_back : (ts : Declared) (os : Things) (kinds : Kinds) (o : List ℕ × Thing) → FieldsApart ts → Agree kinds os → FitsType ts os o.1 → IsBack ts kinds o
+object_back ts os kinds o ts_apart agree fits_type =
+    let fs = o.1.fields in
+    let ds : DeclaredFields = fits_type.fields in
+    let is : at_name o.1.kind ts ≡ Some ds = fits_type.declared in
+    let apart : AreApart ds = found_apart o.1.kind ts ds ts_apart is in
+    let part : Part = part_for o in
+    let all = taken os kinds ds ds fs agree fits_type.fit (found_each ds apart) in
+    let back : map (field_of (added json.no_members fs)) ds ≡ fs = fields_back os ds fs json.no_members apart fits_type.fit (none_there ds) in
+    record {
+      typed = rw is refl;
+      declared = none_undeclared ts part ds is (any_added (λ g. not (is_some (at_name g.0 ds))) fs json.no_members all.declared refl);
+      fits = none_misfits ts part ds is (any_added (λ g. misfits (at_name g.0 ds) g.1) fs json.no_members all.fits refl);
+      there = none_dangling ts kinds part ds is (any_added (λ g. dangles kinds (at_name g.0 ds) g.1) fs json.no_members all.there refl);
+      own = none_stray ts kinds part ds is (any_added (λ g. strays kinds (at_name g.0 ds) g.1) fs json.no_members all.own refl);
+      short = none_long ts part ds is (any_added (λ g. is_long (at_name g.0 ds) g.1) fs json.no_members all.lengths refl);
+      back = rw is (ap (λ (xs : List (List ℕ × Data)). (o.0, the_thing o.1.kind xs)) back);
+    }
+
+-- ---- the objects
+
+-- where each is as said, none is otherwise
+none_of : {X Y : Type 0} (t : Y → Bool) (f : X → Y) (P : X → Type 0) (xs : List X) → ((x : X) → P x → t (f x) ≡ false) → AllByRecursion P xs → list_any t (map f xs) ≡ false
+none_of t f P [] each all = refl
+none_of t f P (x ∷ xs) each all = or_false (t (f x)) _ (each x all.0) (none_of t f P xs each all.1)
+
+each_of : {X : Type 0} (P Q : X → Type 0) (xs : List X) → ((x : X) → P x → Q x) → AllByRecursion P xs → AllByRecursion Q xs
+each_of P Q [] turn all = tt
+each_of P Q (x ∷ xs) turn all = (turn x all.0, each_of P Q xs turn all.1)
+
+all_back : (ts : Declared) (kinds : Kinds) (os : Things) → AllByRecursion (IsBack ts kinds) os → map (object_of ts) (map part_for os) ≡ os
+all_back ts kinds [] all = refl
+all_back ts kinds (o ∷ os) all = ap (λ x. x ∷ map (object_of ts) (map part_for os)) all.0.back ∙ ap (λ xs. o ∷ xs) (all_back ts kinds os all.1)
+
+kind_here : (b : Bool) (t : Thing) (rest : Option (List ℕ)) (found : Option Thing) → rest ≡ option_map (λ u. u.kind) found → cond b (Some t.kind) rest ≡ option_map (λ u. u.kind) (cond b (Some t) found)
+kind_here true t rest found e = refl
+kind_here false t rest found e = e
+
+kinds_agree : (os : Things) → Agree (kinds_in (map part_for os)) os
+kinds_agree [] name = refl
+kinds_agree (o ∷ os) name = kind_here (bytes_eq name o.0) o.1 _ _ (kinds_agree os name)
+
+-- ---- the written objects
+
+-- a name that is above those before it goes last
+put_last : (ms : json.Members) (k : List ℕ) (d : json.Data) (more : List (List ℕ × json.Data)) → IsAscending (keys_of (pairs ms ++ (k, d) ∷ more)) → pairs (json.put k d ms) ≡ pairs ms ++ (k, d) ∷ []
+put_last json.no_members k d more h = refl
+put_last (json.member l e ms) k d more h =
+    let rest = keys_of (pairs ms ++ (k, d) ∷ more) in
+    let below : slice_cmp nat_cmp l k ≡ Less = below_middle l k d (pairs ms) more (sorted_head (slice_cmp nat_cmp) l rest h) in
+    let above : slice_cmp nat_cmp k l ≡ Greater = nat_list_cmp_total.antisymm k l ∙ ap ordering_reverse below in
+    rw above (ap (λ xs. (l, e) ∷ xs) (put_last ms k d more (sorted_tail (slice_cmp nat_cmp) l rest h)))
+
+abbrev json_of : List ℕ × Thing → List ℕ × json.Data
+json_of o = (o.0, thing_json o.1)
+
+-- objects in order are written one after another
+written_last : (os : Things) (ms : json.Members) → IsAscending (keys_of (pairs ms ++ map json_of os)) → pairs (objects_added ms os) ≡ pairs ms ++ map json_of os
+written_last [] ms h = sym (append-nil (pairs ms))
+written_last (o ∷ os) ms h =
+    let last : pairs (json.put o.0 (thing_json o.1) ms) ≡ pairs ms ++ json_of o ∷ [] = put_last ms o.0 (thing_json o.1) (map json_of os) h in
+    let all : pairs (json.put o.0 (thing_json o.1) ms) ++ map json_of os ≡ pairs ms ++ json_of o ∷ map json_of os = ap (λ xs. xs ++ map json_of os) last ∙ simp append_assoc in
+    written_last os (json.put o.0 (thing_json o.1) ms) (subst (λ (xs : List (List ℕ × json.Data)). IsAscending (keys_of xs)) (sym all) h) ∙ all
+
+json_named : (os : Things) → keys_of (map json_of os) ≡ keys_of os
+json_named [] = refl
+json_named (o ∷ os) = ap (λ ns. o.0 ∷ ns) (json_named os)
+
+each_part : (os : Things) → each_some part_of (map json_of os) ≡ Some (map part_for os)
+each_part [] = refl
+each_part (o ∷ os) = rw (each_part os) refl
+
+parts_back : (os : Things) → IsAscending (keys_of os) → each_some part_of (pairs (objects_added json.no_members os)) ≡ Some (map part_for os)
+parts_back os ascending =
+    let names : IsAscending (keys_of (map json_of os)) = subst (λ (ns : List (List ℕ)). IsAscending ns) (sym (json_named os)) ascending in
+    ap (each_some part_of) (written_last os json.no_members names) ∙ each_part os
+
+draft_back : (root : List ℕ) (os : Things) → IsAscending (keys_of os) → draft_of (bundle_json (record { root = root; objects = os })) ≡ Some (record { root = root; objects = map part_for os })
+draft_back root os ascending = rw (parts_back os ascending) refl
+
+-- ---- the bundle
+
+-- where no condition holds there is no first fault
+no_first : {E : Type 0} (cs : List (Bool × E)) → AllByRecursion (λ c. c.0 ≡ false) cs → first cs ≡ None
+no_first [] all = refl
+no_first (c ∷ cs) all = rw all.0 (no_first cs all.1)
+
+-- no type is asked of the root, or its own
+root_asked : (asked : Option (List ℕ)) (root : List ℕ) (os : Things) → ((type : List ℕ) → asked ≡ Some type → NamesObject os type root) → root_type asked root (map part_for os) ≡ false
+root_asked None root os own = refl
+root_asked (Some type) root os own = rw (known_kind os (kinds_in (map part_for os)) type root (kinds_agree os) (own type refl), same_bytes type) refl
+
+is_there : (o : Option Thing) → is_some o ≡ true → not (is_some (option_map (λ t. t.kind) o)) ≡ false
+is_there (Some t) e = refl
+is_there None e = absurd (true≢false (sym e))
+
+law : (ts : Declared) (asked : Option (List ℕ)) (b : Bundled) → FieldsApart ts → IsWellTyped ts b → ((type : List ℕ) → asked ≡ Some type → HasRootType type b) → bundle_read ts asked (bundle_json b) ≡ Ok b
+law ts asked b apart well rooted =
+    let os = b.objects in
+    let ps : List Part = map part_for os in
+    let kinds = kinds_in ps in
+    let all : AllByRecursion (IsBack ts kinds) os = each_of (λ o. FitsType ts os o.1) (IsBack ts kinds) os (λ o fits. object_back ts os kinds o apart (kinds_agree os) fits) well.typed in
+    let few : nat_lt 256 (length ps) ≡ false = rw length-map (le-ltb 256 (length os) well.few) in
+    let long : long_text ts ps ≡ false = none_of (has_long ts) part_for (IsBack ts kinds) os (λ o back. back.short) all in
+    let there : root_missing b.root ps ≡ false = rw (kinds_agree os b.root) (is_there (at_name b.root os) well.rooted) in
+    let none : draft_fault ts asked (record { root = b.root; objects = ps }) ≡ None =
+    no_first (conditions ts asked (record { root = b.root; objects = ps })) (
+      none_of (λ p. not (names p.name)) part_for (λ o. names o.0 ≡ true) os (λ o named. rw named refl) well.named,
+      (
+        there,
+        (
+          none_of (λ p. not (is_some (at_name p.kind ts))) part_for (IsBack ts kinds) os (λ o back. back.typed) all,
+          (
+            none_of (has_undeclared ts) part_for (IsBack ts kinds) os (λ o back. back.declared) all,
+            (
+              none_of (has_misfit ts) part_for (IsBack ts kinds) os (λ o back. back.fits) all,
+              (
+                none_of (has_dangling ts kinds) part_for (IsBack ts kinds) os (λ o back. back.there) all,
+                (
+                  none_of (has_stray ts kinds) part_for (IsBack ts kinds) os (λ o back. back.own) all,
+                  (or_false _ _ few long, (root_asked asked b.root os rooted, tt)),
+                ),
+              ),
+            ),
+          ),
+        ),
+      ),
+    ) in
+    ap (judged ts asked) (draft_back b.root os well.ascending) ∙ ap (λ f. unless_fault f (bundle_of ts (record { root = b.root; objects = ps }))) none
+    ∙ ap (λ (xs : Things). Ok (record { root = b.root; objects = xs })) (all_back ts kinds os all)
+
+-- the same, where the type is asked by its number
+pub law_asked : (ts : Declared) (asked : Option TypeId) (b : Bundled) → FieldsApart ts → IsWellTyped ts b → ForSome asked (λ t. HasRootType (name_at ts t.index) b)
+    → bundle_read ts (option_map (λ t. name_at ts t.index) asked) (bundle_json b) ≡ Ok b
+law_asked ts None b apart well rooted = law ts None b apart well (λ type is. cc)
+law_asked ts (Some t) b apart well rooted =
+    law ts (Some (name_at ts t.index)) b apart well (λ type is. let same : name_at ts t.index ≡ type = cc in subst (λ (n : List ℕ). HasRootType n b) same (rooted t refl))

@@ -2,7 +2,8 @@ pub mod Anys
 pub mod Apart
 pub mod Bools
 pub mod Fronts
+pub mod Given
 pub mod Law
+pub mod Listed
 pub mod Lookups
-pub mod Readable
 pub mod Typed

@@ -6,9 +6,8 @@ use Rattle.std.specs.Map.{lookup}
 use Rattle.std.specs.Option.{option_copied}
 use Rattle.std.specs.declared.alloc.Global.{Global}
 use Rattle.fv_datum.specs.Lookup.{at_name}
-use Rattle.fv_model.specs.Views.{field_view, named_view}
-use Rattle.fv_model.specs.declared.bundle.Field.{Field}
-use Rattle.fv_model.specs.declared.bundle.NamedObject.{NamedObject}
+use Rattle.fv_model.specs.Views.{field_view}
+use Rattle.fv_model.specs.declared.field.Field.{Field}
 
 -- one element of a list is looked at, or the name stands further on
 turn : {X Y : Type 0} (view : X → List ℕ × Y) (name : List ℕ) (xs : List X) (i : ℕ) (x : X) → i < length xs → x ≡ get_or xs i x
@@ -18,10 +17,6 @@ turn view name xs i x h is = rw (add-one, drop-cons xs i x h, ← is) refl
 pub field_turn : (name : List ℕ) (xs : List Field) (i : ℕ) (x : Field) → i < length xs → x ≡ get_or xs i x
     → at_name name (map field_view (drop i xs)) ≡ cond (bytes_eq name (field_view x).0) (Some (field_view x).1) (at_name name (map field_view (drop (i + 1) xs)))
 field_turn = turn field_view
-
-pub named_turn : (name : List ℕ) (xs : List NamedObject) (i : ℕ) (x : NamedObject) → i < length xs → x ≡ get_or xs i x
-    → at_name name (map named_view (drop i xs)) ≡ cond (bytes_eq name (named_view x).0) (Some (named_view x).1) (at_name name (map named_view (drop (i + 1) xs)))
-named_turn = turn named_view
 
 step : {X Y : Type 0} (f : X → Y) (b : Bool) (x : X) (rest : Option X) (o : Option Y) → option_map f rest ≡ o → option_map f (cond b (Some x) rest) ≡ cond b (Some (f x)) o
 step f true x rest o e = refl
@@ -36,10 +31,6 @@ lookup-at_name f name (e ∷ es) = step f (bytes_eq name (string_bytes e.0)) e.1
 pub option_map-copied : {X Y : Type 0} (f : X → Y) (found : Option (Bor X)) → option_map (λ x. f x.now) found ≡ option_map f (option_copied found)
 option_map-copied f None = refl
 option_map-copied f (Some x) = refl
-
-pub option_map-same : {X : Type 0} (o : Option X) → o ≡ option_map (λ x. x) o
-option_map-same None = refl
-option_map-same (Some x) = refl
 
 prefix_len-map : {X Y : Type 0} (p : Y → Bool) (f : X → Y) (xs : List X) → prefix_len p (map f xs) ≡ prefix_len (λ x. p (f x)) xs
 prefix_len-map p f [] = refl

@@ -1,66 +1,115 @@
 -- What is read is well-typed, and its root of the asked type.
-use Rattle.std.proofs.Common.{◌≡◌, ◌⊎◌, ℕ, ◌≤◌, List, [], ◌∷◌, map, length, cond, Bool, true, false, not, ◌&&◌, ◌||◌, nat_lt, Option, Some, None, Result, Ok, Err, IfOk, option_map, Ordering, Less, Equal, Greater, nat_cmp, bytes_eq, is_some, inl, inr, refl, sym, ap, subst, true≢false, arith}
+use Rattle.std.proofs.Common.{◌≡◌, ◌⊎◌, ℕ, ◌≤◌, List, [], ◌∷◌, map, length, cond, Bool, true, false, not, nat_lt, Option, Some, None, Result, Ok, Err, IfOk, option_map, option_and_then, unwrap_or, Ordering, Less, Equal, Greater, nat_cmp, bytes_eq, is_some, inl, inr, refl, sym, ap, subst}
 use Rattle.std.specs.List.{list_any, AllByRecursion}
+use Rattle.std.specs.Map.{keys_of}
 use Rattle.std.specs.Option.{ForSome}
 use Rattle.std.specs.Ordering.{match_ordering}
 use Rattle.std.specs.Cmp.Lexicographic.{slice_cmp}
 use Rattle.std.proofs.lemmas.Bool.{ltb-false}
+use Rattle.std.proofs.lemmas.List.{length-map}
 use Rattle.std.proofs.lemmas.Map.Lookups.{exact_bytes}
 use Rattle.std.proofs.lemmas.Slice.Eq.{bytes_eq-Decides}
 use Rattle.serde_json.specs.Data as json
 use Rattle.serde_json.specs.Find.{get_member, as_str}
 use Rattle.fv_datum.specs.Answers.{Gives, first, unless_fault}
-use Rattle.fv_datum.specs.Data.{Data, text}
+use Rattle.fv_datum.specs.Data.{Data, null, text, reference}
 use Rattle.fv_datum.specs.Json.{spelled}
-use Rattle.fv_datum.specs.Kinds.{FitsKind}
+use Rattle.fv_datum.specs.Kinds.{FitsKind, IsOfKind}
 use Rattle.fv_datum.specs.Lookup.{at_name}
 use Rattle.fv_datum.specs.Name.{names}
 use Rattle.fv_datum.specs.declared.kind.Kind.TheVariants as kind
 use Rattle.fv_datum.proofs.Spelled.{spelled-fits}
-use Rattle.fv_model.specs.Bundles.{Bundled}
+use Rattle.fv_model.specs.Bundles.{IsAscending, Things, Bundled}
 use Rattle.fv_model.specs.Draft.{Part, Drafted, pairs, draft_of}
-use Rattle.fv_model.specs.Reading.{bad_name, root_missing, unknown_type, misfits, misfits_in, has_misfit, wrong_kind, is_long, long_in, has_long, too_large, root_type, conditions, draft_fault, datum_at, field_of, object_of, bundle_of, judged, bundle_read}
-use Rattle.fv_model.specs.Types.{DeclaredFields, Declared, FieldsApart, kind_of, name_at}
+use Rattle.fv_model.specs.Reading.{bad_name, root_missing, unknown_type, misfits, misfits_in, has_misfit, wrong_kind, Kinds, kinds_in, is_missing, dangles, dangles_in, has_dangling, dangling_ref, is_other, strays, strays_in, has_stray, ref_type, is_long, long_in, has_long, long_text, too_large, root_type, conditions, draft_fault, datum_at, field_of, object_of, bundle_of, judged, bundle_read}
+use Rattle.fv_model.specs.Types.{Held, texts, integers, decimals, booleans, dates, instants, references, DeclaredFields, Declared, FieldsApart, kind_of, name_at}
 use Rattle.fv_model.specs.Views.{bundle_view}
-use Rattle.fv_model.specs.WellTyped.{IsWithinLimits, FitsUse, FieldsFit, FitsType, IsWellTyped, HasRootType}
+use Rattle.fv_model.specs.WellTyped.{NamesObject, RefersTo, IsWithinLimits, FitsUse, FieldsFit, FitsType, IsWellTyped, HasRootType}
 use Rattle.fv_model.specs.declared.bundle.Bundle.{Bundle}
 use Rattle.fv_model.specs.declared.fault.BundleFault.{BundleFault}
 use Rattle.fv_model.specs.declared.fault.BundleFault.TheVariants.{Memory}
-use Rattle.fv_model.specs.declared.type_use.TypeUse.{TypeUse}
-use Rattle.fv_model.specs.declared.type_use.TypeUse.TheVariants.{Text}
 use Rattle.fv_model.specs.declared.types.TypeId.{TypeId}
 use Rattle.fv_model.proofs.Apart.{found_apart}
-use Rattle.fv_model.proofs.Bools.{or_left, or_right}
+use Rattle.fv_model.proofs.Bools.{not_false, or_left, or_right}
 use Rattle.fv_model.proofs.Law.{found_each}
 
 -- ---- one datum
-
-is_text : (type : TypeUse) → kind_of type ≡ kind.Text → type ≡ Text
-is_text Text e = refl
-is_text _ e = cc
 
 string_of : (j : json.Data) (s : List ℕ) → spelled kind.Text j ≡ Some (text s) → as_str j ≡ Some s
 string_of (json.string r) s e = let same : text r ≡ text s = cc in let bytes : r ≡ s = cc in ap (λ x. Some x) bytes
 string_of _ s e = cc
 
-within : (type : TypeUse) (j : json.Data) (d : Data) → FitsKind (kind_of type) d → spelled (kind_of type) j ≡ Some d → is_long (Some type) j ≡ false → IsWithinLimits d
-within type j d (inl it) e short = rw it tt
-within type j d (inr (inl (is, s, it))) e short =
-    let same : type ≡ Text = is_text type is in
-    let found : as_str j ≡ Some s = string_of j s (rw (same, it) at e) in
-    let limit : nat_lt 65536 (length s) ≡ false = rw (same, found) at short in
+text_within : (j : json.Data) (d : Data) → IsOfKind kind.Text d → spelled kind.Text j ≡ Some d → is_long (Some texts) j ≡ false → IsWithinLimits d
+text_within j d (s, it) e short =
+    let found : as_str j ≡ Some s = string_of j s (rw it at e) in
+    let limit : nat_lt 65536 (length s) ≡ false = rw found at short in
     rw it (ltb-false 65536 (length s) limit)
-within type j d (inr (inr (is, n, fits, it))) e short = rw it tt
+
+plain_within : (type : Held) (j : json.Data) (d : Data) → IsOfKind (kind_of type) d → spelled (kind_of type) j ≡ Some d → is_long (Some type) j ≡ false → IsWithinLimits d
+plain_within texts j d of e short = text_within j d of e short
+plain_within integers j d (n, fits, it) e short = rw it tt
+plain_within decimals j d (s, passes, it) e short = rw it tt
+plain_within booleans j d (b, it) e short = rw it tt
+plain_within dates j d (s, passes, it) e short = rw it tt
+plain_within instants j d (n, passes, it) e short = rw it tt
+plain_within (references to) j d (s, passes, it) e short = rw it tt
+
+within : (type : Held) (j : json.Data) (d : Data) → FitsKind (kind_of type) d → spelled (kind_of type) j ≡ Some d → is_long (Some type) j ≡ false → IsWithinLimits d
+within type j d (inl it) e short = rw it tt
+within type j d (inr of) e short = plain_within type j d of e short
 
 some_of : {X : Type 0} (o : Option X) → not (is_some o) ≡ false → (x : X) × (o ≡ Some x)
 some_of (Some x) e = (x, refl)
 some_of None e = cc
 
-fits_some : (type : TypeUse) (j : json.Data) → misfits (Some type) j ≡ false → is_long (Some type) j ≡ false → FitsUse type (datum_at type (Some j))
+fits_some : (type : Held) (j : json.Data) → misfits (Some type) j ≡ false → is_long (Some type) j ≡ false → FitsKind (kind_of type) (datum_at type (Some j)) × IsWithinLimits (datum_at type (Some j))
 fits_some type j fits short =
     let found = some_of (spelled (kind_of type) j) fits in
     let kind_fits = spelled-fits (kind_of type) j found.0 found.1 in
     rw found.1 (kind_fits, within type j found.0 kind_fits found.1 short)
+
+-- ---- references
+
+chosen : {X : Type 0} (b : Bool) (x : X) (rest : Option X) (y : X) → cond b (Some x) rest ≡ Some y → ((b ≡ true) × (x ≡ y)) ⊎ ((b ≡ false) × (rest ≡ Some y))
+chosen true x rest y e = inl (refl, cc)
+chosen false x rest y e = inr (refl, e)
+
+-- where a name stands among the names of types, an object of that type has it
+named_object : (ts : Declared) (ps : List Part) (name type : List ℕ) → at_name name (kinds_in ps) ≡ Some type → NamesObject (map (object_of ts) ps) type name
+named_object ts [] name type e = cc
+named_object ts (p ∷ ps) name type e = elim (chosen (bytes_eq name p.name) p.kind (at_name name (kinds_in ps)) type e) [
+  | inl here ↦ ((object_of ts p).1, rw here.0 refl, here.1)
+  | inr more ↦ (let found = named_object ts ps name type more.1 in (found.0, rw more.0 found.1, found.2))
+]
+
+passing_name : (b : Bool) (s name : List ℕ) → unwrap_or (option_map reference (cond b (Some s) None)) null ≡ reference name → s ≡ name
+passing_name true s name e = let same : reference s ≡ reference name = e in cc
+passing_name false s name e = let no : null ≡ reference name = e in cc
+
+-- the name that a reference is read as is the string
+read_name : (type name : List ℕ) (j : json.Data) → datum_at (references type) (Some j) ≡ reference name → as_str j ≡ Some name
+read_name type name (json.string s) e = ap (λ x. Some x) (passing_name (names s) s name e)
+read_name type name _ e = cc
+
+same_name : (x y : List ℕ) → not (bytes_eq x y) ≡ false → x ≡ y
+same_name x y e = (bytes_eq-Decides x y).0 (not_false (bytes_eq x y) e)
+
+refers_at : (ts : Declared) (ps : List Part) (type name : List ℕ) (o : Option (List ℕ)) → is_missing (kinds_in ps) o ≡ false → is_other type (option_and_then (λ n. at_name n (kinds_in ps)) o) ≡ false → o ≡ Some name → NamesObject (map (object_of ts) ps) type name
+refers_at ts ps type name None there own is = cc
+refers_at ts ps type name (Some s) there own is =
+    let same : s ≡ name = cc in
+    let found = some_of (at_name s (kinds_in ps)) there in
+    let other : not (bytes_eq type found.0) ≡ false = rw found.1 at own in
+    let kind : type ≡ found.0 = same_name type found.0 other in
+    subst (λ (n : List ℕ). NamesObject (map (object_of ts) ps) type n) same (named_object ts ps s type (rw kind found.1))
+
+refers_some : (ts : Declared) (ps : List Part) (type : Held) (j : json.Data) → dangles (kinds_in ps) (Some type) j ≡ false → strays (kinds_in ps) (Some type) j ≡ false → RefersTo (map (object_of ts) ps) type (datum_at type (Some j))
+refers_some ts ps (references type) j there own = λ name is. refers_at ts ps type name (as_str j) there own (read_name type name j is)
+refers_some ts ps _ j there own = tt
+
+refers_null : (os : Things) (type : Held) → RefersTo os type null
+refers_null os (references type) = λ name is. cc
+refers_null os _ = tt
 
 -- ---- the fields of an object
 
@@ -70,7 +119,7 @@ found_at Equal e j rest is = inr (refl, cc)
 found_at Greater e j rest is = inl is
 
 -- a test that no member passes fails at the member of a name
-none_at : (t : List ℕ × json.Data → Bool) (q : List ℕ) (ms : json.Members) (j : json.Data) → get_member q ms ≡ Some j → list_any t (pairs ms) ≡ false → t (q, j) ≡ false
+pub none_at : (t : List ℕ × json.Data → Bool) (q : List ℕ) (ms : json.Members) (j : json.Data) → get_member q ms ≡ Some j → list_any t (pairs ms) ≡ false → t (q, j) ≡ false
 none_at t q json.no_members j is none = cc
 none_at t q (json.member l e ms) j is none =
     let first_fails : t (l, e) ≡ false = or_left (t (l, e)) (list_any t (pairs ms)) none in
@@ -79,24 +128,43 @@ none_at t q (json.member l e ms) j is none =
       | inr here ↦ rw (exact_bytes q l here.0, ← here.1) first_fails
     ]
 
-fits_at : (type : TypeUse) (o : Option json.Data) → ((j : json.Data) → o ≡ Some j → (misfits (Some type) j ≡ false) × (is_long (Some type) j ≡ false)) → FitsUse type (datum_at type o)
-fits_at type None h = (inl refl, tt)
-fits_at type (Some j) h = fits_some type j (h j refl).0 (h j refl).1
+-- no fault at a given datum
+record IsSound (kinds : Kinds) (type : Option Held) (j : json.Data) : Type 0 where
+  fits : misfits type j ≡ false
+  there : dangles kinds type j ≡ false
+  own : strays kinds type j ≡ false
+  short : is_long type j ≡ false
 
-fits_found : (all : DeclaredFields) (given : json.Members) (f : List ℕ × TypeUse) → misfits_in all (pairs given) ≡ false → long_in all (pairs given) ≡ false → at_name f.0 all ≡ Some f.1 → FitsUse f.1 (datum_at f.1 (get_member f.0 given))
-fits_found all given f fits short found =
-    fits_at f.1 (get_member f.0 given) (λ j is. (
-      rw found at (none_at (λ g. misfits (at_name g.0 all) g.1) f.0 given j is fits),
-      rw found at (none_at (λ g. is_long (at_name g.0 all) g.1) f.0 given j is short),
-    ))
+fits_at : (ts : Declared) (ps : List Part) (type : Held) (o : Option json.Data) → ((j : json.Data) → o ≡ Some j → IsSound (kinds_in ps) (Some type) j) → FitsUse (map (object_of ts) ps) type (datum_at type o)
+fits_at ts ps type None h = (inl refl, tt, refers_null (map (object_of ts) ps) type)
+fits_at ts ps type (Some j) h =
+    let sound = h j refl in
+    let fits = fits_some type j sound.fits sound.short in
+    (fits.0, fits.1, refers_some ts ps type j sound.there sound.own)
 
-fields_fit : (all ds : DeclaredFields) (given : json.Members) → misfits_in all (pairs given) ≡ false → long_in all (pairs given) ≡ false → AllByRecursion (λ e. at_name e.0 all ≡ Some e.1) ds → FieldsFit ds (map (field_of given) ds)
-fields_fit all [] given fits short known = tt
-fields_fit all (d ∷ ds) given fits short known = (refl, fits_found all given d fits short known.0, fields_fit all ds given fits short known.1)
+-- no fault among the given data
+record AreSound (kinds : Kinds) (all : DeclaredFields) (given : List (List ℕ × json.Data)) : Type 0 where
+  fits : misfits_in all given ≡ false
+  there : dangles_in kinds all given ≡ false
+  own : strays_in kinds all given ≡ false
+  short : long_in all given ≡ false
+
+fits_found : (ts : Declared) (ps : List Part) (all : DeclaredFields) (given : json.Members) (f : List ℕ × Held) → AreSound (kinds_in ps) all (pairs given) → at_name f.0 all ≡ Some f.1 → FitsUse (map (object_of ts) ps) f.1 (datum_at f.1 (get_member f.0 given))
+fits_found ts ps all given f sound found =
+    fits_at ts ps f.1 (get_member f.0 given) (λ j is. record {
+      fits = rw found at (none_at (λ g. misfits (at_name g.0 all) g.1) f.0 given j is sound.fits);
+      there = rw found at (none_at (λ g. dangles (kinds_in ps) (at_name g.0 all) g.1) f.0 given j is sound.there);
+      own = rw found at (none_at (λ g. strays (kinds_in ps) (at_name g.0 all) g.1) f.0 given j is sound.own);
+      short = rw found at (none_at (λ g. is_long (at_name g.0 all) g.1) f.0 given j is sound.short);
+    })
+
+fields_fit : (ts : Declared) (ps : List Part) (all ds : DeclaredFields) (given : json.Members) → AreSound (kinds_in ps) all (pairs given) → AllByRecursion (λ e. at_name e.0 all ≡ Some e.1) ds → FieldsFit (map (object_of ts) ps) ds (map (field_of given) ds)
+fields_fit ts ps all [] given sound known = tt
+fields_fit ts ps all (d ∷ ds) given sound known = (refl, fits_found ts ps all given d sound known.0, fields_fit ts ps all ds given sound known.1)
 
 -- ---- the object
 
-misfits_none : (ts : Declared) (p : Part) (ds : DeclaredFields) → at_name p.kind ts ≡ Some ds → has_misfit ts p ≡ false → misfits_in ds (pairs p.given) ≡ false
+pub misfits_none : (ts : Declared) (p : Part) (ds : DeclaredFields) → at_name p.kind ts ≡ Some ds → has_misfit ts p ≡ false → misfits_in ds (pairs p.given) ≡ false
 unfolding has_misfit
 misfits_none ts p ds is e = rw is at e
 
@@ -104,10 +172,36 @@ long_none : (ts : Declared) (p : Part) (ds : DeclaredFields) → at_name p.kind 
 unfolding has_long
 long_none ts p ds is e = rw is at e
 
-fits_type : (ts : Declared) (p : Part) (ds : DeclaredFields) → FieldsApart ts → at_name p.kind ts ≡ Some ds → has_misfit ts p ≡ false → has_long ts p ≡ false → FitsType ts (object_of ts p).1
-fits_type ts p ds apart is kinds lengths =
-    let fit = fields_fit ds ds p.given (misfits_none ts p ds is kinds) (long_none ts p ds is lengths) (found_each ds (found_apart p.kind ts ds apart is)) in
+there_none : (ts : Declared) (kinds : Kinds) (p : Part) (ds : DeclaredFields) → at_name p.kind ts ≡ Some ds → has_dangling ts kinds p ≡ false → dangles_in kinds ds (pairs p.given) ≡ false
+unfolding has_dangling
+there_none ts kinds p ds is e = rw is at e
+
+own_none : (ts : Declared) (kinds : Kinds) (p : Part) (ds : DeclaredFields) → at_name p.kind ts ≡ Some ds → has_stray ts kinds p ≡ false → strays_in kinds ds (pairs p.given) ≡ false
+unfolding has_stray
+own_none ts kinds p ds is e = rw is at e
+
+-- no fault at an object
+record IsSoundPart (ts : Declared) (kinds : Kinds) (p : Part) : Type 0 where
+  typed : not (is_some (at_name p.kind ts)) ≡ false
+  fits : has_misfit ts p ≡ false
+  there : has_dangling ts kinds p ≡ false
+  own : has_stray ts kinds p ≡ false
+  short : has_long ts p ≡ false
+
+fits_known : (ts : Declared) (ps : List Part) (p : Part) (ds : DeclaredFields) → FieldsApart ts → at_name p.kind ts ≡ Some ds → AreSound (kinds_in ps) ds (pairs p.given) → FitsType ts (map (object_of ts) ps) (object_of ts p).1
+fits_known ts ps p ds apart is given =
+    let fit = fields_fit ts ps ds ds p.given given (found_each ds (found_apart p.kind ts ds apart is)) in
     record { fields = ds; declared = is; fit = rw is fit }
+
+fits_type : (ts : Declared) (ps : List Part) (p : Part) → FieldsApart ts → IsSoundPart ts (kinds_in ps) p → FitsType ts (map (object_of ts) ps) (object_of ts p).1
+fits_type ts ps p apart sound =
+    let found = some_of (at_name p.kind ts) sound.typed in
+    fits_known ts ps p found.0 apart found.1 (record {
+      fits = misfits_none ts p found.0 found.1 sound.fits;
+      there = there_none ts (kinds_in ps) p found.0 found.1 sound.there;
+      own = own_none ts (kinds_in ps) p found.0 found.1 sound.own;
+      short = long_none ts p found.0 found.1 sound.short;
+    })
 
 -- ---- the bundle
 
@@ -116,7 +210,9 @@ record IsFaultless (ts : Declared) (asked : Option (List ℕ)) (root : List ℕ)
   named : bad_name ps ≡ false
   rooted : root_missing root ps ≡ false
   typed : unknown_type ts ps ≡ false
-  kinds : wrong_kind ts ps ≡ false
+  fits : wrong_kind ts ps ≡ false
+  there : dangling_ref ts ps ≡ false
+  own : ref_type ts ps ≡ false
   small : too_large ts ps ≡ false
   type : root_type asked root ps ≡ false
 
@@ -132,7 +228,7 @@ all_false (c ∷ cs) e = let parts = head_false c.0 c.1 (first cs) e in (parts.0
 faultless : (ts : Declared) (asked : Option (List ℕ)) (d : Drafted) → draft_fault ts asked d ≡ None → IsFaultless ts asked d.root d.objects
 faultless ts asked d e =
     let all = all_false (conditions ts asked d) e in
-    record { named = all.0; rooted = all.1.0; typed = all.1.1.0; kinds = all.1.1.1.1.0; small = all.1.1.1.1.1.0; type = all.1.1.1.1.1.1.0 }
+    record { named = all.0; rooted = all.1.0; typed = all.1.1.0; fits = all.1.1.1.1.0; there = all.1.1.1.1.1.0; own = all.1.1.1.1.1.1.0; small = all.1.1.1.1.1.1.1.0; type = all.1.1.1.1.1.1.1.1.0 }
 
 unless_none : {E Y : Type 0} (o : Option E) (y b : Y) → unless_fault o y ≡ Ok b → (o ≡ None) × (y ≡ b)
 unless_none None y b e = (refl, cc)
@@ -144,51 +240,49 @@ judged_ok ts asked (Some d) b e =
     let found = unless_none (draft_fault ts asked d) (bundle_of ts d) b e in
     (d, faultless ts asked d found.0, found.1)
 
-passes : (a : Bool) → (not a || false) ≡ false → a ≡ true
-passes true e = refl
-passes false e = sym e
+all_of : {X Y : Type 0} (t : X → Bool) (f : X → Y) (P : Y → Type 0) (xs : List X) → ((x : X) → t x ≡ false → P (f x)) → list_any t xs ≡ false → AllByRecursion P (map f xs)
+all_of t f P [] each none = tt
+all_of t f P (x ∷ xs) each none = (each x (or_left (t x) (list_any t xs) none), all_of t f P xs each (or_right (t x) (list_any t xs) none))
 
-passes_or : (a : Bool) → not (a || false) ≡ false → a ≡ true
-passes_or true e = refl
-passes_or false e = sym e
+typed_all : (ts : Declared) (all ps : List Part) → FieldsApart ts → unknown_type ts ps ≡ false → wrong_kind ts ps ≡ false → list_any (has_dangling ts (kinds_in all)) ps ≡ false → list_any (has_stray ts (kinds_in all)) ps ≡ false → long_text ts ps ≡ false
+    → AllByRecursion (λ o. FitsType ts (map (object_of ts) all) o.1) (map (object_of ts) ps)
+typed_all ts all [] apart typed fits there own short = tt
+typed_all ts all (p ∷ ps) apart typed fits there own short =
+    let sound : IsSoundPart ts (kinds_in all) p = record {
+      typed = or_left _ (unknown_type ts ps) typed;
+      fits = or_left _ (wrong_kind ts ps) fits;
+      there = or_left _ (list_any (has_dangling ts (kinds_in all)) ps) there;
+      own = or_left _ (list_any (has_stray ts (kinds_in all)) ps) own;
+      short = or_left _ (long_text ts ps) short;
+    } in (
+      fits_type ts all p apart sound,
+      typed_all ts all ps apart (or_right (not (is_some (at_name p.kind ts))) _ typed) (or_right (has_misfit ts p) _ fits) (or_right (has_dangling ts (kinds_in all) p) _ there)
+          (or_right (has_stray ts (kinds_in all) p) _ own) (or_right (has_long ts p) _ short),
+    )
 
-both : (a b : Bool) → not ((a && b) || false) ≡ false → (a ≡ true) × (b ≡ true)
-both true b e = (refl, passes_or b e)
-both false b e = cc
-
-same : (x y : List ℕ) → bytes_eq x y ≡ true → x ≡ y
-same x y e = (bytes_eq-Decides x y).0 e
-
-well_typed_of : (ts : Declared) (asked : Option (List ℕ)) (root : List ℕ) (ps : List Part) → FieldsApart ts → IsFaultless ts asked root ps → IsWellTyped ts (record { root = root; objects = map (object_of ts) ps })
-well_typed_of ts asked root [] apart ok = let no : true ≡ false = ok.rooted in absurd (true≢false no)
-well_typed_of ts asked root (p ∷ []) apart ok =
-    let is : root ≡ p.name = same root p.name (passes_or (bytes_eq root p.name) ok.rooted) in
-    let found = some_of (at_name p.kind ts) (or_left (not (is_some (at_name p.kind ts))) false ok.typed) in
-    let kinds : has_misfit ts p ≡ false = or_left (has_misfit ts p) false ok.kinds in
-    let lengths : has_long ts p ≡ false = or_left (has_long ts p) false ok.small in
+well_typed_of : (ts : Declared) (asked : Option (List ℕ)) (root : List ℕ) (ps : List Part) → FieldsApart ts → IsFaultless ts asked root ps → IsAscending (keys_of (map (object_of ts) ps)) → IsWellTyped ts (record { root = root; objects = map (object_of ts) ps })
+well_typed_of ts asked root ps apart ok ascending =
+    let few : length ps ≤ 256 = ltb-false 256 (length ps) (or_left (nat_lt 256 (length ps)) (long_text ts ps) ok.small) in
+    let kind = some_of (at_name root (kinds_in ps)) ok.rooted in
+    let found = named_object ts ps root kind.0 kind.1 in
     record {
-      thing = (object_of ts p).1;
-      one = rw is refl;
-      named = rw is (passes (names p.name) ok.named);
-      typed = fits_type ts p found.0 apart found.1 kinds lengths;
+      few = rw length-map few;
+      ascending = ascending;
+      named = all_of (λ p. not (names p.name)) (object_of ts) (λ o. names o.0 ≡ true) ps (λ p e. not_false (names p.name) e) ok.named;
+      rooted = rw found.1 refl;
+      typed = typed_all ts ps ps apart ok.typed ok.fits ok.there ok.own (or_right (nat_lt 256 (length ps)) (long_text ts ps) ok.small);
     }
-well_typed_of ts asked root (p ∷ q ∷ ps) apart ok =
-    let few : length (p ∷ q ∷ ps) ≤ 1 = ltb-false 1 (length (p ∷ q ∷ ps)) (or_left (nat_lt 1 (length (p ∷ q ∷ ps))) _ ok.small) in
-    absurd (omega arith)
 
 root_of : (ts : Declared) (type root : List ℕ) (ps : List Part) → IsFaultless ts (Some type) root ps → HasRootType type (record { root = root; objects = map (object_of ts) ps })
-root_of ts type root [] ok = let no : true ≡ false = ok.rooted in absurd (true≢false no)
-root_of ts type root (p ∷ []) ok =
-    let found = both (bytes_eq root p.name) (bytes_eq type p.kind) ok.type in
-    ((object_of ts p).1, rw found.0 refl, sym (same type p.kind found.1))
-root_of ts type root (p ∷ q ∷ ps) ok =
-    let few : length (p ∷ q ∷ ps) ≤ 1 = ltb-false 1 (length (p ∷ q ∷ ps)) (or_left (nat_lt 1 (length (p ∷ q ∷ ps))) _ ok.small) in
-    absurd (omega arith)
+root_of ts type root ps ok =
+    let kind = some_of (at_name root (kinds_in ps)) ok.rooted in
+    let own : not (bytes_eq type kind.0) ≡ false = rw kind.1 at ok.type in
+    named_object ts ps root type (rw (same_name type kind.0 own) kind.1)
 
-pub read_well_typed : (ts : Declared) (asked : Option (List ℕ)) (j : json.Data) (b : Bundled) → FieldsApart ts → bundle_read ts asked j ≡ Ok b → IsWellTyped ts b
-read_well_typed ts asked j b apart e =
+pub read_well_typed : (ts : Declared) (asked : Option (List ℕ)) (j : json.Data) (b : Bundled) → FieldsApart ts → IsAscending (keys_of b.objects) → bundle_read ts asked j ≡ Ok b → IsWellTyped ts b
+read_well_typed ts asked j b apart ascending e =
     let found = judged_ok ts asked (draft_of j) b e in
-    subst (λ (c : Bundled). IsWellTyped ts c) found.2 (well_typed_of ts asked found.0.root found.0.objects apart found.1)
+    subst (λ (c : Bundled). IsWellTyped ts c) found.2 (well_typed_of ts asked found.0.root found.0.objects apart found.1 (subst (λ (c : Bundled). IsAscending (keys_of c.objects)) (sym found.2) ascending))
 
 pub read_root : (ts : Declared) (type : List ℕ) (j : json.Data) (b : Bundled) → bundle_read ts (Some type) j ≡ Ok b → HasRootType type b
 read_root ts type j b e =
@@ -197,9 +291,9 @@ read_root ts type j b e =
 
 -- ---- what the call answers
 
-pub gives_well_typed : (r : Result Bundle BundleFault) (ts : Declared) (asked : Option (List ℕ)) (j : json.Data) → FieldsApart ts → Gives Memory bundle_view r (bundle_read ts asked j) → IfOk r (λ b. IsWellTyped ts (bundle_view b))
-gives_well_typed (Ok b) ts asked j apart given = read_well_typed ts asked j (bundle_view b) apart given
-gives_well_typed (Err e) ts asked j apart given = tt
+pub gives_well_typed : (r : Result Bundle BundleFault) (ts : Declared) (asked : Option (List ℕ)) (j : json.Data) → FieldsApart ts → IfOk r (λ b. IsAscending (keys_of (bundle_view b).objects)) → Gives Memory bundle_view r (bundle_read ts asked j) → IfOk r (λ b. IsWellTyped ts (bundle_view b))
+gives_well_typed (Ok b) ts asked j apart ascending given = read_well_typed ts asked j (bundle_view b) apart ascending given
+gives_well_typed (Err e) ts asked j apart ascending given = tt
 
 pub gives_root : (r : Result Bundle BundleFault) (ts : Declared) (asked : Option TypeId) (j : json.Data) → Gives Memory bundle_view r (bundle_read ts (option_map (λ t. name_at ts t.index) asked) j) → IfOk r (λ b. ForSome asked (λ t. HasRootType (name_at ts t.index) (bundle_view b)))
 gives_root (Ok b) ts asked j given = λ t is. read_root ts (name_at ts t.index) j (bundle_view b) (rw is at given)

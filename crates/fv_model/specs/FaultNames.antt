@@ -3,10 +3,11 @@ use Rattle.std.specs.Prelude.{ℕ, List, [], codes}
 use Rattle.fv_model.specs.declared.fault.TypesFault.{TypesFault}
 use Rattle.fv_model.specs.declared.fault.TypesFault.TheVariants as types
 use Rattle.fv_model.specs.declared.fault.BundleFault.{BundleFault}
-use Rattle.fv_model.specs.declared.fault.BundleFault.TheVariants.{Shape, BadName, RootMissing, UnknownType, UnknownField, WrongKind, TooLarge, RootType, Memory}
+use Rattle.fv_model.specs.declared.fault.BundleFault.TheVariants.{Shape, BadName, RootMissing, UnknownType, UnknownField, WrongKind, DanglingRef, RefType, TooLarge, RootType, Memory}
 
 -- the name of a fault of declared types
 abbrev pub types_fault_name : TypesFault → List ℕ
+types_fault_name types.UnknownType = codes "UnknownType"
 types_fault_name types.TooLarge = codes "TooLarge"
 
 -- the name of a fault of a bundle
@@ -17,6 +18,8 @@ bundle_fault_name RootMissing = codes "RootMissing"
 bundle_fault_name UnknownType = codes "UnknownType"
 bundle_fault_name UnknownField = codes "UnknownField"
 bundle_fault_name WrongKind = codes "WrongKind"
+bundle_fault_name DanglingRef = codes "DanglingRef"
+bundle_fault_name RefType = codes "RefType"
 bundle_fault_name TooLarge = codes "TooLarge"
 bundle_fault_name RootType = codes "RootType"
 bundle_fault_name Memory = codes "Memory"
@@ -29,6 +32,8 @@ bundle_fault_code RootMissing = codes "B2"
 bundle_fault_code UnknownType = codes "B3"
 bundle_fault_code UnknownField = codes "B4"
 bundle_fault_code WrongKind = codes "B5"
+bundle_fault_code DanglingRef = codes "B6"
+bundle_fault_code RefType = codes "B7"
 bundle_fault_code TooLarge = codes "B8"
 bundle_fault_code RootType = codes "B9"
 bundle_fault_code Memory = []

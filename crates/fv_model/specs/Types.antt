@@ -1,30 +1,53 @@
 -- The declared types.
-use Rattle.std.specs.Prelude.{◌≢◌, ℕ, List, [], map, length, slice_get, position, Bool, ◌||◌, nat_lt, Option, option_map, option_and_then, unwrap_or, String, string_bytes}
-use Rattle.std.specs.List.{All, AllPairs, list_any, list_all}
+use Rattle.std.specs.Prelude.{◌≢◌, ℕ, List, [], ◌∷◌, map, length, slice_get, position, Bool, false, not, ◌||◌, nat_lt, Option, option_map, option_and_then, unwrap_or, is_some, String, string_bytes}
+use Rattle.std.specs.List.{All, AllPairs, list_any}
 use Rattle.std.specs.Str.{bytes_eq}
 use Rattle.std.specs.HashMap.{HashMap}
 use Rattle.std.specs.declared.alloc.Global.{Global}
 use Rattle.std.specs.declared.hash.FoldHasher.{FoldHasher}
 use Rattle.std.specs.declared.hash.BuildHasherDefault.{BuildHasherDefault}
-use Rattle.fv_datum.specs.Kinds.{is_readable}
+use Rattle.fv_datum.specs.Answers.{first}
 use Rattle.fv_datum.specs.Lookup.{at_name}
 use Rattle.fv_datum.specs.declared.kind.Kind.{Kind}
 use Rattle.fv_datum.specs.declared.kind.Kind.TheVariants as kind
 use Rattle.fv_model.specs.declared.type_use.TypeUse.{TypeUse}
-use Rattle.fv_model.specs.declared.type_use.TypeUse.TheVariants.{Text, Integer, Decimal, Boolean, Date, Instant}
+use Rattle.fv_model.specs.declared.type_use.TypeUse.TheVariants as type_use
+use Rattle.fv_model.specs.declared.fault.TypesFault.{TypesFault}
+use Rattle.fv_model.specs.declared.fault.TypesFault.TheVariants.{UnknownType, TooLarge}
 
--- the kind of the data that a type use holds
-abbrev pub kind_of : TypeUse → Kind
-kind_of Text = kind.Text
-kind_of Integer = kind.Integer
-kind_of Decimal = kind.Decimal
-kind_of Boolean = kind.Boolean
-kind_of Date = kind.Date
-kind_of Instant = kind.Instant
+-- what a field of a type holds: data of a plain kind, or the names of objects of a type
+pub data Held : Type 0 where
+  texts : Held
+  integers : Held
+  decimals : Held
+  booleans : Held
+  dates : Held
+  instants : Held
+  references : List ℕ → Held
+
+-- the kind of the data that a field holds
+abbrev pub kind_of : Held → Kind
+kind_of texts = kind.Text
+kind_of integers = kind.Integer
+kind_of decimals = kind.Decimal
+kind_of booleans = kind.Boolean
+kind_of dates = kind.Date
+kind_of instants = kind.Instant
+kind_of (references type) = kind.Ref
+
+-- what a type use says that a field holds
+abbrev pub held_view : TypeUse → Held
+held_view type_use.Text = texts
+held_view type_use.Integer = integers
+held_view type_use.Decimal = decimals
+held_view type_use.Boolean = booleans
+held_view type_use.Date = dates
+held_view type_use.Instant = instants
+held_view (type_use.Ref type) = references (string_bytes type)
 
 -- a type's fields by their names, in the order of their numbers
 abbrev pub DeclaredFields : Type 0
-DeclaredFields = List (List ℕ × TypeUse)
+DeclaredFields = List (List ℕ × Held)
 
 -- the types by their names, in the order of their numbers
 abbrev pub Declared : Type 0
@@ -35,8 +58,8 @@ abbrev pub TextMap : Type 0 → Type 0
 TextMap X = HashMap (String Global) X (BuildHasherDefault FoldHasher)
 
 -- a field with what it holds
-abbrev pub use_view : String Global × TypeUse → List ℕ × TypeUse
-use_view e = (string_bytes e.0, e.1)
+abbrev pub use_view : String Global × TypeUse → List ℕ × Held
+use_view e = (string_bytes e.0, held_view e.1)
 
 -- the fields that a map has
 abbrev pub fields_view : TextMap TypeUse → DeclaredFields
@@ -49,6 +72,19 @@ type_view e = (string_bytes e.0, fields_view e.1)
 -- the types that a map has
 abbrev pub declared_view : TextMap (TextMap TypeUse) → Declared
 declared_view m = map type_view m.entries
+
+-- a reference to a type that isn't declared
+abbrev pub is_unknown : Declared → Held → Bool
+is_unknown ts (references type) = not (is_some (at_name type ts))
+is_unknown ts _ = false
+
+-- one of the fields refers to a type that isn't declared
+abbrev pub unknown_in : Declared → DeclaredFields → Bool
+unknown_in ts = list_any (λ f. is_unknown ts f.1)
+
+-- the same, of one of the types
+abbrev pub has_unknown : Declared → Bool
+has_unknown ts = list_any (λ t. unknown_in ts t.1) ts
 
 -- a type of more than 256 fields
 abbrev pub has_large : Declared → Bool
@@ -66,8 +102,12 @@ FieldsApart ts = All (λ t. AreApart t.1) ts
 abbrev pub too_many : Declared → Bool
 too_many ts = nat_lt 256 (length ts) || has_large ts
 
+-- the first fault of types that are declared
+abbrev pub types_fault : Declared → Option TypesFault
+types_fault ts = first ((has_unknown ts, UnknownType) ∷ (too_many ts, TooLarge) ∷ [])
+
 -- what a type's field holds
-abbrev pub use_of : Declared → List ℕ → List ℕ → Option TypeUse
+abbrev pub use_of : Declared → List ℕ → List ℕ → Option Held
 use_of ts type field = option_and_then (at_name field) (at_name type ts)
 
 -- the number of the type of that name
@@ -77,11 +117,3 @@ number_of ts name = position (λ t. bytes_eq name t.0) ts
 -- the name of the type of a number; empty where there is none
 abbrev pub name_at : Declared → ℕ → List ℕ
 name_at ts n = unwrap_or (option_map (λ t. t.0) (slice_get ts n)) []
-
--- each field holds data of a kind that is read so far
-abbrev pub fields_readable : DeclaredFields → Bool
-fields_readable = list_all (λ f. is_readable (kind_of f.1))
-
--- each field of each type holds data of such a kind
-abbrev pub all_readable : Declared → Bool
-all_readable = list_all (λ t. fields_readable t.1)

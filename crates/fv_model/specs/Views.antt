@@ -1,23 +1,17 @@
 -- The values that contracts see.
-use Rattle.std.specs.Prelude.{ℕ, List, map, String, string_bytes, Option, Some, None}
-use Rattle.std.specs.Borrow.{Bor}
-use Rattle.std.specs.BTreeMap.{BTreeMap}
-use Rattle.std.specs.declared.alloc.Global.{Global}
-use Rattle.serde_json.specs.Data as json
-use Rattle.serde_json.specs.View.{members_view}
-use Rattle.serde_json.specs.declared.value.Value.{Value}
+pub use Rattle.fv_model.specs.PartViews.{given_view, kinds_view, part_view}
+use Rattle.std.specs.Prelude.{ℕ, List, map, String, string_bytes}
 use Rattle.fv_datum.specs.Data.{Data}
 use Rattle.fv_datum.specs.View.{view}
-use Rattle.fv_model.specs.Types.{Declared, declared_view}
-use Rattle.fv_model.specs.Bundles.{Thing, Bundled}
+use Rattle.std.specs.declared.alloc.Global.{Global}
+use Rattle.fv_model.specs.Types.{Declared, TextMap, declared_view}
+use Rattle.fv_model.specs.Bundles.{Thing, Things, Bundled}
 use Rattle.fv_model.specs.Draft as spec
 use Rattle.fv_model.specs.declared.types.Types.{Types}
-use Rattle.fv_model.specs.declared.bundle.Field.{Field}
+use Rattle.fv_model.specs.declared.field.Field.{Field}
 use Rattle.fv_model.specs.declared.bundle.Object.{Object}
-use Rattle.fv_model.specs.declared.bundle.NamedObject.{NamedObject}
 use Rattle.fv_model.specs.declared.bundle.Bundle.{Bundle}
-use Rattle.fv_model.specs.declared.draft.Part.{Part}
-use Rattle.fv_model.specs.declared.draft.Draft.{Draft}
+use Rattle.fv_model.specs.declared.parts.Draft.{Draft}
 
 -- the declared types
 abbrev pub types_view : Types → Declared
@@ -32,21 +26,16 @@ abbrev pub object_view : Object → Thing
 object_view o = record { kind = string_bytes o.kind; fields = map field_view o.fields.items }
 
 -- an object with its name
-abbrev pub named_view : NamedObject → List ℕ × Thing
-named_view n = (string_bytes n.name, object_view n.object)
+abbrev pub named_view : String Global × Object → List ℕ × Thing
+named_view e = (string_bytes e.0, object_view e.1)
+
+-- the objects that a map has
+abbrev pub objects_view : TextMap Object → Things
+objects_view m = map named_view m.entries
 
 -- a bundle
 abbrev pub bundle_view : Bundle → Bundled
-bundle_view b = record { root = string_bytes b.root; objects = map named_view b.objects.items }
-
--- the fields that are given: none where there is no such member
-abbrev pub given_view : Option (Bor (BTreeMap (String Global) Value)) → json.Members
-given_view None = json.no_members
-given_view (Some m) = members_view m.now.entries
-
--- an object of a draft
-abbrev pub part_view : Part → spec.Part
-part_view p = record { name = p.name.now; kind = p.kind.now; given = given_view p.given }
+bundle_view b = record { root = string_bytes b.root; objects = objects_view b.objects }
 
 -- a draft
 abbrev pub draft_view : Draft → spec.Drafted

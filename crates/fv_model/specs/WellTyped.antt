@@ -1,42 +1,54 @@
 -- The bundles that are well-typed.
-use Rattle.std.specs.Prelude.{◌≡◌, ◌≤◌, ℕ, List, [], ◌∷◌, length, true, Some}
-use Rattle.fv_datum.specs.Data.{Data, text}
+use Rattle.std.specs.Prelude.{◌≡◌, ◌≤◌, ℕ, List, [], ◌∷◌, length, true, Some, is_some}
+use Rattle.std.specs.List.{AllByRecursion}
+use Rattle.std.specs.Map.{keys_of}
+use Rattle.fv_datum.specs.Data.{Data, text, reference}
 use Rattle.fv_datum.specs.Kinds.{FitsKind}
 use Rattle.fv_datum.specs.Lookup.{at_name}
 use Rattle.fv_datum.specs.Name.{names}
-use Rattle.fv_model.specs.Types.{DeclaredFields, Declared, kind_of}
-use Rattle.fv_model.specs.Bundles.{Thing, Bundled}
-use Rattle.fv_model.specs.declared.type_use.TypeUse.{TypeUse}
+use Rattle.fv_model.specs.Types.{Held, references, DeclaredFields, Declared, kind_of}
+use Rattle.fv_model.specs.Bundles.{IsAscending, Thing, Things, Bundled}
 
 -- no text of more than 65,536 bytes
 abbrev pub IsWithinLimits : Data → Type 0
 IsWithinLimits (text s) = length s ≤ 65536
 IsWithinLimits _ = Unit {0}
 
--- null, or a datum of the type use's kind, within the limits
-abbrev pub FitsUse : TypeUse → Data → Type 0
-FitsUse type d = FitsKind (kind_of type) d × IsWithinLimits d
+-- the name is that of an object of the type
+abbrev pub NamesObject : Things → List ℕ → List ℕ → Type 0
+NamesObject os type name = (t : Thing) × (at_name name os ≡ Some t) × (t.kind ≡ type)
+
+-- where the field holds references, a name that the datum is names an object of their type
+abbrev pub RefersTo : Things → Held → Data → Type 0
+RefersTo os (references type) d = (name : List ℕ) → d ≡ reference name → NamesObject os type name
+RefersTo os _ d = Unit {0}
+
+-- null, or a datum of the field's kind, within the limits; a reference names an object of its type
+abbrev pub FitsUse : Things → Held → Data → Type 0
+FitsUse os held d = FitsKind (kind_of held) d × IsWithinLimits d × RefersTo os held d
 
 -- each field of a type, in order, with a datum that fits
-abbrev pub FieldsFit : DeclaredFields → List (List ℕ × Data) → Type 0
-FieldsFit [] [] = Unit {0}
-FieldsFit (d ∷ ds) (f ∷ fs) = (f.0 ≡ d.0) × FitsUse d.1 f.1 × FieldsFit ds fs
-FieldsFit [] (f ∷ fs) = ⊥
-FieldsFit (d ∷ ds) [] = ⊥
+abbrev pub FieldsFit : Things → DeclaredFields → List (List ℕ × Data) → Type 0
+FieldsFit os [] [] = Unit {0}
+FieldsFit os (d ∷ ds) (f ∷ fs) = (f.0 ≡ d.0) × FitsUse os d.1 f.1 × FieldsFit os ds fs
+FieldsFit os [] (f ∷ fs) = ⊥
+FieldsFit os (d ∷ ds) [] = ⊥
 
--- an object of a declared type
-pub record FitsType (ts : Declared) (t : Thing) : Type 0 where
+-- an object of a declared type, in a bundle of these objects
+pub record FitsType (ts : Declared) (os : Things) (t : Thing) : Type 0 where
   pub fields : DeclaredFields
   pub declared : at_name t.kind ts ≡ Some fields
-  pub fit : FieldsFit fields t.fields
+  pub fit : FieldsFit os fields t.fields
 
--- one object, under a name, which the root names; its type is declared, and each datum fits its field
+-- at most 256 objects, each name once and in order, which the root is one of; each object is of a declared type, and each
+-- datum of it fits its field
 pub record IsWellTyped (ts : Declared) (b : Bundled) : Type 0 where
-  pub thing : Thing
-  pub one : b.objects ≡ (b.root, thing) ∷ []
-  pub named : names b.root ≡ true
-  pub typed : FitsType ts thing
+  pub few : length b.objects ≤ 256
+  pub ascending : IsAscending (keys_of b.objects)
+  pub named : AllByRecursion (λ o. names o.0 ≡ true) b.objects
+  pub rooted : is_some (at_name b.root b.objects) ≡ true
+  pub typed : AllByRecursion (λ o. FitsType ts b.objects o.1) b.objects
 
 -- the root is an object of that type
 abbrev pub HasRootType : List ℕ → Bundled → Type 0
-HasRootType type b = (t : Thing) × (at_name b.root b.objects ≡ Some t) × (t.kind ≡ type)
+HasRootType type b = NamesObject b.objects type b.root

@@ -1,18 +1,22 @@
-//! The bundle that a draft without fault is.
-ghost use Rattle.std.specs.Prelude.{◌≡◌, true, IfOk, map, option_map};
+//! The bundle that a draft without fault is: its types are declared, and its data of their kinds.
+ghost use Rattle.std.specs.Prelude.{◌≡◌, true, false, IfOk, map, option_map, is_some};
 ghost use Rattle.serde_json.specs.Find.{get_member};
 ghost use Rattle.serde_json.specs.View.{view as json_view};
+ghost use Rattle.fv_datum.specs.Lookup.{at_name};
 ghost use Rattle.fv_datum.specs.View.{view};
-ghost use Rattle.fv_model.specs.Types.{kind_of, all_readable, fields_readable, fields_view};
-ghost use Rattle.fv_datum.specs.Kinds.{is_readable};
-ghost use Rattle.fv_model.specs.Views.{types_view, given_view, part_view, draft_view, field_view, named_view, bundle_view};
-ghost use Rattle.fv_model.specs.Reading.{datum_at, field_of, object_of, bundle_of};
+ghost use Rattle.std.specs.Map.{keys_of};
+ghost use Rattle.fv_model.specs.Bundles.{IsAscending};
+ghost use Rattle.fv_model.specs.Types.{held_view, fields_view};
+ghost use Rattle.fv_model.specs.Views.{types_view, given_view, part_view, draft_view, field_view, object_view, objects_view, bundle_view};
+ghost use Rattle.fv_model.specs.Reading.{kinds_in, unknown_type, wrong_kind, has_misfit, fits_given, all_fit, datum_at, field_of, object_of, bundle_of};
 
-use crate::bundle::{Bundle, Field, NamedObject, Object};
-use crate::draft::{Draft, Part};
+use crate::bundle::{Bundle, Object, Objects};
+use crate::field::Field;
+use crate::parts::{Draft, Part};
 use crate::type_use::TypeUse;
 use crate::types::{Fields, Types};
 use fv_datum::{Datum, DatumFault, read_datum};
+use indexmap::IndexMap;
 use serde_json::{Map, Value};
 use std::alloc::{AllocError, Global};
 
@@ -26,15 +30,15 @@ fn find_given<'a>(given: Option<&'a Map<String, Value>>, name: &str) -> Option<&
 }
 
 /// The datum of a field: null where the field isn't given.
-fn datum_for(alloc: Global, type_use: TypeUse, value: Option<&Value>) -> Result<Datum, AllocError>
-    requires { is_readable (kind_of type_use) ≡ true }
-    ensures { IfOk result (λ d. view d ≡ datum_at type_use (option_map (λ v. json_view v.now) value.entry)) }
+fn datum_for(alloc: Global, type_use: &TypeUse, value: Option<&Value>) -> Result<Datum, AllocError>
+    requires fits { fits_given (held_view type_use.now) (option_map (λ v. json_view v.now) value) ≡ true }
+    ensures { IfOk result (λ d. view d ≡ datum_at (held_view type_use.now) (option_map (λ v. json_view v.now) value.entry)) }
 {
     match value {
         None => Ok(Datum::Null),
         Some(value) => match read_datum(alloc, type_use.kind(), value) {
             Ok(datum) => Ok(datum),
-            Err(DatumFault::WrongKind) => Ok(Datum::Null),
+            Err(DatumFault::WrongKind) => unreachable!(),
             Err(DatumFault::Memory) => Err(AllocError),
         },
     }
@@ -43,11 +47,11 @@ fn datum_for(alloc: Global, type_use: TypeUse, value: Option<&Value>) -> Result<
 fn field_for(
     alloc: Global,
     name: &str,
-    type_use: TypeUse,
+    type_use: &TypeUse,
     given: Option<&Map<String, Value>>,
 ) -> Result<Field, AllocError>
-    requires { is_readable (kind_of type_use) ≡ true }
-    ensures { IfOk result (λ f. field_view f ≡ field_of (given_view given.entry) (name.now, type_use)) }
+    requires fits { fits_given (held_view type_use.now) (get_member name.now (given_view given)) ≡ true }
+    ensures { IfOk result (λ f. field_view f ≡ field_of (given_view given.entry) (name.now, held_view type_use.now)) }
 {
     let datum = datum_for(alloc, type_use, find_given(given, name))?;
     Ok(Field {
@@ -61,47 +65,51 @@ fn fields_for(
     fields: &Fields,
     given: Option<&Map<String, Value>>,
 ) -> Result<Vec<Field>, AllocError>
-    requires { fields_readable (fields_view fields.now) ≡ true }
+    requires fit { all_fit (given_view given) (fields_view fields.now) ≡ true }
     ensures { IfOk result (λ v. map field_view v.items ≡ map (field_of (given_view given.entry)) (fields_view fields.now)) }
 {
     let mut out = Vec::with_capacity(alloc, fields.len())?;
     for (name, type_use) in fields.iter() {
-        out.push(field_for(alloc, name.as_str(), *type_use, given)?)?;
+        out.push(field_for(alloc, name.as_str(), type_use, given)?)?;
     }
     Ok(out)
 }
 
-fn object_for(alloc: Global, types: &Types, part: &Part) -> Result<NamedObject, AllocError>
-    requires { all_readable (types_view types.now) ≡ true }
-    ensures { IfOk result (λ o. named_view o ≡ object_of (types_view types.now) (part_view part.now)) }
+fn object_for(alloc: Global, types: &Types, part: &Part) -> Result<Object, AllocError>
+    requires declared { is_some (at_name part.now.kind.now (types_view types.now)) ≡ true }
+    requires fits { has_misfit (types_view types.now) (part_view part.now) ≡ false }
+    ensures { IfOk result (λ o. object_view o ≡ (object_of (types_view types.now) (part_view part.now)).1) }
 {
     let fields = match types.fields(part.kind) {
-        None => Vec::new(alloc),
+        None => unreachable!(),
         Some(fields) => fields_for(alloc, fields, part.given)?,
     };
-    Ok(NamedObject {
-        name: String::from_str(alloc, part.name)?,
-        object: Object {
-            kind: String::from_str(alloc, part.kind)?,
-            fields,
-        },
+    Ok(Object {
+        kind: String::from_str(alloc, part.kind)?,
+        fields,
     })
 }
 
-fn objects_for(alloc: Global, types: &Types, parts: &[Part]) -> Result<Vec<NamedObject>, AllocError>
-    requires { all_readable (types_view types.now) ≡ true }
-    ensures { IfOk result (λ v. map named_view v.items ≡ map (object_of (types_view types.now)) (map part_view parts.now)) }
+#[tactic(auto, using(crate::proofs::Anys::part_turn))]
+fn objects_for(alloc: Global, types: &Types, parts: &[Part]) -> Result<Objects, AllocError>
+    requires ascending { IsAscending (keys_of (kinds_in (map part_view parts.now))) }
+    requires declared { unknown_type (types_view types.now) (map part_view parts.now) ≡ false }
+    requires fit { wrong_kind (types_view types.now) (map part_view parts.now) ≡ false }
+    ensures { IfOk result (λ m. objects_view m ≡ map (object_of (types_view types.now)) (map part_view parts.now)) }
 {
-    let mut out = Vec::with_capacity(alloc, parts.len())?;
+    let mut out = IndexMap::with_capacity(alloc, parts.len())?;
     for part in parts {
-        out.push(object_for(alloc, types, part)?)?;
+        let object = object_for(alloc, types, part)?;
+        out.insert(String::from_str(alloc, part.name)?, object)?;
     }
     Ok(out)
 }
 
 pub(crate) fn build(alloc: Global, types: &Types, draft: &Draft) -> Result<Bundle, AllocError>
-    requires { all_readable (types_view types.now) ≡ true }
-    ensures { IfOk result (λ b. bundle_view b ≡ bundle_of (types_view types.now) (draft_view draft.now)) }
+    requires declared { unknown_type (types_view types.now) (draft_view draft.now).objects ≡ false }
+    requires fit { wrong_kind (types_view types.now) (draft_view draft.now).objects ≡ false }
+    ensures bundle { IfOk result (λ b. bundle_view b ≡ bundle_of (types_view types.now) (draft_view draft.now)) }
+    ensures ascending { IfOk result (λ b. IsAscending (keys_of (bundle_view b).objects)) }
 {
     Ok(Bundle {
         root: String::from_str(alloc, draft.root)?,

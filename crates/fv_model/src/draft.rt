@@ -1,29 +1,20 @@
 //! A bundle's JSON by its names, before any of them is judged.
 ghost use Rattle.std.specs.Prelude.{◌≡◌, ◌||◌, IfOk, map, option_map, Some, None};
+ghost use Rattle.std.specs.Map.{keys_of};
 ghost use Rattle.std.specs.List.{list_all};
+ghost use Rattle.std.specs.BTreeMap.{IsOrdered};
+ghost use Rattle.std.specs.String.{string_cmp};
 ghost use Rattle.std.specs.Str.{bytes_eq};
 ghost use Rattle.serde_json.specs.View.{view as json_view, members_view};
 ghost use Rattle.fv_model.specs.Draft.{pairs, has_only, part_of as spec_part, given_in as spec_given, each_some, draft_of as spec_draft};
-ghost use Rattle.fv_model.specs.Views.{given_view, part_view, draft_view};
+ghost use Rattle.fv_model.specs.Bundles.{IsAscending};
+ghost use Rattle.fv_model.specs.Reading.{kinds_in};
+ghost use Rattle.fv_model.specs.Views.{given_view, kinds_view, part_view, draft_view};
 
+use crate::parts::{Draft, Part};
+use indexmap::IndexMap;
 use serde_json::{Map, Value};
 use std::alloc::{AllocError, Global};
-
-/// An object as it is given.
-#[derive(Drop)]
-pub(crate) struct Part<'a> {
-    pub(crate) name: &'a str,
-    pub(crate) kind: &'a str,
-    /// Its fields, where there are any.
-    pub(crate) given: Option<&'a Map<String, Value>>,
-}
-
-/// A bundle as it is given.
-#[derive(Drop)]
-pub(crate) struct Draft<'a> {
-    pub(crate) root: &'a str,
-    pub(crate) objects: Vec<Part<'a>>,
-}
 
 /// Whether a value is an object with no member but these two.
 fn has_only(value: &Value, first: &str, second: &str) -> bool
@@ -76,7 +67,8 @@ fn parts_of<'a>(
     alloc: Global,
     objects: &'a Map<String, Value>,
 ) -> Result<Option<Vec<Part<'a>>>, AllocError>
-    ensures { IfOk result (λ o. option_map (λ v. map part_view v.items) o ≡ each_some spec_part (pairs (members_view objects.now.entries))) }
+    ensures parts { IfOk result (λ o. option_map (λ v. map part_view v.items) o ≡ each_some spec_part (pairs (members_view objects.now.entries))) }
+    ensures ordered { IsOrdered string_cmp objects.now }
 {
     let mut parts = Vec::with_capacity(alloc, objects.len())?;
     for (name, value) in objects.iter() {
@@ -86,6 +78,18 @@ fn parts_of<'a>(
         }
     }
     Ok(Some(parts))
+}
+
+/// The names of objects' types by the objects' names, each name once.
+fn kinds_of<'a>(alloc: Global, parts: &[Part<'a>]) -> Result<IndexMap<&'a str, &'a str>, AllocError>
+    requires { IsAscending (keys_of (kinds_in (map part_view parts.now))) }
+    ensures { IfOk result (λ m. kinds_view m ≡ kinds_in (map part_view parts.now)) }
+{
+    let mut kinds = IndexMap::with_capacity(alloc, parts.len())?;
+    for part in parts {
+        kinds.insert(part.name, part.kind)?;
+    }
+    Ok(kinds)
 }
 
 /// The draft that a JSON value is, where it has the form of a bundle.
@@ -103,6 +107,13 @@ pub(crate) fn draft_of<'a>(alloc: Global, value: &'a Value) -> Result<Option<Dra
     };
     match parts_of(alloc, objects)? {
         None => Ok(None),
-        Some(objects) => Ok(Some(Draft { root, objects })),
+        Some(objects) => {
+            let kinds = kinds_of(alloc, &objects)?;
+            Ok(Some(Draft {
+                root,
+                objects,
+                kinds,
+            }))
+        }
     }
 }

@@ -8,6 +8,9 @@ use thiserror::Error;
 /// Why declared types weren't taken.
 #[derive(Clone, Copy, Debug, PartialEq, Eq, Error)]
 pub enum TypesFault {
+    /// A field refers to a type that isn't declared.
+    #[error("a reference to a type that isn't declared")]
+    UnknownType,
     /// More than 256 types, or a type of more than 256 fields.
     #[error("too many types or fields")]
     TooLarge,
@@ -19,6 +22,7 @@ impl TypesFault {
         ensures { result.now ≡ types_fault_name self.now }
     {
         match self {
+            TypesFault::UnknownType => "UnknownType",
             TypesFault::TooLarge => "TooLarge",
         }
     }
@@ -45,6 +49,12 @@ pub enum BundleFault {
     /// A datum is not of its field's type use.
     #[error("a datum of another kind")]
     WrongKind,
+    /// A reference names no object.
+    #[error("a reference to no object")]
+    DanglingRef,
+    /// A reference names an object of another type than declared.
+    #[error("a reference to an object of another type")]
+    RefType,
     /// A limit is passed.
     #[error("too large")]
     TooLarge,
@@ -68,6 +78,8 @@ impl BundleFault {
             BundleFault::UnknownType => "UnknownType",
             BundleFault::UnknownField => "UnknownField",
             BundleFault::WrongKind => "WrongKind",
+            BundleFault::DanglingRef => "DanglingRef",
+            BundleFault::RefType => "RefType",
             BundleFault::TooLarge => "TooLarge",
             BundleFault::RootType => "RootType",
             BundleFault::Memory => "Memory",
@@ -85,6 +97,8 @@ impl BundleFault {
             BundleFault::UnknownType => "B3",
             BundleFault::UnknownField => "B4",
             BundleFault::WrongKind => "B5",
+            BundleFault::DanglingRef => "B6",
+            BundleFault::RefType => "B7",
             BundleFault::TooLarge => "B8",
             BundleFault::RootType => "B9",
             BundleFault::Memory => "",

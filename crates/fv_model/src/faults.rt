@@ -1,19 +1,20 @@
 //! What can be wrong with a draft: a function for each condition, and the first that holds.
-ghost use Rattle.std.specs.Prelude.{◌≡◌, true, map, option_map, Some};
+ghost use Rattle.std.specs.Prelude.{◌≡◌, map, option_map, Some};
 ghost use Rattle.serde_json.specs.View.{view as json_view, members_view};
 ghost use Rattle.fv_model.specs.Draft.{pairs};
-ghost use Rattle.std.specs.Option.{ForSome};
-ghost use Rattle.fv_datum.specs.Kinds.{is_readable};
-ghost use Rattle.fv_model.specs.Types.{kind_of, all_readable, fields_readable, fields_view, name_at};
+ghost use Rattle.fv_model.specs.Types.{held_view, fields_view, name_at};
 ghost use Rattle.fv_model.specs.Views.{types_view, part_view, draft_view};
-ghost use Rattle.fv_model.specs.Reading.{bad_name, root_missing, unknown_type, undeclared_in, has_undeclared, unknown_field, misfits, misfits_in, has_misfit, wrong_kind, is_long, long_in, has_long, too_large, root_type, draft_fault};
+ghost use Rattle.fv_model.specs.Reading.{bad_name, root_missing, unknown_type, undeclared_in, has_undeclared, unknown_field, misfits, misfits_in, has_misfit, wrong_kind, kinds_in, is_other, dangles, dangles_in, has_dangling, dangling_ref, strays, strays_in, has_stray, ref_type, is_long, long_in, has_long, too_large, root_type, draft_fault};
 
-use crate::draft::{Draft, Part};
 use crate::fault::BundleFault;
+use crate::parts::{Draft, Part};
 use crate::type_use::TypeUse;
 use crate::types::{Fields, TypeId, Types, use_in};
 use fv_datum::{is_name, spells_datum};
 use serde_json::{Map, Value};
+
+/// The most objects.
+const MOST: usize = 256;
 
 /// The most bytes of a text.
 const LONGEST: usize = 65536;
@@ -32,16 +33,10 @@ fn bad_name(parts: &[Part]) -> bool
 }
 
 /// The root names no object.
-#[tactic(auto, using(crate::proofs::Anys::part_turn))]
-fn root_missing(root: &str, parts: &[Part]) -> bool
-    ensures { result ≡ root_missing root.now (map part_view parts.now) }
+fn root_missing(draft: &Draft) -> bool
+    ensures { result ≡ root_missing (draft_view draft.now).root (draft_view draft.now).objects }
 {
-    for p in parts {
-        if root == p.name {
-            return false;
-        }
-    }
-    true
+    draft.kind_at(draft.root).is_none()
 }
 
 /// An object's type isn't declared.
@@ -92,9 +87,8 @@ fn unknown_field(types: &Types, parts: &[Part]) -> bool
 }
 
 /// A datum is not of its field's type use.
-fn misfits(type_use: Option<TypeUse>, value: &Value) -> bool
-    requires { ForSome type_use (λ u. is_readable (kind_of u) ≡ true) }
-    ensures { result ≡ misfits type_use (json_view value.now) }
+fn misfits(type_use: Option<&TypeUse>, value: &Value) -> bool
+    ensures { result ≡ misfits (option_map (λ u. held_view u.now) type_use.entry) (json_view value.now) }
 {
     match type_use {
         None => false,
@@ -103,7 +97,6 @@ fn misfits(type_use: Option<TypeUse>, value: &Value) -> bool
 }
 
 fn misfits_in(fields: &Fields, given: &Map<String, Value>) -> bool
-    requires { fields_readable (fields_view fields.now) ≡ true }
     ensures { result ≡ misfits_in (fields_view fields.now) (pairs (members_view given.now.entries)) }
 {
     for (name, value) in given.iter() {
@@ -116,7 +109,6 @@ fn misfits_in(fields: &Fields, given: &Map<String, Value>) -> bool
 
 #[tactic(auto, unfolding(crate::specs::Reading::has_misfit))]
 fn has_misfit(types: &Types, part: &Part) -> bool
-    requires { all_readable (types_view types.now) ≡ true }
     ensures { result ≡ has_misfit (types_view types.now) (part_view part.now) }
 {
     match (types.fields(part.kind), part.given) {
@@ -127,7 +119,6 @@ fn has_misfit(types: &Types, part: &Part) -> bool
 
 #[tactic(auto, using(crate::proofs::Anys::part_turn))]
 fn wrong_kind(types: &Types, parts: &[Part]) -> bool
-    requires { all_readable (types_view types.now) ≡ true }
     ensures { result ≡ wrong_kind (types_view types.now) (map part_view parts.now) }
 {
     for p in parts {
@@ -138,9 +129,105 @@ fn wrong_kind(types: &Types, parts: &[Part]) -> bool
     false
 }
 
+/// An object is of another type than this one.
+fn is_other(kind: &str, own: Option<&str>) -> bool
+    ensures { result ≡ is_other kind.now (option_map (λ s. s.now) own.entry) }
+{
+    match own {
+        None => false,
+        Some(own) => kind != own,
+    }
+}
+
+/// A reference names no object.
+fn dangles(draft: &Draft, type_use: Option<&TypeUse>, value: &Value) -> bool
+    ensures { result ≡ dangles (kinds_in (draft_view draft.now).objects) (option_map (λ u. held_view u.now) type_use.entry) (json_view value.now) }
+{
+    match (type_use, value.as_str()) {
+        (Some(TypeUse::Ref(_)), Some(name)) => draft.kind_at(name).is_none(),
+        _ => false,
+    }
+}
+
+fn dangles_in(draft: &Draft, fields: &Fields, given: &Map<String, Value>) -> bool
+    ensures { result ≡ dangles_in (kinds_in (draft_view draft.now).objects) (fields_view fields.now) (pairs (members_view given.now.entries)) }
+{
+    for (name, value) in given.iter() {
+        if dangles(draft, use_in(fields, name.as_str()), value) {
+            return true;
+        }
+    }
+    false
+}
+
+#[tactic(auto, unfolding(crate::specs::Reading::has_dangling))]
+fn has_dangling(types: &Types, draft: &Draft, part: &Part) -> bool
+    ensures { result ≡ has_dangling (types_view types.now) (kinds_in (draft_view draft.now).objects) (part_view part.now) }
+{
+    match (types.fields(part.kind), part.given) {
+        (Some(fields), Some(given)) => dangles_in(draft, fields, given),
+        _ => false,
+    }
+}
+
+#[tactic(auto, using(crate::proofs::Anys::part_turn))]
+fn dangling_ref(types: &Types, draft: &Draft) -> bool
+    ensures { result ≡ dangling_ref (types_view types.now) (draft_view draft.now).objects }
+{
+    for p in &draft.objects {
+        if has_dangling(types, draft, p) {
+            return true;
+        }
+    }
+    false
+}
+
+/// A reference names an object of another type than declared.
+fn strays(draft: &Draft, type_use: Option<&TypeUse>, value: &Value) -> bool
+    ensures { result ≡ strays (kinds_in (draft_view draft.now).objects) (option_map (λ u. held_view u.now) type_use.entry) (json_view value.now) }
+{
+    match (type_use, value.as_str()) {
+        (Some(TypeUse::Ref(kind)), Some(name)) => is_other(kind.as_str(), draft.kind_at(name)),
+        _ => false,
+    }
+}
+
+fn strays_in(draft: &Draft, fields: &Fields, given: &Map<String, Value>) -> bool
+    ensures { result ≡ strays_in (kinds_in (draft_view draft.now).objects) (fields_view fields.now) (pairs (members_view given.now.entries)) }
+{
+    for (name, value) in given.iter() {
+        if strays(draft, use_in(fields, name.as_str()), value) {
+            return true;
+        }
+    }
+    false
+}
+
+#[tactic(auto, unfolding(crate::specs::Reading::has_stray))]
+fn has_stray(types: &Types, draft: &Draft, part: &Part) -> bool
+    ensures { result ≡ has_stray (types_view types.now) (kinds_in (draft_view draft.now).objects) (part_view part.now) }
+{
+    match (types.fields(part.kind), part.given) {
+        (Some(fields), Some(given)) => strays_in(draft, fields, given),
+        _ => false,
+    }
+}
+
+#[tactic(auto, using(crate::proofs::Anys::part_turn))]
+fn ref_type(types: &Types, draft: &Draft) -> bool
+    ensures { result ≡ ref_type (types_view types.now) (draft_view draft.now).objects }
+{
+    for p in &draft.objects {
+        if has_stray(types, draft, p) {
+            return true;
+        }
+    }
+    false
+}
+
 /// A text of more bytes than a field may hold.
-fn is_long(type_use: Option<TypeUse>, value: &Value) -> bool
-    ensures { result ≡ is_long type_use (json_view value.now) }
+fn is_long(type_use: Option<&TypeUse>, value: &Value) -> bool
+    ensures { result ≡ is_long (option_map (λ u. held_view u.now) type_use.entry) (json_view value.now) }
 {
     match (type_use, value.as_str()) {
         (Some(TypeUse::Text), Some(text)) => text.len() > LONGEST,
@@ -169,12 +256,12 @@ fn has_long(types: &Types, part: &Part) -> bool
     }
 }
 
-/// More than one object, or a text that is too long.
+/// More than 256 objects, or a text that is too long.
 #[tactic(auto, using(crate::proofs::Anys::part_turn))]
 fn too_large(types: &Types, parts: &[Part]) -> bool
     ensures { result ≡ too_large (types_view types.now) (map part_view parts.now) }
 {
-    if parts.len() > 1 {
+    if parts.len() > MOST {
         return true;
     }
     for p in parts {
@@ -186,16 +273,10 @@ fn too_large(types: &Types, parts: &[Part]) -> bool
 }
 
 /// The root is of another type than this one.
-#[tactic(auto, using(crate::proofs::Anys::part_turn))]
-fn is_other_type(kind: &str, root: &str, parts: &[Part]) -> bool
-    ensures { result ≡ root_type (Some kind.now) root.now (map part_view parts.now) }
+fn root_type(kind: &str, draft: &Draft) -> bool
+    ensures { result ≡ root_type (Some kind.now) (draft_view draft.now).root (draft_view draft.now).objects }
 {
-    for p in parts {
-        if root == p.name && kind == p.kind {
-            return false;
-        }
-    }
-    true
+    is_other(kind, draft.kind_at(draft.root))
 }
 
 /// The first fault of a draft, apart from want of memory.
@@ -204,13 +285,12 @@ pub(crate) fn draft_fault(
     asked: Option<TypeId>,
     draft: &Draft,
 ) -> Option<BundleFault>
-    requires { all_readable (types_view types.now) ≡ true }
     ensures { result ≡ draft_fault (types_view types.now) (option_map (λ t. name_at (types_view types.now) t.index) asked) (draft_view draft.now) }
 {
     if bad_name(&draft.objects) {
         return Some(BundleFault::BadName);
     }
-    if root_missing(draft.root, &draft.objects) {
+    if root_missing(draft) {
         return Some(BundleFault::RootMissing);
     }
     if unknown_type(types, &draft.objects) {
@@ -222,12 +302,18 @@ pub(crate) fn draft_fault(
     if wrong_kind(types, &draft.objects) {
         return Some(BundleFault::WrongKind);
     }
+    if dangling_ref(types, draft) {
+        return Some(BundleFault::DanglingRef);
+    }
+    if ref_type(types, draft) {
+        return Some(BundleFault::RefType);
+    }
     if too_large(types, &draft.objects) {
         return Some(BundleFault::TooLarge);
     }
     match asked {
         None => None,
-        Some(id) => if is_other_type(types.name(id), draft.root, &draft.objects) {
+        Some(id) => if root_type(types.name(id), draft) {
             Some(BundleFault::RootType)
         } else {
             None

@@ -7,13 +7,16 @@ mod bundle;
 mod draft;
 mod fault;
 mod faults;
+mod field;
+mod parts;
 mod reading;
 mod type_use;
 mod types;
 mod writing;
 
-pub use bundle::{Bundle, Field, NamedObject, Object};
+pub use bundle::{Bundle, Object, Objects};
 pub use fault::{BundleFault, TypesFault};
+pub use field::Field;
 pub use reading::read_bundle;
 pub use type_use::TypeUse;
 pub use types::{Fields, TypeId, Types};

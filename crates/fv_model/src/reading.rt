@@ -1,11 +1,12 @@
-ghost use Rattle.std.specs.Prelude.{◌≡◌, true, option_map, IfOk, None, Ok};
+ghost use Rattle.std.specs.Prelude.{◌≡◌, option_map, IfOk, None, Ok};
 ghost use Rattle.std.specs.Option.{ForSome};
 ghost use Rattle.serde_json.specs.View.{view as json_view};
 ghost use Rattle.fv_datum.specs.Answers.{Gives};
-ghost use Rattle.fv_model.specs.Types.{all_readable, name_at};
+ghost use Rattle.fv_model.specs.Types.{name_at};
 ghost use Rattle.fv_model.specs.Views.{types_view, bundle_view};
 ghost use Rattle.fv_model.specs.Reading.{bundle_read};
-ghost use Rattle.fv_model.specs.Bundles.{Bundled};
+ghost use Rattle.std.specs.Map.{keys_of};
+ghost use Rattle.fv_model.specs.Bundles.{Bundled, IsAscending};
 ghost use Rattle.fv_model.specs.WellTyped.{IsWellTyped, HasRootType};
 ghost use Rattle.fv_model.specs.Writing.{bundle_json};
 
@@ -20,20 +21,20 @@ use std::alloc::Global;
 
 /// The bundle that a JSON value spells, its root of the asked type where one is asked.
 ///
-/// It is well-typed. What `write_bundle` gave for a well-typed bundle is read as that bundle.
+/// It is well-typed. What `write_bundle` gave for a well-typed bundle is read as that bundle, where
+/// its root is of the asked type or none is asked.
 /// Refused by the first of `Shape`, `BadName`, `RootMissing`, `UnknownType`, `UnknownField`,
-/// `WrongKind`, `TooLarge` and `RootType` whose condition holds.
+/// `WrongKind`, `DanglingRef`, `RefType`, `TooLarge` and `RootType` whose condition holds.
 pub fn read_bundle(
     alloc: Global,
     types: &Types,
     asked: Option<TypeId>,
     value: &Value,
 ) -> Result<Bundle, BundleFault>
-    requires { all_readable (types_view types.now) ≡ true }
     ensures exact { Gives BundleFault.Memory bundle_view result (bundle_read (types_view types.now) (option_map (λ t. name_at (types_view types.now) t.index) asked) (json_view value.now)) }
     ensures well_typed { IfOk result (λ b. IsWellTyped (types_view types.now) (bundle_view b)) }
     ensures root { IfOk result (λ b. ForSome asked (λ t. HasRootType (name_at (types_view types.now) t.index) (bundle_view b))) }
-    ensures read_back { (b : Bundled) → IsWellTyped (types_view types.now) b → asked ≡ None → json_view value.now ≡ bundle_json b → Gives BundleFault.Memory bundle_view result (Ok b) }
+    ensures read_back { (b : Bundled) → IsWellTyped (types_view types.now) b → ForSome asked (λ t. HasRootType (name_at (types_view types.now) t.index) b) → json_view value.now ≡ bundle_json b → Gives BundleFault.Memory bundle_view result (Ok b) }
 {
     spelled_bundle(alloc, types, asked, value)
 }
@@ -45,8 +46,8 @@ fn spelled_bundle(
     asked: Option<TypeId>,
     value: &Value,
 ) -> Result<Bundle, BundleFault>
-    requires { all_readable (types_view types.now) ≡ true }
-    ensures { Gives BundleFault.Memory bundle_view result (bundle_read (types_view types.now) (option_map (λ t. name_at (types_view types.now) t.index) asked) (json_view value.now)) }
+    ensures exact { Gives BundleFault.Memory bundle_view result (bundle_read (types_view types.now) (option_map (λ t. name_at (types_view types.now) t.index) asked) (json_view value.now)) }
+    ensures ascending { IfOk result (λ b. IsAscending (keys_of (bundle_view b).objects)) }
 {
     match draft_of(alloc, value)? {
         None => Err(BundleFault::Shape),

@@ -1,7 +1,8 @@
-ghost use Rattle.std.specs.Prelude.{◌≡◌, length, option_map, MatchResult, true, false};
+ghost use Rattle.std.specs.Prelude.{◌≡◌, length, option_map, map, MatchResult, Some, None, true, false};
 ghost use Rattle.std.specs.Bool.{OnFalse};
 ghost use Rattle.fv_datum.specs.Lookup.{at_name};
-ghost use Rattle.fv_model.specs.Types.{FieldsApart, declared_view, fields_view, has_large, too_many, name_at, number_of};
+ghost use Rattle.std.specs.List.{list_any};
+ghost use Rattle.fv_model.specs.Types.{FieldsApart, declared_view, fields_view, held_view, is_unknown, unknown_in, has_unknown, has_large, types_fault, name_at, number_of};
 
 use crate::fault::TypesFault;
 use crate::type_use::TypeUse;
@@ -33,10 +34,14 @@ impl Types {
     /// The types of a map of type names to maps of field names to type uses, numbered in the map's
     /// order. It takes no memory.
     ///
-    /// `TooLarge` for more than 256 types, or a type of more than 256 fields.
+    /// Refused by `UnknownType` for a reference to a type that isn't declared, else by `TooLarge`
+    /// for more than 256 types, or a type of more than 256 fields.
     pub fn build(declared: IndexMap<String, Fields>) -> Result<Types, TypesFault>
-        ensures { MatchResult result (λ ts. (too_many (declared_view declared) ≡ false) × (types_view ts ≡ declared_view declared)) (λ _. too_many (declared_view declared) ≡ true) }
+        ensures { MatchResult result (λ ts. (types_fault (declared_view declared) ≡ None) × (types_view ts ≡ declared_view declared)) (λ e. types_fault (declared_view declared) ≡ Some e) }
     {
+        if has_unknown(&declared) {
+            return Err(TypesFault::UnknownType);
+        }
         if declared.len() > MOST || has_large(&declared) {
             return Err(TypesFault::TooLarge);
         }
@@ -74,8 +79,47 @@ impl Types {
     pub fn fields(&self, name: &str) -> Option<&Fields>
         ensures { option_map (λ m. fields_view m.now) result ≡ at_name name.now (types_view self.now) }
     {
-        self.types.get(name)
+        fields_in(&self.types, name)
     }
+}
+
+/// The fields of the type of that name.
+fn fields_in<'a>(declared: &'a IndexMap<String, Fields>, name: &str) -> Option<&'a Fields>
+    ensures { option_map (λ m. fields_view m.now) result ≡ at_name name.now (declared_view declared.now) }
+{
+    declared.get(name)
+}
+
+/// Whether a field refers to a type that isn't declared.
+fn is_unknown(declared: &IndexMap<String, Fields>, type_use: &TypeUse) -> bool
+    ensures { result ≡ is_unknown (declared_view declared.now) (held_view type_use.now) }
+{
+    match type_use {
+        TypeUse::Ref(name) => fields_in(declared, name.as_str()).is_none(),
+        _ => false,
+    }
+}
+
+fn unknown_in(declared: &IndexMap<String, Fields>, fields: &Fields) -> bool
+    ensures { result ≡ unknown_in (declared_view declared.now) (fields_view fields.now) }
+{
+    for (_, type_use) in fields.iter() {
+        if is_unknown(declared, type_use) {
+            return true;
+        }
+    }
+    false
+}
+
+fn has_unknown(declared: &IndexMap<String, Fields>) -> bool
+    ensures { result ≡ has_unknown (declared_view declared.now) }
+{
+    for (_, fields) in declared.iter() {
+        if unknown_in(declared, fields) {
+            return true;
+        }
+    }
+    false
 }
 
 /// Whether a type has too many fields.
@@ -92,8 +136,8 @@ fn has_large(declared: &IndexMap<String, Fields>) -> bool
 }
 
 /// What the field of that name holds.
-pub(crate) fn use_in(fields: &Fields, name: &str) -> Option<TypeUse>
-    ensures { result ≡ at_name name.now (fields_view fields.now) }
+pub(crate) fn use_in<'a>(fields: &'a Fields, name: &str) -> Option<&'a TypeUse>
+    ensures { option_map (λ u. held_view u.now) result ≡ at_name name.now (fields_view fields.now) }
 {
-    fields.get(name).copied()
+    fields.get(name)
 }

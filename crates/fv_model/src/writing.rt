@@ -1,10 +1,11 @@
 ghost use Rattle.std.specs.Prelude.{◌≡◌, IfOk, map, Ok};
 ghost use Rattle.serde_json.specs.Data as json;
 ghost use Rattle.serde_json.specs.View.{view as json_view, members_view};
-ghost use Rattle.fv_model.specs.Views.{field_view, object_view, named_view, bundle_view};
+ghost use Rattle.fv_model.specs.Views.{field_view, object_view, objects_view, bundle_view};
 ghost use Rattle.fv_model.specs.Writing.{datum_json, added, objects_added, thing_json, bundle_json};
 
-use crate::bundle::{Bundle, Field, NamedObject, Object};
+use crate::bundle::{Bundle, Object, Objects};
+use crate::field::Field;
 use fv_datum::{DatumFault, is_null, write_datum};
 use serde_json::{Map, Value, put};
 use std::alloc::{AllocError, Global};
@@ -15,7 +16,7 @@ fn write_field(alloc: Global, field: &Field) -> Result<Value, AllocError>
 {
     match write_datum(alloc, &field.datum) {
         Ok(value) => Ok(value),
-        Err(DatumFault::WrongKind) => Ok(Value::Null),
+        Err(DatumFault::WrongKind) => unreachable!(),
         Err(DatumFault::Memory) => Err(AllocError),
     }
 }
@@ -48,13 +49,13 @@ fn write_object(alloc: Global, object: &Object) -> Result<Value, AllocError>
     Ok(Value::Object(members))
 }
 
-fn write_objects(alloc: Global, objects: &[NamedObject]) -> Result<Map<String, Value>, AllocError>
-    ensures { IfOk result (λ m. members_view m.entries ≡ objects_added json.no_members (map named_view objects.now)) }
+fn write_objects(alloc: Global, objects: &Objects) -> Result<Map<String, Value>, AllocError>
+    ensures { IfOk result (λ m. members_view m.entries ≡ objects_added json.no_members (objects_view objects.now)) }
 {
     let mut members = Map::new(alloc);
-    for named in objects {
-        let value = write_object(alloc, &named.object)?;
-        put(&mut members, alloc, named.name.as_str(), value)?;
+    for (name, object) in objects.iter() {
+        let value = write_object(alloc, object)?;
+        put(&mut members, alloc, name.as_str(), value)?;
     }
     Ok(members)
 }

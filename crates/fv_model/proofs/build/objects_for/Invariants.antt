@@ -1,7 +1,11 @@
-use Rattle.std.proofs.Common.{◌≡◌, map, take}
-use Rattle.fv_model.specs.Views.{types_view, named_view, part_view}
-use Rattle.fv_model.specs.Reading.{object_of}
+use Rattle.std.proofs.Common.{◌≡◌, ◌++◌, map, drop, false}
+use Rattle.fv_model.specs.Views.{types_view, objects_view, part_view}
+use Rattle.fv_model.specs.Reading.{unknown_type, wrong_kind, object_of}
 use Rattle.fv_model.proofs.build.objects_for.Given as goal
 
 abbrev pub invariant-loop-part : goal.invariant-loop-part
-invariant-loop-part l = map named_view l.out.items ≡ map (object_of (types_view l.types)) (map part_view (take l.part-index l.parts))
+invariant-loop-part l = record {
+  declared : unknown_type (types_view l.types) (map part_view (drop l.part-index l.parts)) ≡ false;
+  fit : wrong_kind (types_view l.types) (map part_view (drop l.part-index l.parts)) ≡ false;
+  made : objects_view l.out ++ map (object_of (types_view l.types)) (map part_view (drop l.part-index l.parts)) ≡ map (object_of (types_view l.types)) (map part_view l.parts);
+}

@@ -1,0 +1,99 @@
+-- Names in order: an entry with a new name goes last.
+use Rattle.std.proofs.Common.{◌≡◌, ℕ, List, [], ◌∷◌, ◌++◌, map, Bool, true, false, cond, Option, Some, None, option_map, option_and_then, String, Global, string_bytes, Ordering, Less, Equal, nat_cmp, bytes_eq, Bor, refl, sym, ap, subst, ◌∙◌}
+use Rattle.std.specs.Cmp.Lexicographic.{slice_cmp}
+use Rattle.std.specs.List.{AllByRecursion}
+use Rattle.std.specs.List.Sorted.{IsStrictlySortedBy}
+use Rattle.std.specs.Map.{keys_of, lookup}
+use Rattle.std.specs.String.{string_cmp}
+use Rattle.std.proofs.lemmas.Cmp.{nat_list_cmp_total, tied_itself}
+use Rattle.std.proofs.lemmas.Map.Keys.{sorted_head, sorted_tail}
+use Rattle.std.proofs.lemmas.Slice.Eq.{bytes_eq-Decides}
+use Rattle.indexmap.specs.IndexMap.{insert_entry}
+use Rattle.serde_json.specs.Data as json
+use Rattle.serde_json.specs.View.{members_view}
+use Rattle.serde_json.specs.declared.value.Value.{Value}
+use Rattle.fv_datum.specs.Lookup.{at_name}
+use Rattle.fv_model.specs.Bundles.{IsAscending}
+use Rattle.fv_model.specs.Draft.{Part, pairs, each_some, part_of}
+use Rattle.fv_model.specs.Reading.{kinds_in, object_of}
+use Rattle.fv_model.specs.Types.{Declared}
+
+-- a name that is below those that follow is below one in their midst
+pub below_middle : {X : Type 0} (l k : List ℕ) (x : X) (front more : List (List ℕ × X)) → AllByRecursion (λ y. slice_cmp nat_cmp l y ≡ Less) (keys_of (front ++ (k, x) ∷ more)) → slice_cmp nat_cmp l k ≡ Less
+below_middle l k x [] more h = h.0
+below_middle l k x (e ∷ es) more h = below_middle l k x es more h.1
+
+less_differs : (o : Ordering) → o ≡ Less → o ≡ Equal → true ≡ false
+less_differs o less equal = cc
+
+other_name : (b : Bool) (k l : List ℕ) → bytes_eq k l ≡ b → slice_cmp nat_cmp l k ≡ Less → b ≡ false
+other_name true k l e less =
+    let same : k ≡ l = (bytes_eq-Decides k l).0 e in
+    let tied : slice_cmp nat_cmp l k ≡ Equal = rw same (tied_itself nat_list_cmp_total l) in
+    less_differs (slice_cmp nat_cmp l k) less tied
+other_name false k l e less = refl
+
+-- in a map in the order of insertion, an entry whose name is above the others goes last
+pub insert_last : {K V X : Type 0} (name : K → List ℕ) (view : V → X) (es : List (K × V)) (k : K) (v : V) (more : List (List ℕ × X))
+    → IsAscending (keys_of (map (λ e. (name e.0, view e.1)) es ++ (name k, view v) ∷ more))
+    → map (λ e. (name e.0, view e.1)) (insert_entry (λ a b. bytes_eq (name a) (name b)) es k v) ++ more ≡ map (λ e. (name e.0, view e.1)) es ++ (name k, view v) ∷ more
+insert_last name view [] k v more h = refl
+insert_last name view (e ∷ es) k v more h =
+    let rest = map (λ f. (name f.0, view f.1)) es ++ (name k, view v) ∷ more in
+    let below = below_middle (name e.0) (name k) (view v) (map (λ f. (name f.0, view f.1)) es) more (sorted_head (slice_cmp nat_cmp) (name e.0) (keys_of rest) h) in
+    rw (other_name _ (name k) (name e.0) refl below) (ap (λ xs. (name e.0, view e.1) ∷ xs) (insert_last name view es k v more (sorted_tail (slice_cmp nat_cmp) (name e.0) (keys_of rest) h)))
+
+-- ---- the members of a value
+
+all_below : (k : List ℕ) (es : List (String Global × Value)) → AllByRecursion (λ y. slice_cmp nat_cmp k (string_bytes y) ≡ Less) (keys_of es) → AllByRecursion (λ y. slice_cmp nat_cmp k y ≡ Less) (keys_of (pairs (members_view es)))
+all_below k [] h = tt
+all_below k (e ∷ es) h = (h.0, all_below k es h.1)
+
+pub members_ascend : (es : List (String Global × Value)) → IsStrictlySortedBy string_cmp (keys_of es) → IsAscending (keys_of (pairs (members_view es)))
+unfolding IsStrictlySortedBy
+members_ascend [] h = tt
+members_ascend (e ∷ es) h = (all_below (string_bytes e.0) es h.0, members_ascend es h.1)
+
+-- ---- the objects that are given
+
+built : (b : Bool) (name : List ℕ) (kind : Option (List ℕ)) (given : Option json.Members) (p : Part)
+    → cond b (option_and_then (λ k. option_map (λ g. record { name = name; kind = k; given = g }) given) kind) None ≡ Some p → p.name ≡ name
+built true name (Some k) (Some g) p e =
+    let same : record { name = name; kind = k; given = g } ≡ p = cc in
+    ap (λ (q : Part). q.name) (sym same)
+built true name (Some k) None p e = cc
+built true name None given p e = cc
+built false name kind given p e = cc
+
+part_named : (m : List ℕ × json.Data) (p : Part) → part_of m ≡ Some p → p.name ≡ m.0
+part_named m p e = built _ m.0 _ _ p e
+
+both_some : {X : Type 0} (o : Option X) (rest : Option (List X)) (xs : List X) → option_and_then (λ y. option_map (λ ys. y ∷ ys) rest) o ≡ Some xs → (x : X) × (ys : List X) × (o ≡ Some x) × (rest ≡ Some ys) × (x ∷ ys ≡ xs)
+both_some (Some x) (Some ys) xs e = (x, ys, refl, refl, cc)
+both_some (Some x) None xs e = cc
+both_some None rest xs e = cc
+
+-- objects have the names of the members that they are read from
+pub parts_named : (ms : List (List ℕ × json.Data)) (ps : List Part) → each_some part_of ms ≡ Some ps → keys_of (kinds_in ps) ≡ keys_of ms
+parts_named [] ps e = let same : [] ≡ ps = cc in ap (λ (qs : List Part). keys_of (kinds_in qs)) (sym same)
+parts_named (m ∷ ms) ps e =
+    let found = both_some (part_of m) (each_some part_of ms) ps e in
+    ap (λ (qs : List Part). keys_of (kinds_in qs)) (sym found.4) ∙ ap (λ n. n ∷ keys_of (kinds_in found.1)) (part_named m found.0 found.2) ∙ ap (λ ns. m.0 ∷ ns) (parts_named ms found.1 found.3)
+
+pub parts_ascend : (es : List (String Global × Value)) (ps : List Part) → IsStrictlySortedBy string_cmp (keys_of es) → Some ps ≡ each_some part_of (pairs (members_view es)) → IsAscending (keys_of (kinds_in ps))
+parts_ascend es ps ordered e = subst (λ (ns : List (List ℕ)). IsAscending ns) (sym (parts_named (pairs (members_view es)) ps (sym e))) (members_ascend es ordered)
+
+-- objects keep their names
+pub objects_named : (ts : Declared) (ps : List Part) → keys_of (map (object_of ts) ps) ≡ keys_of (kinds_in ps)
+objects_named ts [] = refl
+objects_named ts (p ∷ ps) = ap (λ ns. p.name ∷ ns) (objects_named ts ps)
+
+-- ---- look-ups
+
+step : (b : Bool) (x : Bor (List ℕ)) (rest : Option (Bor (List ℕ))) (o : Option (List ℕ)) → option_map (λ s. s.now) rest ≡ o → option_map (λ s. s.now) (cond b (Some x) rest) ≡ cond b (Some x.now) o
+step true x rest o e = refl
+step false x rest o e = e
+
+pub lookup-kinds : (name : List ℕ) (es : List (Bor (List ℕ) × Bor (List ℕ))) → option_map (λ s. s.now) (lookup (λ k. bytes_eq name k.now) es) ≡ at_name name (map (λ e. (e.0.now, e.1.now)) es)
+lookup-kinds name [] = refl
+lookup-kinds name (e ∷ es) = step (bytes_eq name e.0.now) e.1 _ _ (lookup-kinds name es)

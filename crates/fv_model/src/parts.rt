@@ -1,0 +1,42 @@
+//! A bundle as it is given: names, not judged yet.
+ghost use Rattle.std.specs.Prelude.{◌≡◌, map, option_map};
+ghost use Rattle.std.specs.Map.{keys_of};
+ghost use Rattle.std.proofs.Props.{props};
+ghost use Rattle.fv_datum.specs.Lookup.{at_name};
+ghost use Rattle.fv_model.specs.Bundles.{IsAscending};
+ghost use Rattle.fv_model.specs.Reading.{kinds_in};
+ghost use Rattle.fv_model.specs.PartViews.{kinds_view, part_view};
+
+use indexmap::IndexMap;
+use serde_json::{Map, Value};
+
+/// An object as it is given.
+#[derive(Drop)]
+pub(crate) struct Part<'a> {
+    pub(crate) name: &'a str,
+    pub(crate) kind: &'a str,
+    /// Its fields, where there are any.
+    pub(crate) given: Option<&'a Map<String, Value>>,
+}
+
+/// A bundle as it is given.
+#[derive(Drop)]
+pub(crate) struct Draft<'a> {
+    pub(crate) root: &'a str,
+    pub(crate) objects: Vec<Part<'a>>,
+    /// The names of the objects' types, each by its object's name.
+    pub(crate) kinds: IndexMap<&'a str, &'a str>,
+    ghost ascending: { IsAscending (keys_of (kinds_in (map part_view objects.items))) } by { Prim.hlevel props },
+    ghost known: { kinds_view kinds ≡ kinds_in (map part_view objects.items) },
+}
+
+impl<'a> Draft<'a> {
+    ghost use Rattle.fv_model.specs.Views.{draft_view};
+
+    /// The name of the type of the object of that name.
+    pub(crate) fn kind_at(&self, name: &str) -> Option<&'a str>
+        ensures { option_map (λ s. s.now) result ≡ at_name name.now (kinds_in (draft_view self.now).objects) }
+    {
+        self.kinds.get(name).copied()
+    }
+}
