@@ -31,6 +31,8 @@ bundle_memory bundle.RootMissing b h = absurd (let never = h (λ e. cc) in cc)
 bundle_memory bundle.UnknownType b h = absurd (let never = h (λ e. cc) in cc)
 bundle_memory bundle.UnknownField b h = absurd (let never = h (λ e. cc) in cc)
 bundle_memory bundle.WrongKind b h = absurd (let never = h (λ e. cc) in cc)
+bundle_memory bundle.DanglingRef b h = absurd (let never = h (λ e. cc) in cc)
+bundle_memory bundle.RefType b h = absurd (let never = h (λ e. cc) in cc)
 bundle_memory bundle.TooLarge b h = absurd (let never = h (λ e. cc) in cc)
 bundle_memory bundle.RootType b h = absurd (let never = h (λ e. cc) in cc)
 

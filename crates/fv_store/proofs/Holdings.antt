@@ -55,6 +55,10 @@ fits_after_all types roots [] m fits fit = fit
 fits_after_all types roots (c ∷ cs) m fits fit = fits_after_all types roots cs (after c m) fits.1 (fits_after types roots c m fits.0 fit)
 
 module _ (old new : State) (clean : HasCleanDisk new → HasCleanDisk old) (was_open : HasCleanDisk new → IsTrue new.is_open → IsTrue old.is_open) where
+  pub commit_made : (cs : List Change) → ((d : List ℕ) (m : Records) → Keeps old d m → Keeps new d (after_all cs m))
+      → (d : List ℕ) (types : Declared) (roots : Roots) (m : Records) → AllFit types roots (after_all cs m) → Holds old d types roots m → Holds new d types roots (after_all cs m)
+  commit_made cs h d types roots m fit = holds_after old new d types roots m (after_all cs m) clean was_open (h d m) (λ _. fit)
+
   pub commit_done : (cs : List Change) → ((d : List ℕ) (m : Records) → Keeps old d m → Keeps new d (after_all cs m))
       → (d : List ℕ) (types : Declared) (roots : Roots) (m : Records) → ChangesFit types roots cs → Holds old d types roots m → Holds new d types roots (after_all cs m)
   commit_done cs h d types roots m fits = holds_after old new d types roots m (after_all cs m) clean was_open (h d m) (fits_after_all types roots cs m fits)

@@ -1,6 +1,7 @@
 -- The text of a well-typed bundle is read back as its JSON.
 use Rattle.std.proofs.Common.{◌≡◌, Ordering, Less, Equal, Greater, nat_cmp, ℕ, ℤ, pos, negsuc, suc, max, ◌<◌, ◌≤◌, ◌^◌, List, [], ◌∷◌, Bool, true, false, cond, Some, option_map, option_and_then, inl, inr, refl, sym, ap, ap₂, ◌∙◌, arith, append-nil}
 use Rattle.std.specs.Prelude.{FitsSigned, ⊤}
+use Rattle.std.specs.List.{AllByRecursion}
 use Rattle.std.specs.Ordering.{match_ordering}
 use Rattle.std.specs.Cmp.Lexicographic.{slice_cmp}
 use Rattle.std.specs.Int.{w64}
@@ -17,13 +18,15 @@ use Rattle.serde_json.specs.Written.{number_text, outline, items_outline, member
 use Rattle.serde_json.proofs.Numbers.{number_of-decimal, number_of-negative}
 use Rattle.serde_json.proofs.Texts.{print-outline}
 use Rattle.fv_datum.specs.Data as datum
-use Rattle.fv_datum.specs.Kinds.{FitsKind}
+use Rattle.fv_datum.specs.Kinds.{FitsKind, IsOfKind}
+use Rattle.fv_datum.proofs.Spelled.{moment-fits}
 use Rattle.fv_datum.specs.Written.{is_null}
 use Rattle.fv_datum.specs.declared.kind.Kind.{Kind}
+use Rattle.fv_datum.specs.declared.kind.Kind.TheVariants as kind
 use Rattle.fv_model.specs.Types.{DeclaredFields, Declared, kind_of}
-use Rattle.fv_model.specs.Bundles.{Thing, Bundled}
-use Rattle.fv_model.specs.WellTyped.{FieldsFit, IsWellTyped}
-use Rattle.fv_model.specs.Writing.{datum_json, added, thing_json, bundle_json}
+use Rattle.fv_model.specs.Bundles.{Thing, Things, Bundled}
+use Rattle.fv_model.specs.WellTyped.{FitsType, FieldsFit, IsWellTyped}
+use Rattle.fv_model.specs.Writing.{datum_json, added, thing_json, objects_added, bundle_json}
 use Rattle.fv_store.specs.Records.{bundle_text}
 use Rattle.fv_store.proofs.Members.{AreAscending, all_put, ascending_put, put_again}
 
@@ -127,11 +130,11 @@ text_back d plain shallow =
 
 -- ---- the fields of an object
 
--- what is put in is plain, in order, and no deeper than a number
-record Fields (ms : Members) : Type 0 where
+-- what is put in is plain, in order, and no deeper than a depth
+record Fields (n : ℕ) (ms : Members) : Type 0 where
   plain : ArePlain ms
   ordered : AreAscending ms
-  flat : members_depth ms ≤ 0
+  flat : members_depth ms ≤ n
 
 plain_put : (k : List ℕ) (d : Data) (ms : Members) → IsPlain d → ArePlain ms → ArePlain (put k d ms)
 plain_put k d no_members p h = (p, tt)
@@ -142,11 +145,11 @@ plain_put k d (member l e ms) p h = at (slice_cmp nat_cmp k l) (plain_put k d ms
     at Equal later = (p, h.1)
     at Greater later = (h.0, later)
 
-flat_put : (k : List ℕ) (d : Data) (ms : Members) → depth d ≤ 0 → members_depth ms ≤ 0 → members_depth (put k d ms) ≤ 0
-flat_put k d no_members p h = omega arith
-flat_put k d (member l e ms) p h = at (slice_cmp nat_cmp k l) (flat_put k d ms p (omega arith))
+flat_put : (n : ℕ) (k : List ℕ) (d : Data) (ms : Members) → depth d ≤ n → members_depth ms ≤ n → members_depth (put k d ms) ≤ n
+flat_put n k d no_members p h = omega arith
+flat_put n k d (member l e ms) p h = at (slice_cmp nat_cmp k l) (flat_put n k d ms p (omega arith))
   where
-    at : (o : Ordering) → members_depth (put k d ms) ≤ 0 → members_depth (match_ordering o (member k d (member l e ms)) (member l d ms) (member l e (put k d ms))) ≤ 0
+    at : (o : Ordering) → members_depth (put k d ms) ≤ n → members_depth (match_ordering o (member k d (member l e ms)) (member l d ms) (member l e (put k d ms))) ≤ n
     at Less later = omega arith
     at Equal later = omega arith
     at Greater later = omega arith
@@ -159,35 +162,54 @@ flat_integer : (n : ℤ) → depth (datum_json (datum.integer n)) ≤ 0
 flat_integer (pos n) = omega arith
 flat_integer (negsuc n) = omega arith
 
+kind_plain : (k : Kind) (d : datum.Data) → IsOfKind k d → IsPlain (datum_json d) × (depth (datum_json d) ≤ 0)
+kind_plain kind.Text d (s, it) = rw it (tt, omega arith)
+kind_plain kind.Integer d (n, fits, it) = rw it (whole n fits, flat_integer n)
+kind_plain kind.Decimal d (s, passes, it) = rw it (tt, omega arith)
+kind_plain kind.Boolean d (b, it) = rw it (tt, omega arith)
+kind_plain kind.Date d (s, passes, it) = rw it (tt, omega arith)
+kind_plain kind.Instant d (n, passes, it) = rw it (whole n (moment-fits n passes), flat_integer n)
+kind_plain kind.Ref d (s, passes, it) = rw it (tt, omega arith)
+kind_plain _ d none = absurd none
+
 datum_plain : (k : Kind) (d : datum.Data) → FitsKind k d → IsPlain (datum_json d) × (depth (datum_json d) ≤ 0)
 datum_plain k d (inl is) = rw is (tt, omega arith)
-datum_plain k d (inr (inl (is, s, it))) = rw it (tt, omega arith)
-datum_plain k d (inr (inr (is, n, fits, it))) = rw it (whole n fits, flat_integer n)
+datum_plain k d (inr of) = kind_plain k d of
 
-unless_null : (b : Bool) (k : List ℕ) (d : Data) (ms : Members) → IsPlain d → depth d ≤ 0 → Fields ms → Fields (cond b ms (put k d ms))
+unless_null : (b : Bool) (k : List ℕ) (d : Data) (ms : Members) → IsPlain d → depth d ≤ 0 → Fields 0 ms → Fields 0 (cond b ms (put k d ms))
 unless_null true k d ms plain flat h = h
-unless_null false k d ms plain flat h = record { plain = plain_put k d ms plain h.plain; ordered = ascending_put k d ms h.ordered; flat = flat_put k d ms flat h.flat }
+unless_null false k d ms plain flat h = record { plain = plain_put k d ms plain h.plain; ordered = ascending_put k d ms h.ordered; flat = flat_put 0 k d ms flat h.flat }
 
-fields_added : (ds : DeclaredFields) (fs : List (List ℕ × datum.Data)) (ms : Members) → FieldsFit ds fs → Fields ms → Fields (added ms fs)
-fields_added [] [] ms fit h = h
-fields_added (d ∷ ds) (f ∷ fs) ms fit h =
+fields_added : (os : Things) (ds : DeclaredFields) (fs : List (List ℕ × datum.Data)) (ms : Members) → FieldsFit os ds fs → Fields 0 ms → Fields 0 (added ms fs)
+fields_added os [] [] ms fit h = h
+fields_added os (d ∷ ds) (f ∷ fs) ms fit h =
     let one = datum_plain (kind_of d.1) f.1 fit.1.0 in
-    fields_added ds fs (cond (is_null f.1) ms (put f.0 (datum_json f.1) ms)) fit.2 (unless_null (is_null f.1) f.0 (datum_json f.1) ms one.0 one.1 h)
-fields_added [] (f ∷ fs) ms fit h = absurd fit
-fields_added (d ∷ ds) [] ms fit h = absurd fit
+    fields_added os ds fs (cond (is_null f.1) ms (put f.0 (datum_json f.1) ms)) fit.2 (unless_null (is_null f.1) f.0 (datum_json f.1) ms one.0 one.1 h)
+fields_added os [] (f ∷ fs) ms fit h = absurd fit
+fields_added os (d ∷ ds) [] ms fit h = absurd fit
 
-no_fields : Fields no_members
-no_fields = record { plain = tt; ordered = tt; flat = omega arith }
+no_fields : (n : ℕ) → Fields n no_members
+no_fields n = record { plain = tt; ordered = tt; flat = omega arith }
 
 -- ---- bundles
 
-thing_plain : (t : Thing) → Fields (added no_members t.fields) → IsPlain (thing_json t) × (depth (thing_json t) ≤ 2)
+thing_plain : (t : Thing) → Fields 0 (added no_members t.fields) → IsPlain (thing_json t) × (depth (thing_json t) ≤ 2)
 thing_plain t h = ((((h.plain, h.ordered), (tt, tt)), ((refl, tt), (tt, tt))), (let flat = h.flat in omega arith))
+
+objects_fit : (types : Declared) (all os : Things) (ms : Members) → AllByRecursion (λ o. FitsType types all o.1) os → Fields 2 ms → Fields 2 (objects_added ms os)
+objects_fit types all [] ms fit h = h
+objects_fit types all (o ∷ os) ms fit h =
+    let one = thing_plain o.1 (fields_added all fit.0.fields o.1.fields no_members fit.0.fit (no_fields 0)) in
+    objects_fit types all os (put o.0 (thing_json o.1) ms) fit.1 (record {
+      plain = plain_put o.0 (thing_json o.1) ms one.0 h.plain;
+      ordered = ascending_put o.0 (thing_json o.1) ms h.ordered;
+      flat = flat_put 2 o.0 (thing_json o.1) ms one.1 h.flat;
+    })
 
 bundle_plain : (types : Declared) (b : Bundled) → IsWellTyped types b → IsPlain (bundle_json b) × (depth (bundle_json b) ≤ max_depth)
 bundle_plain types b typed =
-    let one = thing_plain typed.thing (fields_added typed.typed.fields typed.thing.fields no_members typed.typed.fit no_fields) in
-    rw typed.one (((((one.0, tt), (tt, tt)), (tt, tt)), ((refl, tt), (tt, tt))), (let flat = one.1 in omega arith))
+    let objects = objects_fit types b.objects b.objects no_members typed.typed (no_fields 2) in
+    ((((objects.plain, objects.ordered), (tt, tt)), ((refl, tt), (tt, tt))), (let flat = objects.flat in omega arith))
 
 pub bundle_back : (types : Declared) (b : Bundled) → IsWellTyped types b → read (bundle_text b) ≡ Some (bundle_json b)
 unfolding bundle_text

@@ -2,11 +2,11 @@
 ghost use Rattle.std.specs.Prelude.{◌≡◌, ◌≢◌, IsTrue, IfOk, IfErr, OnOk, OnErr, option_map, true, Some, None};
 ghost use Rattle.sqlite.specs.State.{HasCleanDisk};
 ghost use Rattle.sqlite.specs.Held.{state};
-ghost use Rattle.fv_model.specs.Types.{all_readable};
 ghost use Rattle.fv_model.specs.Views.{types_view};
 ghost use Rattle.fv_store.specs.Changes.{after_all, ChangesFit};
 ghost use Rattle.fv_store.specs.Stands.{Holds, Opens, IsKnown, Stays, Tells};
 ghost use Rattle.fv_store.specs.Faults.{about_fault, IsAboutFault};
+ghost use Rattle.fv_store.specs.Records.{AllFit};
 ghost use Rattle.fv_store.specs.Stored.{stored_view};
 
 use crate::change::Change;
@@ -85,7 +85,6 @@ impl<S: Alter> Store<S> {
         types: &Types,
         id: &str,
     ) -> Result<Option<Stored>, StoreFault>
-        requires { all_readable (types_view types.now) ≡ true }
         ensures clean { HasCleanDisk (state S.Store self.new) → HasCleanDisk (state S.Store self.old) }
         ensures found { HasCleanDisk (state S.Store self.new) → IfOk result (λ o. (d : _) (roots : _) (m : _) → Holds (state S.Store self.old) d (types_view types.now) roots m → option_map stored_view o ≡ m id.now) }
         ensures stays { (d : _) (declared : _) (roots : _) (m : _) → Holds (state S.Store self.old) d declared roots m → Holds (state S.Store self.new) d declared roots m }
@@ -94,11 +93,13 @@ impl<S: Alter> Store<S> {
         stored_if(alloc, types, shown)
     }
 
-    /// Makes the changes in order, all of them or none.
+    /// Makes the changes in order, all of them or none. The records after all of them have to fit;
+    /// they do where each change fits.
     ///
     /// Refused by `Store` and `Memory` at any place.
     pub fn commit(&mut self, alloc: Global, changes: &[Change]) -> Result<(), StoreFault>
         ensures clean { HasCleanDisk (state S.Store self.new) → HasCleanDisk (state S.Store self.old) }
+        ensures made { OnOk result ((d : _) (types : _) (roots : _) (m : _) → AllFit types roots (after_all changes.now m) → Holds (state S.Store self.old) d types roots m → Holds (state S.Store self.new) d types roots (after_all changes.now m)) }
         ensures done { OnOk result ((d : _) (types : _) (roots : _) (m : _) → ChangesFit types roots changes.now → Holds (state S.Store self.old) d types roots m → Holds (state S.Store self.new) d types roots (after_all changes.now m)) }
         ensures undone { OnErr result ((d : _) (types : _) (roots : _) (m : _) → Holds (state S.Store self.old) d types roots m → Holds (state S.Store self.new) d types roots m) }
     {

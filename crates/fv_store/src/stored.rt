@@ -2,7 +2,6 @@
 ghost use Rattle.std.specs.Prelude.{◌≡◌, Ok, true, Option, option_map};
 ghost use Rattle.std.specs.Option.{ForSome};
 ghost use Rattle.fv_datum.specs.Answers.{Gives};
-ghost use Rattle.fv_model.specs.Types.{all_readable};
 ghost use Rattle.fv_model.specs.Views.{types_view};
 ghost use Rattle.fv_model.specs.WellTyped.{IsWellTyped};
 ghost use Rattle.fv_store.specs.Records.{Kept, kept_text};
@@ -24,7 +23,6 @@ pub struct Stored {
 /// The record that a row shows, its bundle read under these types. `Store` where its text spells
 /// no bundle.
 fn stored_from(alloc: Global, types: &Types, shown: Shown) -> Result<Stored, StoreFault>
-    requires { all_readable (types_view types.now) ≡ true }
     ensures { (k : Kept) → IsWellTyped (types_view types.now) k.bundle → shown_view shown ≡ kept_text k → Gives StoreFault.Memory stored_view result (Ok k) }
 {
     let bundle = bundle_of(alloc, types, shown.text.as_str())?;
@@ -40,7 +38,6 @@ pub(crate) fn stored_if(
     types: &Types,
     shown: Option<Shown>,
 ) -> Result<Option<Stored>, StoreFault>
-    requires { all_readable (types_view types.now) ≡ true }
     ensures { (o : Option Kept) → ForSome o (λ k. IsWellTyped (types_view types.now) k.bundle) → option_map shown_view shown ≡ option_map kept_text o → Gives StoreFault.Memory (option_map stored_view) result (Ok o) }
 {
     match shown {

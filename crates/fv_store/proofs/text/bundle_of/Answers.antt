@@ -20,10 +20,10 @@ returns-in_err-read_bundle c b typed same =
     let json : json_view c.in_ok-value.value ≡ bundle_json b = same_value _ _ (sym c.in_ok-value.ensures.ok ∙ reads) in
     let e = c.in_err-read_bundle.field-0.0 in
     gives_memory bundle_view c.from_residual-in_err-read_bundle.result (Ok b) (bundle_fault e) c.from_residual-in_err-read_bundle.ensures.1
-    (bundle_memory e b (c.in_err-read_bundle.ensures.read_back b typed refl json))
+    (bundle_memory e b (c.in_err-read_bundle.ensures.read_back b typed (λ t is. cc) json))
 
 pub returns : goal.returns
 returns c b typed same =
     let reads : read c.args.text.now ≡ Some (bundle_json b) = ap read same ∙ bundle_back (types_view c.args.types.now) b typed in
     let json : json_view c.in_ok-value.value ≡ bundle_json b = same_value _ _ (sym c.in_ok-value.ensures.ok ∙ reads) in
-    same_bundle b (bundle_view c.in_ok-read_bundle.field-0) (c.in_ok-read_bundle.ensures.read_back b typed refl json)
+    same_bundle b (bundle_view c.in_ok-read_bundle.field-0) (c.in_ok-read_bundle.ensures.read_back b typed (λ t is. cc) json)

@@ -1,6 +1,10 @@
 use Rattle.sqlite.specs.Held.{state}
-use Rattle.fv_store.proofs.Holdings.{commit_done, commit_undone}
+use Rattle.fv_store.proofs.Holdings.{commit_made, commit_done, commit_undone}
 use Rattle.fv_store.proofs.store.Store.commit.Goals as goal
+
+pub returns-clause-made : goal.returns-clause-made
+returns-clause-made g c =
+    rw c.self.view_is at (commit_made (state g.S.Store c.self.inside.connection) (state g.S.Store c.commit.new.conn) c.commit.ensures.clean c.commit.ensures.was_open c.args.changes.now c.in_ok-commit.ensures.done)
 
 pub returns-clause-done : goal.returns-clause-done
 returns-clause-done g c =
