@@ -7,7 +7,7 @@ use Rattle.std.proofs.lemmas.Str.{IsUtf8-from_is_utf8, is_utf8-from_IsUtf8}
 use Rattle.serde_json.specs.Data as json
 use Rattle.serde_json.specs.Read.{read}
 use Rattle.fv_datum.specs.Lookup.{at_name}
-use Rattle.fv_engine.specs.Declares.{json_of}
+use Rattle.fv_engine.specs.Json.{json_of}
 
 not_utf8 : (bs : List ℕ) (b : Bool) → is_utf8 bs ≡ b → ¬ (IsUtf8 bs) → b ≡ false
 not_utf8 bs true e not = absurd (not (IsUtf8-from_is_utf8 bs e))

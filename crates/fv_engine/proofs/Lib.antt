@@ -6,11 +6,13 @@ pub mod DeclareOrdered
 pub mod DeclareRead
 pub mod DeclareSorted
 pub mod DeclareSteps
+pub mod Lifts
 pub mod Lines
 pub mod Listings
 pub mod Members
 pub mod Movings
 pub mod NoFloats
+pub mod Openings
 pub mod Readable
 pub mod Units
 pub mod Writes

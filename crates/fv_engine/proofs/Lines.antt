@@ -8,7 +8,7 @@ use Rattle.std.specs.List.{flat_map, AllByRecursion}
 use Rattle.std.specs.Io.KnownBytes.{Appends, Consumes, Keeps, IsAtEnd}
 use Rattle.fv_engine.specs.Lines.{IsOpen, kept, ended}
 use Rattle.fv_engine.specs.Writes.{AppendsFront}
-use Rattle.fv_engine.specs.Runs.{Steps, Ticks, Run, Answered, Served, Broken, Finished, last_line, Taken, Stopped, Complete}
+use Rattle.fv_engine.specs.Runs.{Steps, Ticks, Run, Answered, Served, IsWhole, Broken, Finished, last_line, Taken, Stopped, Complete}
 use Rattle.fv_engine.proofs.Writes.{appends_then, appends_none}
 
 -- ---- one line
@@ -100,12 +100,27 @@ served_none step ticks m c w = record {
   wrote = appends_none w;
 }
 
-pub broken_end : {M C : Type 0} (step : Steps M) (ticks : Ticks C) (m : M) (c : C) (w : Option (List ℕ)) (bytes buffer : List ℕ) (n : M) (d : C) (v : Option (List ℕ)) (o : M) (e : C) (u : Option (List ℕ)) (more : List ℕ)
-    → (s : Served step ticks m c w bytes buffer n d v) → Answered AppendsFront step ticks n d v s.rest o e u → Broken step ticks m c w (bytes ++ more) o e u
-broken_end step ticks m c w bytes buffer n d v o e u more s a = record { front = bytes; back = more; parts = refl; buffer = buffer; mid = n; later = d; between = v; served = s; answered = a }
+pub broken_end : {M C : Type 0} (step : Steps M) (ticks : Ticks C) (m : M) (c : C) (w : Option (List ℕ)) (bytes buffer : List ℕ) (n : M) (d : C) (v : Option (List ℕ)) (o : M) (e : C) (u : Option (List ℕ)) (b : ℕ)
+    → b ≡ 10 → (s : Served step ticks m c w bytes buffer n d v) → Answered AppendsFront step ticks n d v s.rest o e u → Broken ⊥ step ticks m c w (bytes ++ b ∷ []) o e u
+broken_end step ticks m c w bytes buffer n d v o e u b is s a = record {
+  front = bytes;
+  back = b ∷ [];
+  parts = refl;
+  buffer = buffer;
+  mid = n;
+  later = d;
+  between = v;
+  served = s;
+  line = inl ([], ap (λ (x : ℕ). x ∷ []) is);
+  answered = a;
+}
+
+more_behind : (line back more : List ℕ) → IsWhole ⊥ line back → IsWhole ⊥ line (back ++ more)
+more_behind line back more (inl behind) = inl (behind.0 ++ more, ap (λ (l : List ℕ). l ++ more) behind.1)
+more_behind line back more (inr last) = absurd last.2
 
 pub broken_more : {M C : Type 0} (step : Steps M) (ticks : Ticks C) (m : M) (c : C) (w : Option (List ℕ)) (bytes more : List ℕ) (o : M) (e : C) (u : Option (List ℕ))
-    → Broken step ticks m c w bytes o e u → Broken step ticks m c w (bytes ++ more) o e u
+    → Broken ⊥ step ticks m c w bytes o e u → Broken ⊥ step ticks m c w (bytes ++ more) o e u
 broken_more step ticks m c w bytes more o e u s = record {
   front = s.front;
   back = s.back ++ more;
@@ -115,6 +130,26 @@ broken_more step ticks m c w bytes more o e u s = record {
   later = s.later;
   between = s.between;
   served = s.served;
+  line = more_behind s.served.rest s.back more s.line;
+  answered = s.answered;
+}
+
+whole_by : (P Q : Type 0) (line back : List ℕ) → (P → Q) → IsWhole P line back → IsWhole Q line back
+whole_by P Q line back f (inl behind) = inl behind
+whole_by P Q line back f (inr last) = inr (last.0, last.1, f last.2)
+
+broken_by : {M C : Type 0} (P Q : Type 0) (step : Steps M) (ticks : Ticks C) (m : M) (c : C) (w : Option (List ℕ)) (bytes : List ℕ) (o : M) (e : C) (u : Option (List ℕ))
+    → (P → Q) → Broken P step ticks m c w bytes o e u → Broken Q step ticks m c w bytes o e u
+broken_by P Q step ticks m c w bytes o e u f s = record {
+  front = s.front;
+  back = s.back;
+  parts = s.parts;
+  buffer = s.buffer;
+  mid = s.mid;
+  later = s.later;
+  between = s.between;
+  served = s.served;
+  line = whole_by P Q s.served.rest s.back f s.line;
   answered = s.answered;
 }
 
@@ -168,8 +203,19 @@ finished_last step ticks m c w bytes buffer n d v o e u some s a = record {
 }
 
 pub broken_last : {M C : Type 0} (step : Steps M) (ticks : Ticks C) (m : M) (c : C) (w : Option (List ℕ)) (bytes buffer : List ℕ) (n : M) (d : C) (v : Option (List ℕ)) (o : M) (e : C) (u : Option (List ℕ))
-    → (s : Served step ticks m c w bytes buffer n d v) → Answered AppendsFront step ticks n d v s.rest o e u → Broken step ticks m c w bytes o e u
-broken_last step ticks m c w bytes buffer n d v o e u s a = record { front = bytes; back = []; parts = sym (append-nil bytes); buffer = buffer; mid = n; later = d; between = v; served = s; answered = a }
+    → (buffer ≡ [] → ⊥) → (s : Served step ticks m c w bytes buffer n d v) → Answered AppendsFront step ticks n d v s.rest o e u → Broken (Unit {0}) step ticks m c w bytes o e u
+broken_last step ticks m c w bytes buffer n d v o e u some s a = record {
+  front = bytes;
+  back = [];
+  parts = sym (append-nil bytes);
+  buffer = buffer;
+  mid = n;
+  later = d;
+  between = v;
+  served = s;
+  line = inr (refl, (λ none. some (s.keeps ∙ ap kept none)), tt);
+  answered = a;
+}
 
 -- ---- reading
 
@@ -204,9 +250,9 @@ taken_more step ticks r m c w buffer q q' n d v bytes buffer' o e u k f t = reco
 
 pub taken_broken : {M C : Type 0} (step : Steps M) (ticks : Ticks C) (r : Option (List ℕ)) (m : M) (c : C) (w : Option (List ℕ)) (buffer : List ℕ) (q q' : Option (List ℕ)) (n : M) (d : C) (v : Option (List ℕ)) (bytes : List ℕ) (o : M) (e : C) (u : Option (List ℕ))
     → Consumes q q' bytes
-    → ((m : M) (c : C) (w : Option (List ℕ)) (before : List ℕ) → Served step ticks m c w before buffer n d v → Broken step ticks m c w (before ++ bytes) o e u)
+    → ((m : M) (c : C) (w : Option (List ℕ)) (before : List ℕ) → Served step ticks m c w before buffer n d v → Broken ⊥ step ticks m c w (before ++ bytes) o e u)
     → Taken step ticks r m c w buffer q n d v → Stopped step ticks r m c w q' o e u
-taken_broken step ticks r m c w buffer q q' n d v bytes o e u k f t = record { input = t.input ++ bytes; consumed = consumes_then r q q' t.input bytes t.consumed k; broken = f m c w t.input t.served }
+taken_broken step ticks r m c w buffer q q' n d v bytes o e u k f t = record { input = t.input ++ bytes; consumed = consumes_then r q q' t.input bytes t.consumed k; broken = broken_by ⊥ (IsAtEnd q') step ticks m c w (t.input ++ bytes) o e u absurd (f m c w t.input t.served) }
 
 pub complete : {M C : Type 0} (step : Steps M) (ticks : Ticks C) (r : Option (List ℕ)) (m : M) (c : C) (w : Option (List ℕ)) (buffer : List ℕ) (q : Option (List ℕ)) (n : M) (d : C) (v : Option (List ℕ)) (o : M) (e : C) (u : Option (List ℕ))
     → IsAtEnd q
@@ -215,6 +261,7 @@ pub complete : {M C : Type 0} (step : Steps M) (ticks : Ticks C) (r : Option (Li
 complete step ticks r m c w buffer q n d v o e u end f t = record { input = t.input; consumed = t.consumed; ended = end; finished = f m c w t.input t.served }
 
 pub stopped_last : {M C : Type 0} (step : Steps M) (ticks : Ticks C) (r : Option (List ℕ)) (m : M) (c : C) (w : Option (List ℕ)) (buffer : List ℕ) (q : Option (List ℕ)) (n : M) (d : C) (v : Option (List ℕ)) (o : M) (e : C) (u : Option (List ℕ))
-    → ((m : M) (c : C) (w : Option (List ℕ)) (bytes : List ℕ) → Served step ticks m c w bytes buffer n d v → Broken step ticks m c w bytes o e u)
+    → IsAtEnd q
+    → ((m : M) (c : C) (w : Option (List ℕ)) (bytes : List ℕ) → Served step ticks m c w bytes buffer n d v → Broken (Unit {0}) step ticks m c w bytes o e u)
     → Taken step ticks r m c w buffer q n d v → Stopped step ticks r m c w q o e u
-stopped_last step ticks r m c w buffer q n d v o e u f t = record { input = t.input; consumed = t.consumed; broken = f m c w t.input t.served }
+stopped_last step ticks r m c w buffer q n d v o e u end f t = record { input = t.input; consumed = t.consumed; broken = broken_by (Unit {0}) (IsAtEnd q) step ticks m c w t.input o e u (λ _. end) (f m c w t.input t.served) }

@@ -1,12 +1,12 @@
 -- What the uses report in the root is the listing of a bundle's violations.
-use Rattle.std.proofs.Common.{cond, suc, zero, map, not, length, bytes_eq, nat_lt, Less, ◌≡◌, ◌⊎◌, ◌<◌, ◌≤◌, ◌+◌, ℕ, List, [], ◌∷◌, Bool, true, false, nat_cmp, Option, Some, None, slice_get, if◌then◌else◌, refl, sym, ap, subst, ◌∙◌, inl, inr, arith, ◌==◌, eq-eqb}
+use Rattle.std.proofs.Common.{cond, suc, zero, map, not, length, bytes_eq, nat_lt, Less, ◌≡◌, ◌⊎◌, ◌<◌, ◌≤◌, ◌+◌, ℕ, List, [], ◌∷◌, Bool, true, false, nat_cmp, Option, Some, None, slice_get, if◌then◌else◌, is_some, true≢false, refl, sym, ap, subst, ◌∙◌, inl, inr, arith, ◌==◌, eq-eqb}
 use Rattle.std.proofs.lemmas.Bool.{eqb-true, lt-ltb}
 use Rattle.std.specs.List.{AllByRecursion}
 use Rattle.std.specs.Ordering.{is_lt}
 use Rattle.std.specs.Cmp.Lexicographic.{slice_cmp}
 use Rattle.fv_datum.specs.Data.{Data}
 use Rattle.fv_datum.specs.Lookup.{at_name}
-use Rattle.fv_model.specs.Bundles.{Thing, Bundled}
+use Rattle.fv_model.specs.Bundles.{Thing, Things, Bundled}
 use Rattle.fv_model.specs.Types.{number_of}
 use Rattle.fv_engine.specs.Constraints.{says, constraint_name, message_of}
 use Rattle.fv_engine.specs.Declarations.{Use, Declarations}
@@ -14,7 +14,7 @@ use Rattle.fv_engine.specs.Ordered.{Ascends, Precedes as UsePrecedes, IsRising, 
 use Rattle.std.specs.List.Sorted.{IsStrictlySortedBy}
 use Rattle.std.specs.List.{prefix_len}
 use Rattle.fv_model.specs.Types.{DeclaredFields, Declared}
-use Rattle.fv_model.specs.WellTyped.{FieldsFit, IsWellTyped}
+use Rattle.fv_model.specs.WellTyped.{FitsType, FieldsFit, IsWellTyped}
 use Rattle.std.proofs.lemmas.Slice.Eq.{bytes_eq-Decides}
 use Rattle.fv_engine.specs.Judging.{report_at, reported_of, reported_in, reported_all, with_first}
 use Rattle.fv_engine.specs.Violations.{Reported, IsViolation, Precedes, IsAscending, IsListed, IsListing}
@@ -215,11 +215,11 @@ listing ds b root type rooted typed names uses = record {
 
 -- ---- of a well-typed bundle
 
-same_names : (ds : DeclaredFields) (fs : List (List ℕ × Data)) → FieldsFit ds fs → map (λ f. f.0) ds ≡ map (λ f. f.0) fs
-same_names [] [] fit = refl
-same_names (d ∷ ds) (f ∷ fs) fit = ap (λ (n : List ℕ). n ∷ map (λ d. d.0) ds) (sym fit.0) ∙ ap (λ (ns : List (List ℕ)). f.0 ∷ ns) (same_names ds fs fit.2)
-same_names [] (f ∷ fs) fit = absurd fit
-same_names (d ∷ ds) [] fit = absurd fit
+same_names : (os : Things) (ds : DeclaredFields) (fs : List (List ℕ × Data)) → FieldsFit os ds fs → map (λ f. f.0) ds ≡ map (λ f. f.0) fs
+same_names os [] [] fit = refl
+same_names os (d ∷ ds) (f ∷ fs) fit = ap (λ (n : List ℕ). n ∷ map (λ d. d.0) ds) (sym fit.0) ∙ ap (λ (ns : List (List ℕ)). f.0 ∷ ns) (same_names os ds fs fit.2)
+same_names os [] (f ∷ fs) fit = absurd fit
+same_names os (d ∷ ds) [] fit = absurd fit
 
 chosen_passes : {X : Type 0} (P : X → Type 0) (b : Bool) (first x : X) (rest : Option X) → P first → (rest ≡ Some x → P x) → cond b (Some first) rest ≡ Some x → P x
 chosen_passes P true first x rest here more e = subst P (some_same first x e) here
@@ -243,16 +243,18 @@ numbered ts name fields e =
     let below : nat_lt i (length ts) ≡ true = lt-ltb i (length ts) (within name ts fields e) in
     (i, rw below refl)
 
-same_bytes : (s : List ℕ) → bytes_eq s s ≡ true
-same_bytes s = (bytes_eq-Decides s s).1 refl
+there : {X : Type 0} (o : Option X) → is_some o ≡ true → (x : X) × (o ≡ Some x)
+there None is = absurd (true≢false (sym is))
+there (Some x) is = (x, refl)
 
 -- what was found in a well-typed bundle is its listing
 pub listed_all : (ds : Declarations) (b : Bundled) (vs : List Reported) → InOrder ds → IsWellTyped ds.types b
     → ((root : Thing) (type : ℕ) → at_name b.root b.objects ≡ Some root → number_of ds.types root.kind ≡ Some type → vs ≡ reported_all 0 ds.uses type root.fields)
     → IsListing ds b vs
 listed_all ds b vs ordered well is =
-    let rooted : at_name b.root b.objects ≡ Some well.thing = subst (λ (os : List (List ℕ × Thing)). at_name b.root os ≡ Some well.thing) (sym well.one) (rw (same_bytes b.root) refl) in
-    let number = numbered ds.types well.thing.kind well.typed.fields well.typed.declared in
-    let names : NamesRise well.thing.fields = subst Ascends (same_names well.typed.fields well.thing.fields well.typed.fit)
-    (found_in (λ (fs : DeclaredFields). Ascends (map (λ f. f.0) fs)) well.thing.kind ds.types well.typed.fields ordered.0 well.typed.declared) in
-    subst (IsListing ds b) (sym (is well.thing number.0 rooted number.1)) (listing ds b well.thing number.0 rooted number.1 names ordered.1)
+    let root = there (at_name b.root b.objects) well.rooted in
+    let typed : FitsType ds.types b.objects root.0 = found_in (λ (t : Thing). FitsType ds.types b.objects t) b.root b.objects root.0 well.typed root.1 in
+    let number = numbered ds.types root.0.kind typed.fields typed.declared in
+    let names : NamesRise root.0.fields = subst Ascends (same_names b.objects typed.fields root.0.fields typed.fit)
+    (found_in (λ (fs : DeclaredFields). Ascends (map (λ f. f.0) fs)) root.0.kind ds.types typed.fields ordered.0 typed.declared) in
+    subst (IsListing ds b) (sym (is root.0 number.0 root.1 number.1)) (listing ds b root.0 number.0 root.1 number.1 names ordered.1)

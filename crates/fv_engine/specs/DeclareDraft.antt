@@ -6,8 +6,7 @@ use Rattle.serde_json.specs.Find.{as_str, as_array, as_object, get}
 use Rattle.fv_datum.specs.Attributes.{AttributeValue, integer, text, boolean, texts, Attributes}
 use Rattle.fv_datum.specs.Json.{whole_of}
 use Rattle.fv_model.specs.Draft.{pairs, has_only, each_some, text_at}
-use Rattle.fv_model.specs.declared.type_use.TypeUse.{TypeUse}
-use Rattle.fv_model.specs.declared.type_use.TypeUse.TheVariants.{Text, Integer}
+use Rattle.fv_model.specs.Types.{Held, texts as text_field, integers as integer_field}
 
 -- a use of a constraint at a field, with the attributes that it gives
 pub record UseDraft : Type 0 where
@@ -16,7 +15,7 @@ pub record UseDraft : Type 0 where
 
 pub record FieldDraft : Type 0 where
   pub name : List ℕ
-  pub type : TypeUse
+  pub type : Held
   pub uses : List UseDraft
 
 pub record TypeDraft : Type 0 where
@@ -69,8 +68,8 @@ uses_of None = Some []
 uses_of (Some j) = option_and_then (λ js. each_some use_of (listed js)) (as_array j)
 
 -- what a field holds: so far text or integer
-abbrev pub type_use_of : List ℕ → Option TypeUse
-type_use_of name = if bytes_eq name (codes "text") then Some Text else (if bytes_eq name (codes "integer") then Some Integer else None)
+abbrev pub type_use_of : List ℕ → Option Held
+type_use_of name = if bytes_eq name (codes "text") then Some text_field else (if bytes_eq name (codes "integer") then Some integer_field else None)
 
 -- `{"type":T,"constraints":[..]}`, `constraints` may be missing
 abbrev pub field_of : List ℕ × json.Data → Option FieldDraft

@@ -1,17 +1,16 @@
 -- The declarations that a text declares, or its first fault.
-use Rattle.std.specs.Prelude.{ℕ, ◌||◌, List, [], ◌∷◌, length, map, Bool, true, false, not, nat_lt, Option, Some, None, is_some, Result, Ok, Err, if◌then◌else◌, codes}
+use Rattle.std.specs.Prelude.{ℕ, ◌||◌, List, [], ◌∷◌, length, map, Bool, true, false, not, nat_lt, Option, Some, None, is_some, Result, Ok, Err, codes}
 use Rattle.std.specs.List.{list_any, sum_by, flat_map, filter_map, enumerate_from}
-use Rattle.std.specs.Str.{bytes_eq, is_utf8}
+use Rattle.std.specs.Str.{bytes_eq}
 use Rattle.serde_json.specs.Data as json
-use Rattle.serde_json.specs.Read.{read}
 use Rattle.fv_datum.specs.Answers.{first, unless_fault}
 use Rattle.fv_datum.specs.Name.{names}
 use Rattle.fv_datum.specs.declared.kind.Kind.{Kind}
-use Rattle.fv_model.specs.Types.{DeclaredFields, Declared, kind_of, number_of}
-use Rattle.fv_model.specs.declared.type_use.TypeUse.{TypeUse}
+use Rattle.fv_model.specs.Types.{Held, DeclaredFields, Declared, kind_of, number_of}
 use Rattle.fv_engine.specs.Constraints.{is_builtin, builtin_read}
 use Rattle.fv_engine.specs.DeclareDraft.{UseDraft, FieldDraft, TypeDraft, FormDraft, Drafted, draft_of}
 use Rattle.fv_engine.specs.Declarations.{Use, Declarations}
+use Rattle.fv_engine.specs.Json.{json_of}
 use Rattle.fv_engine.specs.declared.builtin.Builtin.{Builtin}
 use Rattle.fv_engine.specs.declared.builtin.BuiltinFault.{BuiltinFault}
 use Rattle.fv_engine.specs.declared.builtin.BuiltinFault.TheVariants as builtin
@@ -95,7 +94,7 @@ draft_fault d = first (conditions d)
 
 -- ---- what is declared where nothing is wrong
 
-abbrev pub field_declared : FieldDraft → List ℕ × TypeUse
+abbrev pub field_declared : FieldDraft → List ℕ × Held
 field_declared f = (f.name, f.type)
 
 abbrev pub type_declared : TypeDraft → List ℕ × DeclaredFields
@@ -134,10 +133,6 @@ judged (Some d) = unless_fault (draft_fault d) (declarations_of d)
 -- the declarations that a JSON value is, or the first fault
 abbrev pub declared_from : json.Data → Result Declarations DeclFault
 declared_from j = judged (draft_of j)
-
--- the JSON value that bytes are, where they are UTF-8
-abbrev pub json_of : List ℕ → Option json.Data
-json_of bytes = if is_utf8 bytes then read bytes else None
 
 abbrev pub declared_in : Option json.Data → Result Declarations DeclFault
 declared_in None = Err NotJson

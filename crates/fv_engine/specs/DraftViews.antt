@@ -1,5 +1,6 @@
 -- The drafts that contracts see.
 use Rattle.std.specs.Prelude.{map}
+use Rattle.fv_model.specs.Types.{held_view}
 use Rattle.fv_engine.specs.DeclareDraft as spec
 use Rattle.fv_engine.specs.declared.declare.draft.UseDraft.{UseDraft}
 use Rattle.fv_engine.specs.declared.declare.draft.FieldDraft.{FieldDraft}
@@ -11,7 +12,7 @@ abbrev pub use_view : UseDraft → spec.UseDraft
 use_view u = record { constraint = u.constraint.now; given = u.with }
 
 abbrev pub field_view : FieldDraft → spec.FieldDraft
-field_view f = record { name = f.name.now; type = f.type_use; uses = map use_view f.uses.items }
+field_view f = record { name = f.name.now; type = held_view f.type_use; uses = map use_view f.uses.items }
 
 abbrev pub type_view : TypeDraft → spec.TypeDraft
 type_view t = record { name = t.name.now; fields = map field_view t.fields.items }

@@ -5,10 +5,14 @@ pub mod Declarations
 pub mod DeclareDraft
 pub mod Declares
 pub mod DraftViews
+pub mod Engines
+pub mod FaultNames
+pub mod Json
 pub mod Judging
 pub mod Lines
 pub mod Moves
 pub mod Ordered
+pub mod Readable
 pub mod Replies
 pub mod Reply
 pub mod Requests

@@ -1,11 +1,12 @@
 -- The texts of replies.
-use Rattle.std.specs.Prelude.{ℕ, List, [], ◌∷◌, codes}
+use Rattle.std.specs.Prelude.{ℕ, List, [], ◌∷◌, codes, Bool, true, false}
 use Rattle.serde_json.specs.Data as json
 use Rattle.serde_json.specs.Written.{compact_text}
 use Rattle.fv_model.specs.Bundles.{Bundled}
 use Rattle.fv_model.specs.FaultNames.{bundle_fault_code}
 use Rattle.fv_model.specs.Writing.{datum_json, bundle_json}
 use Rattle.fv_model.specs.declared.fault.BundleFault.{BundleFault}
+use Rattle.fv_model.specs.declared.fault.BundleFault.TheVariants.{Shape}
 use Rattle.fv_engine.specs.Violations.{Reported}
 
 abbrev pub line_too_long : List ℕ
@@ -41,6 +42,12 @@ bundle_refused_json fault = json.object
 -- the refusal of a bundle, with its fault
 unfoldable pub bundle_refused : BundleFault → List ℕ
 bundle_refused fault = compact_text (bundle_refused_json fault)
+
+-- the refusal of a put whose bundle has a fault: what isn't of a bundle's form is no command, then the form has to be declared, then the bundle counts
+abbrev pub unread : BundleFault → Bool → List ℕ
+unread Shape declared = shape
+unread fault false = unknown_form
+unread fault true = bundle_refused fault
 
 abbrev pub violation_json : Reported → json.Data
 violation_json v = json.object

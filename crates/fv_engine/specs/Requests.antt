@@ -2,11 +2,11 @@
 use Rattle.std.specs.Prelude.{ℕ, ◌&&◌, ◌||◌, ◌==◌, List, length, Bool, nat_lt, nat_le, Option, Some, None, option_map, option_and_then, if◌then◌else◌, codes}
 use Rattle.std.specs.Char.{is_ascii_alphanumeric}
 use Rattle.std.specs.List.{list_all}
-use Rattle.std.specs.Str.{bytes_eq, is_utf8}
+use Rattle.std.specs.Str.{bytes_eq}
 use Rattle.serde_json.specs.Data as json
 use Rattle.serde_json.specs.Events.{members_len}
 use Rattle.serde_json.specs.Find.{as_str, get as get_at}
-use Rattle.serde_json.specs.Read.{read}
+use Rattle.fv_engine.specs.Json.{json_of}
 
 pub data Request : Type 0 where
   too_long : Request
@@ -64,10 +64,6 @@ or_shape (Some r) = r
 abbrev pub of_json : Option json.Data → Request
 of_json None = not_json
 of_json (Some j) = or_shape (command_of j)
-
--- the JSON value that bytes are
-abbrev pub json_of : List ℕ → Option json.Data
-json_of bytes = if is_utf8 bytes then read bytes else None
 
 -- what a line asks for: one of more than 1,048,576 bytes nothing
 unfoldable pub asked : List ℕ → Request

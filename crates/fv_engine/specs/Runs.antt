@@ -1,5 +1,5 @@
 -- Runs over lines, and what has been served of an input.
-use Rattle.std.specs.Prelude.{◌≡◌, ℕ, ℤ, List, [], ◌∷◌, ◌++◌, Option}
+use Rattle.std.specs.Prelude.{◌≡◌, ◌≢◌, ◌⊎◌, ℕ, ℤ, List, [], ◌∷◌, ◌++◌, Option}
 use Rattle.std.specs.List.{flat_map}
 use Rattle.std.specs.Io.KnownBytes.{Appends, Consumes, IsAtEnd}
 use Rattle.fv_engine.specs.Lines.{Pieces, kept, ended}
@@ -41,8 +41,12 @@ pub record Served {M C : Type 0} (step : Steps M) (ticks : Ticks C) (m : M) (c :
   pub ran : Run step ticks m c lines replies n d
   pub wrote : Appends w v (flat_map ended replies)
 
--- a front of the bytes was served, and then a line was answered whose reply was not written whole
-pub record Broken {M C : Type 0} (step : Steps M) (ticks : Ticks C) (m : M) (c : C) (w : Option (List ℕ)) (bytes : List ℕ) (n : M) (d : C)
+-- a line is whole: its end stands behind it, or nothing does, and it isn't empty, where the input is at its end
+abbrev pub IsWhole : Type 0 → List ℕ → List ℕ → Type 0
+IsWhole at_end line behind = ((more : List ℕ) × (behind ≡ 10 ∷ more)) ⊎ ((behind ≡ []) × (line ≢ []) × at_end)
+
+-- a front of the bytes was served, and then a whole line was answered whose reply was not written whole
+pub record Broken {M C : Type 0} (at_end : Type 0) (step : Steps M) (ticks : Ticks C) (m : M) (c : C) (w : Option (List ℕ)) (bytes : List ℕ) (n : M) (d : C)
     (v : Option (List ℕ)) : Type 0 where
   pub front : List ℕ
   pub back : List ℕ
@@ -52,6 +56,7 @@ pub record Broken {M C : Type 0} (step : Steps M) (ticks : Ticks C) (m : M) (c :
   pub later : C
   pub between : Option (List ℕ)
   pub served : Served step ticks m c w front buffer mid later between
+  pub line : IsWhole at_end served.rest back
   pub answered : Answered AppendsFront step ticks mid later between served.rest n d v
 
 -- a last line that isn't empty counts without its end
@@ -81,7 +86,7 @@ pub record Stopped {M C : Type 0} (step : Steps M) (ticks : Ticks C) (r : Option
     (q : Option (List ℕ)) (n : M) (d : C) (v : Option (List ℕ)) : Type 0 where
   pub input : List ℕ
   pub consumed : Consumes r q input
-  pub broken : Broken step ticks m c w input n d v
+  pub broken : Broken (IsAtEnd q) step ticks m c w input n d v
 
 -- all of the input was read and answered
 pub record Complete {M C : Type 0} (step : Steps M) (ticks : Ticks C) (r : Option (List ℕ)) (m : M) (c : C) (w : Option (List ℕ))

@@ -1,10 +1,9 @@
 -- The record machine: what a line does to the records, and its reply.
-use Rattle.std.specs.Prelude.{◌≡◌, ◌⊎◌, ℕ, ℤ, List, [], ◌∷◌, Option, Some, None, Result, Ok, Err}
+use Rattle.std.specs.Prelude.{◌≡◌, ◌⊎◌, ◌≤◌, ℕ, ℤ, length, List, [], ◌∷◌, Option, Some, None, Result, Ok, Err, is_some}
 use Rattle.fv_datum.specs.Lookup.{at_name}
 use Rattle.fv_model.specs.Bundles.{Bundled}
 use Rattle.fv_model.specs.Reading.{bundle_read}
 use Rattle.fv_model.specs.declared.fault.BundleFault.{BundleFault}
-use Rattle.fv_model.specs.declared.fault.BundleFault.TheVariants.{Shape}
 use Rattle.fv_store.specs.Records.{Kept, Records, with_record}
 use Rattle.fv_engine.specs.Declarations.{Declarations}
 use Rattle.fv_engine.specs.Replies as text
@@ -25,9 +24,8 @@ Judges ds id kept old reply new = (vs : List Reported) × IsListing ds kept.bund
 
 -- a put, by what its bundle's JSON spells and by its form's root
 abbrev pub Puts : Declarations → List ℕ → List ℕ → Result Bundled BundleFault → Option (List ℕ) → Records → List ℕ → Records → Type 0
-Puts ds id form (Err Shape) root old reply new = Refuses text.shape old reply new
-Puts ds id form read None old reply new = Refuses text.unknown_form old reply new
-Puts ds id form (Err fault) (Some root) old reply new = Refuses (text.bundle_refused fault) old reply new
+Puts ds id form (Err fault) root old reply new = Refuses (text.unread fault (is_some root)) old reply new
+Puts ds id form (Ok b) None old reply new = Refuses text.unknown_form old reply new
 Puts ds id form (Ok b) (Some root) old reply new = Judges ds id (record { form = form; bundle = b }) old reply new
 
 abbrev pub shown : List ℕ → Option Kept → List ℕ
@@ -45,11 +43,6 @@ Does ds shape old reply new = Refuses text.shape old reply new
 Does ds (put id form bundle) old reply new = Puts ds id form (bundle_read ds.types (at_name form ds.forms) bundle) (at_name form ds.forms) old reply new
 Does ds (get id) old reply new = Gets id old reply new
 
--- want of memory is a refusal of its own, but for a line that is too long
-abbrev pub MayWant : Request → Records → List ℕ → Records → Type 0
-MayWant too_long old reply new = ⊥
-MayWant _ old reply new = Refuses text.out_of_memory old reply new
-
--- From the old records, the line at the moment has the reply and leaves the new ones.
+-- From the old records, the line at the moment has the reply and leaves the new ones. Want of memory is a refusal of its own, but for a line that is too long.
 unfoldable pub Step : Declarations → Records → List ℕ → ℤ → List ℕ → Records → Type 0
-Step ds old line moment reply new = Does ds (asked line) old reply new ⊎ MayWant (asked line) old reply new
+Step ds old line moment reply new = Does ds (asked line) old reply new ⊎ ((length line ≤ 1048576) × Refuses text.out_of_memory old reply new)

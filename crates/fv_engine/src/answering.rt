@@ -1,17 +1,25 @@
 //! What a command does to the records, and its reply.
-ghost use Rattle.std.specs.Prelude.{◌≡◌, ◌⊎◌, ℕ, List, [], IfOk, true, string_bytes};
+ghost use Rattle.std.specs.Prelude.{◌≡◌, ◌≢◌, ◌⊎◌, ℕ, List, [], IfOk, true, string_bytes};
 ghost use Rattle.sqlite.specs.Held.{state};
-ghost use Rattle.fv_model.specs.Types.{Declared, all_readable};
+ghost use Rattle.serde_json.specs.View.{view as json_view};
+ghost use Rattle.fv_datum.specs.Lookup.{at_name};
+ghost use Rattle.fv_model.specs.Reading.{bundle_read};
+ghost use Rattle.fv_model.specs.Types.{Declared};
 ghost use Rattle.fv_model.specs.Views.{types_view, bundle_view};
 ghost use Rattle.fv_store.specs.Changes.{after_all, ChangesFit};
 ghost use Rattle.fv_store.specs.Records.{Records, Roots, Fits, with_record};
 ghost use Rattle.fv_engine.specs.Declarations.{Declarations};
+ghost use Rattle.fv_engine.specs.Json.{json_of};
 ghost use Rattle.fv_engine.specs.Moves.{Moves};
-ghost use Rattle.fv_engine.specs.Replies.{store_failed, out_of_memory};
-ghost use Rattle.fv_engine.specs.Step.{Refuses, Decides, Gets};
+ghost use Rattle.fv_engine.specs.Ordered.{InOrder};
+ghost use Rattle.fv_engine.specs.Requests.{command_of, or_shape, of_json};
+ghost use Rattle.fv_engine.specs.SchemaView.{schema_view};
+ghost use Rattle.fv_engine.specs.Replies.{store_failed, out_of_memory, unread};
+ghost use Rattle.fv_engine.specs.Step.{Refuses, Decides, Judges, Puts, Gets, Does};
 
 use crate::command::{Command, command_of};
 use crate::declare::Schema;
+use crate::parsing::{JsonFault, read_json};
 use crate::reply;
 use crate::reply::Reply;
 use crate::validate::validate;
@@ -74,13 +82,32 @@ fn judge<S: Alter>(
     id: &str,
     form: &str,
     bundle: Bundle,
-) -> Reply {
+) -> Reply
+    requires in_order { InOrder (schema_view schema.now) }
+    requires fits { Fits (schema_view schema.now).types (schema_view schema.now).forms (record { form = form.now; bundle = bundle_view bundle }) }
+    ensures { Moves (schema_view schema.now) (state S.Store store.old) (state S.Store store.new) (λ m n. Judges (schema_view schema.now) id.now (record { form = form.now; bundle = bundle_view bundle }) m result n ⊎ Refuses out_of_memory m result n) }
+{
     match validate(alloc, schema, &bundle) {
         Err(_) => Reply::fixed(reply::MEMORY),
         Ok(violations) => if violations.is_empty() {
             keep(store, alloc, id, form, bundle)
         } else {
             Reply::violations(alloc, id, &violations)
+        },
+    }
+}
+
+/// The refusal of a put whose bundle has a fault, under a form that is declared or not.
+fn unread(alloc: Global, fault: BundleFault, declared: bool) -> Reply
+    ensures { (result ≡ out_of_memory) ⊎ ((fault ≢ BundleFault.Memory) × (result ≡ unread fault declared)) }
+{
+    match fault {
+        BundleFault::Memory => Reply::fixed(reply::MEMORY),
+        BundleFault::Shape => Reply::fixed(reply::SHAPE),
+        _ => if declared {
+            Reply::bundle_refused(alloc, fault)
+        } else {
+            Reply::fixed(reply::UNKNOWN_FORM)
         },
     }
 }
@@ -93,15 +120,15 @@ fn put<S: Alter>(
     id: &str,
     form: &str,
     bundle: &Value,
-) -> Reply {
+) -> Reply
+    requires { InOrder (schema_view schema.now) }
+    ensures { Moves (schema_view schema.now) (state S.Store store.old) (state S.Store store.new)
+        (λ m n. Puts (schema_view schema.now) id.now form.now (bundle_read (schema_view schema.now).types (at_name form.now (schema_view schema.now).forms) (json_view bundle.now)) (at_name form.now (schema_view schema.now).forms) m result n
+        ⊎ Refuses out_of_memory m result n) }
+{
     let root = schema.root_of(form);
     match read_bundle(alloc, &schema.types, root, bundle) {
-        Err(BundleFault::Memory) => Reply::fixed(reply::MEMORY),
-        Err(BundleFault::Shape) => Reply::fixed(reply::SHAPE),
-        Err(fault) => match root {
-            None => Reply::fixed(reply::UNKNOWN_FORM),
-            Some(_) => Reply::bundle_refused(alloc, fault),
-        },
+        Err(fault) => unread(alloc, fault, root.is_some()),
         Ok(bundle) => match root {
             None => Reply::fixed(reply::UNKNOWN_FORM),
             Some(_) => judge(store, alloc, schema, id, form, bundle),
@@ -111,7 +138,6 @@ fn put<S: Alter>(
 
 /// Shows a record.
 fn get<S: Alter>(store: &mut Store<S>, alloc: Global, types: &Types, id: &str) -> Reply
-    requires { all_readable (types_view types.now) ≡ true }
     ensures { (ds : Declarations) → ds.types ≡ types_view types.now →
         Moves ds (state S.Store store.old) (state S.Store store.new) (λ m n. Gets id.now m result n ⊎ Refuses out_of_memory m result n) }
 {
@@ -123,15 +149,32 @@ fn get<S: Alter>(store: &mut Store<S>, alloc: Global, types: &Types, id: &str) -
 }
 
 /// The reply to a line's JSON.
-pub(crate) fn answer<S: Alter>(
-    store: &mut Store<S>,
-    alloc: Global,
-    schema: &Schema,
-    value: &Value,
-) -> Reply {
+fn answer<S: Alter>(store: &mut Store<S>, alloc: Global, schema: &Schema, value: &Value) -> Reply
+    requires { InOrder (schema_view schema.now) }
+    ensures { Moves (schema_view schema.now) (state S.Store store.old) (state S.Store store.new)
+        (λ m n. Does (schema_view schema.now) (or_shape (command_of (json_view value.now))) m result n ⊎ Refuses out_of_memory m result n) }
+{
     match command_of(value) {
         None => Reply::fixed(reply::SHAPE),
         Some(Command::Put { id, form, bundle }) => put(store, alloc, schema, id, form, bundle),
         Some(Command::Get { id }) => get(store, alloc, &schema.types, id),
+    }
+}
+
+/// The reply to a line that isn't over the limit.
+pub(crate) fn answer_short<S: Alter>(
+    store: &mut Store<S>,
+    alloc: Global,
+    schema: &Schema,
+    line: &[u8],
+) -> Reply
+    requires { InOrder (schema_view schema.now) }
+    ensures { Moves (schema_view schema.now) (state S.Store store.old) (state S.Store store.new)
+        (λ m n. Does (schema_view schema.now) (of_json (json_of line.now)) m result n ⊎ Refuses out_of_memory m result n) }
+{
+    match read_json(alloc, line) {
+        Ok(value) => answer(store, alloc, schema, &value),
+        Err(JsonFault::NotJson) => Reply::fixed(reply::NOT_JSON),
+        Err(JsonFault::Memory) => Reply::fixed(reply::MEMORY),
     }
 }

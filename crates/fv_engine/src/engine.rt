@@ -1,17 +1,23 @@
-ghost use Rattle.std.specs.Prelude.{◌≡◌};
+ghost use Rattle.std.specs.Prelude.{◌≡◌, ◌≢◌, IsTrue, IfOk, IfErr, Ok, Err, Some, None};
+ghost use Rattle.sqlite.specs.State.{HasCleanDisk};
+ghost use Rattle.sqlite.specs.Held.{state};
 ghost use Rattle.fv_datum.specs.Moments.{IsMoment};
+ghost use Rattle.fv_store.specs.Faults.{about_fault, IsAboutFault};
+ghost use Rattle.fv_store.specs.Stands.{Holds, Opens, IsKnown, Stays, Tells};
+ghost use Rattle.fv_engine.specs.Declares.{declares};
+ghost use Rattle.fv_engine.specs.Engines.{StepOf};
+ghost use Rattle.fv_engine.specs.FaultNames.{open_fault_name};
 ghost use Rattle.fv_engine.specs.Replies.{line_too_long};
 
-use crate::answering::answer;
+use crate::answering::answer_short;
 use crate::declare::{DeclFault, Schema, read_schema};
 use crate::machine::{LIMIT, Machine};
 use crate::reply;
 use crate::reply::Reply;
 use fv_store::{OpenStoreFault, Store};
-use serde_json::Value;
 use sqlite::{Alter, Connection};
 use std::alloc::Global;
-use std::str;
+use std::marker::Model;
 use thiserror::Error;
 
 /// Why an engine wasn't opened.
@@ -30,7 +36,9 @@ pub enum OpenFault {
 
 impl OpenFault {
     /// The fault's name.
-    pub fn name(&self) -> &str {
+    pub fn name(&self) -> &str
+        ensures { result.now ≡ open_fault_name self.now }
+    {
         match self {
             OpenFault::Declarations(_) => "Declarations",
             OpenFault::Store(_) => "Store",
@@ -39,7 +47,8 @@ impl OpenFault {
     }
 }
 
-/// The record machine: declarations, and the records that a database keeps.
+/// The record machine: declarations, and the records that a database keeps. Contracts see it as what
+/// is declared and the connection to the database, which is outside a transaction.
 pub struct Engine<S: Alter> {
     schema: Schema,
     store: Store<S>,
@@ -54,8 +63,28 @@ impl<S: Alter + Drop> Drop for Engine<S> {
     }
 }
 
+impl<S: Alter> Model for Engine<S> {
+    ghost use Rattle.std.specs.Coded.{codes};
+    ghost use Rattle.sqlite.specs.Held.{Held, held_code};
+    ghost use Rattle.fv_engine.specs.Engines.{Standing};
+
+    ghost Value = { Standing (Held S) };
+
+    ghost coded = { Prim.hlevel (codes, held_code S.code) };
+
+    ghost use Rattle.fv_engine.specs.Ordered.{InOrder};
+    ghost use Rattle.fv_engine.specs.SchemaView.{schema_view};
+
+    ghost view = { λ e. record { declared = schema_view e.schema; connection = e.store } };
+
+    ghost invariant = { λ e. InOrder (schema_view e.schema) };
+}
+
 /// The fault of an engine whose declarations aren't taken.
-fn declarations_fault(fault: DeclFault) -> OpenFault {
+fn declarations_fault(fault: DeclFault) -> OpenFault
+    ensures memory { fault ≡ DeclFault.Memory → result ≡ OpenFault.Memory }
+    ensures other { fault ≢ DeclFault.Memory → result ≡ OpenFault.Declarations fault }
+{
     match fault {
         DeclFault::Memory => OpenFault::Memory,
         _ => OpenFault::Declarations(fault),
@@ -63,7 +92,10 @@ fn declarations_fault(fault: DeclFault) -> OpenFault {
 }
 
 /// The fault of an engine whose database isn't taken.
-fn store_fault(fault: OpenStoreFault) -> OpenFault {
+fn store_fault(fault: OpenStoreFault) -> OpenFault
+    ensures memory { fault ≡ OpenStoreFault.Memory → result ≡ OpenFault.Memory }
+    ensures other { fault ≢ OpenStoreFault.Memory → result ≡ OpenFault.Store fault }
+{
     match fault {
         OpenStoreFault::Memory => OpenFault::Memory,
         _ => OpenFault::Store(fault),
@@ -74,13 +106,32 @@ impl<S: Alter + Drop> Engine<S> {
     /// An engine over a database: an empty one is made ready for these declarations, and one that
     /// was made by them is taken with its records.
     ///
-    /// `Declarations` with the fault of the declarations, then `Store` with that of the database,
-    /// then `Memory`. A refusal hands the connection back, its database as it was.
+    /// `Declarations` with the fault of the declarations, then `Store` with that of the database;
+    /// `Memory` at any place. A refusal hands the connection back, its database as it was.
     pub fn open(
         alloc: Global,
         declarations: &[u8],
         connection: Connection<S>,
-    ) -> Result<Engine<S>, (OpenFault, Connection<S>)> {
+    ) -> Result<Engine<S>, (OpenFault, Connection<S>)>
+        ensures declared { IfOk result (λ e. declares declarations.now ≡ Ok e.declared) }
+        ensures clean { IfOk result (λ e. HasCleanDisk (state S.Store e.connection) → HasCleanDisk (state S.Store connection)) }
+        // The records are those that the database handed over.
+        ensures opened { IfOk result (λ e. (m : _) → Opens (state S.Store connection) declarations.now e.declared.types e.declared.forms m → Holds (state S.Store e.connection) declarations.now e.declared.types e.declared.forms m) }
+        ensures taken { IfOk result (λ e. HasCleanDisk (state S.Store e.connection) → (version : _) (d : _) → Tells (state S.Store connection).now version d → about_fault version d declarations.now ≡ None) }
+        ensures same { IfOk result (λ e. HasCleanDisk (state S.Store e.connection) → IsTrue (state S.Store e.connection).is_open → (d : _) (types : _) (roots : _) (m : _) → Holds (state S.Store connection) d types roots m → d ≡ declarations.now) }
+        // The declarations come first, by their first fault.
+        ensures refused { IfErr result (λ r. (fault : _) → r.0 ≡ OpenFault.Declarations fault → declares declarations.now ≡ Err fault) }
+        ensures after { IfErr result (λ r. (fault : _) → r.0 ≡ OpenFault.Store fault → (ds : _) × (declares declarations.now ≡ Ok ds)) }
+        ensures cause { IfErr result (λ r. (fault : _) → r.0 ≡ OpenFault.Store fault → IsAboutFault fault → HasCleanDisk (state S.Store r.1) → (version : _) (d : _) → Tells (state S.Store connection).now version d → about_fault version d declarations.now ≡ Some fault) }
+        ensures other_version { IfErr result (λ r. r.0 ≡ OpenFault.Store OpenStoreFault.OtherVersion → HasCleanDisk (state S.Store r.1) → (d : _) (types : _) (roots : _) (m : _) → Opens (state S.Store connection) d types roots m → ⊥) }
+        ensures other_declarations { IfErr result (λ r. r.0 ≡ OpenFault.Store OpenStoreFault.OtherDeclarations → HasCleanDisk (state S.Store r.1) → (d : _) (types : _) (roots : _) (m : _) → Opens (state S.Store connection) d types roots m → d ≢ declarations.now) }
+        // Want of memory below is told as such.
+        ensures memory { IfErr result (λ r. r.0 ≢ OpenFault.Store OpenStoreFault.Memory) }
+        // A refusal hands the database back as it was.
+        ensures back { IfErr result (λ r. HasCleanDisk (state S.Store r.1) → HasCleanDisk (state S.Store connection)) }
+        ensures untouched { IfErr result (λ r. IsKnown (state S.Store connection).now → Stays (state S.Store connection) (state S.Store r.1)) }
+        ensures stays { IfErr result (λ r. (d : _) (types : _) (roots : _) (m : _) → Opens (state S.Store connection) d types roots m → Opens (state S.Store r.1) d types roots m) }
+    {
         let schema = match read_schema(alloc, declarations) {
             Ok(schema) => schema,
             Err(fault) => return Err((declarations_fault(fault), connection)),
@@ -93,34 +144,27 @@ impl<S: Alter + Drop> Engine<S> {
 }
 
 impl<S: Alter> Engine<S> {
-    /// The reply to a line at a moment.
+    /// The reply to a line at a moment: one step of the record machine.
     pub fn run(&mut self, alloc: Global, line: &[u8], now: i64) -> Reply
         requires { IsMoment now }
+        ensures { StepOf (state S.Store) self.old line.now now result self.new }
     {
         if line.len() > LIMIT {
             return self.refuse_long(now);
         }
-        let Ok(text) = str::from_utf8(line) else {
-            return Reply::fixed(reply::NOT_JSON);
-        };
-        match Value::from_str(alloc, text) {
-            Ok(value) => answer(&mut self.store, alloc, &self.schema, &value),
-            Err(error) => if error.is_memory() {
-                Reply::fixed(reply::MEMORY)
-            } else {
-                Reply::fixed(reply::NOT_JSON)
-            },
-        }
+        answer_short(&mut self.store, alloc, &self.schema, line)
     }
 
-    /// The database, without the engine.
+    /// The database, without the engine. It takes no memory.
     pub fn into_connection(self) -> Connection<S>
-        ensures { result ≡ self.store }
+        ensures same { result ≡ self.connection }
+        ensures holds { (d : _) (types : _) (roots : _) (m : _) → Holds (state S.Store self.connection) d types roots m → Holds (state S.Store result) d types roots m }
     {
         let Engine { schema: _, store } = self;
         store.into_connection()
     }
 
+    /// The refusal of a line that is over the limit.
     fn refuse_long(&mut self, _now: i64) -> Reply
         ensures refused { result ≡ line_too_long }
         ensures same { self.new ≡ self.old }
@@ -130,7 +174,7 @@ impl<S: Alter> Engine<S> {
 }
 
 impl<S: Alter> Machine for Engine<S> {
-    ghost step = { λ _ _ _ _ _. Unit {0} };
+    ghost step = { StepOf (state S.Store) };
 
     fn answer_line(&mut self, alloc: Global, line: &[u8], now: i64) -> Reply {
         self.run(alloc, line, now)

@@ -11,6 +11,7 @@ mod engine;
 mod line;
 mod machine;
 mod output;
+mod parsing;
 mod reply;
 mod serving;
 mod validate;

@@ -1,9 +1,13 @@
 ghost use Rattle.std.specs.Prelude.{◌≡◌, ◌≢◌, ℕ, ℤ, List, [], ◌∷◌, ◌++◌, Option, OnOk, OnErr, IsErrOf, ◌<◌, length};
 ghost use Rattle.std.specs.Io.KnownBytes.{Appends, Consumes, IsAtEnd};
+ghost use Rattle.sqlite.specs.Held.{state};
 ghost use Rattle.fv_datum.specs.Moments.{IsMoment};
+ghost use Rattle.fv_engine.specs.Engines.{Turns};
+ghost use Rattle.fv_engine.specs.FaultNames.{serve_fault_name};
 ghost use Rattle.fv_engine.specs.Lines.{kept};
 ghost use Rattle.fv_engine.specs.Writes.{AppendsFront};
 ghost use Rattle.fv_engine.specs.Runs.{Answered, Served, Broken, Finished, Taken, Stopped, Complete};
+ghost use Rattle.fv_engine.specs.Step.{Step};
 
 use crate::clock::Clock;
 use crate::engine::Engine;
@@ -32,7 +36,9 @@ pub enum ServeFault {
 
 impl ServeFault {
     /// The fault's name.
-    pub fn name(&self) -> &str {
+    pub fn name(&self) -> &str
+        ensures { result.now ≡ serve_fault_name self.now }
+    {
         match self {
             ServeFault::Read => "Read",
             ServeFault::Write => "Write",
@@ -83,7 +89,7 @@ fn take_byte<M: Machine, W: Write, C: Clock>(
         Served M.step C.ticks m c w (before ++ byte ∷ []) line.new machine.new clock.new (W.contents writer.new)) }
     ensures err { OnErr result ((m : M) (c : C) (w : Option (List ℕ)) (before : List ℕ) →
         Served M.step C.ticks m c w before line.old machine.old clock.old (W.contents writer.old) →
-        Broken M.step C.ticks m c w (before ++ byte ∷ []) machine.new clock.new (W.contents writer.new)) }
+        Broken ⊥ M.step C.ticks m c w (before ++ byte ∷ []) machine.new clock.new (W.contents writer.new)) }
 {
     if byte != 10 {
         line.add(byte);
@@ -108,7 +114,7 @@ fn take_bytes<M: Machine, W: Write, C: Clock>(
         Served M.step C.ticks m c w (before ++ bytes.now) line.new machine.new clock.new (W.contents writer.new)) }
     ensures err { OnErr result ((m : M) (c : C) (w : Option (List ℕ)) (before : List ℕ) →
         Served M.step C.ticks m c w before line.old machine.old clock.old (W.contents writer.old) →
-        Broken M.step C.ticks m c w (before ++ bytes.now) machine.new clock.new (W.contents writer.new)) }
+        Broken ⊥ M.step C.ticks m c w (before ++ bytes.now) machine.new clock.new (W.contents writer.new)) }
 {
     for b in bytes {
         take_byte(alloc, machine, writer, clock, line, *b)?;
@@ -129,7 +135,7 @@ fn finish<M: Machine, W: Write, C: Clock>(
         Finished M.step C.ticks m c w bytes machine.new clock.new (W.contents writer.new)) }
     ensures err { OnErr result ((m : M) (c : C) (w : Option (List ℕ)) (bytes : List ℕ) →
         Served M.step C.ticks m c w bytes line.now machine.old clock.old (W.contents writer.old) →
-        Broken M.step C.ticks m c w bytes machine.new clock.new (W.contents writer.new)) }
+        Broken (Unit {0}) M.step C.ticks m c w bytes machine.new clock.new (W.contents writer.new)) }
 {
     if line.bytes().is_empty() {
         return Ok(());
@@ -239,6 +245,8 @@ fn serve_machine<M: Machine, R: Read, W: Write, C: Clock>(
 /// last also without its end. The clock is asked once a line. Each reply is written whole, with its
 /// end, and flushed.
 ///
+/// The records are those of a map that each line turns by one step of the record machine.
+///
 /// `Memory` where the room for a line was refused; `Read` where a read failed or there were 2^32
 /// reads; `Write` where a write or a flush failed or a write took nothing.
 pub fn serve<S: Alter, R: Read, W: Write, C: Clock>(
@@ -247,6 +255,15 @@ pub fn serve<S: Alter, R: Read, W: Write, C: Clock>(
     reader: &mut R,
     writer: &mut W,
     clock: &mut C,
-) -> Result<(), ServeFault> {
+) -> Result<(), ServeFault>
+    // What was written is the replies of a run over all lines of the input, each with its end.
+    ensures ok { OnOk result (Turns (state S.Store) engine.old engine.new (λ m n. Complete (Step engine.old.declared) C.ticks (R.remaining reader.old) m clock.old (W.contents writer.old) (R.remaining reader.new) n clock.new (W.contents writer.new))) }
+    // The same for the whole lines before.
+    ensures read { IsErrOf result ServeFault.Read → Turns (state S.Store) engine.old engine.new (λ m n. (rest : List ℕ) × Taken (Step engine.old.declared) C.ticks (R.remaining reader.old) m clock.old (W.contents writer.old) rest (R.remaining reader.new) n clock.new (W.contents writer.new)) }
+    // The same for some lines, the last reply in part.
+    ensures write { IsErrOf result ServeFault.Write → Turns (state S.Store) engine.old engine.new (λ m n. Stopped (Step engine.old.declared) C.ticks (R.remaining reader.old) m clock.old (W.contents writer.old) (R.remaining reader.new) n clock.new (W.contents writer.new)) }
+    // Nothing was read.
+    ensures memory { IsErrOf result ServeFault.Memory → (reader.new ≡ reader.old) × (writer.new ≡ writer.old) × (engine.new ≡ engine.old) × (clock.new ≡ clock.old) }
+{
     serve_machine(alloc, engine, reader, writer, clock)
 }

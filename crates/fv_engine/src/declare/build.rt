@@ -2,11 +2,12 @@
 ghost use Rattle.std.specs.Prelude.{◌≡◌, ◌++◌, true, false, None, Ok, IfOk, OnOk, map};
 ghost use Rattle.std.specs.List.{flat_map, filter_map, enumerate_from};
 ghost use Rattle.fv_datum.specs.Answers.{Gives};
-ghost use Rattle.fv_model.specs.Types.{fields_readable, fields_view, all_readable, declared_view};
+ghost use Rattle.fv_model.specs.Types.{fields_view, declared_view};
 ghost use Rattle.fv_model.specs.Views.{types_view};
 ghost use Rattle.fv_engine.specs.Declares.{lacks_root, field_declared, type_declared, form_declared, use_at, field_uses, uses_declared, declarations_of, draft_fault};
 ghost use Rattle.fv_engine.specs.DraftViews.{use_view, field_view, type_view, form_view, draft_view};
 ghost use Rattle.fv_engine.specs.Ordered.{Ascends, AreOrdered};
+ghost use Rattle.fv_engine.specs.Readable.{fields_readable, all_readable};
 ghost use Rattle.fv_engine.specs.SchemaView.{occurrence_view, forms_view, schema_view};
 
 use super::draft::{Draft, FieldDraft, FormDraft, TypeDraft, UseDraft};
@@ -25,7 +26,8 @@ fn fields_for(alloc: Global, fields: &[FieldDraft]) -> Result<Fields, AllocError
 {
     let mut uses = IndexMap::new(alloc);
     for field in fields {
-        let _ = uses.insert(String::from_str(alloc, field.name)?, field.type_use)?;
+        let type_use = field.type_use.copy()?;
+        let _ = uses.insert(String::from_str(alloc, field.name)?, type_use)?;
     }
     Ok(uses)
 }

@@ -2,7 +2,7 @@
 ghost use Rattle.std.proofs.Props.{props};
 ghost use Rattle.std.specs.Prelude.{◌≡◌, true, map};
 ghost use Rattle.fv_datum.specs.Kinds.{is_readable};
-ghost use Rattle.fv_model.specs.Types.{kind_of};
+ghost use Rattle.fv_model.specs.Types.{kind_of, held_view};
 ghost use Rattle.fv_engine.specs.Ordered.{Ascends, names_of};
 
 use fv_datum::Attrs;
@@ -22,7 +22,7 @@ pub(crate) struct FieldDraft<'a> {
     pub(crate) name: &'a str,
     pub(crate) type_use: TypeUse,
     pub(crate) uses: Vec<UseDraft<'a>>,
-    ghost readable: { is_readable (kind_of type_use) ≡ true },
+    ghost readable: { is_readable (kind_of (held_view type_use)) ≡ true },
 }
 
 /// A type, its fields ascending by the bytes of their names.

@@ -2,7 +2,8 @@ ghost use Rattle.std.specs.Prelude.{IfOk};
 ghost use Rattle.std.specs.Option.{ok_or};
 ghost use Rattle.serde_json.specs.View.{view as json_view};
 ghost use Rattle.fv_datum.specs.Answers.{Gives};
-ghost use Rattle.fv_engine.specs.Declares.{json_of, declared_from, declares};
+ghost use Rattle.fv_engine.specs.Declares.{declared_from, declares};
+ghost use Rattle.fv_engine.specs.Json.{json_of};
 ghost use Rattle.fv_engine.specs.Ordered.{AreOrdered};
 ghost use Rattle.fv_engine.specs.SchemaView.{schema_view};
 
@@ -11,24 +12,18 @@ use super::fault::DeclFault;
 use super::faults::draft_fault;
 use super::schema::Schema;
 use super::shape::draft_of;
+use crate::parsing::{JsonFault, read_json};
 use serde_json::Value;
 use std::alloc::Global;
-use std::str;
 
 /// The JSON value that bytes are.
 fn value_of(alloc: Global, bytes: &[u8]) -> Result<Value, DeclFault>
     ensures { Gives DeclFault.Memory json_view result (ok_or (json_of bytes.now) DeclFault.NotJson) }
 {
-    let Ok(text) = str::from_utf8(bytes) else {
-        return Err(DeclFault::NotJson);
-    };
-    match Value::from_str(alloc, text) {
+    match read_json(alloc, bytes) {
         Ok(value) => Ok(value),
-        Err(error) => if error.is_memory() {
-            Err(DeclFault::Memory)
-        } else {
-            Err(DeclFault::NotJson)
-        },
+        Err(JsonFault::NotJson) => Err(DeclFault::NotJson),
+        Err(JsonFault::Memory) => Err(DeclFault::Memory),
     }
 }
 

@@ -1,7 +1,3 @@
-ghost use Rattle.std.specs.Prelude.{◌≡◌, true};
-ghost use Rattle.fv_model.specs.Types.{all_readable};
-ghost use Rattle.fv_model.specs.Views.{types_view};
-
 use crate::builtin::Builtin;
 use fv_model::{TypeId, Types};
 use indexmap::IndexMap;
@@ -24,13 +20,13 @@ pub(crate) struct Schema {
     pub(crate) occurrences: Vec<Occurrence>,
     /// The forms by their names, each with its root's type.
     pub(crate) forms: IndexMap<String, TypeId>,
-    ghost readable: { all_readable (types_view types) ≡ true },
 }
 
 impl Schema {
-    ghost use Rattle.std.specs.Prelude.{option_map};
+    ghost use Rattle.std.specs.Prelude.{◌≡◌, option_map};
     ghost use Rattle.fv_datum.specs.Lookup.{at_name};
     ghost use Rattle.fv_model.specs.Types.{name_at};
+    ghost use Rattle.fv_model.specs.Views.{types_view};
     ghost use Rattle.fv_engine.specs.SchemaView.{schema_view};
 
     /// The type of a form's root.

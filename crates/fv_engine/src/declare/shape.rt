@@ -6,7 +6,7 @@ ghost use Rattle.std.specs.Str.{bytes_eq};
 ghost use Rattle.serde_json.specs.View.{view as json_view, items_view, members_view};
 ghost use Rattle.fv_datum.specs.Kinds.{is_readable};
 ghost use Rattle.fv_model.specs.Draft.{pairs, has_only, each_some};
-ghost use Rattle.fv_model.specs.Types.{kind_of};
+ghost use Rattle.fv_model.specs.Types.{kind_of, held_view};
 ghost use Rattle.fv_engine.specs.DeclareDraft.{listed, use_of as spec_use, uses_of as spec_uses, type_use_of as spec_type_use, field_of as spec_field, type_of as spec_type, form_of as spec_form, draft_of as spec_draft};
 ghost use Rattle.fv_engine.specs.DraftViews.{use_view, field_view, type_view, form_view, draft_view};
 ghost use Rattle.fv_engine.specs.Ordered.{Ascends, names_of};
@@ -85,8 +85,8 @@ fn uses_of<'a>(
 
 /// What a field holds: so far text or integer.
 fn type_use_of(text: &str) -> Option<TypeUse>
-    ensures exact { result ≡ spec_type_use text.now }
-    ensures readable { IfSome result (λ u. is_readable (kind_of u) ≡ true) }
+    ensures exact { option_map held_view result ≡ spec_type_use text.now }
+    ensures readable { IfSome result (λ u. is_readable (kind_of (held_view u)) ≡ true) }
 {
     match text {
         "text" => Some(TypeUse::Text),

@@ -16,4 +16,5 @@ returns-clause-ok g c =
 
 pub returns-clause-err : goal.returns-clause-err
 returns-clause-err g c =
-    on_err_weaker c.answer.result (λ f m d w bytes s. broken_last g.M.Machine.step g.C.Clock.ticks m d w bytes c.args.line.now _ _ _ _ _ _ s (f s.rest s.keeps)) c.answer.ensures.err
+    let some : c.args.line.now ≡ [] → ⊥ = λ e. grind (arith, common_steps, c.bytes.ensures, c.if-is_empty.ensures) in
+    on_err_weaker c.answer.result (λ f m d w bytes s. broken_last g.M.Machine.step g.C.Clock.ticks m d w bytes c.args.line.now _ _ _ _ _ _ some s (f s.rest s.keeps)) c.answer.ensures.err

@@ -14,4 +14,4 @@ returns-in-Ok-clause-ok g c =
 pub returns-in-Err-clause-write : goal.returns-in-Err-clause-write
 returns-in-Err-clause-write g c = λ is.
     let other : End ≢ WriteFailed = λ e. cc in
-    stopped_last g.M.Machine.step g.C.Clock.ticks _ _ _ _ c.read_once.new.line _ _ _ _ _ _ _ c.in-Err.ensures.err (c.in-End.ensures.taken other _ _ _ _ c.loop.invariant)
+    stopped_last g.M.Machine.step g.C.Clock.ticks _ _ _ _ c.read_once.new.line _ _ _ _ _ _ _ (c.in-End.ensures.end refl) c.in-Err.ensures.err (c.in-End.ensures.taken other _ _ _ _ c.loop.invariant)

@@ -10,7 +10,7 @@ returns-then-byte-ne10-clause-ok g c = λ m d w before s.
 pub returns-in_err-answer-clause-err : goal.returns-in_err-answer-clause-err
 returns-in_err-answer-clause-err g c =
     let p = err_from_is_err_and c.from_residual.result c.from_residual.ensures.1 in
-    rw p.1 (λ m d w before s. broken_end g.M.Machine.step g.C.Clock.ticks m d w before _ _ _ _ _ _ _ (c.args.byte ∷ []) s (c.in_err-answer.ensures.err s.rest s.keeps))
+    rw p.1 (λ m d w before s. broken_end g.M.Machine.step g.C.Clock.ticks m d w before _ _ _ _ _ _ _ c.args.byte c.if-byte-ne10.false s (c.in_err-answer.ensures.err s.rest s.keeps))
 
 pub returns-clause-ok : goal.returns-clause-ok
 returns-clause-ok g c = λ m d w before s.

@@ -14,5 +14,5 @@ returns-in_err-take_byte-clause-err g c =
     let i = c.loop-b.b-index in
     let bytes = c.args.bytes.now in
     rw p.1 (λ m d w before s.
-    subst (λ (l : List ℕ). Broken g.M.Machine.step g.C.Clock.ticks m d w l c.take_byte.new.machine c.take_byte.new.clock (g.W.Write.contents c.take_byte.new.writer)) (and_rest before bytes i c.loop-b-test.true)
+    subst (λ (l : List ℕ). Broken ⊥ g.M.Machine.step g.C.Clock.ticks m d w l c.take_byte.new.machine c.take_byte.new.clock (g.W.Write.contents c.take_byte.new.writer)) (and_rest before bytes i c.loop-b-test.true)
     (broken_more g.M.Machine.step g.C.Clock.ticks m d w _ (drop (i + 1) bytes) _ _ _ (c.in_err-take_byte.ensures.err m d w (before ++ take i bytes) (c.loop-b.invariant m d w before s))))

@@ -1,5 +1,5 @@
 use Rattle.std.proofs.Common.{◌≡◌, true, false, map, sym, ap, subst, ◌∙◌, true≢false}
-use Rattle.fv_model.specs.Types.{too_many}
+use Rattle.fv_model.specs.Types.{declared_view, too_many}
 use Rattle.fv_model.specs.Views.{types_view}
 use Rattle.fv_engine.specs.Declares.{type_declared, form_declared, lacks_root, uses_declared}
 use Rattle.fv_engine.specs.DraftViews.{type_view, form_view, draft_view}
@@ -8,6 +8,7 @@ use Rattle.fv_engine.specs.Declarations.{Declarations}
 use Rattle.fv_engine.specs.Ordered.{AreOrdered}
 use Rattle.fv_engine.proofs.DeclareOrdered.{ordered}
 use Rattle.fv_engine.proofs.DeclareFound.{few_types, roots_known}
+use Rattle.fv_engine.proofs.Readable.{no_types_fault}
 use Rattle.fv_engine.proofs.DeclareSteps.{map_twice, ok_same, same_declarations, same_parts}
 use Rattle.fv_engine.proofs.declare.build.build.Goals as goal
 
@@ -15,8 +16,7 @@ pub returns-in_default : goal.returns-in_default
 returns-in_default c =
     let d = draft_view c.args.draft.now in
     let is = c.in_ok-types_for.ensures.exact ∙ ap (map (λ t. type_declared (type_view t))) c.deref.ensures.value ∙ map_twice type_view type_declared c.args.draft.now.types.items in
-    let no : true ≡ false = sym c.in_default.ensures ∙ ap too_many is ∙ few_types d c.requires in
-    absurd (true≢false no)
+    no_types_fault (declared_view c.in_ok-types_for.field-0) _ c.in_ok-types_for.ensures.readable (ap too_many is ∙ few_types d c.requires) c.in_default.ensures
 
 pub forms_for-requires-clause-known : goal.forms_for-requires-clause-known
 forms_for-requires-clause-known c =

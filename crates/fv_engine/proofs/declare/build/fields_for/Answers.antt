@@ -1,6 +1,6 @@
-use Rattle.std.proofs.Common.{◌≡◌, string_bytes, ap, arith}
+use Rattle.std.proofs.Common.{◌≡◌, string_bytes, ap, ◌∙◌, arith}
 use Rattle.fv_datum.specs.Kinds.{is_readable}
-use Rattle.fv_model.specs.Types.{use_view, kind_of}
+use Rattle.fv_model.specs.Types.{use_view, kind_of, held_view}
 use Rattle.fv_engine.specs.Declares.{field_declared}
 use Rattle.fv_engine.specs.DraftViews.{field_view}
 use Rattle.fv_engine.proofs.DeclareSteps.{insert_names, insert_entries}
@@ -11,10 +11,11 @@ pub loop-field-preserved : goal.loop-field-preserved
 loop-field-preserved c =
     let l = c.loop-field in
     let f = c.field-item.result in
+    let u = c.in_ok-type_use.type_use in
     let is : string_bytes c.in_ok-from_str.field-0 ≡ f.name.now = grind (arith, c.in_ok-from_str.ensures) in
     record {
-      names = insert_names (λ x. x.name.now) c.args.fields.now l.field-index f l.uses.entries c.insert.new.self.entries c.in_ok-from_str.field-0 f.type_use (omega arith) c.field-item.is c.requires l.invariant.names is c.in_ok-insert.ensures.entries;
-      made = insert_entries (λ x. x.name.now) c.args.fields.now l.field-index f l.uses.entries c.insert.new.self.entries c.in_ok-from_str.field-0 f.type_use (omega arith) c.field-item.is c.requires l.invariant.names is c.in_ok-insert.ensures.entries
-          use_view (λ x. field_declared (field_view x)) (ap (λ n. (n, f.type_use)) is) l.invariant.made;
-      readable = rw c.in_ok-insert.ensures.entries (list_all-insert_entry use_view (λ g. is_readable (kind_of g.1)) _ c.in_ok-from_str.field-0 f.type_use l.uses.entries (λ k. f.readable) l.invariant.readable);
+      names = insert_names (λ x. x.name.now) c.args.fields.now l.field-index f l.uses.entries c.insert.new.self.entries c.in_ok-from_str.field-0 u (omega arith) c.field-item.is c.requires l.invariant.names is c.in_ok-insert.ensures.entries;
+      made = insert_entries (λ x. x.name.now) c.args.fields.now l.field-index f l.uses.entries c.insert.new.self.entries c.in_ok-from_str.field-0 u (omega arith) c.field-item.is c.requires l.invariant.names is c.in_ok-insert.ensures.entries
+          use_view (λ x. field_declared (field_view x)) (ap (λ n. (n, held_view u)) is ∙ ap (λ h. (f.name.now, h)) c.in_ok-type_use.ensures) l.invariant.made;
+      readable = rw c.in_ok-insert.ensures.entries (list_all-insert_entry use_view (λ g. is_readable (kind_of g.1)) _ c.in_ok-from_str.field-0 u l.uses.entries (λ k. rw c.in_ok-type_use.ensures f.readable) l.invariant.readable);
     }

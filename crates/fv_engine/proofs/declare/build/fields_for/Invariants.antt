@@ -1,5 +1,6 @@
 use Rattle.std.proofs.Common.{◌≡◌, ◌++◌, map, drop, true}
-use Rattle.fv_model.specs.Types.{fields_readable, fields_view}
+use Rattle.fv_model.specs.Types.{fields_view}
+use Rattle.fv_engine.specs.Readable.{fields_readable}
 use Rattle.fv_engine.specs.Declares.{field_declared}
 use Rattle.fv_engine.specs.DraftViews.{field_view}
 use Rattle.fv_engine.specs.Ordered.{names_of}

@@ -1,5 +1,6 @@
 use Rattle.std.proofs.Common.{◌≡◌, map, string_bytes, ap, ◌∙◌, arith}
-use Rattle.fv_model.specs.Types.{type_view as entry_view, fields_view, fields_readable}
+use Rattle.fv_model.specs.Types.{type_view as entry_view, fields_view}
+use Rattle.fv_engine.specs.Readable.{fields_readable}
 use Rattle.fv_engine.specs.Declares.{field_declared, type_declared}
 use Rattle.fv_engine.specs.DraftViews.{field_view, type_view}
 use Rattle.fv_engine.proofs.DeclareSteps.{insert_names, insert_entries, map_twice}

@@ -1,5 +1,6 @@
 use Rattle.std.proofs.Common.{◌≡◌, ◌++◌, map, drop, true}
-use Rattle.fv_model.specs.Types.{all_readable, declared_view}
+use Rattle.fv_model.specs.Types.{declared_view}
+use Rattle.fv_engine.specs.Readable.{all_readable}
 use Rattle.fv_engine.specs.Declares.{type_declared}
 use Rattle.fv_engine.specs.DraftViews.{type_view}
 use Rattle.fv_engine.specs.Ordered.{names_of}

@@ -1,0 +1,16 @@
+-- The fault of an engine that isn't opened.
+use Rattle.std.proofs.Common.{◌≡◌, ◌≢◌, refl, sym, ◌∙◌}
+use Rattle.fv_store.specs.declared.fault.OpenStoreFault.{OpenStoreFault}
+use Rattle.fv_store.specs.declared.fault.OpenStoreFault.TheVariants.{OtherVersion, OtherDeclarations, Store, Memory}
+use Rattle.fv_engine.specs.declared.engine.OpenFault.{OpenFault}
+use Rattle.fv_engine.specs.declared.engine.OpenFault.TheVariants as opened
+
+same_cause : (f g : OpenStoreFault) → opened.Store f ≡ opened.Store g → f ≡ g
+same_cause f g e = cc
+
+-- a fault of the store is told as it is, but for want of memory
+pub store_cause : (fault told : OpenStoreFault) (r : OpenFault) → (fault ≡ Memory → r ≡ opened.Memory) → (fault ≢ Memory → r ≡ opened.Store fault) → r ≡ opened.Store told → fault ≡ told
+store_cause OtherVersion told r memory other is = same_cause OtherVersion told (sym (other (λ e. cc)) ∙ is)
+store_cause OtherDeclarations told r memory other is = same_cause OtherDeclarations told (sym (other (λ e. cc)) ∙ is)
+store_cause Store told r memory other is = same_cause Store told (sym (other (λ e. cc)) ∙ is)
+store_cause Memory told r memory other is = let e : opened.Memory ≡ opened.Store told = sym (memory refl) ∙ is in cc

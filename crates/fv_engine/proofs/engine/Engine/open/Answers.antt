@@ -1,0 +1,15 @@
+use Rattle.fv_engine.proofs.Listings.{uses_ascend}
+use Rattle.fv_engine.proofs.Openings.{store_cause}
+use Rattle.fv_engine.proofs.engine.Engine.open.Goals as goal
+
+pub invariant_of-result : goal.invariant_of-result
+invariant_of-result g c = (c.in-Ok.ensures.ordered.fields, uses_ascend _ c.in-Ok.ensures.ordered.uses)
+
+pub returns-in-Ok-open-clause-opened : goal.returns-in-Ok-open-clause-opened
+returns-in-Ok-open-clause-opened g c = λ m opens. c.in-Ok-open.ensures.opened _ _ m opens
+
+pub returns-in-Err-open-clause-other_version : goal.returns-in-Err-open-clause-other_version
+returns-in-Err-open-clause-other_version g c = λ is. c.in-Err-open.ensures.other_version (store_cause c.in-Err-open.fault _ _ c.store_fault.ensures.memory c.store_fault.ensures.other is)
+
+pub returns-in-Err-open-clause-other_declarations : goal.returns-in-Err-open-clause-other_declarations
+returns-in-Err-open-clause-other_declarations g c = λ is. c.in-Err-open.ensures.other_declarations (store_cause c.in-Err-open.fault _ _ c.store_fault.ensures.memory c.store_fault.ensures.other is)

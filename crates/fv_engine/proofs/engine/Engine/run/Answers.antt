@@ -1,0 +1,11 @@
+use Rattle.sqlite.specs.Held.{state}
+use Rattle.fv_engine.proofs.Lifts.{long_turn, short_turn}
+use Rattle.fv_engine.proofs.engine.Engine.run.Goals as goal
+
+pub returns-then-line-gt-LIMIT : goal.returns-then-line-gt-LIMIT
+returns-then-line-gt-LIMIT g c =
+    long_turn (state g.S.Store) c.args.line.now _ _ c.args.self.now _ c.refuse_long.ensures.same c.if-line-gt-LIMIT.true c.refuse_long.ensures.refused
+
+pub returns : goal.returns
+returns g c =
+    short_turn (state g.S.Store) c.args.line.now _ _ c.args.self.now _ c.self.inside.store c.answer_short.new.store c.self.view_is c.if-line-gt-LIMIT.false c.answer_short.ensures
