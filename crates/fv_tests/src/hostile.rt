@@ -88,7 +88,7 @@ fn other_forms_are_refused(rt: HostRuntime) -> Result<(), Fail> {
 }
 
 /// Bundles of the right form that aren't taken, with their faults.
-const REFUSED_BUNDLES: [(&str, &str); 10] = [
+const REFUSED_BUNDLES: [(&str, &str); 9] = [
     (
         "B1",
         r#"{"root":"aaaaaaaaaaaaaaaaaaaaaaaaaaaaaaaaaaaaaaaaaaaaaaaaaaaaaaaaaaaaaaaaa","objects":{"aaaaaaaaaaaaaaaaaaaaaaaaaaaaaaaaaaaaaaaaaaaaaaaaaaaaaaaaaaaaaaaaa":{"type":"Item"}}}"#,
@@ -115,10 +115,6 @@ const REFUSED_BUNDLES: [(&str, &str); 10] = [
     (
         "B5",
         r#"{"root":"a","objects":{"a":{"type":"Item","fields":{"name":1}}}}"#,
-    ),
-    (
-        "B8",
-        r#"{"root":"a","objects":{"a":{"type":"Item"},"b":{"type":"Item"}}}"#,
     ),
 ];
 

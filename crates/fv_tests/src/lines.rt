@@ -21,6 +21,20 @@ pub(crate) const GET: &str = r#"{"do":"get","id":"r1"}"#;
 pub(crate) const SHOWN: &str =
     r#"{"bundle":{"objects":{"a":{"fields":{"count":1,"name":"abc"},"type":"Item"}},"root":"a"},"form":"item","id":"r1","ok":"get"}"#;
 
+/// A put whose `name` has four UTF-16 code units, one more than may be.
+pub(crate) const LONG_PUT: &str =
+    r#"{"do":"put","id":"r1","form":"item","bundle":{"root":"a","objects":{"a":{"type":"Item","fields":{"count":1,"name":"😀bc"}}}}}"#;
+
+pub(crate) const WITH_LONG_NAME: &str =
+    r#"{"error":"C10","name":"Violations","records":[{"id":"r1","violations":[{"constraint":"Size","message":"size must be between 1 and 3","occurrence":2,"path":"name","value":"😀bc"}]}]}"#;
+
+/// A put without any field.
+pub(crate) const EMPTY_PUT: &str =
+    r#"{"do":"put","id":"r1","form":"item","bundle":{"root":"a","objects":{"a":{"type":"Item","fields":{}}}}}"#;
+
+pub(crate) const WITHOUT_NAME: &str =
+    r#"{"error":"C10","name":"Violations","records":[{"id":"r1","violations":[{"constraint":"NotNull","message":"must not be null","occurrence":1,"path":"name","value":null}]}]}"#;
+
 pub(crate) const LINE_TOO_LONG: &str = r#"{"error":"C1","name":"LineTooLong"}"#;
 
 pub(crate) const NOT_JSON: &str = r#"{"error":"C2","name":"NotJson"}"#;

@@ -1,7 +1,9 @@
-//! Lines in, replies out.
+//! Lines in, replies out. The contracts let a command be answered with C12 at any time, and a
+//! reader that never fails be given up; with ample memory neither may come, as is seen here.
 use crate::lines::{
-    DECLARATIONS, FailingReader, FailingWriter, GET, LINE_TOO_LONG, ListedClock, NOT_JSON, PUT,
-    PUT_TAKEN, SHOWN, add_line, opened, replies, served, written,
+    DECLARATIONS, EMPTY_PUT, FailingReader, FailingWriter, GET, LINE_TOO_LONG, LONG_PUT,
+    ListedClock, NOT_JSON, PUT, PUT_TAKEN, SHOWN, WITH_LONG_NAME, WITHOUT_NAME, add_line, opened,
+    replies, served, written,
 };
 use fv_engine::{ServeFault, serve};
 use std::str;
@@ -10,21 +12,11 @@ use std::test::Fail;
 /// Taken, and refused with the whole list of reasons.
 #[test]
 fn a_put_is_judged_and_stored(rt: HostRuntime) -> Result<(), Fail> {
-    let long =
-        r#"{"do":"put","id":"r1","form":"item","bundle":{"root":"a","objects":{"a":{"type":"Item","fields":{"count":1,"name":"😀bc"}}}}}"#;
-    let empty =
-        r#"{"do":"put","id":"r1","form":"item","bundle":{"root":"a","objects":{"a":{"type":"Item","fields":{}}}}}"#;
-    let output = replies(rt.alloc(), DECLARATIONS, &[PUT, GET, long, GET, empty, GET])?;
+    let lines = [PUT, GET, LONG_PUT, GET, EMPTY_PUT, GET];
+    let output = replies(rt.alloc(), DECLARATIONS, &lines)?;
     let expected = written(
         rt.alloc(),
-        &[
-            PUT_TAKEN,
-            SHOWN,
-            r#"{"error":"C10","name":"Violations","records":[{"id":"r1","violations":[{"constraint":"Size","message":"size must be between 1 and 3","occurrence":2,"path":"name","value":"😀bc"}]}]}"#,
-            SHOWN,
-            r#"{"error":"C10","name":"Violations","records":[{"id":"r1","violations":[{"constraint":"NotNull","message":"must not be null","occurrence":1,"path":"name","value":null}]}]}"#,
-            SHOWN,
-        ],
+        &[PUT_TAKEN, SHOWN, WITH_LONG_NAME, SHOWN, WITHOUT_NAME, SHOWN],
     )?;
     assert_eq!(rt; str::from_utf8(&output)?, str::from_utf8(&expected)?);
     Ok(())

@@ -1,8 +1,4 @@
 //! Bundles read from JSON and written as JSON.
-ghost use Rattle.std.specs.Prelude.{◌≡◌, true};
-ghost use Rattle.fv_model.specs.Types.{all_readable};
-ghost use Rattle.fv_model.specs.Views.{types_view};
-
 use crate::types::item_and_note;
 use fv_datum::Datum;
 use fv_model::{Bundle, Object, TypeId, Types, read_bundle, write_bundle};
@@ -12,14 +8,12 @@ use std::process::Abort;
 use std::test::Fail;
 
 /// The bundle that a text of JSON is read as, written again, or the name of the fault.
-fn read_and_written(
+pub(crate) fn read_and_written(
     alloc: Global,
     types: &Types,
     asked: Option<TypeId>,
     text: &str,
-) -> Result<String, Fail>
-    requires { all_readable (types_view types.now) ≡ true }
-{
+) -> Result<String, Fail> {
     let value = Value::from_str(alloc, text)?;
     match read_bundle(alloc, types, asked, &value) {
         Ok(bundle) => Ok(write_bundle(alloc, &bundle)?.to_string(alloc)?),
@@ -27,22 +21,32 @@ fn read_and_written(
     }
 }
 
-/// Each line of a table has a bundle and what is wanted of it: the types are `Item`, with a text
-/// `name` and an integer `count`, and `Note`, with a text `text`.
+/// Each line of a table has a bundle and what is wanted of it, by these types.
+pub(crate) fn check_table(
+    rt: &impl Abort,
+    alloc: Global,
+    types: &Types,
+    asked: Option<&str>,
+    table: &str,
+) -> Result<(), Fail> {
+    let asked = asked.and_then(|name| types.find(name));
+    for row in table.trim().lines() {
+        let (given, wanted) = row.split_once(" => ").ok_or("a row")?;
+        let answer = read_and_written(alloc, types, asked, given)?;
+        assert_eq!(rt; answer.as_str(), wanted, "{given}");
+    }
+    Ok(())
+}
+
+/// The same by the types `Item`, with a text `name` and an integer `count`, and `Note`, with a text
+/// `text`.
 pub(crate) fn check_bundles(
     rt: &impl Abort,
     alloc: Global,
     asked: Option<&str>,
     table: &str,
 ) -> Result<(), Fail> {
-    let types = item_and_note(alloc)?;
-    let asked = asked.and_then(|name| types.find(name));
-    for row in table.trim().lines() {
-        let (given, wanted) = row.split_once(" => ").ok_or("a row")?;
-        let answer = read_and_written(alloc, &types, asked, given)?;
-        assert_eq!(rt; answer.as_str(), wanted, "{given}");
-    }
-    Ok(())
+    check_table(rt, alloc, &item_and_note(alloc)?, asked, table)
 }
 
 #[test]
@@ -54,6 +58,8 @@ fn bundles_are_written_by_name_without_nulls(rt: HostRuntime) -> Result<(), Fail
 {"root":"a","objects":{"a":{"type":"Item"}}} => {"objects":{"a":{"fields":{},"type":"Item"}},"root":"a"}
 {"root":"a","objects":{"a":{"type":"Item","fields":{"name":null}}}} => {"objects":{"a":{"fields":{},"type":"Item"}},"root":"a"}
 {"root":"a","objects":{"a":{"type":"Item","fields":{"count":null,"name":""}}}} => {"objects":{"a":{"fields":{"name":""},"type":"Item"}},"root":"a"}
+{"root":"a","objects":{"a":{"type":"Item","fields":{"count":null,"name":null}}}} => {"objects":{"a":{"fields":{},"type":"Item"}},"root":"a"}
+{"root":"A9_","objects":{"A9_":{"type":"Note","fields":{"text":"x"}}}} => {"objects":{"A9_":{"fields":{"text":"x"},"type":"Note"}},"root":"A9_"}
 "#;
     check_bundles(&rt, rt.alloc(), None, table)
 }
@@ -65,6 +71,10 @@ fn of_members_given_twice_the_last_counts(rt: HostRuntime) -> Result<(), Fail> {
 {"root":"a","objects":{"a":1,"a":{"type":9,"type":"Note"}}} => {"objects":{"a":{"fields":{},"type":"Note"}},"root":"a"}
 {"root":"a","objects":{"a":{"type":"Item","fields":{"count":"x","count":0}}}} => {"objects":{"a":{"fields":{"count":0},"type":"Item"}},"root":"a"}
 {"root":"a","objects":{"a":{"type":"Item","fields":{"count":0,"count":"x"}}}} => WrongKind
+{"root":"a","objects":{"a":{"type":"Item","fields":{"count":0,"count":null}}}} => {"objects":{"a":{"fields":{},"type":"Item"}},"root":"a"}
+{"root":"a","objects":{"a":{"type":"Item","fields":{"zz":1},"fields":{"count":2}}}} => {"objects":{"a":{"fields":{"count":2},"type":"Item"}},"root":"a"}
+{"root":"a","objects":{"a":{"type":"Item","fields":{"count":2},"fields":null}}} => Shape
+{"root":"a","objects":{"a":{"type":"Item"}},"objects":{}} => RootMissing
 {"root":"a","objects":{"a":{"type":"Item","fields":{"na\u006de":"x","name":"y"}}}} => {"objects":{"a":{"fields":{"name":"y"},"type":"Item"}},"root":"a"}
 "#;
     check_bundles(&rt, rt.alloc(), None, table)
@@ -74,9 +84,121 @@ fn of_members_given_twice_the_last_counts(rt: HostRuntime) -> Result<(), Fail> {
 fn the_root_is_of_the_asked_type(rt: HostRuntime) -> Result<(), Fail> {
     let table = r#"
 {"root":"a","objects":{"a":{"type":"Note"}}} => {"objects":{"a":{"fields":{},"type":"Note"}},"root":"a"}
+{"objects":{"a":{"fields":{"text":"x"},"type":"Note"}},"root":"a"} => {"objects":{"a":{"fields":{"text":"x"},"type":"Note"}},"root":"a"}
 {"root":"a","objects":{"a":{"type":"Item"}}} => RootType
 "#;
     check_bundles(&rt, rt.alloc(), Some("Note"), table)
+}
+
+/// A bundle of one `Item` whose field has that JSON, as it is written.
+fn item_with(alloc: Global, field: &str, json: &str) -> Result<String, Fail> {
+    let text = format!(in alloc;
+        "{{\"objects\":{{\"a\":{{\"fields\":{{\"{field}\":{json}}},\"type\":\"Item\"}}}},\"root\":\"a\"}}"
+    )?;
+    Ok(text)
+}
+
+/// Each line of a table has a field's JSON, and the JSON that is written of it.
+fn check_taken(rt: &impl Abort, alloc: Global, field: &str, table: &str) -> Result<(), Fail> {
+    let types = item_and_note(alloc)?;
+    for row in table.trim().lines() {
+        let (given, wanted) = row.split_once(" => ").ok_or("a row")?;
+        let bundle = item_with(alloc, field, given)?;
+        let answer = read_and_written(alloc, &types, types.find("Item"), bundle.as_str())?;
+        assert_eq!(rt; answer.as_str(), item_with(alloc, field, wanted)?.as_str());
+    }
+    Ok(())
+}
+
+/// Each line of a table has JSON that isn't of the field's type use.
+fn check_wrong(rt: &impl Abort, alloc: Global, field: &str, table: &str) -> Result<(), Fail> {
+    let types = item_and_note(alloc)?;
+    for row in table.trim().lines() {
+        let bundle = item_with(alloc, field, row)?;
+        let answer = read_and_written(alloc, &types, None, bundle.as_str())?;
+        assert_eq!(rt; answer.as_str(), "WrongKind", "{row}");
+    }
+    Ok(())
+}
+
+#[test]
+fn integers_are_given_back(rt: HostRuntime) -> Result<(), Fail> {
+    let table = r#"
+0 => 0
+1 => 1
+-1 => -1
+9223372036854775807 => 9223372036854775807
+-9223372036854775808 => -9223372036854775808
+"#;
+    check_taken(&rt, rt.alloc(), "count", table)
+}
+
+#[test]
+fn other_numbers_are_no_integers(rt: HostRuntime) -> Result<(), Fail> {
+    let table = r#"
+1.0
+1e0
+1E2
+-0
+0.0
+-0.0
+1.5
+9223372036854775808
+-9223372036854775809
+18446744073709551616
+"1"
+true
+[1]
+{}
+"#;
+    check_wrong(&rt, rt.alloc(), "count", table)
+}
+
+#[test]
+fn texts_are_given_back(rt: HostRuntime) -> Result<(), Fail> {
+    let table = r#"
+"" => ""
+" " => " "
+"null" => "null"
+"😀bc" => "😀bc"
+"\ud83d\ude00bc" => "😀bc"
+"\"\\\/" => "\"\\/"
+"\b\f\n\r\t" => "\b\f\n\r\t"
+"\u0008\u000c\u000A\u000d\u0009" => "\b\f\n\r\t"
+"\u0022\u005c\u002F" => "\"\\/"
+"\u0000" => "\u0000"
+"a\u0000b\u0001\u001F" => "a\u0000b\u0001\u001f"
+"\u0041\u00e9\u20ac" => "Aé€"
+"\ud800\udc00𝄞" => "𐀀𝄞"
+"#;
+    check_taken(&rt, rt.alloc(), "name", table)
+}
+
+#[test]
+fn other_values_are_no_texts(rt: HostRuntime) -> Result<(), Fail> {
+    let table = r#"
+0
+1.5
+false
+[]
+["a"]
+{"a":"b"}
+"#;
+    check_wrong(&rt, rt.alloc(), "name", table)
+}
+
+#[test]
+fn a_text_is_held_by_its_characters(rt: HostRuntime) -> Result<(), Fail> {
+    let types = item_and_note(rt.alloc())?;
+    let text = item_with(rt.alloc(), "name", "\"\\ud83d\\ude00bc\\u0000\"")?;
+    let value = Value::from_str(rt.alloc(), text.as_str())?;
+    let bundle = read_bundle(rt.alloc(), &types, None, &value)?;
+    let object = bundle.object("a").ok_or("an object")?;
+    let Some(Datum::Text(name)) = object.field("name") else {
+        return Err("a text".into());
+    };
+    assert_eq!(rt; name.as_str(), "\u{1f600}bc\0");
+    Ok(())
 }
 
 /// A bundle of one `Item`, whose `count` is -3.
@@ -110,9 +232,9 @@ fn an_object_has_each_field_of_its_type(rt: HostRuntime) -> Result<(), Fail> {
 #[test]
 fn fields_stand_in_the_order_of_the_type(rt: HostRuntime) -> Result<(), Fail> {
     let bundle = item_of(rt.alloc())?;
-    let named = bundle.objects().first().ok_or("an object")?;
-    assert_eq!(rt; named.name(), "a");
-    let fields = named.object().fields();
+    let (name, object) = bundle.objects().get_index(0).ok_or("an object")?;
+    assert_eq!(rt; name.as_str(), "a");
+    let fields = object.fields();
     assert_eq!(rt; fields.len(), 2);
     assert_eq!(rt; fields[0].name(), "name");
     assert!(rt; matches!(fields[0].datum(), Datum::Null));
@@ -121,7 +243,7 @@ fn fields_stand_in_the_order_of_the_type(rt: HostRuntime) -> Result<(), Fail> {
 }
 
 /// A piece of text, that many times.
-fn repeated(alloc: Global, piece: &str, count: usize) -> Result<String, Fail> {
+pub(crate) fn repeated(alloc: Global, piece: &str, count: usize) -> Result<String, Fail> {
     let mut text = String::new(alloc);
     for _ in 0..count {
         text.push_str(piece)?;

@@ -9,18 +9,28 @@ fn a_bundle_has_its_form(rt: HostRuntime) -> Result<(), Fail> {
 null => Shape
 [] => Shape
 "a" => Shape
+1 => Shape
+true => Shape
 {} => Shape
 {"root":"a"} => Shape
 {"objects":{"a":{"type":"Item"}}} => Shape
 {"root":"a","objects":{"a":{"type":"Item"}},"more":null} => Shape
+{"root":"a","objects":{"a":{"type":"Item"}},"":0} => Shape
+{"Root":"a","objects":{"a":{"type":"Item"}}} => Shape
+{"root":7,"objects":{"a":{"type":"Item"}}} => Shape
 {"root":null,"objects":{"a":{"type":"Item"}}} => Shape
 {"root":"a","objects":null} => Shape
 {"root":"a","objects":[]} => Shape
 {"root":"a","objects":{"a":null}} => Shape
+{"root":"a","objects":{"a":[]}} => Shape
+{"root":"a","objects":{"a":"Item"}} => Shape
 {"root":"a","objects":{"a":{}}} => Shape
 {"root":"a","objects":{"a":{"fields":{}}}} => Shape
 {"root":"a","objects":{"a":{"type":7}}} => Shape
+{"root":"a","objects":{"a":{"type":null}}} => Shape
 {"root":"a","objects":{"a":{"type":"Item","":0}}} => Shape
+{"root":"a","objects":{"a":{"type":"Item","fields":{},"more":0}}} => Shape
+{"root":"a","objects":{"a":{"type":"Item","fields":""}}} => Shape
 {"root":"a","objects":{"a":{"type":"Item","fields":null}}} => Shape
 {"root":"a","objects":{"a":{"type":"Item","fields":[]}}} => Shape
 "#;
@@ -33,12 +43,15 @@ fn names_and_types_are_judged(rt: HostRuntime) -> Result<(), Fail> {
 {"root":"","objects":{"":{"type":"Item"}}} => BadName
 {"root":"é","objects":{"é":{"type":"Item"}}} => BadName
 {"root":"9","objects":{"9":{"type":"Item"}}} => BadName
+{"root":"a-b","objects":{"a-b":{"type":"Item"}}} => BadName
+{"root":"a","objects":{"a":{"type":"Item"},"caf\u00e9":{"type":"Item"}}} => BadName
+{"root":"a","objects":{"a":{"type":"Item"},"a\u0000":{"type":"Item"}}} => BadName
 {"root":"a","objects":{}} => RootMissing
 {"root":"","objects":{"a":{"type":"Item"}}} => RootMissing
 {"root":"A","objects":{"a":{"type":"Item"}}} => RootMissing
+{"root":"é","objects":{"a":{"type":"Item"}}} => RootMissing
 {"root":"a","objects":{"a":{"type":"item"}}} => UnknownType
 {"root":"a","objects":{"a":{"type":""}}} => UnknownType
-{"root":"a","objects":{"a":{"type":"Item"},"b":{"type":"Note"}}} => TooLarge
 "#;
     check_bundles(&rt, rt.alloc(), None, table)
 }
@@ -60,22 +73,6 @@ fn fields_and_data_are_judged(rt: HostRuntime) -> Result<(), Fail> {
     check_bundles(&rt, rt.alloc(), None, table)
 }
 
-// Where `Note` is asked, each bundle has the wanted fault, and beside it the next ones.
-#[test]
-fn the_first_fault_is_answered(rt: HostRuntime) -> Result<(), Fail> {
-    let table = r#"
-{"root":"a","objects":{"9":{"type":"Nope","x":0}}} => Shape
-{"root":"a","objects":{"9":{"type":"Nope"}}} => BadName
-{"root":"a","objects":{"b":{"type":"Nope"}}} => RootMissing
-{"root":"a","objects":{"a":{"type":"Item","fields":{"zz":0}},"b":{"type":"Nope"}}} => UnknownType
-{"root":"a","objects":{"a":{"type":"Item","fields":{"name":0}},"b":{"type":"Item","fields":{"zz":0}}}} => UnknownField
-{"root":"a","objects":{"a":{"type":"Item"},"b":{"type":"Item","fields":{"name":0}}}} => WrongKind
-{"root":"a","objects":{"a":{"type":"Item"},"b":{"type":"Note"}}} => TooLarge
-{"root":"a","objects":{"a":{"type":"Item"}}} => RootType
-"#;
-    check_bundles(&rt, rt.alloc(), Some("Note"), table)
-}
-
 #[test]
 fn faults_of_bundles_have_names_and_codes(rt: HostRuntime) {
     for (fault, code, name) in [
@@ -85,6 +82,8 @@ fn faults_of_bundles_have_names_and_codes(rt: HostRuntime) {
         (BundleFault::UnknownType, "B3", "UnknownType"),
         (BundleFault::UnknownField, "B4", "UnknownField"),
         (BundleFault::WrongKind, "B5", "WrongKind"),
+        (BundleFault::DanglingRef, "B6", "DanglingRef"),
+        (BundleFault::RefType, "B7", "RefType"),
         (BundleFault::TooLarge, "B8", "TooLarge"),
         (BundleFault::RootType, "B9", "RootType"),
         (BundleFault::Memory, "", "Memory"),

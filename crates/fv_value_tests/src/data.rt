@@ -1,19 +1,21 @@
 //! Data read from JSON and written as JSON. A table has a case a line, what is given and what is
 //! wanted.
-ghost use Rattle.std.specs.Prelude.{◌≡◌, true};
-ghost use Rattle.fv_datum.specs.Kinds.{is_readable};
+ghost use Rattle.std.specs.Prelude.{◌≡◌, false};
+ghost use Rattle.fv_datum.specs.Kinds.{is_container};
 
 use fv_datum::{
-    Datum, DatumFault, Kind, Name, is_name, moment_ok, read_datum, spells_datum, write_datum,
+    Attribute, Attrs, Datum, DatumFault, Kind, Name, is_name, is_null, moment_ok, read_datum,
+    spells_datum, write_datum,
 };
 use serde_json::Value;
 use std::alloc::Global;
+use std::collections::BTreeMap;
 use std::process::Abort;
 use std::test::Fail;
 
 /// What a text of JSON is read as, written again, or the name of the fault.
 fn read_and_written(alloc: Global, kind: Kind, text: &str) -> Result<String, Fail>
-    requires { is_readable kind ≡ true }
+    requires { is_container kind ≡ false }
 {
     let value = Value::from_str(alloc, text)?;
     match read_datum(alloc, kind, &value) {
@@ -23,7 +25,7 @@ fn read_and_written(alloc: Global, kind: Kind, text: &str) -> Result<String, Fai
 }
 
 fn check_reads(rt: &impl Abort, alloc: Global, kind: Kind, table: &str) -> Result<(), Fail>
-    requires { is_readable kind ≡ true }
+    requires { is_container kind ≡ false }
 {
     for row in table.trim().lines() {
         let (given, wanted) = row.split_once(" => ").ok_or("a row")?;
@@ -245,6 +247,31 @@ fn moments_have_a_first_and_a_last(rt: HostRuntime) {
     ] {
         assert_eq!(rt; moment_ok(seconds), wanted, "{seconds}");
     }
+}
+
+#[test]
+fn null_alone_is_null(rt: HostRuntime) -> Result<(), Fail> {
+    assert!(rt; is_null(&Datum::Null));
+    assert!(rt; !is_null(&Datum::Integer(0)));
+    assert!(rt; !is_null(&Datum::Text(String::new(rt.alloc()))));
+    assert!(rt; !is_null(&Datum::List(Vec::new(rt.alloc()))));
+    let empty = Datum::Optional(Box::new(rt.alloc(), Datum::Null)?);
+    assert!(rt; !is_null(&empty));
+    Ok(())
+}
+
+#[test]
+fn attributes_are_found_by_their_names(rt: HostRuntime) -> Result<(), Fail> {
+    let mut entries = BTreeMap::new(rt.alloc());
+    entries.insert(String::from_str(rt.alloc(), "min")?, Attribute::Integer(-1))?;
+    entries.insert(String::from_str(rt.alloc(), "max")?, Attribute::Integer(7))?;
+    let attrs = Attrs::new(entries);
+    assert_eq!(rt; attrs.entries().len(), 2);
+    assert!(rt; matches!(attrs.find("min"), Some(Attribute::Integer(-1))));
+    assert!(rt; matches!(attrs.find("max"), Some(Attribute::Integer(7))));
+    assert!(rt; attrs.find("mi").is_none());
+    assert!(rt; attrs.find("").is_none());
+    Ok(())
 }
 
 #[test]

@@ -1,0 +1,28 @@
+//! Tests of types, bundles and the store: tables of examples from outside, whose wanted answers are
+//! written down and never taken from the program.
+#![tactic(auto)]
+
+#[cfg(test)]
+mod bundle_faults;
+#[cfg(test)]
+mod bundles;
+#[cfg(test)]
+mod databases;
+#[cfg(test)]
+mod disks;
+#[cfg(test)]
+mod fault_order;
+#[cfg(test)]
+mod many_objects;
+#[cfg(test)]
+mod references;
+#[cfg(test)]
+mod refused_databases;
+#[cfg(test)]
+mod stores;
+#[cfg(test)]
+mod storing;
+#[cfg(test)]
+mod type_tables;
+#[cfg(test)]
+mod types;
