@@ -1,0 +1,101 @@
+#!/usr/bin/env python3
+"""Refuses each of formd's requests for memory in turn, on the demonstration's lines.
+
+Run it behind `make`, which leaves the program as crates/formd/out/formd. A run has one request
+refused: the first, the second, and so on, until a run asks for less. Each run must end well: every
+reply is the one that the lines so far call for, or the refusal for want of memory (C12), which
+changes nothing; where the program ends before its first line, that is status 4 and `formd: memory`.
+
+What the lines call for is worked out here, by a map from ids to records.
+"""
+
+import json
+import os
+import subprocess
+import sys
+import tempfile
+import time
+from pathlib import Path
+
+HERE = Path(__file__).resolve().parent
+FORMD = HERE.parent / "crates" / "formd"
+MEMORY = {"error": "C12", "name": "Memory"}
+
+
+def violations(fields):
+    """The violations of an Item: Min 1 of count, NotNull and Size 1 to 3 of name."""
+    count, name = fields.get("count"), fields.get("name")
+    found = []
+
+    def add(path, constraint, occurrence, message, value):
+        found.append({"constraint": constraint, "message": message, "occurrence": occurrence, "path": path, "value": value})
+
+    if count is not None and count < 1:
+        add("count", "Min", 0, "must be greater than or equal to 1", count)
+    if name is None:
+        add("name", "NotNull", 1, "must not be null", None)
+    elif not 1 <= len(name.encode("utf-16-le")) // 2 <= 3:
+        add("name", "Size", 2, "size must be between 1 and 3", name)
+    return found
+
+
+def wanted(records, command):
+    """The reply that a command calls for, and the records behind it."""
+    key = command["id"]
+    if command["do"] == "get":
+        if key not in records:
+            return {"error": "C6", "name": "NoRecord"}, records
+        return {"ok": "get", "id": key, "form": records[key][0], "bundle": records[key][1]}, records
+    bundle = command["bundle"]
+    (root,) = bundle["objects"].values()
+    found = violations(root["fields"])
+    if found:
+        return {"error": "C10", "name": "Violations", "records": [{"id": key, "violations": found}]}, records
+    return {"ok": "put"}, {**records, key: (command["form"], bundle)}
+
+
+def fault(commands, status, output, errors):
+    """What is wrong with a run, if anything is, and whether its want of memory showed."""
+    if status == 4 and not output:
+        return (None if errors == b"formd: memory\n" else f"status 4 with {errors!r}"), True
+    if status != 0:
+        return f"status {status} with {errors!r}", True
+    replies = [json.loads(line) for line in output.decode().splitlines()]
+    if len(replies) != len(commands):
+        return f"{len(replies)} replies to {len(commands)} lines", True
+    records, wants = {}, 0
+    for number, (command, reply) in enumerate(zip(commands, replies)):
+        if reply == MEMORY:
+            wants += 1
+            continue
+        expected, records = wanted(records, command)
+        if reply != expected:
+            return f"line {number}: {reply} and not {expected}", True
+    return (None if wants <= 1 else f"{wants} refusals for one request"), wants == 1
+
+
+def main():
+    lines = (FORMD / "stdin").read_bytes()
+    commands = [json.loads(line) for line in lines.decode().splitlines()]
+    with tempfile.TemporaryDirectory() as folder:
+        library, counted = Path(folder) / "refuse.so", Path(folder) / "count"
+        subprocess.run(["gcc", "-O1", "-shared", "-fPIC", "-o", library, HERE / "refuse.c"], check=True)
+        number, shown, early = 0, 0, 0
+        begun = time.monotonic()
+        while True:
+            number += 1
+            environment = {**os.environ, "LD_PRELOAD": str(library), "REFUSE_AT": str(number), "REFUSE_COUNT": str(counted)}
+            run = subprocess.run([FORMD / "out" / "formd"], input=lines, capture_output=True, env=environment, timeout=60)
+            wrong, showed = fault(commands, run.returncode, run.stdout, run.stderr)
+            if wrong:
+                sys.exit(f"request {number}: {wrong}")
+            shown += showed
+            early += run.returncode == 4
+            if int(counted.read_text()) < number:
+                break
+    print(f"{number - 1} requests for memory, each refused in its turn: {early} runs ended with status 4 before their first line, "
+          f"{shown - early} had one reply C12, {number - 1 - shown} answered as ever; no other difference; {1000 * (time.monotonic() - begun) / number:.1f} ms a run")
+
+
+if __name__ == "__main__":
+    main()
