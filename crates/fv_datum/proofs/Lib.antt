@@ -3,3 +3,4 @@ pub mod DigitLemmas
 pub mod Lookups
 pub mod Spelled
 pub mod Unfit
+pub mod Utf8

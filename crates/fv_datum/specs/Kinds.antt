@@ -16,12 +16,6 @@ is_container Map = true
 is_container Optional = true
 is_container _ = false
 
--- the kinds that a bundle's fields may have so far
-abbrev pub is_readable : Kind → Bool
-is_readable Text = true
-is_readable Integer = true
-is_readable _ = false
-
 -- a datum of a plain kind other than null: a whole number of 64 bits, a text of the kind's form, a moment, a name
 abbrev pub IsOfKind : Kind → Data → Type 0
 IsOfKind Text d = (s : List ℕ) × (d ≡ text s)

@@ -10,5 +10,6 @@ pub mod Kinds
 pub mod Lookup
 pub mod Moments
 pub mod Name
+pub mod Parsing
 pub mod View
 pub mod Written

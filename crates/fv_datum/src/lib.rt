@@ -11,6 +11,7 @@ mod fault;
 mod kind;
 mod moment;
 mod name;
+mod parsing;
 mod reading;
 mod writing;
 
@@ -23,5 +24,6 @@ pub use fault::DatumFault;
 pub use kind::Kind;
 pub use moment::moment_ok;
 pub use name::{Name, is_name};
+pub use parsing::{JsonFault, read_json};
 pub use reading::{read_datum, spells_datum};
 pub use writing::{is_null, write_datum};
