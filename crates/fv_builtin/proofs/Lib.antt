@@ -1,3 +1,4 @@
 pub mod Counts
 pub mod DigitCounts
+pub mod Pieces
 pub mod Units

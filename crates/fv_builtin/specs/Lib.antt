@@ -1,5 +1,7 @@
+pub mod Codes
 pub mod FaultNames
 pub mod Given
+pub mod Interpolation
 pub mod Matches
 pub mod Messages
 pub mod Names

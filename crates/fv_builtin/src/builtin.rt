@@ -17,7 +17,7 @@ use crate::fault::BuiltinFault;
 use crate::name::{BuiltinName, builtin_named};
 use crate::pattern;
 use crate::size::{is_not_empty, is_sized};
-use crate::table::takes;
+use crate::table::takes_kind;
 use crate::time::{is_future, is_future_or_present, is_past, is_past_or_present};
 use crate::truth::{is_false, is_true};
 use fv_datum::{Attrs, Datum, Kind, is_null};
@@ -115,7 +115,7 @@ fn read_named(
     match drafted(which, attrs) {
         None => Err(BuiltinFault::Attribute),
         Some(draft) => {
-            if takes(which, kind) {
+            if takes_kind(which, kind) {
                 built(alloc, draft)
             } else {
                 Err(BuiltinFault::UnexpectedType)

@@ -1,5 +1,5 @@
 //! The constraint that a name is with the attributes that are given, before a pattern is built.
-ghost use Rattle.std.specs.Prelude.{◌≡◌, option_map};
+ghost use Rattle.std.specs.Prelude.{◌≡◌, is_some, option_map};
 ghost use Rattle.fv_builtin.specs.Given.{accepted, drafted};
 ghost use Rattle.fv_builtin.specs.Views.{draft_view};
 
@@ -17,6 +17,13 @@ use fv_datum::Attrs;
 pub(crate) enum Draft<'a> {
     Ready(Builtin),
     ToMatch(&'a str),
+}
+
+/// Whether the attributes are ones that the constraint takes.
+pub fn takes_attributes(which: BuiltinName, attrs: &Attrs) -> bool
+    ensures { result ≡ is_some (drafted which attrs.now) }
+{
+    drafted(which, attrs).is_some()
 }
 
 /// None where an attribute is unknown, missing, of another kind or refused.

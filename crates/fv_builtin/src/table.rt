@@ -1,10 +1,11 @@
 //! What each built-in constraint takes: its attributes with their kinds and defaults, and the
 //! kinds of data that it is on.
-ghost use Rattle.std.specs.Prelude.{◌≡◌};
-ghost use Rattle.fv_builtin.specs.Table.{kind_of_attribute, takes};
+ghost use Rattle.std.specs.Prelude.{◌≡◌, option_map};
+ghost use Rattle.fv_datum.specs.Attributes.{attribute_view};
+ghost use Rattle.fv_builtin.specs.Table.{kind_of_attribute, default_of, takes};
 
 use crate::name::BuiltinName;
-use fv_datum::{AttributeKind, Kind};
+use fv_datum::{Attribute, AttributeKind, Kind};
 
 /// The default of Size's `min`.
 pub(crate) const MIN_SIZE: i64 = 0;
@@ -45,8 +46,26 @@ pub(crate) fn kind_of_attribute(which: BuiltinName, name: &str) -> Option<Attrib
     }
 }
 
+/// The default of a constraint's attribute, if it has one.
+pub(crate) fn default_of(which: BuiltinName, name: &str) -> Option<Attribute>
+    ensures { option_map attribute_view result ≡ default_of which name.now }
+{
+    match which {
+        BuiltinName::DecimalMin | BuiltinName::DecimalMax => match name {
+            "inclusive" => Some(Attribute::Boolean(INCLUSIVE)),
+            _ => None,
+        },
+        BuiltinName::Size => match name {
+            "min" => Some(Attribute::Integer(MIN_SIZE)),
+            "max" => Some(Attribute::Integer(MAX_SIZE)),
+            _ => None,
+        },
+        _ => None,
+    }
+}
+
 /// Whether a constraint is on data of a kind.
-pub(crate) fn takes(which: BuiltinName, kind: Kind) -> bool
+pub fn takes_kind(which: BuiltinName, kind: Kind) -> bool
     ensures { result ≡ takes which kind }
 {
     match which {
