@@ -1,0 +1,50 @@
+//! Declarations by their names, before any of them is judged.
+ghost use Rattle.std.proofs.Props.{props};
+ghost use Rattle.std.specs.Prelude.{◌≡◌, map};
+ghost use Rattle.fv_declare.specs.Ordered.{Ascends, names_of};
+
+use fv_datum::Attrs;
+use fv_model::TypeUse;
+use serde_json::{Map, Value};
+
+/// A use of a constraint at a field.
+#[derive(Drop)]
+pub(crate) struct UseDraft<'a> {
+    pub(crate) constraint: &'a str,
+    pub(crate) with: Attrs,
+}
+
+/// A field of a type.
+#[derive(Drop)]
+pub(crate) struct FieldDraft<'a> {
+    pub(crate) name: &'a str,
+    pub(crate) type_use: TypeUse,
+    pub(crate) uses: Vec<UseDraft<'a>>,
+}
+
+/// A type, its fields ascending by the bytes of their names.
+#[derive(Drop)]
+pub(crate) struct TypeDraft<'a> {
+    pub(crate) name: &'a str,
+    pub(crate) fields: Vec<FieldDraft<'a>>,
+    ghost ascend: { Ascends (map (λ f. f.name.now) fields.items) } by { Prim.hlevel props },
+}
+
+/// A form.
+#[derive(Drop)]
+pub(crate) struct FormDraft<'a> {
+    pub(crate) name: &'a str,
+    pub(crate) root: &'a str,
+}
+
+/// Declarations, types and forms ascending by the bytes of their names.
+#[derive(Drop)]
+pub(crate) struct Draft<'a> {
+    /// The types by their names.
+    pub(crate) named: &'a Map<String, Value>,
+    pub(crate) types: Vec<TypeDraft<'a>>,
+    pub(crate) forms: Vec<FormDraft<'a>>,
+    ghost named_are: { map (λ t. t.name.now) types.items ≡ names_of named.now.entries },
+    ghost types_ascend: { Ascends (map (λ t. t.name.now) types.items) } by { Prim.hlevel props },
+    ghost forms_ascend: { Ascends (map (λ f. f.name.now) forms.items) } by { Prim.hlevel props },
+}

@@ -1,0 +1,95 @@
+ghost use Rattle.std.specs.Prelude.{◌≡◌};
+ghost use Rattle.fv_declare.specs.FaultNames.{decl_fault_name, decl_fault_code};
+
+use std::alloc::{AllocError, AllocFailed};
+use thiserror::Error;
+
+/// Why declarations aren't taken.
+#[derive(Clone, Copy, Debug, PartialEq, Eq, Error)]
+pub enum DeclFault {
+    /// Not UTF-8, or not JSON.
+    #[error("not JSON")]
+    NotJson,
+    /// Not of the form of declarations.
+    #[error("not declarations")]
+    Shape,
+    /// A declared name that is no name, or a type named like a group.
+    #[error("a declared name that is no name or is taken")]
+    BadName,
+    /// A type or constraint that isn't declared or built in.
+    #[error("a type or constraint that isn't declared")]
+    UnknownName,
+    /// A limit is passed.
+    #[error("too large")]
+    TooLarge,
+    /// An unknown, missing or wrongly kinded attribute, or a value that the constraint refuses.
+    #[error("an attribute that the constraint refuses")]
+    Attribute,
+    /// A constraint that has no meaning for data of its place's kind.
+    #[error("a constraint on data of another kind")]
+    UnexpectedType,
+    /// A pattern that the `regex` crate doesn't build.
+    #[error("a pattern that isn't built")]
+    BadPattern,
+    /// An allocation was refused.
+    #[error("out of memory")]
+    Memory,
+}
+
+impl DeclFault {
+    /// The fault's name.
+    pub fn name(&self) -> &str
+        ensures { result.now ≡ decl_fault_name self.now }
+    {
+        match self {
+            DeclFault::NotJson => "NotJson",
+            DeclFault::Shape => "Shape",
+            DeclFault::BadName => "BadName",
+            DeclFault::UnknownName => "UnknownName",
+            DeclFault::TooLarge => "TooLarge",
+            DeclFault::Attribute => "Attribute",
+            DeclFault::UnexpectedType => "UnexpectedType",
+            DeclFault::BadPattern => "BadPattern",
+            DeclFault::Memory => "Memory",
+        }
+    }
+
+    /// The fault's code; empty for want of memory.
+    pub fn code(&self) -> &str
+        ensures { result.now ≡ decl_fault_code self.now }
+    {
+        match self {
+            DeclFault::NotJson => "F1",
+            DeclFault::Shape => "F2",
+            DeclFault::BadName => "F3",
+            DeclFault::UnknownName => "F4",
+            DeclFault::TooLarge => "F14",
+            DeclFault::Attribute => "F16",
+            DeclFault::UnexpectedType => "F17",
+            DeclFault::BadPattern => "F18",
+            DeclFault::Memory => "",
+        }
+    }
+}
+
+impl From<AllocError> for DeclFault {
+    ghost use Rattle.std.specs.Prelude.{◌≡◌};
+    ghost use Rattle.fv_declare.specs.declared.fault.DeclFault.TheVariants.{Memory};
+
+    ghost from_gives = { λ _ e. e ≡ Memory };
+
+    fn from(_e: AllocError) -> DeclFault {
+        DeclFault::Memory
+    }
+}
+
+impl<T: Drop> From<AllocFailed<T>> for DeclFault {
+    ghost use Rattle.std.specs.Prelude.{◌≡◌};
+    ghost use Rattle.fv_declare.specs.declared.fault.DeclFault.TheVariants.{Memory};
+
+    ghost from_gives = { λ _ e. e ≡ Memory };
+
+    fn from(_e: AllocFailed<T>) -> DeclFault {
+        DeclFault::Memory
+    }
+}
