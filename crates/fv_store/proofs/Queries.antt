@@ -1,5 +1,5 @@
 -- What the queries show, and what they leave.
-use Rattle.std.proofs.Common.{◌≡◌, inl, inr, ℕ, List, [], ◌∷◌, Option, Some, None, Ok, Err, Result, IfOk, IfErr, IsTrue, ◌⊎◌, Vec, slice_get, codes, refl, sym, ap, subst, ◌∙◌}
+use Rattle.std.proofs.Common.{◌≡◌, inl, inr, ℕ, List, [], ◌∷◌, Option, Some, None, Ok, Err, Result, IfOk, IfErr, OnOk, IsTrue, ◌⊎◌, Vec, slice_get, codes, refl, sym, ap, subst, ◌∙◌}
 use Rattle.std.proofs.lemmas.Slice.Eq.{bytes_eq-Decides}
 use Rattle.sqlite.specs.declared.types.Value.TheVariants.{Null, Text}
 use Rattle.sqlite.specs.Order.{Row, column}
@@ -152,6 +152,20 @@ pub query_open : (sql : List ℕ) (params : Row) (old new : State) (r : Result (
     → IsTrue new.is_open → IsTrue old.is_open
 query_open sql params old new (Ok rows) ok err live = shown_open sql params old new rows.items ok
 query_open sql params old new (Err e) ok err live = elim (refused_keeps sql params old new e err) [ inl same ↦ same.0.was_open | inr back ↦ back.was_open live ]
+
+-- a query that answers leaves the connection open
+shown_live : (sql : List ℕ) (params : Row) (old new : State) (rows : List Row) → Shown sql params old new rows → IsTrue new.is_open
+unfolding Shown
+shown_live sql params old new rows h = go h.0.returning h.2
+  where
+    go : (o : Option Returning) → ShowsRows old new sql h.0 (timed params h.0.formats h.1.now) rows o → IsTrue new.is_open
+    go None it = it.3.0.is_open
+    go (Some what) it = it.1.shown.is_open
+
+pub query_live : (sql : List ℕ) (params : Row) (old new : State) (r : Result (Vec Row Global) Error) → (HasCleanDisk new → IfOk r (λ rows. Shown sql params old new rows.items))
+    → OnOk r (HasCleanDisk new → IsTrue new.is_open)
+query_live sql params old new (Ok rows) ok = λ clean. shown_live sql params old new rows.items (ok clean)
+query_live sql params old new (Err e) ok = tt
 
 -- ---- the first row
 

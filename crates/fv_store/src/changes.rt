@@ -59,6 +59,7 @@ pub(crate) fn commit<S: Alter>(
     ensures mode { conn.new.in_transaction ≡ false }
     ensures clean { HasCleanDisk (state S.Store conn.new) → HasCleanDisk (state S.Store conn.old) }
     ensures was_open { HasCleanDisk (state S.Store conn.new) → IsTrue (state S.Store conn.new).is_open → IsTrue (state S.Store conn.old).is_open }
+    ensures open { OnOk result (HasCleanDisk (state S.Store conn.new) → IsTrue (state S.Store conn.new).is_open) }
     ensures done { OnOk result ((d : _) (m : _) → Keeps (state S.Store conn.old) d m → Keeps (state S.Store conn.new) d (after_all changes.now m)) }
     ensures undone { OnErr result ((d : _) (m : _) → Keeps (state S.Store conn.old) d m → Keeps (state S.Store conn.new) d m) }
 {

@@ -27,6 +27,7 @@ fn create<S: Alter>(conn: &mut Connection<S>, declarations: &[u8]) -> Result<(),
     ensures mode { conn.new.in_transaction ≡ false }
     ensures clean { HasCleanDisk (state S.Store conn.new) → HasCleanDisk (state S.Store conn.old) }
     ensures was_open { HasCleanDisk (state S.Store conn.new) → IsTrue (state S.Store conn.new).is_open → IsTrue (state S.Store conn.old).is_open }
+    ensures open { OnOk result (HasCleanDisk (state S.Store conn.new) → IsTrue (state S.Store conn.new).is_open) }
     ensures done { OnOk result (IsBlank (state S.Store conn.old).now → Keeps (state S.Store conn.new) declarations.now no_records) }
     ensures undone { OnErr result (Stays (state S.Store conn.old) (state S.Store conn.new)) }
 {
@@ -41,6 +42,7 @@ fn compare<S: Alter>(conn: &mut Connection<S>, declarations: &[u8]) -> Result<()
     ensures mode { conn.old.in_transaction ≡ false → conn.new.in_transaction ≡ false }
     ensures clean { HasCleanDisk (state S.Store conn.new) → HasCleanDisk (state S.Store conn.old) }
     ensures was_open { HasCleanDisk (state S.Store conn.new) → IsTrue (state S.Store conn.new).is_open → IsTrue (state S.Store conn.old).is_open }
+    ensures open { OnOk result (HasCleanDisk (state S.Store conn.new) → IsTrue (state S.Store conn.new).is_open) }
     ensures untouched { IsSettled (state S.Store conn.old) → (state S.Store conn.old).now.schema ≡ store_schema → Stays (state S.Store conn.old) (state S.Store conn.new) }
     ensures taken { HasCleanDisk (state S.Store conn.new) → OnOk result (IsTaken (state S.Store conn.old) declarations.now) }
     ensures cause { HasCleanDisk (state S.Store conn.new) → (IsBlank (state S.Store conn.old).now → ⊥) → IfErr result (IsCaused (state S.Store conn.old) declarations.now) }
@@ -61,6 +63,7 @@ pub(crate) fn settle<S: Alter>(
     ensures mode { OnOk result (conn.new.in_transaction ≡ false) }
     ensures clean { HasCleanDisk (state S.Store conn.new) → HasCleanDisk (state S.Store conn.old) }
     ensures was_open { HasCleanDisk (state S.Store conn.new) → IsTrue (state S.Store conn.new).is_open → IsTrue (state S.Store conn.old).is_open }
+    ensures open { OnOk result (HasCleanDisk (state S.Store conn.new) → IsTrue (state S.Store conn.new).is_open) }
     ensures fresh { OnOk result (IsBlank (state S.Store conn.old).now → Keeps (state S.Store conn.new) declarations.now no_records) }
     ensures kept { OnOk result ((state S.Store conn.old).now.schema ≡ store_schema → Stays (state S.Store conn.old) (state S.Store conn.new)) }
     ensures taken { HasCleanDisk (state S.Store conn.new) → OnOk result (IsTaken (state S.Store conn.old) declarations.now) }

@@ -58,9 +58,10 @@ impl<S: Alter + Drop> Store<S> {
         declarations: &[u8],
     ) -> Result<Store<S>, (OpenStoreFault, Connection<S>)>
         ensures clean { IfOk result (λ s. HasCleanDisk (state S.Store s) → HasCleanDisk (state S.Store connection)) }
+        ensures open { IfOk result (λ s. HasCleanDisk (state S.Store s) → IsTrue (state S.Store s).is_open) }
         ensures opened { IfOk result (λ s. (types : _) (roots : _) (m : _) → Opens (state S.Store connection) declarations.now types roots m → Holds (state S.Store s) declarations.now types roots m) }
         ensures taken { IfOk result (λ s. HasCleanDisk (state S.Store s) → (version : _) (d : _) → Tells (state S.Store connection).now version d → about_fault version d declarations.now ≡ None) }
-        ensures same { IfOk result (λ s. HasCleanDisk (state S.Store s) → IsTrue (state S.Store s).is_open → (d : _) (types : _) (roots : _) (m : _) → Holds (state S.Store connection) d types roots m → d ≡ declarations.now) }
+        ensures same { IfOk result (λ s. HasCleanDisk (state S.Store s) → (d : _) (types : _) (roots : _) (m : _) → Holds (state S.Store connection) d types roots m → d ≡ declarations.now) }
         ensures refused { IfErr result (λ e. IsAboutFault e.0 → HasCleanDisk (state S.Store e.1) → (version : _) (d : _) → Tells (state S.Store connection).now version d → about_fault version d declarations.now ≡ Some e.0) }
         ensures other_version { IfErr result (λ e. e.0 ≡ OpenStoreFault.OtherVersion → HasCleanDisk (state S.Store e.1) → (d : _) (types : _) (roots : _) (m : _) → Opens (state S.Store connection) d types roots m → ⊥) }
         ensures other_declarations { IfErr result (λ e. e.0 ≡ OpenStoreFault.OtherDeclarations → HasCleanDisk (state S.Store e.1) → (d : _) (types : _) (roots : _) (m : _) → Opens (state S.Store connection) d types roots m → d ≢ declarations.now) }
@@ -86,6 +87,8 @@ impl<S: Alter> Store<S> {
         id: &str,
     ) -> Result<Option<Stored>, StoreFault>
         ensures clean { HasCleanDisk (state S.Store self.new) → HasCleanDisk (state S.Store self.old) }
+        ensures was_open { HasCleanDisk (state S.Store self.new) → IsTrue (state S.Store self.new).is_open → IsTrue (state S.Store self.old).is_open }
+        ensures open { OnOk result (HasCleanDisk (state S.Store self.new) → IsTrue (state S.Store self.new).is_open) }
         ensures found { HasCleanDisk (state S.Store self.new) → IfOk result (λ o. (d : _) (roots : _) (m : _) → Holds (state S.Store self.old) d (types_view types.now) roots m → option_map stored_view o ≡ m id.now) }
         ensures stays { (d : _) (declared : _) (roots : _) (m : _) → Holds (state S.Store self.old) d declared roots m → Holds (state S.Store self.new) d declared roots m }
     {
@@ -99,6 +102,8 @@ impl<S: Alter> Store<S> {
     /// Refused by `Store` and `Memory` at any place.
     pub fn commit(&mut self, alloc: Global, changes: &[Change]) -> Result<(), StoreFault>
         ensures clean { HasCleanDisk (state S.Store self.new) → HasCleanDisk (state S.Store self.old) }
+        ensures was_open { HasCleanDisk (state S.Store self.new) → IsTrue (state S.Store self.new).is_open → IsTrue (state S.Store self.old).is_open }
+        ensures open { OnOk result (HasCleanDisk (state S.Store self.new) → IsTrue (state S.Store self.new).is_open) }
         ensures made { OnOk result ((d : _) (types : _) (roots : _) (m : _) → AllFit types roots (after_all changes.now m) → Holds (state S.Store self.old) d types roots m → Holds (state S.Store self.new) d types roots (after_all changes.now m)) }
         ensures done { OnOk result ((d : _) (types : _) (roots : _) (m : _) → ChangesFit types roots changes.now → Holds (state S.Store self.old) d types roots m → Holds (state S.Store self.new) d types roots (after_all changes.now m)) }
         ensures undone { OnErr result ((d : _) (types : _) (roots : _) (m : _) → Holds (state S.Store self.old) d types roots m → Holds (state S.Store self.new) d types roots m) }

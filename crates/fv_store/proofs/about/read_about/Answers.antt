@@ -3,12 +3,15 @@ use Rattle.sqlite.specs.Held.{state}
 use Rattle.sqlite.specs.Listing.{understood}
 use Rattle.sqlite.proofs.Callers.{IsPlain}
 use Rattle.fv_store.proofs.Texts.{read_text, read_plain}
-use Rattle.fv_store.proofs.Queries.{read_shown, query_stays, query_open}
+use Rattle.fv_store.proofs.Queries.{read_shown, query_stays, query_open, query_live}
 use Rattle.fv_store.proofs.about.read_about.Goals as goal
 
 pub returns-clause-was_open : goal.returns-clause-was_open
 returns-clause-was_open g c clean live =
     query_open read_text [] (state g.S.Store c.args.conn.now) (state g.S.Store c.query_all.new.self) c.query_all.result (c.query_all.ensures.ok clean) (c.query_all.ensures.err clean) live
+
+pub returns-clause-open : goal.returns-clause-open
+returns-clause-open g c = query_live read_text [] (state g.S.Store c.args.conn.now) (state g.S.Store c.query_all.new.self) c.query_all.result c.query_all.ensures.ok
 
 pub returns-clause-shown : goal.returns-clause-shown
 returns-clause-shown g c clean = read_shown (state g.S.Store c.args.conn.now) (state g.S.Store c.query_all.new.self) c.query_all.result (c.query_all.ensures.ok clean)

@@ -7,8 +7,8 @@ returns-in-Ok-clause-opened g c =
     opens_ok (state g.S.Store c.args.connection) (state g.S.Store c.settle.new.conn) c.settle.ensures.clean c.settle.ensures.was_open c.args.declarations.now c.in-Ok.ensures.fresh c.in-Ok.ensures.kept
 
 pub returns-in-Ok-clause-same : goal.returns-in-Ok-clause-same
-returns-in-Ok-clause-same g c clean live d types roots m =
-    taken_same (state g.S.Store c.args.connection) c.args.declarations.now d types roots m (c.settle.ensures.clean clean) (c.settle.ensures.was_open clean live) (c.in-Ok.ensures.taken clean)
+returns-in-Ok-clause-same g c clean d types roots m =
+    taken_same (state g.S.Store c.args.connection) c.args.declarations.now d types roots m (c.settle.ensures.clean clean) (c.settle.ensures.was_open clean (c.in-Ok.ensures.open clean)) (c.in-Ok.ensures.taken clean)
 
 pub returns-in-Err-clause-refused : goal.returns-in-Err-clause-refused
 returns-in-Err-clause-refused g c fault clean = (c.in-Err.ensures.cause clean fault).2
