@@ -1,11 +1,4 @@
-pub mod DeclareAnys
-pub mod DeclareFound
-pub mod DeclareFronts
-pub mod DeclareNamed
-pub mod DeclareOrdered
-pub mod DeclareRead
-pub mod DeclareSorted
-pub mod DeclareSteps
+pub mod Keys
 pub mod Lifts
 pub mod Lines
 pub mod Listings
@@ -13,6 +6,4 @@ pub mod Members
 pub mod Movings
 pub mod NoFloats
 pub mod Openings
-pub mod Readable
-pub mod Units
 pub mod Writes

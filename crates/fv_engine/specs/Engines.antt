@@ -1,9 +1,8 @@
 -- What an engine stands for, and what its calls do to the records.
 use Rattle.std.specs.Prelude.{◌≡◌}
 use Rattle.sqlite.specs.State.{State}
-use Rattle.fv_store.specs.Records.{Records}
-use Rattle.fv_engine.specs.Declarations.{Declarations}
-use Rattle.fv_engine.specs.Moves.{Moves}
+use Rattle.fv_declare.specs.Declarations.{Declarations}
+use Rattle.fv_engine.specs.Moves.{Holding, Moves, Told}
 use Rattle.fv_engine.specs.Runs.{Steps}
 use Rattle.fv_engine.specs.Step.{Step}
 
@@ -12,10 +11,14 @@ pub record Standing (H : Type 0) : Type 0 where
   pub declared : Declarations
   pub connection : H
 
--- the declarations stay, and the records that the database stands for are turned by the relation
-abbrev pub Turns : {H : Type 0} → (H → State) → Standing H → Standing H → (Records → Records → Type 0) → Type 0
+-- the declarations stay, and what the connection stands for is turned by the relation
+abbrev pub Turns : {H : Type 0} → (H → State) → Standing H → Standing H → (Holding → Holding → Type 0) → Type 0
 Turns held old new turns = Moves old.declared (held old.connection) (held new.connection) turns × (new.declared ≡ old.declared)
 
--- what one line does to an engine: a step of the record machine
+-- a step of the record machine, told by its reply
+abbrev pub ToldStep : Declarations → Steps Holding
+ToldStep ds old line moment reply new = Told (λ m r n. Step ds m line moment r n) reply old new
+
+-- what one line does to an engine: such a step
 abbrev pub StepOf : {H : Type 0} → (H → State) → Steps (Standing H)
-StepOf held old line moment reply new = Turns held old new (λ m n. Step old.declared m line moment reply n)
+StepOf held old line moment reply new = Turns held old new (λ m n. ToldStep old.declared m line moment reply n)

@@ -6,7 +6,7 @@ use Rattle.std.specs.Str.{bytes_eq}
 use Rattle.serde_json.specs.Data as json
 use Rattle.serde_json.specs.Events.{members_len}
 use Rattle.serde_json.specs.Find.{as_str, get as get_at}
-use Rattle.fv_engine.specs.Json.{json_of}
+use Rattle.fv_datum.specs.Parsing.{json_of}
 
 pub data Request : Type 0 where
   too_long : Request

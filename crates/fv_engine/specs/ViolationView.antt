@@ -7,7 +7,7 @@ use Rattle.fv_engine.specs.Violations.{Reported}
 abbrev pub violation_view : Violation → Reported
 violation_view v = record {
   path = string_bytes v.path;
-  constraint = v.constraint.now;
+  constraint = string_bytes v.constraint;
   occurrence = v.occurrence;
   message = string_bytes v.message;
   value = view v.value;

@@ -3,26 +3,25 @@ ghost use Rattle.std.specs.Prelude.{◌≡◌, ◌≢◌, ◌⊎◌, ℕ, List, 
 ghost use Rattle.sqlite.specs.Held.{state};
 ghost use Rattle.serde_json.specs.View.{view as json_view};
 ghost use Rattle.fv_datum.specs.Lookup.{at_name};
+ghost use Rattle.fv_datum.specs.Moments.{IsMoment};
+ghost use Rattle.fv_datum.specs.Parsing.{json_of};
 ghost use Rattle.fv_model.specs.Reading.{bundle_read};
 ghost use Rattle.fv_model.specs.Types.{Declared};
 ghost use Rattle.fv_model.specs.Views.{types_view, bundle_view};
 ghost use Rattle.fv_store.specs.Changes.{after_all, ChangesFit};
 ghost use Rattle.fv_store.specs.Records.{Records, Roots, Fits, with_record};
-ghost use Rattle.fv_engine.specs.Declarations.{Declarations};
-ghost use Rattle.fv_engine.specs.Json.{json_of};
-ghost use Rattle.fv_engine.specs.Moves.{Moves};
-ghost use Rattle.fv_engine.specs.Ordered.{InOrder};
+ghost use Rattle.fv_declare.specs.Declarations.{Declarations};
+ghost use Rattle.fv_engine.specs.Moves.{Moves, Told};
 ghost use Rattle.fv_engine.specs.Requests.{command_of, or_shape, of_json};
-ghost use Rattle.fv_engine.specs.SchemaView.{schema_view};
-ghost use Rattle.fv_engine.specs.Replies.{store_failed, out_of_memory, unread};
+ghost use Rattle.fv_engine.specs.Replies.{put_taken, store_failed, out_of_memory, unread};
 ghost use Rattle.fv_engine.specs.Step.{Refuses, Decides, Judges, Puts, Gets, Does};
 
 use crate::command::{Command, command_of};
-use crate::declare::Schema;
-use crate::parsing::{JsonFault, read_json};
 use crate::reply;
 use crate::reply::Reply;
 use crate::validate::validate;
+use fv_datum::{JsonFault, read_json};
+use fv_declare::Schema;
 use fv_model::{Bundle, BundleFault, Types, read_bundle};
 use fv_store::{Change, Store, StoreFault};
 use serde_json::Value;
@@ -31,7 +30,8 @@ use std::alloc::{AllocError, Global};
 
 /// The refusal of a command that the store couldn't do.
 fn refused_by_store(fault: StoreFault) -> Reply
-    ensures { (result ≡ store_failed) ⊎ (result ≡ out_of_memory) }
+    ensures why { (result ≡ store_failed) ⊎ (result ≡ out_of_memory) }
+    ensures refused { result ≢ put_taken }
 {
     match fault {
         StoreFault::Store => Reply::fixed(reply::STORE),
@@ -63,7 +63,7 @@ fn keep<S: Alter>(
     bundle: Bundle,
 ) -> Reply
     ensures { (ds : Declarations) → Fits ds.types ds.forms (record { form = form.now; bundle = bundle_view bundle }) →
-        Moves ds (state S.Store store.old) (state S.Store store.new) (λ m n. Decides id.now (record { form = form.now; bundle = bundle_view bundle }) [] m result n ⊎ Refuses out_of_memory m result n) }
+        Moves ds (state S.Store store.old) (state S.Store store.new) (Told (λ m r n. Decides id.now (record { form = form.now; bundle = bundle_view bundle }) [] m r n ⊎ Refuses out_of_memory m r n) result) }
 {
     match changes_of(alloc, id, form, bundle) {
         Err(_) => Reply::fixed(reply::MEMORY),
@@ -82,12 +82,13 @@ fn judge<S: Alter>(
     id: &str,
     form: &str,
     bundle: Bundle,
+    now: i64,
 ) -> Reply
-    requires in_order { InOrder (schema_view schema.now) }
-    requires fits { Fits (schema_view schema.now).types (schema_view schema.now).forms (record { form = form.now; bundle = bundle_view bundle }) }
-    ensures { Moves (schema_view schema.now) (state S.Store store.old) (state S.Store store.new) (λ m n. Judges (schema_view schema.now) id.now (record { form = form.now; bundle = bundle_view bundle }) m result n ⊎ Refuses out_of_memory m result n) }
+    requires moment { IsMoment now }
+    requires fits { Fits schema.now.types schema.now.forms (record { form = form.now; bundle = bundle_view bundle }) }
+    ensures { Moves schema.now (state S.Store store.old) (state S.Store store.new) (Told (λ m r n. Judges schema.now now id.now (record { form = form.now; bundle = bundle_view bundle }) m r n ⊎ Refuses out_of_memory m r n) result) }
 {
-    match validate(alloc, schema, &bundle) {
+    match validate(alloc, schema, &bundle, now) {
         Err(_) => Reply::fixed(reply::MEMORY),
         Ok(violations) => if violations.is_empty() {
             keep(store, alloc, id, form, bundle)
@@ -99,7 +100,8 @@ fn judge<S: Alter>(
 
 /// The refusal of a put whose bundle has a fault, under a form that is declared or not.
 fn unread(alloc: Global, fault: BundleFault, declared: bool) -> Reply
-    ensures { (result ≡ out_of_memory) ⊎ ((fault ≢ BundleFault.Memory) × (result ≡ unread fault declared)) }
+    ensures why { (result ≡ out_of_memory) ⊎ ((fault ≢ BundleFault.Memory) × (result ≡ unread fault declared)) }
+    ensures refused { result ≢ put_taken }
 {
     match fault {
         BundleFault::Memory => Reply::fixed(reply::MEMORY),
@@ -120,18 +122,19 @@ fn put<S: Alter>(
     id: &str,
     form: &str,
     bundle: &Value,
+    now: i64,
 ) -> Reply
-    requires { InOrder (schema_view schema.now) }
-    ensures { Moves (schema_view schema.now) (state S.Store store.old) (state S.Store store.new)
-        (λ m n. Puts (schema_view schema.now) id.now form.now (bundle_read (schema_view schema.now).types (at_name form.now (schema_view schema.now).forms) (json_view bundle.now)) (at_name form.now (schema_view schema.now).forms) m result n
-        ⊎ Refuses out_of_memory m result n) }
+    requires { IsMoment now }
+    ensures { Moves schema.now (state S.Store store.old) (state S.Store store.new)
+        (Told (λ m r n. Puts schema.now now id.now form.now (bundle_read schema.now.types (at_name form.now schema.now.forms) (json_view bundle.now)) (at_name form.now schema.now.forms) m r n
+        ⊎ Refuses out_of_memory m r n) result) }
 {
     let root = schema.root_of(form);
-    match read_bundle(alloc, &schema.types, root, bundle) {
+    match read_bundle(alloc, schema.types(), root, bundle) {
         Err(fault) => unread(alloc, fault, root.is_some()),
         Ok(bundle) => match root {
             None => Reply::fixed(reply::UNKNOWN_FORM),
-            Some(_) => judge(store, alloc, schema, id, form, bundle),
+            Some(_) => judge(store, alloc, schema, id, form, bundle, now),
         },
     }
 }
@@ -139,7 +142,7 @@ fn put<S: Alter>(
 /// Shows a record.
 fn get<S: Alter>(store: &mut Store<S>, alloc: Global, types: &Types, id: &str) -> Reply
     ensures { (ds : Declarations) → ds.types ≡ types_view types.now →
-        Moves ds (state S.Store store.old) (state S.Store store.new) (λ m n. Gets id.now m result n ⊎ Refuses out_of_memory m result n) }
+        Moves ds (state S.Store store.old) (state S.Store store.new) (Told (λ m r n. Gets id.now m r n ⊎ Refuses out_of_memory m r n) result) }
 {
     match store.get(alloc, types, id) {
         Ok(None) => Reply::fixed(reply::NO_RECORD),
@@ -149,15 +152,23 @@ fn get<S: Alter>(store: &mut Store<S>, alloc: Global, types: &Types, id: &str) -
 }
 
 /// The reply to a line's JSON.
-fn answer<S: Alter>(store: &mut Store<S>, alloc: Global, schema: &Schema, value: &Value) -> Reply
-    requires { InOrder (schema_view schema.now) }
-    ensures { Moves (schema_view schema.now) (state S.Store store.old) (state S.Store store.new)
-        (λ m n. Does (schema_view schema.now) (or_shape (command_of (json_view value.now))) m result n ⊎ Refuses out_of_memory m result n) }
+fn answer<S: Alter>(
+    store: &mut Store<S>,
+    alloc: Global,
+    schema: &Schema,
+    value: &Value,
+    now: i64,
+) -> Reply
+    requires { IsMoment now }
+    ensures { Moves schema.now (state S.Store store.old) (state S.Store store.new)
+        (Told (λ m r n. Does schema.now now (or_shape (command_of (json_view value.now))) m r n ⊎ Refuses out_of_memory m r n) result) }
 {
     match command_of(value) {
         None => Reply::fixed(reply::SHAPE),
-        Some(Command::Put { id, form, bundle }) => put(store, alloc, schema, id, form, bundle),
-        Some(Command::Get { id }) => get(store, alloc, &schema.types, id),
+        Some(Command::Put { id, form, bundle }) => {
+            put(store, alloc, schema, id, form, bundle, now)
+        }
+        Some(Command::Get { id }) => get(store, alloc, schema.types(), id),
     }
 }
 
@@ -167,13 +178,14 @@ pub(crate) fn answer_short<S: Alter>(
     alloc: Global,
     schema: &Schema,
     line: &[u8],
+    now: i64,
 ) -> Reply
-    requires { InOrder (schema_view schema.now) }
-    ensures { Moves (schema_view schema.now) (state S.Store store.old) (state S.Store store.new)
-        (λ m n. Does (schema_view schema.now) (of_json (json_of line.now)) m result n ⊎ Refuses out_of_memory m result n) }
+    requires { IsMoment now }
+    ensures { Moves schema.now (state S.Store store.old) (state S.Store store.new)
+        (Told (λ m r n. Does schema.now now (of_json (json_of line.now)) m r n ⊎ Refuses out_of_memory m r n) result) }
 {
     match read_json(alloc, line) {
-        Ok(value) => answer(store, alloc, schema, &value),
+        Ok(value) => answer(store, alloc, schema, &value, now),
         Err(JsonFault::NotJson) => Reply::fixed(reply::NOT_JSON),
         Err(JsonFault::Memory) => Reply::fixed(reply::MEMORY),
     }

@@ -4,16 +4,16 @@ ghost use Rattle.sqlite.specs.Held.{state};
 ghost use Rattle.fv_datum.specs.Moments.{IsMoment};
 ghost use Rattle.fv_store.specs.Faults.{about_fault, IsAboutFault};
 ghost use Rattle.fv_store.specs.Stands.{Holds, Opens, IsKnown, Stays, Tells};
-ghost use Rattle.fv_engine.specs.Declares.{declares};
+ghost use Rattle.fv_declare.specs.Declares.{Declares};
 ghost use Rattle.fv_engine.specs.Engines.{StepOf};
 ghost use Rattle.fv_engine.specs.FaultNames.{open_fault_name};
 ghost use Rattle.fv_engine.specs.Replies.{line_too_long};
 
 use crate::answering::answer_short;
-use crate::declare::{DeclFault, Schema, read_schema};
 use crate::machine::{LIMIT, Machine};
 use crate::reply;
 use crate::reply::Reply;
+use fv_declare::{DeclFault, Schema, read_schema};
 use fv_store::{OpenStoreFault, Store};
 use sqlite::{Alter, Connection};
 use std::alloc::Global;
@@ -66,18 +66,14 @@ impl<S: Alter + Drop> Drop for Engine<S> {
 impl<S: Alter> Model for Engine<S> {
     ghost use Rattle.std.specs.Coded.{codes};
     ghost use Rattle.sqlite.specs.Held.{Held, held_code};
+    ghost use Rattle.fv_builtin.specs.Codes.{pattern_code};
     ghost use Rattle.fv_engine.specs.Engines.{Standing};
 
     ghost Value = { Standing (Held S) };
 
-    ghost coded = { Prim.hlevel (codes, held_code S.code) };
+    ghost coded = { Prim.hlevel (codes, pattern_code, held_code S.code) };
 
-    ghost use Rattle.fv_engine.specs.Ordered.{InOrder};
-    ghost use Rattle.fv_engine.specs.SchemaView.{schema_view};
-
-    ghost view = { λ e. record { declared = schema_view e.schema; connection = e.store } };
-
-    ghost invariant = { λ e. InOrder (schema_view e.schema) };
+    ghost view = { λ e. record { declared = e.schema; connection = e.store } };
 }
 
 /// The fault of an engine whose declarations aren't taken.
@@ -113,15 +109,16 @@ impl<S: Alter + Drop> Engine<S> {
         declarations: &[u8],
         connection: Connection<S>,
     ) -> Result<Engine<S>, (OpenFault, Connection<S>)>
-        ensures declared { IfOk result (λ e. declares declarations.now ≡ Ok e.declared) }
+        ensures declared { IfOk result (λ e. Declares declarations.now (Ok e.declared)) }
         ensures clean { IfOk result (λ e. HasCleanDisk (state S.Store e.connection) → HasCleanDisk (state S.Store connection)) }
+        ensures open { IfOk result (λ e. HasCleanDisk (state S.Store e.connection) → IsTrue (state S.Store e.connection).is_open) }
         // The records are those that the database handed over.
         ensures opened { IfOk result (λ e. (m : _) → Opens (state S.Store connection) declarations.now e.declared.types e.declared.forms m → Holds (state S.Store e.connection) declarations.now e.declared.types e.declared.forms m) }
         ensures taken { IfOk result (λ e. HasCleanDisk (state S.Store e.connection) → (version : _) (d : _) → Tells (state S.Store connection).now version d → about_fault version d declarations.now ≡ None) }
-        ensures same { IfOk result (λ e. HasCleanDisk (state S.Store e.connection) → IsTrue (state S.Store e.connection).is_open → (d : _) (types : _) (roots : _) (m : _) → Holds (state S.Store connection) d types roots m → d ≡ declarations.now) }
+        ensures same { IfOk result (λ e. HasCleanDisk (state S.Store e.connection) → (d : _) (types : _) (roots : _) (m : _) → Holds (state S.Store connection) d types roots m → d ≡ declarations.now) }
         // The declarations come first, by their first fault.
-        ensures refused { IfErr result (λ r. (fault : _) → r.0 ≡ OpenFault.Declarations fault → declares declarations.now ≡ Err fault) }
-        ensures after { IfErr result (λ r. (fault : _) → r.0 ≡ OpenFault.Store fault → (ds : _) × (declares declarations.now ≡ Ok ds)) }
+        ensures refused { IfErr result (λ r. (fault : _) → r.0 ≡ OpenFault.Declarations fault → Declares declarations.now (Err fault)) }
+        ensures after { IfErr result (λ r. (fault : _) → r.0 ≡ OpenFault.Store fault → (ds : _) × (Declares declarations.now (Ok ds))) }
         ensures cause { IfErr result (λ r. (fault : _) → r.0 ≡ OpenFault.Store fault → IsAboutFault fault → HasCleanDisk (state S.Store r.1) → (version : _) (d : _) → Tells (state S.Store connection).now version d → about_fault version d declarations.now ≡ Some fault) }
         ensures other_version { IfErr result (λ r. r.0 ≡ OpenFault.Store OpenStoreFault.OtherVersion → HasCleanDisk (state S.Store r.1) → (d : _) (types : _) (roots : _) (m : _) → Opens (state S.Store connection) d types roots m → ⊥) }
         ensures other_declarations { IfErr result (λ r. r.0 ≡ OpenFault.Store OpenStoreFault.OtherDeclarations → HasCleanDisk (state S.Store r.1) → (d : _) (types : _) (roots : _) (m : _) → Opens (state S.Store connection) d types roots m → d ≢ declarations.now) }
@@ -152,7 +149,7 @@ impl<S: Alter> Engine<S> {
         if line.len() > LIMIT {
             return self.refuse_long(now);
         }
-        answer_short(&mut self.store, alloc, &self.schema, line)
+        answer_short(&mut self.store, alloc, &self.schema, line, now)
     }
 
     /// The database, without the engine. It takes no memory.

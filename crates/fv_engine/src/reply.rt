@@ -154,7 +154,7 @@ fn violation_value(alloc: Global, violation: &Violation) -> Result<Value, AllocE
     ensures { IfOk result (λ v. json_view v ≡ violation_json (violation_view violation.now)) }
 {
     let value = value_of(alloc, violation)?;
-    let constraint = violation.constraint;
+    let constraint = violation.constraint.as_str();
     let message = violation.message.as_str();
     let occurrence = violation.occurrence;
     let path = violation.path.as_str();

@@ -2,12 +2,11 @@ ghost use Rattle.std.specs.Prelude.{◌≡◌, ◌≢◌, ℕ, ℤ, List, [], �
 ghost use Rattle.std.specs.Io.KnownBytes.{Appends, Consumes, IsAtEnd};
 ghost use Rattle.sqlite.specs.Held.{state};
 ghost use Rattle.fv_datum.specs.Moments.{IsMoment};
-ghost use Rattle.fv_engine.specs.Engines.{Turns};
+ghost use Rattle.fv_engine.specs.Engines.{Turns, ToldStep};
 ghost use Rattle.fv_engine.specs.FaultNames.{serve_fault_name};
 ghost use Rattle.fv_engine.specs.Lines.{kept};
 ghost use Rattle.fv_engine.specs.Writes.{AppendsFront};
 ghost use Rattle.fv_engine.specs.Runs.{Answered, Served, Broken, Finished, Taken, Stopped, Complete};
-ghost use Rattle.fv_engine.specs.Step.{Step};
 
 use crate::clock::Clock;
 use crate::engine::Engine;
@@ -245,7 +244,8 @@ fn serve_machine<M: Machine, R: Read, W: Write, C: Clock>(
 /// last also without its end. The clock is asked once a line. Each reply is written whole, with its
 /// end, and flushed.
 ///
-/// The records are those of a map that each line turns by one step of the record machine.
+/// The records are those of a map that each line turns by one step of the record machine. From the
+/// line on at which the disk fails and shuts the database, the map stays and no put is told as taken.
 ///
 /// `Memory` where the room for a line was refused; `Read` where a read failed or there were 2^32
 /// reads; `Write` where a write or a flush failed or a write took nothing.
@@ -257,11 +257,11 @@ pub fn serve<S: Alter, R: Read, W: Write, C: Clock>(
     clock: &mut C,
 ) -> Result<(), ServeFault>
     // What was written is the replies of a run over all lines of the input, each with its end.
-    ensures ok { OnOk result (Turns (state S.Store) engine.old engine.new (λ m n. Complete (Step engine.old.declared) C.ticks (R.remaining reader.old) m clock.old (W.contents writer.old) (R.remaining reader.new) n clock.new (W.contents writer.new))) }
+    ensures ok { OnOk result (Turns (state S.Store) engine.old engine.new (λ m n. Complete (ToldStep engine.old.declared) C.ticks (R.remaining reader.old) m clock.old (W.contents writer.old) (R.remaining reader.new) n clock.new (W.contents writer.new))) }
     // The same for the whole lines before.
-    ensures read { IsErrOf result ServeFault.Read → Turns (state S.Store) engine.old engine.new (λ m n. (rest : List ℕ) × Taken (Step engine.old.declared) C.ticks (R.remaining reader.old) m clock.old (W.contents writer.old) rest (R.remaining reader.new) n clock.new (W.contents writer.new)) }
+    ensures read { IsErrOf result ServeFault.Read → Turns (state S.Store) engine.old engine.new (λ m n. (rest : List ℕ) × Taken (ToldStep engine.old.declared) C.ticks (R.remaining reader.old) m clock.old (W.contents writer.old) rest (R.remaining reader.new) n clock.new (W.contents writer.new)) }
     // The same for some lines, the last reply in part.
-    ensures write { IsErrOf result ServeFault.Write → Turns (state S.Store) engine.old engine.new (λ m n. Stopped (Step engine.old.declared) C.ticks (R.remaining reader.old) m clock.old (W.contents writer.old) (R.remaining reader.new) n clock.new (W.contents writer.new)) }
+    ensures write { IsErrOf result ServeFault.Write → Turns (state S.Store) engine.old engine.new (λ m n. Stopped (ToldStep engine.old.declared) C.ticks (R.remaining reader.old) m clock.old (W.contents writer.old) (R.remaining reader.new) n clock.new (W.contents writer.new)) }
     // Nothing was read.
     ensures memory { IsErrOf result ServeFault.Memory → (reader.new ≡ reader.old) × (writer.new ≡ writer.old) × (engine.new ≡ engine.old) × (clock.new ≡ clock.old) }
 {

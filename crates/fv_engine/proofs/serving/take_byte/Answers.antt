@@ -1,4 +1,3 @@
-use Rattle.std.proofs.Common.{◌∷◌, []}
 use Rattle.std.proofs.lemmas.Result.{err_from_is_err_and}
 use Rattle.fv_engine.proofs.Lines.{served_add, served_end, broken_end}
 use Rattle.fv_engine.proofs.serving.take_byte.Goals as goal

@@ -1,9 +1,5 @@
-use Rattle.fv_engine.proofs.Listings.{uses_ascend}
 use Rattle.fv_engine.proofs.Openings.{store_cause}
 use Rattle.fv_engine.proofs.engine.Engine.open.Goals as goal
-
-pub invariant_of-result : goal.invariant_of-result
-invariant_of-result g c = (c.in-Ok.ensures.ordered.fields, uses_ascend _ c.in-Ok.ensures.ordered.uses)
 
 pub returns-in-Ok-open-clause-opened : goal.returns-in-Ok-open-clause-opened
 returns-in-Ok-open-clause-opened g c = λ m opens. c.in-Ok-open.ensures.opened _ _ m opens

@@ -1,4 +1,6 @@
 use Rattle.sqlite.specs.Held.{state}
+use Rattle.std.proofs.lemmas.Int.{to_z-of_z}
+use mir.Syntax.{w64}
 use Rattle.fv_engine.proofs.Lifts.{long_turn, short_turn}
 use Rattle.fv_engine.proofs.engine.Engine.run.Goals as goal
 
@@ -8,4 +10,4 @@ returns-then-line-gt-LIMIT g c =
 
 pub returns : goal.returns
 returns g c =
-    short_turn (state g.S.Store) c.args.line.now _ _ c.args.self.now _ c.self.inside.store c.answer_short.new.store c.self.view_is c.if-line-gt-LIMIT.false c.answer_short.ensures
+    short_turn (state g.S.Store) c.args.line.now _ _ c.args.self.now _ c.self.inside.store c.answer_short.new.store c.self.view_is c.if-line-gt-LIMIT.false (rw (to_z-of_z w64 c.args.now c.ranges.now) at c.answer_short.ensures)

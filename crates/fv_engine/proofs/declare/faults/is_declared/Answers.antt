@@ -1,6 +1,0 @@
-use Rattle.std.proofs.Common.{◌∙◌}
-use Rattle.fv_engine.proofs.DeclareNamed.{named}
-use Rattle.fv_engine.proofs.declare.faults.is_declared.Goals as goal
-
-pub returns : goal.returns
-returns c = let d = c.args.draft.now in c.contains_key.ensures ∙ named c.args.name.now d.named.now.entries d.types.items d.named_are
