@@ -1,4 +1,5 @@
-use fv_engine::{DeclFault, OpenFault, ServeFault};
+use fv_declare::DeclFault;
+use fv_engine::{OpenFault, ServeFault};
 use fv_store::OpenStoreFault;
 use std::io::Write;
 
