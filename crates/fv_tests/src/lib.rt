@@ -3,26 +3,32 @@
 #![tactic(auto)]
 
 #[cfg(test)]
-mod declaration_limits;
-#[cfg(test)]
-mod declaration_orders;
-#[cfg(test)]
-mod declarations;
-#[cfg(test)]
-mod declared_attributes;
-#[cfg(test)]
-mod declared_names;
-#[cfg(test)]
-mod declared_shapes;
+mod every_builtin;
 #[cfg(test)]
 mod failing;
 #[cfg(test)]
 mod hostile;
 #[cfg(test)]
+mod kept_data;
+#[cfg(test)]
+mod kind_puts;
+#[cfg(test)]
+mod large_bundles;
+#[cfg(test)]
 mod lines;
+#[cfg(test)]
+mod moments;
+#[cfg(test)]
+mod number_puts;
 #[cfg(test)]
 mod opening;
 #[cfg(test)]
+mod puts;
+#[cfg(test)]
+mod reference_faults;
+#[cfg(test)]
 mod serving;
+#[cfg(test)]
+mod text_puts;
 #[cfg(test)]
 mod trickle;

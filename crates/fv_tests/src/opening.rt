@@ -1,6 +1,7 @@
 //! Engines over a database that another engine left.
 use crate::lines::{DECLARATIONS, GET, PUT, PUT_TAKEN, SHOWN, opened};
-use fv_engine::{DeclFault, Engine, OpenFault};
+use fv_declare::DeclFault;
+use fv_engine::{Engine, OpenFault};
 use fv_store::OpenStoreFault;
 use sqlite::Connection;
 use std::test::Fail;

@@ -1,5 +1,5 @@
 //! Names, messages and kinds of the built-in constraints; null and booleans.
-use crate::judged::{Case, check, check_reads};
+use crate::judged::{Case, check, check_reads, check_taken};
 use fv_builtin::{BuiltinFault, builtin_message, builtin_named, is_builtin};
 use fv_datum::Kind;
 use std::process::Abort;
@@ -98,13 +98,10 @@ const KINDS: [(&str, Kind); 10] = [
 fn constraints_are_on_their_kinds_alone(rt: HostRuntime) -> Result<(), Fail> {
     for (name, with, kinds, _) in TABLE {
         for (letter, kind) in KINDS {
-            let answer = if kinds.find(letter).is_some() {
-                "taken"
-            } else {
-                "UnexpectedType"
-            };
-            let row = format!(in rt.alloc(); "{with} => {answer}")?;
-            check_reads(&rt, rt.alloc(), name, kind, row.as_str())?;
+            let taken = kinds.find(letter).is_some();
+            let answer = if taken { "taken" } else { "UnexpectedType" };
+            let case = Case::with(name, with, kind);
+            check_taken(&rt, rt.alloc(), case, true, taken, answer)?;
         }
     }
     Ok(())

@@ -2,7 +2,7 @@
 ghost use Rattle.std.specs.Prelude.{◌≡◌, false};
 ghost use Rattle.fv_datum.specs.Kinds.{is_container};
 
-use fv_builtin::{Builtin, BuiltinFault, is_builtin};
+use fv_builtin::{Builtin, BuiltinFault, builtin_named, is_builtin, takes_attributes, takes_kind};
 use fv_datum::{Attribute, Attrs, Kind, moment_ok, read_datum};
 use serde_json::Value;
 use std::alloc::Global;
@@ -166,4 +166,21 @@ pub(crate) fn check_reads(
         assert_eq!(rt; given, wanted, "{name} {with}");
     }
     Ok(())
+}
+
+/// Whether the attributes and the kind are taken, each by itself, and what reading answers.
+pub(crate) fn check_taken(
+    rt: &impl Abort,
+    alloc: Global,
+    case: Case,
+    attributes: bool,
+    kind: bool,
+    wanted: &str,
+) -> Result<(), Fail> {
+    let which = builtin_named(case.name).ok_or("a name")?;
+    let given = takes_attributes(which, &attrs_of(alloc, case.with)?);
+    assert_eq!(rt; given, attributes, "{} {}", case.name, case.with);
+    assert_eq!(rt; takes_kind(which, case.kind), kind, "{}", case.name);
+    let row = format!(in alloc; "{} => {wanted}", case.with)?;
+    check_reads(rt, alloc, case.name, case.kind, row.as_str())
 }

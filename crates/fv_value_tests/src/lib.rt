@@ -7,7 +7,11 @@ mod builtins_containers;
 #[cfg(test)]
 mod builtins_kinds;
 #[cfg(test)]
+mod builtins_messages;
+#[cfg(test)]
 mod builtins_numbers;
+#[cfg(test)]
+mod builtins_taken;
 #[cfg(test)]
 mod builtins_texts;
 #[cfg(test)]
