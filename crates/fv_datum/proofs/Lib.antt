@@ -1,3 +1,4 @@
+pub mod DateOrder
 pub mod DayLemmas
 pub mod DigitLemmas
 pub mod Lookups

@@ -1,0 +1,5 @@
+pub mod House
+pub mod Luhn
+pub mod Named
+pub mod Objects
+pub mod Words

@@ -1,0 +1,4 @@
+pub mod Answers
+pub mod FaultNames
+pub mod Rules
+pub mod SameKind

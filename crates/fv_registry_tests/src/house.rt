@@ -1,0 +1,131 @@
+//! The rules of the house, asked by their numbers.
+use crate::given::{attrs_of, bundle_of, text};
+use fv_datum::{Attrs, Datum, Kind};
+use fv_house::{House, luhn, not_after, one_of, sum_is};
+use fv_model::Object;
+use fv_registry::{
+    FieldCall, FieldValidator, ObjectCall, ObjectValidator, Registry, RuleSet, Ruled,
+};
+use std::alloc::Global;
+use std::process::Abort;
+use std::test::Fail;
+
+/// The attributes of all rules.
+const ATTRIBUTES: &str =
+    r#"{"words":["red","79927398710"],"start":"from","end":"to","first":"a","second":"b","total":"c"}"#;
+
+/// Texts, and what the rules 1 and 2 answer for them.
+const TEXTS: [(&str, bool, bool); 4] = [
+    ("79927398713", true, false),
+    ("79927398710", false, true),
+    ("red", false, true),
+    ("", false, false),
+];
+
+/// The fields of objects, and what the rules 3 and 4 answer for them.
+const OBJECTS: [(&str, bool, bool); 4] = [
+    (
+        r#"{"from":"2024-02-02","to":"2024-02-01","a":1,"b":2,"c":3}"#,
+        false,
+        true,
+    ),
+    (
+        r#"{"from":"2024-02-01","to":"2024-02-02","a":1,"b":2,"c":4}"#,
+        true,
+        false,
+    ),
+    (
+        r#"{"a":9223372036854775807,"b":1,"c":-9223372036854775808}"#,
+        true,
+        false,
+    ),
+    (r#"{"a":9223372036854775807,"b":1}"#, true, true),
+];
+
+fn check_datum<R: RuleSet>(
+    rt: &impl Abort,
+    alloc: Global,
+    rules: &Ruled<R>,
+    datum: &Datum,
+    wanted: (bool, bool),
+) -> Result<(), Fail> {
+    let attrs = attrs_of(alloc, ATTRIBUTES)?;
+    assert_eq!(rt; rules.ask(1, datum, &attrs), Some(wanted.0));
+    assert_eq!(rt; rules.ask(2, datum, &attrs), Some(wanted.1));
+    for rule in [0, 3, 4, 5] {
+        assert_eq!(rt; rules.ask(rule, datum, &attrs), None, "{rule}");
+    }
+    Ok(())
+}
+
+fn check_object<R: RuleSet>(
+    rt: &impl Abort,
+    alloc: Global,
+    rules: &Ruled<R>,
+    fields: &str,
+    wanted: (bool, bool),
+) -> Result<(), Fail> {
+    let attrs = attrs_of(alloc, ATTRIBUTES)?;
+    let bundle = bundle_of(alloc, "Item", fields)?;
+    let object = bundle.object("a").ok_or("an object")?;
+    assert_eq!(rt; rules.ask_object(3, object, &attrs), Some(wanted.0));
+    assert_eq!(rt; rules.ask_object(4, object, &attrs), Some(wanted.1));
+    for rule in [0, 1, 2, 5] {
+        assert_eq!(rt; rules.ask_object(rule, object, &attrs), None, "{rule}");
+    }
+    Ok(())
+}
+
+/// The four rules answer as they mean.
+fn check_answers<R: RuleSet + Drop>(rt: &impl Abort, alloc: Global, rules: R) -> Result<(), Fail>
+    requires { R.means rules }
+{
+    let rules = Ruled::new(rules);
+    for (given, first, second) in TEXTS {
+        check_datum(rt, alloc, &rules, &text(alloc, given)?, (first, second))?;
+    }
+    check_datum(rt, alloc, &rules, &Datum::Null, (true, true))?;
+    check_datum(rt, alloc, &rules, &Datum::Integer(0), (false, false))?;
+    for (fields, third, fourth) in OBJECTS {
+        check_object(rt, alloc, &rules, fields, (third, fourth))?;
+    }
+    Ok(())
+}
+
+#[test]
+fn the_four_rules_answer_by_their_numbers(rt: HostRuntime) -> Result<(), Fail> {
+    let alloc = rt.alloc();
+    let first: FieldCall = Box::new(alloc, |datum: &Datum, _attrs: &Attrs| luhn(datum))?;
+    let second: FieldCall = Box::new(alloc, |datum: &Datum, attrs: &Attrs| one_of(datum, attrs))?;
+    let third: ObjectCall = Box::new(
+        alloc,
+        |object: &Object, attrs: &Attrs| not_after(object, attrs),
+    )?;
+    let fourth: ObjectCall = Box::new(
+        alloc,
+        |object: &Object, attrs: &Attrs| sum_is(object, attrs),
+    )?;
+    let fields = vec![in alloc;
+        FieldValidator {
+            rule: 1,
+            kinds: vec![in alloc; Kind::Text]?,
+            call: first
+        },
+        FieldValidator {
+            rule: 2,
+            kinds: vec![in alloc; Kind::Text]?,
+            call: second
+        },
+    ]?;
+    let objects = vec![in alloc;
+        ObjectValidator {
+            rule: 3,
+            call: third
+        },
+        ObjectValidator {
+            rule: 4,
+            call: fourth
+        },
+    ]?;
+    check_answers(&rt, alloc, Registry::<House>::new(alloc, fields, objects)?)
+}
