@@ -1,7 +1,7 @@
 # Everything is done by the toolchain's command rt (see README.md).
 .PHONY: all demo test
 
-# Proves the crates and leaves the program as crates/formd/out/formd.
+# Proves formd and the crates that it stands on, runs it, and leaves it as crates/formd/out/formd.
 all:
 	cd crates/formd && rt run < stdin
 

@@ -1,4 +1,31 @@
-//! The demonstration's declarations: one form of one type, with three constraints.
+//! The demonstration: declarations of one form of one type, with three constraints.
+use crate::clocks::StoppedClock;
+use crate::failure::Failure;
+use fv_engine::{Engine, serve};
+use fv_registry::RuleSet;
+use sqlite::Connection;
+use std::alloc::Global;
+use std::io::{Read, Write};
 
 pub(crate) const DECLARATIONS: &[u8] =
     br#"{"types":{"Item":{"fields":{"count":{"type":"integer","constraints":[{"constraint":"Min","with":{"value":1}}]},"name":{"type":"text","constraints":[{"constraint":"NotNull"},{"constraint":"Size","with":{"min":1,"max":3}}]}}}},"forms":{"item":{"root":"Item"}}}"#;
+
+/// Serves the demonstration's declarations over a database in memory at the moment 0.
+pub(crate) fn serve_demonstration<R: RuleSet + Drop, I: Read, W: Write>(
+    alloc: Global,
+    registry: R,
+    reader: &mut I,
+    output: &mut W,
+) -> Result<(), Failure>
+    requires { R.means registry }
+{
+    let Ok(connection) = Connection::open_in_memory(alloc) else {
+        return Err(Failure::Memory);
+    };
+    let mut engine = match Engine::open(alloc, registry, DECLARATIONS, connection) {
+        Ok(engine) => engine,
+        Err((fault, _)) => return Err(Failure::from(fault)),
+    };
+    serve(alloc, &mut engine, reader, output, &mut StoppedClock)?;
+    Ok(())
+}

@@ -9,11 +9,12 @@ use Rattle.std.proofs.lemmas.Slice.Eq.{bytes_eq-Decides}
 use Rattle.fv_datum.specs.Lookup.{at_name}
 use Rattle.fv_model.specs.Types.{Held, texts, integers, decimals, booleans, dates, instants, references, DeclaredFields, Declared, number_of, name_at, is_unknown, unknown_in, has_large, too_many, types_fault}
 use Rattle.fv_model.specs.declared.fault.TypesFault.{TypesFault}
+use Rattle.fv_registry.specs.Rules.{Known}
 use Rattle.fv_declare.specs.Drafts as spec
-use Rattle.fv_declare.specs.Declares.{bad_name, unknown_name, too_large, bad_attribute, unexpected_type, is_declared, is_lost, lost_field, unknown_target, unknown_root, field_declared, type_declared, draft_fault}
+use Rattle.fv_declare.specs.Declares.{bad_name, unknown_name, empty_constraint, too_large, unknown_rule, bad_attribute, unexpected_type, plans_of, is_declared, is_lost, lost_field, unknown_target, unknown_root, field_declared, type_declared, draft_fault}
 use Rattle.fv_declare.specs.DraftViews.{form_view}
 use Rattle.fv_declare.specs.declared.draft.FormDraft.{FormDraft}
-use Rattle.fv_declare.specs.Planned.{planned, is_foreign, refuses_attributes, refuses_kind}
+use Rattle.fv_declare.specs.Planned.{is_foreign, refuses_attributes, refuses_kind}
 use Rattle.fv_declare.specs.Rooting.{lacks_root}
 use Rattle.fv_declare.proofs.Anys.{form_turn}
 use Rattle.fv_declare.proofs.Named.{found_or}
@@ -43,25 +44,40 @@ nor_later : {E : Type 0} (b : Bool) (e : E) (rest : Option E) → cond b (Some e
 nor_later true e rest h = cc
 nor_later false e rest h = h
 
-known_names : (d : spec.Drafted) → draft_fault d ≡ None → unknown_name d ≡ false
-known_names d e = not_here (unknown_name d) _ _ (nor_later (bad_name d) _ _ e)
+-- none of the conditions holds
+pub record IsGood (k : Known) (d : spec.Drafted) : Type 0 where
+  pub names : unknown_name d ≡ false
+  pub within : too_large d ≡ false
+  pub rules : unknown_rule k d ≡ false
+  pub attributes : bad_attribute d ≡ false
+  pub kinds : unexpected_type k d ≡ false
 
-within : (d : spec.Drafted) → draft_fault d ≡ None → too_large d ≡ false
-within d e = not_here (too_large d) _ _ (nor_later (unknown_name d) _ _ (nor_later (bad_name d) _ _ e))
+pub is_good : (k : Known) (d : spec.Drafted) → draft_fault k d ≡ None → IsGood k d
+is_good k d e =
+    let behind_names = nor_later (bad_name d) _ _ e in
+    let behind_unknown = nor_later (unknown_name d) _ _ behind_names in
+    let behind_empty = nor_later (empty_constraint d) _ _ behind_unknown in
+    let behind_large = nor_later (too_large d) _ _ behind_empty in
+    let behind_rules = nor_later (unknown_rule k d) _ _ behind_large in
+    let behind_attributes = nor_later (bad_attribute d) _ _ behind_rules in
+    record {
+      names = not_here (unknown_name d) _ _ behind_names;
+      within = not_here (too_large d) _ _ behind_empty;
+      rules = not_here (unknown_rule k d) _ _ behind_large;
+      attributes = not_here (bad_attribute d) _ _ behind_rules;
+      kinds = not_here (unexpected_type k d) _ _ behind_attributes;
+    }
 
-pub no_foreign : (d : spec.Drafted) → draft_fault d ≡ None → list_any is_foreign (planned d.types) ≡ false
+no_lost : (k : Known) (d : spec.Drafted) → draft_fault k d ≡ None → unknown_target d ≡ false
 unfolding unknown_name
-no_foreign d e = let all : unknown_name d ≡ false = known_names d e in or_left _ (unknown_target d) (or_left _ (unknown_root d) all)
+no_lost k d e = let all : unknown_name d ≡ false = (is_good k d e).names in or_right (list_any is_foreign (plans_of d)) _ (or_left _ (unknown_root d) all)
 
-no_lost : (d : spec.Drafted) → draft_fault d ≡ None → unknown_target d ≡ false
-unfolding unknown_name
-no_lost d e = let all : unknown_name d ≡ false = known_names d e in or_right (list_any is_foreign (planned d.types)) _ (or_left _ (unknown_root d) all)
+pub good_attributes : (k : Known) (d : spec.Drafted) → draft_fault k d ≡ None → list_any refuses_attributes (plans_of d) ≡ false
+unfolding bad_attribute
+good_attributes k d e = let all : bad_attribute d ≡ false = (is_good k d e).attributes in or_right _ _ all
 
-pub good_attributes : (d : spec.Drafted) → draft_fault d ≡ None → list_any refuses_attributes (planned d.types) ≡ false
-good_attributes d e = not_here (bad_attribute d) _ _ (nor_later (too_large d) _ _ (nor_later (unknown_name d) _ _ (nor_later (bad_name d) _ _ e)))
-
-pub good_kinds : (d : spec.Drafted) → draft_fault d ≡ None → list_any refuses_kind (planned d.types) ≡ false
-good_kinds d e = not_here (unexpected_type d) _ _ (nor_later (bad_attribute d) _ _ (nor_later (too_large d) _ _ (nor_later (unknown_name d) _ _ (nor_later (bad_name d) _ _ e))))
+pub good_kinds : (k : Known) (d : spec.Drafted) → draft_fault k d ≡ None → list_any (refuses_kind k) (plans_of d) ≡ false
+good_kinds k d e = (is_good k d e).kinds
 
 -- ---- the limits of the types
 
@@ -73,16 +89,18 @@ large : (ts : List spec.TypeDraft) → has_large (map type_declared ts) ≡ list
 large [] = refl
 large (t ∷ ts) = rw (large ts, length-map) refl
 
-few_types : (d : spec.Drafted) → draft_fault d ≡ None → too_many (map type_declared d.types) ≡ false
+few_types : (k : Known) (d : spec.Drafted) → draft_fault k d ≡ None → too_many (map type_declared d.types) ≡ false
 unfolding too_large
-few_types d e =
-    let all : too_large d ≡ false = within d e in
+few_types k d e =
+    let all : too_large d ≡ false = (is_good k d e).within in
     let types = nat_lt 256 (length d.types) in
     let forms = nat_lt 256 (length d.forms) in
     let wide = list_any (λ t. nat_lt 256 (length t.fields)) d.types in
-    let front : ((types || forms) || wide) ≡ false = or_left ((types || forms) || wide) _ all in
-    let few : nat_lt 256 (length (map type_declared d.types)) ≡ false = rw length-map (or_left types forms (or_left (types || forms) wide front)) in
-    or_false _ _ few (large d.types ∙ or_right (types || forms) wide front)
+    let constraints = nat_lt 256 (length d.definitions) in
+    let front : (((types || forms) || constraints) || wide) ≡ false = or_left (((types || forms) || constraints) || wide) _ all in
+    let narrow = or_left ((types || forms) || constraints) wide front in
+    let few : nat_lt 256 (length (map type_declared d.types)) ≡ false = rw length-map (or_left types forms (or_left (types || forms) constraints narrow)) in
+    or_false _ _ few (large d.types ∙ or_right ((types || forms) || constraints) wide front)
 
 -- ---- the types that fields refer to
 
@@ -108,9 +126,9 @@ lost_types ts [] = refl
 lost_types ts (u ∷ us) = rw (lost_in ts u.fields, lost_types ts us) refl
 
 -- the types of a draft without fault are built
-pub no_types_fault : {X : Type 0} (d : spec.Drafted) (ts : Declared) (fault : TypesFault) → draft_fault d ≡ None → ts ≡ map type_declared d.types → types_fault ts ≡ Some fault → X
-no_types_fault d ts fault good same is =
-    let none : types_fault (map type_declared d.types) ≡ None = rw (lost_types d.types d.types, no_lost d good, few_types d good) refl in
+pub no_types_fault : {X : Type 0} (k : Known) (d : spec.Drafted) (ts : Declared) (fault : TypesFault) → draft_fault k d ≡ None → ts ≡ map type_declared d.types → types_fault ts ≡ Some fault → X
+no_types_fault k d ts fault good same is =
+    let none : types_fault (map type_declared d.types) ≡ None = rw (lost_types d.types d.types, no_lost k d good, few_types k d good) refl in
     let no : None ≡ Some fault = sym none ∙ ap types_fault (sym same) ∙ is in
     cc
 
@@ -138,9 +156,9 @@ lacking : (fs : List spec.FormDraft) (ts : List spec.TypeDraft) → lacks_root (
 lacking [] ts = refl
 lacking (f ∷ fs) ts = rw (numbered f.root ts, lacking fs ts) refl
 
-pub roots_known : (d : spec.Drafted) → draft_fault d ≡ None → lacks_root (map type_declared d.types) d.forms ≡ false
+pub roots_known : (k : Known) (d : spec.Drafted) → draft_fault k d ≡ None → lacks_root (map type_declared d.types) d.forms ≡ false
 unfolding unknown_name
-roots_known d e = let all : unknown_name d ≡ false = known_names d e in lacking d.forms d.types ∙ or_right _ (unknown_root d) all
+roots_known k d e = let all : unknown_name d ≡ false = (is_good k d e).names in lacking d.forms d.types ∙ or_right _ (unknown_root d) all
 
 pub known_here : (ts : Declared) (fs : List FormDraft) (i : ℕ) (f : FormDraft) → i < length fs → f ≡ get_or fs i f → lacks_root ts (map form_view (drop i fs)) ≡ false → not (is_some (number_of ts f.root.now)) ≡ false
 known_here ts fs i f h is e = or_left _ _ (sym (form_turn (λ g. not (is_some (number_of ts g.root))) fs i f h is) ∙ e)

@@ -1,4 +1,6 @@
 pub mod Anys
+pub mod Entries
+pub mod Fits
 pub mod Found
 pub mod Fronts
 pub mod Lookups

@@ -1,7 +1,8 @@
 -- A use whose attributes and kind the constraint takes is refused for its pattern alone.
 use Rattle.std.proofs.Common.{◌≡◌, Bool, true, false, not, Option, Some, None, is_some, Result, Err, refl, sym, ap, ◌∙◌, true≢false}
+use Rattle.fv_datum.specs.Attributes.{Attributes}
+use Rattle.fv_datum.specs.declared.kind.Kind.{Kind}
 use Rattle.fv_builtin.specs.Given.{Draft, ready, to_match, drafted, IsRead}
-use Rattle.fv_builtin.specs.Names.{builtin_named}
 use Rattle.fv_builtin.specs.Rules.{Rule}
 use Rattle.fv_builtin.specs.Table.{takes}
 use Rattle.fv_builtin.specs.Views.{answer_view}
@@ -9,7 +10,6 @@ use Rattle.fv_builtin.specs.declared.builtin.Builtin.{Builtin}
 use Rattle.fv_builtin.specs.declared.fault.BuiltinFault.{BuiltinFault}
 use Rattle.fv_builtin.specs.declared.fault.BuiltinFault.TheVariants.{Attribute, UnexpectedType, BadPattern, Memory}
 use Rattle.fv_builtin.specs.declared.name.BuiltinName.{BuiltinName}
-use Rattle.fv_declare.specs.Planned.{Planned, refuses_given, is_misplaced, refuses_attributes, refuses_kind}
 
 -- no other cause
 abbrev pub IsOther : BuiltinFault → Type 0
@@ -26,11 +26,11 @@ unread (Some (to_match s)) true UnexpectedType p q other r = r
 unread (Some (to_match s)) true BadPattern p q other r = other
 unread (Some (to_match s)) true Memory p q other r = other
 
-pub not_other : (p : Planned) (which : BuiltinName) (e : BuiltinFault) (answer : Result Rule BuiltinFault) → builtin_named p.constraint ≡ Some which → refuses_attributes p ≡ false → refuses_kind p ≡ false → IsOther e
-    → answer ≡ Err e → IsRead (drafted which p.given) (takes which p.kind) answer → ⊥
-not_other p which e answer named attributes kind other is r =
-    let read : IsRead (drafted which p.given) (takes which p.kind) (Err e) = rw is at r in
-    unread (drafted which p.given) (takes which p.kind) e (sym (ap (λ n. refuses_given n p.given) named) ∙ attributes) (sym (ap (λ n. is_misplaced n p.kind) named) ∙ kind) other read
+pub not_other : (which : BuiltinName) (given : Attributes) (kind : Kind) (e : BuiltinFault) (answer : Result Rule BuiltinFault) → is_some (drafted which given) ≡ true → takes which kind ≡ true → IsOther e
+    → answer ≡ Err e → IsRead (drafted which given) (takes which kind) answer → ⊥
+not_other which given kind e answer attributes taken other is r =
+    let read : IsRead (drafted which given) (takes which kind) (Err e) = rw is at r in
+    unread (drafted which given) (takes which kind) e (ap not attributes) (ap not taken) other read
 
 -- the answer that the code's is
 pub refused_as : (r : Result Builtin BuiltinFault) (e f : BuiltinFault) → r ≡ Err e → e ≡ f → answer_view r ≡ Err f

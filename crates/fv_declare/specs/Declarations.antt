@@ -1,15 +1,27 @@
 -- What declarations declare.
 use Rattle.std.specs.Prelude.{ℕ, List}
 use Rattle.fv_builtin.specs.Rules.{Rule}
+use Rattle.fv_datum.specs.Attributes.{Attributes}
+use Rattle.fv_datum.specs.declared.kind.Kind.{Kind}
 use Rattle.fv_model.specs.Types.{Declared}
 
--- a use of a constraint: the number of its type, the number of its field there, the constraint's name, its message and what it says
+-- what is asked of a datum: a built-in constraint, or the rule of that number with the attributes in effect
+pub data FieldTest : Type 0 where
+  built_in : Rule → FieldTest
+  by_rule : ℕ → Attributes → FieldTest
+
+-- what a use demands: of the datum in the field of that number, whose data are of the kind, or of the whole object, the rule of that
+-- number with the attributes in effect
+pub data Demand : Type 0 where
+  of_field : ℕ → Kind → FieldTest → Demand
+  of_object : ℕ → Attributes → Demand
+
+-- a use of a constraint: the number of its type, the constraint's name, its message and what it demands
 pub record Use : Type 0 where
   pub type : ℕ
-  pub field : ℕ
   pub constraint : List ℕ
   pub message : List ℕ
-  pub rule : Rule
+  pub demand : Demand
 
 -- the types, the uses of constraints by their numbers, and the forms by their names, each with its root's type
 pub record Declarations : Type 0 where

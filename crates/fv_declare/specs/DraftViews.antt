@@ -1,13 +1,23 @@
 -- The drafts that contracts see.
-use Rattle.std.specs.Prelude.{map}
+use Rattle.std.specs.Prelude.{ℕ, List, Option, map, option_map, String, string_bytes}
+use Rattle.std.specs.declared.alloc.Global.{Global}
+use Rattle.fv_datum.specs.Attributes.{attribute_view}
 use Rattle.fv_model.specs.Types.{held_view}
 use Rattle.fv_declare.specs.Drafts as spec
-use Rattle.fv_declare.specs.Planned.{Planned}
+use Rattle.fv_declare.specs.Planned as planned
 use Rattle.fv_declare.specs.declared.draft.UseDraft.{UseDraft}
 use Rattle.fv_declare.specs.declared.draft.FieldDraft.{FieldDraft}
 use Rattle.fv_declare.specs.declared.draft.TypeDraft.{TypeDraft}
 use Rattle.fv_declare.specs.declared.draft.FormDraft.{FormDraft}
+use Rattle.fv_declare.specs.declared.draft.AttributeDraft.{AttributeDraft}
+use Rattle.fv_declare.specs.declared.draft.RuleDraft.{RuleDraft}
+use Rattle.fv_declare.specs.declared.draft.RuleDraft.TheVariants as rule
+use Rattle.fv_declare.specs.declared.draft.DefinitionDraft.{DefinitionDraft}
 use Rattle.fv_declare.specs.declared.draft.Draft.{Draft}
+use Rattle.fv_declare.specs.declared.plan.Place.{Place}
+use Rattle.fv_declare.specs.declared.plan.Place.TheVariants as place
+use Rattle.fv_declare.specs.declared.meant.Meant.{Meant}
+use Rattle.fv_declare.specs.declared.meant.Meant.TheVariants as meant
 use Rattle.fv_declare.specs.declared.plan.Plan.{Plan}
 
 abbrev pub use_view : UseDraft → spec.UseDraft
@@ -17,13 +27,45 @@ abbrev pub field_view : FieldDraft → spec.FieldDraft
 field_view f = record { name = f.name.now; type = held_view f.type_use; uses = map use_view f.uses.items }
 
 abbrev pub type_view : TypeDraft → spec.TypeDraft
-type_view t = record { name = t.name.now; fields = map field_view t.fields.items }
+type_view t = record { name = t.name.now; fields = map field_view t.fields.items; uses = map use_view t.uses.items }
 
 abbrev pub form_view : FormDraft → spec.FormDraft
 form_view f = record { name = f.name.now; root = f.root.now }
 
-abbrev pub draft_view : Draft → spec.Drafted
-draft_view d = record { types = map type_view d.types.items; forms = map form_view d.forms.items }
+abbrev pub attribute_draft_view : AttributeDraft → spec.AttributeDraft
+attribute_draft_view a = record { kind = a.kind; default = option_map attribute_view a.default }
 
-abbrev pub plan_view : Plan → Planned
-plan_view p = record { type = p.type_index; field = p.field; kind = p.kind; constraint = p.constraint.now; given = p.with.now }
+-- an attribute with its name
+abbrev pub attribute_entry : String Global × AttributeDraft → List ℕ × spec.AttributeDraft
+attribute_entry e = (string_bytes e.0, attribute_draft_view e.1)
+
+abbrev pub rule_view : RuleDraft → spec.RuleDraft
+rule_view (rule.Field n) = spec.field n
+rule_view (rule.Object n) = spec.object n
+
+abbrev pub definition_view : DefinitionDraft → spec.DefinitionDraft
+definition_view d = record { attributes = map attribute_entry d.attributes.entries; rule = option_map rule_view d.rule }
+
+-- a declared constraint with its name
+abbrev pub definition_entry : String Global × DefinitionDraft → List ℕ × spec.DefinitionDraft
+definition_entry e = (string_bytes e.0, definition_view e.1)
+
+abbrev pub draft_view : Draft → spec.Drafted
+draft_view d = record { types = map type_view d.types.items; forms = map form_view d.forms.items; definitions = map definition_entry d.definitions.entries }
+
+abbrev pub place_view : Place → planned.Place
+place_view place.Whole = planned.whole
+place_view (place.Field number kind) = planned.field number kind
+
+abbrev pub meant_view : Meant → planned.Meant
+meant_view (meant.BuiltIn which) = planned.builtin which
+meant_view (meant.Declared d) = planned.declared (definition_view d.now)
+
+abbrev pub plan_view : Plan → planned.Planned
+plan_view p = record {
+  type = p.type_index;
+  place = place_view p.place;
+  constraint = p.constraint.now;
+  meant = option_map meant_view p.meant;
+  given = p.with.now;
+}

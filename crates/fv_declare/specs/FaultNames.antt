@@ -1,14 +1,16 @@
 -- The names and codes of the faults of declarations.
 use Rattle.std.specs.Prelude.{ℕ, List, [], codes}
 use Rattle.fv_declare.specs.declared.fault.DeclFault.{DeclFault}
-use Rattle.fv_declare.specs.declared.fault.DeclFault.TheVariants.{NotJson, Shape, BadName, UnknownName, TooLarge, Attribute, UnexpectedType, BadPattern, Memory}
+use Rattle.fv_declare.specs.declared.fault.DeclFault.TheVariants.{NotJson, Shape, BadName, UnknownName, EmptyConstraint, TooLarge, UnknownRule, Attribute, UnexpectedType, BadPattern, Memory}
 
 abbrev pub decl_fault_name : DeclFault → List ℕ
 decl_fault_name NotJson = codes "NotJson"
 decl_fault_name Shape = codes "Shape"
 decl_fault_name BadName = codes "BadName"
 decl_fault_name UnknownName = codes "UnknownName"
+decl_fault_name EmptyConstraint = codes "EmptyConstraint"
 decl_fault_name TooLarge = codes "TooLarge"
+decl_fault_name UnknownRule = codes "UnknownRule"
 decl_fault_name Attribute = codes "Attribute"
 decl_fault_name UnexpectedType = codes "UnexpectedType"
 decl_fault_name BadPattern = codes "BadPattern"
@@ -19,7 +21,9 @@ decl_fault_code NotJson = codes "F1"
 decl_fault_code Shape = codes "F2"
 decl_fault_code BadName = codes "F3"
 decl_fault_code UnknownName = codes "F4"
+decl_fault_code EmptyConstraint = codes "F13"
 decl_fault_code TooLarge = codes "F14"
+decl_fault_code UnknownRule = codes "F15"
 decl_fault_code Attribute = codes "F16"
 decl_fault_code UnexpectedType = codes "F17"
 decl_fault_code BadPattern = codes "F18"

@@ -3,6 +3,7 @@ pub mod Declares
 pub mod DraftViews
 pub mod Drafts
 pub mod FaultNames
+pub mod Fits
 pub mod OccurrenceView
 pub mod Ordered
 pub mod Planned

@@ -1,76 +1,141 @@
 -- The uses of constraints at their places, in the order of their numbers.
-use Rattle.std.specs.Prelude.{◌≡◌, ℕ, List, map, Bool, true, not, Option, Some, None, is_some, Result, Ok}
-use Rattle.std.specs.List.{flat_map, enumerate_from}
-use Rattle.fv_datum.specs.Attributes.{Attributes}
+use Rattle.std.specs.Prelude.{◌≡◌, ℕ, ◌||◌, ◌++◌, List, map, Bool, true, false, not, Option, Some, None, option_map, is_some, Result, Ok, codes}
+use Rattle.std.specs.List.{list_any, flat_map, enumerate_from}
+use Rattle.fv_datum.specs.AttributeKinds.{attribute_kind}
+use Rattle.fv_datum.specs.Attributes.{AttributeValue, Attributes}
+use Rattle.fv_datum.specs.Lookup.{at_name}
 use Rattle.fv_datum.specs.declared.kind.Kind.{Kind}
-use Rattle.fv_builtin.specs.Given.{drafted, IsRead}
+use Rattle.fv_builtin.specs.Given.{drafted, given_or, has_kind, IsRead}
 use Rattle.fv_builtin.specs.Interpolation.{message_with}
-use Rattle.fv_builtin.specs.Names.{builtin_named, is_builtin}
+use Rattle.fv_builtin.specs.Names.{builtin_named}
 use Rattle.fv_builtin.specs.Rules.{Rule}
 use Rattle.fv_builtin.specs.Table.{takes}
 use Rattle.fv_builtin.specs.declared.fault.BuiltinFault.{BuiltinFault}
 use Rattle.fv_builtin.specs.declared.name.BuiltinName.{BuiltinName}
+use Rattle.fv_model.specs.Draft.{each_some}
 use Rattle.fv_model.specs.Types.{kind_of}
-use Rattle.fv_declare.specs.Declarations.{Use}
-use Rattle.fv_declare.specs.Drafts.{UseDraft, FieldDraft, TypeDraft}
+use Rattle.fv_registry.specs.Rules.{Known, takes as rule_takes}
+use Rattle.fv_declare.specs.Declarations.{built_in, by_rule, Demand, of_field, of_object, Use}
+use Rattle.fv_declare.specs.Drafts.{UseDraft, FieldDraft, TypeDraft, AttributeDraft, RuleDraft, DefinitionDraft, Definitions}
+use Rattle.fv_declare.specs.Drafts as draft
 
--- a use at its place: the numbers of its type and of its field there, the kind of the field's data, the constraint's name and what is given
+-- where a use stands: at the type itself, or at the field of that number, whose data are of the kind
+pub data Place : Type 0 where
+  whole : Place
+  field : ℕ → Kind → Place
+
+-- what a constraint's name stands for
+pub data Meant : Type 0 where
+  builtin : BuiltinName → Meant
+  declared : DefinitionDraft → Meant
+
+-- built-in constraints come first
+abbrev pub either_meant : Option BuiltinName → Option DefinitionDraft → Option Meant
+either_meant (Some which) found = Some (builtin which)
+either_meant None found = option_map declared found
+
+abbrev pub meant_by : Definitions → List ℕ → Option Meant
+meant_by ds name = either_meant (builtin_named name) (at_name name ds)
+
+-- a use at its place: the number of its type, its place there, the constraint's name, what it stands for and what is given
 pub record Planned : Type 0 where
   pub type : ℕ
-  pub field : ℕ
-  pub kind : Kind
+  pub place : Place
   pub constraint : List ℕ
+  pub meant : Option Meant
   pub given : Attributes
 
-abbrev pub planned_at : ℕ → ℕ → Kind → UseDraft → Planned
-planned_at type field kind u = record { type = type; field = field; kind = kind; constraint = u.constraint; given = u.given }
+abbrev pub planned_at : Definitions → ℕ → Place → UseDraft → Planned
+planned_at ds type place u = record { type = type; place = place; constraint = u.constraint; meant = meant_by ds u.constraint; given = u.given }
 
 -- the uses at a field, with its number
-abbrev pub field_plan : ℕ → ℕ × FieldDraft → List Planned
-field_plan type f = map (planned_at type f.0 (kind_of f.1.type)) f.1.uses
+abbrev pub field_plan : Definitions → ℕ → ℕ × FieldDraft → List Planned
+field_plan ds type f = map (planned_at ds type (field f.0 (kind_of f.1.type))) f.1.uses
 
--- the uses in a type, with its number
-abbrev pub type_plan : ℕ × TypeDraft → List Planned
-type_plan t = flat_map (field_plan t.0) (enumerate_from 0 t.1.fields)
+-- the uses at a type itself and then those in its fields, with its number
+abbrev pub type_plan : Definitions → ℕ × TypeDraft → List Planned
+type_plan ds t = map (planned_at ds t.0 whole) t.1.uses ++ flat_map (field_plan ds t.0) (enumerate_from 0 t.1.fields)
 
--- by types, then by fields, and in a field as they are declared; types and fields ascend by the bytes of their names
-abbrev pub planned : List TypeDraft → List Planned
-planned ts = flat_map type_plan (enumerate_from 0 ts)
+-- by types, in a type those at itself and then by fields, and at a place as they are declared; types and fields ascend by the bytes of
+-- their names
+abbrev pub planned : Definitions → List TypeDraft → List Planned
+planned ds ts = flat_map (type_plan ds) (enumerate_from 0 ts)
+
+-- ---- the attributes of a declared constraint
+
+-- an attribute is given that the constraint doesn't have, or has with another kind
+abbrev pub has_other : List (List ℕ × AttributeDraft) → Attributes → Bool
+has_other attributes given = list_any (λ g. not (has_kind (option_map (λ a. a.kind) (at_name g.0 attributes)) (attribute_kind g.1))) given
+
+-- the value in effect: that which is given, else the default
+abbrev pub value_of : Attributes → List ℕ × AttributeDraft → Option (List ℕ × AttributeValue)
+value_of given a = option_map (λ v. (a.0, v)) (given_or (at_name a.0 given) a.1.default)
+
+-- the attributes in effect, none where one has no value
+abbrev pub in_effect : List (List ℕ × AttributeDraft) → Attributes → Option Attributes
+in_effect attributes given = each_some (value_of given) attributes
 
 -- ---- what can be wrong with one of them
 
--- the constraint isn't built in
+-- the constraint is neither built in nor declared
 abbrev pub is_foreign : Planned → Bool
-is_foreign p = not (is_builtin p.constraint)
+is_foreign p = not (is_some p.meant)
 
--- the constraint refuses its attributes
-abbrev pub refuses_given : Option BuiltinName → Attributes → Bool
+-- the constraint refuses the attributes that are given
+abbrev pub refuses_given : Option Meant → Attributes → Bool
 refuses_given None given = true
-refuses_given (Some which) given = not (is_some (drafted which given))
+refuses_given (Some (builtin which)) given = not (is_some (drafted which given))
+refuses_given (Some (declared d)) given = has_other d.attributes given || not (is_some (in_effect d.attributes given))
 
 abbrev pub refuses_attributes : Planned → Bool
-refuses_attributes p = refuses_given (builtin_named p.constraint) p.given
+refuses_attributes p = refuses_given p.meant p.given
 
--- the constraint isn't on data of the kind
-abbrev pub is_misplaced : Option BuiltinName → Kind → Bool
-is_misplaced None kind = true
-is_misplaced (Some which) kind = not (takes which kind)
+-- a rule isn't of the place's sort, or doesn't take its kind
+abbrev pub refuses_place : Known → Option RuleDraft → Place → Bool
+refuses_place k (Some (draft.field rule)) (field f kind) = not (rule_takes rule kind k)
+refuses_place k (Some (draft.object rule)) whole = false
+refuses_place k _ _ = true
 
-abbrev pub refuses_kind : Planned → Bool
-refuses_kind p = is_misplaced (builtin_named p.constraint) p.kind
+-- the constraint isn't on objects, or on data of the kind
+abbrev pub is_misplaced : Known → Option Meant → Place → Bool
+is_misplaced k (Some (builtin which)) (field f kind) = not (takes which kind)
+is_misplaced k (Some (declared d)) place = refuses_place k d.rule place
+is_misplaced k _ _ = true
+
+abbrev pub refuses_kind : Known → Planned → Bool
+refuses_kind k p = is_misplaced k p.meant p.place
 
 -- ---- what it is read as
 
 -- the answer is what the built-in of that name makes of the attributes, at data of the kind
 pub record IsReadAs (p : Planned) (answer : Result Rule BuiltinFault) : Type 0 where
   pub which : BuiltinName
-  pub named : builtin_named p.constraint ≡ Some which
-  pub read : IsRead (drafted which p.given) (takes which p.kind) answer
+  pub kind : Kind
+  pub number : ℕ
+  pub named : p.meant ≡ Some (builtin which)
+  pub placed : p.place ≡ field number kind
+  pub read : IsRead (drafted which p.given) (takes which kind) answer
 
--- a use is declared by a plan: it stands at its place, says what the built-in says with the attributes, and has its message
+-- what a rule demands at a place of its sort
+abbrev pub demanded : Option RuleDraft → Place → Attributes → Option Demand
+demanded (Some (draft.field rule)) (field f kind) attrs = Some (of_field f kind (by_rule rule attrs))
+demanded (Some (draft.object rule)) whole attrs = Some (of_object rule attrs)
+demanded _ _ _ = None
+
+-- what a constraint demands at a place with the attributes that are given
+abbrev pub Demands : Option Meant → Place → Attributes → Demand → Type 0
+Demands (Some (builtin which)) (field f kind) given d = (r : Rule) × (d ≡ of_field f kind (built_in r)) × IsRead (drafted which given) (takes which kind) (Ok r)
+Demands (Some (declared c)) place given d = (attrs : Attributes) × (in_effect c.attributes given ≡ Some attrs) × (demanded c.rule place attrs ≡ Some d)
+Demands _ _ _ _ = ⊥
+
+-- a built-in's message has its attributes in effect put in; that of a declared constraint is a parameter named after it
+abbrev pub worded : Option Meant → List ℕ → Attributes → List ℕ
+worded (Some (builtin which)) name given = message_with which given
+worded _ name given = codes "{" ++ (name ++ codes ".message}")
+
+-- a use is declared by a plan: it stands at its place, demands what its constraint does with the attributes, and has its message
 pub record IsUse (p : Planned) (u : Use) : Type 0 where
   pub type : u.type ≡ p.type
-  pub field : u.field ≡ p.field
   pub constraint : u.constraint ≡ p.constraint
-  pub says : IsReadAs p (Ok u.rule)
-  pub worded : u.message ≡ message_with says.which p.given
+  pub demands : Demands p.meant p.place p.given u.demand
+  pub message : u.message ≡ worded p.meant p.constraint p.given

@@ -8,6 +8,7 @@ ghost use Rattle.fv_model.specs.Draft.{pairs, each_some};
 ghost use Rattle.fv_declare.specs.Drafts.{listed, attribute_of, attr_of, attrs_of as spec_attrs};
 ghost use Rattle.fv_declare.specs.Ordered.{Ascends, names_of};
 
+use crate::members::add_last;
 use fv_datum::{Attribute, Attrs};
 use serde_json::{Map, Value};
 use std::alloc::{AllocError, Global};
@@ -28,7 +29,7 @@ fn texts_of(alloc: Global, values: &[Value]) -> Result<Option<Vec<String>>, Allo
 }
 
 /// An attribute's value: a 64-bit whole number, a text, a boolean or a list of texts.
-fn attribute_of(alloc: Global, value: &Value) -> Result<Option<Attribute>, AllocError>
+pub(crate) fn attribute_of(alloc: Global, value: &Value) -> Result<Option<Attribute>, AllocError>
     ensures { IfOk result (λ o. option_map attribute_view o ≡ attribute_of (json_view value.now)) }
 {
     match value {
@@ -43,18 +44,26 @@ fn attribute_of(alloc: Global, value: &Value) -> Result<Option<Attribute>, Alloc
     }
 }
 
-/// Adds an attribute under a name that is above those before it.
-fn add_attribute(
-    entries: &mut BTreeMap<String, Attribute>,
-    name: &String,
-    attribute: Attribute,
-) -> Result<(), AllocError>
-    requires { (more : List (List ℕ)) × Ascends (names_of entries.old.entries ++ string_bytes name.now ∷ more) }
-    ensures names { OnOk result (names_of entries.new.entries ≡ names_of entries.old.entries ++ string_bytes name.now ∷ []) }
-    ensures entries { OnOk result (map entry_view entries.new.entries ≡ map entry_view entries.old.entries ++ (string_bytes name.now, attribute_view attribute) ∷ []) }
+fn copy_texts(alloc: Global, texts: &[String]) -> Result<Vec<String>, AllocError>
+    ensures { IfOk result (λ v. map string_bytes v.items ≡ map string_bytes texts.now) }
 {
-    let _ = entries.insert(name.clone()?, attribute)?;
-    Ok(())
+    let mut copies = Vec::with_capacity(alloc, texts.len())?;
+    for text in texts {
+        copies.push(text.clone()?)?;
+    }
+    Ok(copies)
+}
+
+/// Another attribute of the same value.
+pub(crate) fn copy_of(alloc: Global, attribute: &Attribute) -> Result<Attribute, AllocError>
+    ensures { IfOk result (λ a. attribute_view a ≡ attribute_view attribute.now) }
+{
+    match attribute {
+        Attribute::Integer(number) => Ok(Attribute::Integer(*number)),
+        Attribute::Text(text) => Ok(Attribute::Text(text.clone()?)),
+        Attribute::Boolean(flag) => Ok(Attribute::Boolean(*flag)),
+        Attribute::Texts(texts) => Ok(Attribute::Texts(copy_texts(alloc, texts)?)),
+    }
 }
 
 fn attrs_in(alloc: Global, members: &Map<String, Value>) -> Result<Option<Attrs>, AllocError>
@@ -64,7 +73,7 @@ fn attrs_in(alloc: Global, members: &Map<String, Value>) -> Result<Option<Attrs>
     for (name, value) in members.iter() {
         match attribute_of(alloc, value)? {
             None => return Ok(None),
-            Some(attribute) => add_attribute(&mut entries, name, attribute)?,
+            Some(attribute) => add_last(&mut entries, name, attribute)?,
         }
     }
     Ok(Some(Attrs::new(entries)))

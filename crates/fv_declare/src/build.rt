@@ -1,28 +1,32 @@
 //! The schema that declarations without fault declare.
-ghost use Rattle.std.specs.Prelude.{◌≡◌, ◌≢◌, false, None, Some, Ok, Err, IfOk, IfErr, map, slice_get};
+ghost use Rattle.std.specs.Prelude.{◌≡◌, ◌≢◌, true, false, None, Some, Ok, Err, IfOk, IfErr, map, is_some, slice_get, string_bytes};
 ghost use Rattle.std.specs.List.{AllZip, list_any};
 ghost use Rattle.fv_datum.specs.Answers.{Gives};
 ghost use Rattle.fv_builtin.specs.Given.{drafted, IsRead};
 ghost use Rattle.fv_builtin.specs.Names.{builtin_named};
 ghost use Rattle.fv_builtin.specs.Table.{takes};
 ghost use Rattle.fv_builtin.specs.Views.{rule_view};
-ghost use Rattle.fv_builtin.specs.declared.fault.BuiltinFault.TheVariants as builtin;
+ghost use Rattle.fv_builtin.specs.declared.fault.BuiltinFault.TheVariants as fault;
 ghost use Rattle.fv_model.specs.Types.{fields_view, declared_view};
 ghost use Rattle.fv_model.specs.Views.{types_view};
-ghost use Rattle.fv_declare.specs.Declares.{field_declared, type_declared, form_declared, IsAnswered, HasBadPattern, draft_fault};
-ghost use Rattle.fv_declare.specs.DraftViews.{field_view, type_view, form_view, draft_view, plan_view};
+ghost use Rattle.fv_registry.specs.Rules.{Known};
+ghost use Rattle.fv_declare.specs.Declares.{field_declared, type_declared, form_declared, plans_of, IsAnswered, draft_fault};
+ghost use Rattle.fv_declare.specs.DraftViews.{field_view, type_view, form_view, definition_view, draft_view, place_view, plan_view};
 ghost use Rattle.fv_declare.specs.Ordered.{Ascends};
-ghost use Rattle.fv_declare.specs.Planned.{Planned, planned, is_foreign, refuses_attributes, refuses_kind, IsReadAs, IsUse};
-ghost use Rattle.fv_declare.specs.OccurrenceView.{occurrence_view};
+ghost use Rattle.fv_declare.specs.Planned.{Planned, builtin, declared, in_effect, is_misplaced, refuses_attributes, refuses_place, refuses_kind, IsReadAs, Demands, worded, IsUse};
+ghost use Rattle.fv_declare.specs.OccurrenceView.{demand_view, occurrence_view};
 ghost use Rattle.fv_declare.specs.SchemaView.{forms_view};
 ghost use Rattle.fv_declare.specs.Rooting.{lacks_root};
 
-use crate::draft::{Draft, FieldDraft, FormDraft, TypeDraft};
+use crate::draft::{DefinitionDraft, Draft, FieldDraft, FormDraft, RuleDraft, TypeDraft};
+use crate::effect::in_effect;
 use crate::fault::DeclFault;
-use crate::occurrence::Occurrence;
-use crate::plan::Plan;
+use crate::meant::Meant;
+use crate::occurrence::{Demand, FieldTest, Occurrence};
+use crate::plan::{Place, Plan};
 use crate::schema::Schema;
-use fv_builtin::{Builtin, BuiltinFault, BuiltinName, builtin_named, message};
+use fv_builtin::{Builtin, BuiltinFault, BuiltinName, message};
+use fv_datum::{Attrs, Kind};
 use fv_model::{Fields, TypeId, Types};
 use indexmap::IndexMap;
 use std::alloc::{AllocError, Global};
@@ -52,14 +56,19 @@ fn types_for(alloc: Global, types: &[TypeDraft]) -> Result<IndexMap<String, Fiel
 }
 
 /// The built-in constraint of a use, its pattern built.
-fn builtin_of(alloc: Global, which: BuiltinName, plan: &Plan) -> Result<Builtin, DeclFault>
+fn builtin_of(
+    alloc: Global,
+    which: BuiltinName,
+    plan: &Plan,
+    kind: Kind,
+) -> Result<Builtin, DeclFault>
     requires named { builtin_named plan.now.constraint.now ≡ Some which }
-    requires attributes { refuses_attributes (plan_view plan.now) ≡ false }
-    requires kind { refuses_kind (plan_view plan.now) ≡ false }
-    ensures taken { IfOk result (λ b. IsRead (drafted which plan.now.with.now) (takes which plan.now.kind) (Ok (rule_view b))) }
-    ensures refused { IfErr result (λ f. f ≢ DeclFault.Memory → (f ≡ DeclFault.BadPattern) × IsRead (drafted which plan.now.with.now) (takes which plan.now.kind) (Err builtin.BadPattern)) }
+    requires attributes { is_some (drafted which plan.now.with.now) ≡ true }
+    requires kind { takes which kind ≡ true }
+    ensures taken { IfOk result (λ b. IsRead (drafted which plan.now.with.now) (takes which kind) (Ok (rule_view b))) }
+    ensures refused { IfErr result (λ f. f ≢ DeclFault.Memory → (f ≡ DeclFault.BadPattern) × IsRead (drafted which plan.now.with.now) (takes which kind) (Err fault.BadPattern)) }
 {
-    match Builtin::read(alloc, plan.constraint, plan.with, plan.kind) {
+    match Builtin::read(alloc, plan.constraint, plan.with, kind) {
         Ok(builtin) => Ok(builtin),
         Err(BuiltinFault::Attribute) => unreachable!(),
         Err(BuiltinFault::UnexpectedType) => unreachable!(),
@@ -68,36 +77,98 @@ fn builtin_of(alloc: Global, which: BuiltinName, plan: &Plan) -> Result<Builtin,
     }
 }
 
-/// The use of a constraint at its place, its pattern built and its message made.
-fn occurrence_of(alloc: Global, plan: &Plan) -> Result<Occurrence, DeclFault>
-    requires known { is_foreign (plan_view plan.now) ≡ false }
-    requires attributes { refuses_attributes (plan_view plan.now) ≡ false }
-    requires kind { refuses_kind (plan_view plan.now) ≡ false }
-    ensures taken { IfOk result (λ o. IsUse (plan_view plan.now) (occurrence_view o)) }
-    ensures refused { IfErr result (λ f. f ≢ DeclFault.Memory → (f ≡ DeclFault.BadPattern) × IsReadAs (plan_view plan.now) (Err builtin.BadPattern)) }
+/// What a declared constraint demands at a place.
+fn declared_demand(
+    alloc: Global,
+    definition: &DefinitionDraft,
+    place: Place,
+    given: &Attrs,
+) -> Result<Demand, AllocError>
+    requires effect { is_some (in_effect (definition_view definition.now).attributes given.now) ≡ true }
+    requires place { (k : Known) × (refuses_place k (definition_view definition.now).rule (place_view place) ≡ false) }
+    ensures { IfOk result (λ d. Demands (Some (declared (definition_view definition.now))) (place_view place) given.now (demand_view d)) }
 {
-    let Some(which) = builtin_named(plan.constraint) else {
+    let Some(attributes) = in_effect(alloc, &definition.attributes, given)? else {
         unreachable!()
     };
-    let builtin = builtin_of(alloc, which, plan)?;
+    match (definition.rule, place) {
+        (Some(RuleDraft::Field(rule)), Place::Field(field, kind)) => Ok(Demand::OfField {
+            field,
+            kind,
+            test: FieldTest::ByRule { rule, attributes },
+        }),
+        (Some(RuleDraft::Object(rule)), Place::Whole) => Ok(Demand::OfObject { rule, attributes }),
+        _ => unreachable!(),
+    }
+}
+
+/// What a built-in constraint demands at a place, its pattern built.
+fn builtin_demand(alloc: Global, which: BuiltinName, plan: &Plan) -> Result<Demand, DeclFault>
+    requires named { (plan_view plan.now).meant ≡ Some (builtin which) }
+    requires attributes { is_some (drafted which plan.now.with.now) ≡ true }
+    requires place { (k : Known) × (is_misplaced k (Some (builtin which)) (place_view plan.now.place) ≡ false) }
+    ensures taken { IfOk result (λ d. Demands (Some (builtin which)) (place_view plan.now.place) plan.now.with.now (demand_view d)) }
+    ensures refused { IfErr result (λ f. f ≢ DeclFault.Memory → (f ≡ DeclFault.BadPattern) × IsReadAs (plan_view plan.now) (Err fault.BadPattern)) }
+{
+    match plan.place {
+        Place::Whole => unreachable!(),
+        Place::Field(field, kind) => {
+            let test = FieldTest::BuiltIn(builtin_of(alloc, which, plan, kind)?);
+            Ok(Demand::OfField { field, kind, test })
+        }
+    }
+}
+
+/// What a use demands at its place, its pattern built.
+fn demand_of(alloc: Global, plan: &Plan) -> Result<Demand, DeclFault>
+    requires attributes { refuses_attributes (plan_view plan.now) ≡ false }
+    requires place { (k : Known) × (refuses_kind k (plan_view plan.now) ≡ false) }
+    ensures taken { IfOk result (λ d. Demands (plan_view plan.now).meant (place_view plan.now.place) plan.now.with.now (demand_view d)) }
+    ensures refused { IfErr result (λ f. f ≢ DeclFault.Memory → (f ≡ DeclFault.BadPattern) × IsReadAs (plan_view plan.now) (Err fault.BadPattern)) }
+{
+    match &plan.meant {
+        None => unreachable!(),
+        Some(Meant::BuiltIn(which)) => builtin_demand(alloc, *which, plan),
+        Some(Meant::Declared(definition)) => {
+            Ok(declared_demand(alloc, definition, plan.place, plan.with)?)
+        }
+    }
+}
+
+/// The message of a use.
+fn message_of(alloc: Global, plan: &Plan) -> Result<String, AllocError>
+    ensures { IfOk result (λ s. string_bytes s ≡ worded (plan_view plan.now).meant plan.now.constraint.now plan.now.with.now) }
+{
+    match &plan.meant {
+        Some(Meant::BuiltIn(which)) => message(alloc, *which, plan.with),
+        _ => format!(in alloc; "{{{}.message}}", plan.constraint),
+    }
+}
+
+/// The use of a constraint at its place, its pattern built and its message made.
+fn occurrence_of(alloc: Global, plan: &Plan) -> Result<Occurrence, DeclFault>
+    requires attributes { refuses_attributes (plan_view plan.now) ≡ false }
+    requires place { (k : Known) × (refuses_kind k (plan_view plan.now) ≡ false) }
+    ensures taken { IfOk result (λ o. IsUse (plan_view plan.now) (occurrence_view o)) }
+    ensures refused { IfErr result (λ f. f ≢ DeclFault.Memory → (f ≡ DeclFault.BadPattern) × IsReadAs (plan_view plan.now) (Err fault.BadPattern)) }
+{
+    let demand = demand_of(alloc, plan)?;
     Ok(Occurrence {
         type_id: TypeId {
             index: plan.type_index,
         },
-        field: plan.field,
         constraint: String::from_str(alloc, plan.constraint)?,
-        message: message(alloc, which, plan.with)?,
-        builtin,
+        message: message_of(alloc, plan)?,
+        demand,
     })
 }
 
 /// The uses of constraints, each at its number.
 fn occurrences_for(alloc: Global, plans: &[Plan]) -> Result<Vec<Occurrence>, DeclFault>
-    requires known { list_any is_foreign (map plan_view plans.now) ≡ false }
     requires attributes { list_any refuses_attributes (map plan_view plans.now) ≡ false }
-    requires kinds { list_any refuses_kind (map plan_view plans.now) ≡ false }
+    requires places { (k : Known) × (list_any (refuses_kind k) (map plan_view plans.now) ≡ false) }
     ensures taken { IfOk result (λ v. AllZip IsUse (map plan_view plans.now) (map occurrence_view v.items)) }
-    ensures refused { IfErr result (λ f. f ≢ DeclFault.Memory → (f ≡ DeclFault.BadPattern) × ((n : _) × (p : Planned) × (slice_get (map plan_view plans.now) n ≡ Some p) × IsReadAs p (Err builtin.BadPattern))) }
+    ensures refused { IfErr result (λ f. f ≢ DeclFault.Memory → (f ≡ DeclFault.BadPattern) × ((n : _) × (p : Planned) × (slice_get (map plan_view plans.now) n ≡ Some p) × IsReadAs p (Err fault.BadPattern))) }
 {
     let mut occurrences = Vec::with_capacity(alloc, plans.len())?;
     for plan in plans {
@@ -127,8 +198,8 @@ fn forms_for(
 
 /// The schema that a draft without fault declares, where its patterns are built.
 pub(crate) fn build(alloc: Global, draft: &Draft, plans: &[Plan]) -> Result<Schema, DeclFault>
-    requires plans { map plan_view plans.now ≡ planned (draft_view draft.now).types }
-    requires good { draft_fault (draft_view draft.now) ≡ None }
+    requires plans { map plan_view plans.now ≡ plans_of (draft_view draft.now) }
+    requires good { (k : Known) × (draft_fault k (draft_view draft.now) ≡ None) }
     ensures taken { IfOk result (λ s. IsAnswered (draft_view draft.now) (Ok s)) }
     ensures refused { IfErr result (λ f. f ≢ DeclFault.Memory → IsAnswered (draft_view draft.now) (Err f)) }
 {

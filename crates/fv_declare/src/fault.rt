@@ -13,20 +13,27 @@ pub enum DeclFault {
     /// Not of the form of declarations.
     #[error("not declarations")]
     Shape,
-    /// A declared name that is no name, or a type named like a group.
+    /// A declared name that is no name, a type named like a group, or a constraint named like a
+    /// built-in.
     #[error("a declared name that is no name or is taken")]
     BadName,
     /// A type or constraint that isn't declared or built in.
     #[error("a type or constraint that isn't declared")]
     UnknownName,
+    /// A declared constraint without a rule.
+    #[error("a constraint without a rule")]
+    EmptyConstraint,
     /// A limit is passed.
     #[error("too large")]
     TooLarge,
+    /// A rule that isn't registered for its sort.
+    #[error("a rule that isn't registered")]
+    UnknownRule,
     /// An unknown, missing or wrongly kinded attribute, or a value that the constraint refuses.
     #[error("an attribute that the constraint refuses")]
     Attribute,
-    /// A constraint that has no meaning for data of its place's kind.
-    #[error("a constraint on data of another kind")]
+    /// A constraint at a place of another sort, or of data of a kind that it doesn't take.
+    #[error("a constraint at a place of another sort or kind")]
     UnexpectedType,
     /// A pattern that the `regex` crate doesn't build.
     #[error("a pattern that isn't built")]
@@ -46,7 +53,9 @@ impl DeclFault {
             DeclFault::Shape => "Shape",
             DeclFault::BadName => "BadName",
             DeclFault::UnknownName => "UnknownName",
+            DeclFault::EmptyConstraint => "EmptyConstraint",
             DeclFault::TooLarge => "TooLarge",
+            DeclFault::UnknownRule => "UnknownRule",
             DeclFault::Attribute => "Attribute",
             DeclFault::UnexpectedType => "UnexpectedType",
             DeclFault::BadPattern => "BadPattern",
@@ -63,7 +72,9 @@ impl DeclFault {
             DeclFault::Shape => "F2",
             DeclFault::BadName => "F3",
             DeclFault::UnknownName => "F4",
+            DeclFault::EmptyConstraint => "F13",
             DeclFault::TooLarge => "F14",
+            DeclFault::UnknownRule => "F15",
             DeclFault::Attribute => "F16",
             DeclFault::UnexpectedType => "F17",
             DeclFault::BadPattern => "F18",

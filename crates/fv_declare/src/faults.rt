@@ -1,21 +1,28 @@
 //! What can be wrong with declarations of the right form: a function for each condition, and the
 //! first that holds. Patterns are built last, with the schema.
-ghost use Rattle.std.specs.Prelude.{◌≡◌, ◌<◌, map, not, nat_lt, length};
+ghost use Rattle.std.specs.Prelude.{◌≡◌, ◌<◌, map, not, nat_lt, length, is_some, option_map};
 ghost use Rattle.std.specs.List.{list_any};
+ghost use Rattle.fv_datum.specs.Attributes.{attribute_view};
 ghost use Rattle.fv_datum.specs.Name.{names};
 ghost use Rattle.fv_model.specs.Types.{held_view};
-ghost use Rattle.fv_declare.specs.Declares.{is_bad_type, bad_name, unknown_name, is_declared, is_lost, lost_field, unknown_target, unknown_root, too_large, draft_fault as spec_fault};
-ghost use Rattle.fv_declare.specs.DraftViews.{field_view, type_view, form_view, draft_view, plan_view};
-ghost use Rattle.fv_declare.specs.Planned.{planned, is_foreign, refuses_attributes, refuses_kind};
+ghost use Rattle.fv_declare.specs.Declares.{is_bad_type, is_bad_definition, bad_name, unknown_name, is_declared, is_lost, lost_field, unknown_target, unknown_root, empty_constraint, too_large, is_unknown_rule, unknown_rule, is_other_kind, bad_default, bad_attribute, unexpected_type, plans_of, draft_fault as spec_fault};
+ghost use Rattle.fv_declare.specs.DraftViews.{field_view, type_view, form_view, attribute_entry, rule_view, definition_view, definition_entry, draft_view, place_view, plan_view};
+ghost use Rattle.fv_declare.specs.Planned.{is_foreign, refuses_attributes, refuses_place, refuses_kind};
 
-use crate::draft::{Draft, FieldDraft, FormDraft, TypeDraft};
+use crate::draft::{
+    AttributeDraft, DefinitionDraft, Draft, FieldDraft, FormDraft, RuleDraft, TypeDraft,
+};
+use crate::effect::{has_other, is_same, lacks_value};
 use crate::fault::DeclFault;
-use crate::plan::Plan;
-use fv_builtin::{builtin_named, is_builtin, takes_attributes, takes_kind};
-use fv_datum::is_name;
+use crate::meant::Meant;
+use crate::plan::{Place, Plan};
+use fv_builtin::{is_builtin, takes_attributes, takes_kind};
+use fv_datum::{Attribute, AttributeKind, is_name};
 use fv_model::TypeUse;
+use fv_registry::RuleSet;
+use std::collections::BTreeMap;
 
-/// The most types, fields of a type, and forms.
+/// The most types, fields of a type, forms and declared constraints.
 const MOST: usize = 256;
 
 /// The most uses of constraints.
@@ -63,21 +70,50 @@ fn has_bad_form(forms: &[FormDraft]) -> bool
     false
 }
 
+/// Whether an attribute's name is no name.
+fn has_bad_attribute_name(attributes: &BTreeMap<String, AttributeDraft>) -> bool
+    ensures { result ≡ list_any (λ a. not (names a.0)) (map attribute_entry attributes.now.entries) }
+{
+    for (name, _) in attributes.iter() {
+        if !is_name(name.as_str()) {
+            return true;
+        }
+    }
+    false
+}
+
+/// A constraint is named as no name or like a built-in, or an attribute as no name.
+fn has_bad_definition(definitions: &BTreeMap<String, DefinitionDraft>) -> bool
+    ensures { result ≡ list_any is_bad_definition (map definition_entry definitions.now.entries) }
+{
+    for (name, definition) in definitions.iter() {
+        if !is_name(name.as_str()) || is_builtin(name.as_str()) {
+            return true;
+        }
+        if has_bad_attribute_name(&definition.attributes) {
+            return true;
+        }
+    }
+    false
+}
+
 /// A declared name is no name or is taken.
 #[tactic(auto, unfolding(crate::specs::Declares::bad_name))]
 fn bad_name(draft: &Draft) -> bool
     ensures { result ≡ bad_name (draft_view draft.now) }
 {
-    has_bad_type(&draft.types) || has_bad_form(&draft.forms)
+    has_bad_type(&draft.types)
+        || has_bad_form(&draft.forms)
+        || has_bad_definition(&draft.definitions)
 }
 
-/// A constraint is used that isn't built in.
+/// A constraint is used that is neither built in nor declared.
 #[tactic(auto, using(crate::proofs::Anys::plan_turn))]
 fn has_foreign(plans: &[Plan]) -> bool
     ensures { result ≡ list_any is_foreign (map plan_view plans.now) }
 {
     for plan in plans {
-        if !is_builtin(plan.constraint) {
+        if plan.meant.is_none() {
             return true;
         }
     }
@@ -138,13 +174,25 @@ fn has_unknown_root(draft: &Draft) -> bool
     false
 }
 
-/// A constraint isn't built in, or a type isn't declared.
+/// A constraint is neither built in nor declared, or a type isn't declared.
 #[tactic(auto, unfolding(crate::specs::Declares::unknown_name))]
 fn unknown_name(draft: &Draft, plans: &[Plan]) -> bool
-    requires { map plan_view plans.now ≡ planned (draft_view draft.now).types }
+    requires { map plan_view plans.now ≡ plans_of (draft_view draft.now) }
     ensures { result ≡ unknown_name (draft_view draft.now) }
 {
     has_foreign(plans) || has_unknown_target(draft) || has_unknown_root(draft)
+}
+
+/// Whether a declared constraint has no rule.
+fn empty_constraint(draft: &Draft) -> bool
+    ensures { result ≡ empty_constraint (draft_view draft.now) }
+{
+    for (_, definition) in draft.definitions.iter() {
+        if definition.rule.is_none() {
+            return true;
+        }
+    }
+    false
 }
 
 /// Whether a type has too many fields.
@@ -163,28 +211,90 @@ fn has_large_type(types: &[TypeDraft]) -> bool
 /// A limit is passed.
 #[tactic(auto, unfolding(crate::specs::Declares::too_large))]
 fn too_large(draft: &Draft, plans: &[Plan]) -> bool
-    requires { map plan_view plans.now ≡ planned (draft_view draft.now).types }
+    requires { map plan_view plans.now ≡ plans_of (draft_view draft.now) }
     ensures { result ≡ too_large (draft_view draft.now) }
 {
     draft.types.len() > MOST
         || draft.forms.len() > MOST
+        || draft.definitions.len() > MOST
         || has_large_type(&draft.types)
         || plans.len() > MOST_USES
+}
+
+/// Whether a rule isn't there for its sort.
+fn is_unknown_rule<R: RuleSet>(rules: &R, rule: Option<RuleDraft>) -> bool
+    ensures { result ≡ is_unknown_rule (R.known rules.now) (option_map rule_view rule) }
+{
+    match rule {
+        None => false,
+        Some(RuleDraft::Field(number)) => !rules.knows_field(number),
+        Some(RuleDraft::Object(number)) => !rules.knows_object(number),
+    }
+}
+
+/// A declared constraint's rule isn't there for its sort.
+fn unknown_rule<R: RuleSet>(rules: &R, draft: &Draft) -> bool
+    ensures { result ≡ unknown_rule (R.known rules.now) (draft_view draft.now) }
+{
+    for (_, definition) in draft.definitions.iter() {
+        if is_unknown_rule(rules, definition.rule) {
+            return true;
+        }
+    }
+    false
+}
+
+/// Whether a default is of another kind than its attribute.
+fn is_other_kind(kind: AttributeKind, default: Option<&Attribute>) -> bool
+    ensures { result ≡ is_other_kind kind (option_map (λ a. attribute_view a.now) default.entry) }
+{
+    match default {
+        None => false,
+        Some(value) => !is_same(kind, value.kind()),
+    }
+}
+
+/// Whether an attribute's default is of another kind.
+fn bad_default(definition: &DefinitionDraft) -> bool
+    ensures { result ≡ bad_default (definition_view definition.now) }
+{
+    for (_, attribute) in definition.attributes.iter() {
+        if is_other_kind(attribute.kind, attribute.default.as_ref()) {
+            return true;
+        }
+    }
+    false
+}
+
+/// A default is of another kind than its attribute.
+fn has_bad_default(definitions: &BTreeMap<String, DefinitionDraft>) -> bool
+    ensures { result ≡ list_any (λ c. bad_default c.1) (map definition_entry definitions.now.entries) }
+{
+    for (_, definition) in definitions.iter() {
+        if bad_default(definition) {
+            return true;
+        }
+    }
+    false
 }
 
 /// Whether the constraint refuses the attributes that are given.
 fn refuses_attributes(plan: &Plan) -> bool
     ensures { result ≡ refuses_attributes (plan_view plan.now) }
 {
-    match builtin_named(plan.constraint) {
+    match &plan.meant {
         None => true,
-        Some(which) => !takes_attributes(which, plan.with),
+        Some(Meant::BuiltIn(which)) => !takes_attributes(*which, plan.with),
+        Some(Meant::Declared(definition)) => {
+            has_other(&definition.attributes, plan.with)
+                || lacks_value(&definition.attributes, plan.with)
+        }
     }
 }
 
 /// A constraint refuses the attributes that are given.
 #[tactic(auto, using(crate::proofs::Anys::plan_turn))]
-fn has_bad_attribute(plans: &[Plan]) -> bool
+fn has_refused_attribute(plans: &[Plan]) -> bool
     ensures { result ≡ list_any refuses_attributes (map plan_view plans.now) }
 {
     for plan in plans {
@@ -195,23 +305,44 @@ fn has_bad_attribute(plans: &[Plan]) -> bool
     false
 }
 
-/// Whether the constraint isn't on data of the field's kind.
-fn refuses_kind(plan: &Plan) -> bool
-    ensures { result ≡ refuses_kind (plan_view plan.now) }
+/// A default is of another kind, or a constraint refuses the attributes that are given.
+#[tactic(auto, unfolding(crate::specs::Declares::bad_attribute))]
+fn bad_attribute(draft: &Draft, plans: &[Plan]) -> bool
+    requires { map plan_view plans.now ≡ plans_of (draft_view draft.now) }
+    ensures { result ≡ bad_attribute (draft_view draft.now) }
 {
-    match builtin_named(plan.constraint) {
-        None => true,
-        Some(which) => !takes_kind(which, plan.kind),
+    has_bad_default(&draft.definitions) || has_refused_attribute(plans)
+}
+
+/// Whether a rule isn't of the place's sort, or doesn't take its kind.
+fn refuses_place<R: RuleSet>(rules: &R, rule: Option<RuleDraft>, place: Place) -> bool
+    ensures { result ≡ refuses_place (R.known rules.now) (option_map rule_view rule) (place_view place) }
+{
+    match (rule, place) {
+        (Some(RuleDraft::Field(number)), Place::Field(_, kind)) => !rules.takes(number, kind),
+        (Some(RuleDraft::Object(_)), Place::Whole) => false,
+        _ => true,
     }
 }
 
-/// A constraint is on data of another kind than it takes.
+/// Whether the constraint isn't on objects, or on data of the field's kind.
+fn refuses_kind<R: RuleSet>(rules: &R, plan: &Plan) -> bool
+    ensures { result ≡ refuses_kind (R.known rules.now) (plan_view plan.now) }
+{
+    match (&plan.meant, plan.place) {
+        (Some(Meant::BuiltIn(which)), Place::Field(_, kind)) => !takes_kind(*which, kind),
+        (Some(Meant::Declared(definition)), place) => refuses_place(rules, definition.rule, place),
+        _ => true,
+    }
+}
+
+/// A constraint is at a place of another sort, or of another kind than it takes.
 #[tactic(auto, using(crate::proofs::Anys::plan_turn))]
-fn has_unexpected_type(plans: &[Plan]) -> bool
-    ensures { result ≡ list_any refuses_kind (map plan_view plans.now) }
+fn has_unexpected_type<R: RuleSet>(rules: &R, plans: &[Plan]) -> bool
+    ensures { result ≡ list_any (refuses_kind (R.known rules.now)) (map plan_view plans.now) }
 {
     for plan in plans {
-        if refuses_kind(plan) {
+        if refuses_kind(rules, plan) {
             return true;
         }
     }
@@ -219,9 +350,9 @@ fn has_unexpected_type(plans: &[Plan]) -> bool
 }
 
 /// The first fault of declarations of the right form, apart from patterns and want of memory.
-pub(crate) fn draft_fault(draft: &Draft, plans: &[Plan]) -> Option<DeclFault>
-    requires { map plan_view plans.now ≡ planned (draft_view draft.now).types }
-    ensures { result ≡ spec_fault (draft_view draft.now) }
+pub(crate) fn draft_fault<R: RuleSet>(rules: &R, draft: &Draft, plans: &[Plan]) -> Option<DeclFault>
+    requires { map plan_view plans.now ≡ plans_of (draft_view draft.now) }
+    ensures { result ≡ spec_fault (R.known rules.now) (draft_view draft.now) }
 {
     if bad_name(draft) {
         return Some(DeclFault::BadName);
@@ -229,13 +360,19 @@ pub(crate) fn draft_fault(draft: &Draft, plans: &[Plan]) -> Option<DeclFault>
     if unknown_name(draft, plans) {
         return Some(DeclFault::UnknownName);
     }
+    if empty_constraint(draft) {
+        return Some(DeclFault::EmptyConstraint);
+    }
     if too_large(draft, plans) {
         return Some(DeclFault::TooLarge);
     }
-    if has_bad_attribute(plans) {
+    if unknown_rule(rules, draft) {
+        return Some(DeclFault::UnknownRule);
+    }
+    if bad_attribute(draft, plans) {
         return Some(DeclFault::Attribute);
     }
-    if has_unexpected_type(plans) {
+    if has_unexpected_type(rules, plans) {
         return Some(DeclFault::UnexpectedType);
     }
     None

@@ -3,16 +3,21 @@
 
 mod attributes;
 mod build;
+mod definitions;
 mod draft;
+mod effect;
 mod fault;
 mod faults;
+mod meant;
+mod members;
 mod occurrence;
 mod plan;
+mod planning;
 mod reading;
 mod schema;
 mod shape;
 
 pub use fault::DeclFault;
-pub use occurrence::Occurrence;
+pub use occurrence::{Demand, FieldTest, Occurrence};
 pub use reading::read_schema;
 pub use schema::Schema;

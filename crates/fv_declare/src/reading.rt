@@ -1,4 +1,4 @@
-ghost use Rattle.std.specs.Prelude.{◌≡◌, ◌≢◌, Ok, Err, IfOk, IfErr};
+ghost use Rattle.std.specs.Prelude.{◌≡◌, ◌≢◌, true, Ok, Err, IfOk, IfErr};
 ghost use Rattle.std.specs.Option.{ok_or};
 ghost use Rattle.serde_json.specs.View.{view as json_view};
 ghost use Rattle.fv_datum.specs.Answers.{Gives};
@@ -6,15 +6,17 @@ ghost use Rattle.fv_datum.specs.Parsing.{json_of};
 ghost use Rattle.fv_declare.specs.Declares.{Answers, Declares, Judged, draft_fault as spec_fault};
 ghost use Rattle.fv_declare.specs.Drafts.{draft_of as spec_draft};
 ghost use Rattle.fv_declare.specs.DraftViews.{draft_view};
+ghost use Rattle.fv_declare.specs.Fits.{fits};
 
 use crate::build::build;
 use crate::draft::Draft;
 use crate::fault::DeclFault;
 use crate::faults::draft_fault;
-use crate::plan::planned;
+use crate::planning::planned;
 use crate::schema::Schema;
 use crate::shape::draft_of;
 use fv_datum::{JsonFault, read_json};
+use fv_registry::RuleSet;
 use serde_json::Value;
 use std::alloc::Global;
 
@@ -30,36 +32,38 @@ fn value_of(alloc: Global, bytes: &[u8]) -> Result<Value, DeclFault>
 }
 
 /// The schema that a draft declares.
-fn schema_of_draft(alloc: Global, draft: &Draft) -> Result<Schema, DeclFault>
-    ensures taken { IfOk result (λ s. Answers (spec_fault (draft_view draft.now)) (draft_view draft.now) (Ok s)) }
-    ensures refused { IfErr result (λ f. f ≢ DeclFault.Memory → Answers (spec_fault (draft_view draft.now)) (draft_view draft.now) (Err f)) }
+fn schema_of_draft<R: RuleSet>(alloc: Global, rules: &R, draft: &Draft) -> Result<Schema, DeclFault>
+    ensures taken { IfOk result (λ s. Answers (spec_fault (R.known rules.now) (draft_view draft.now)) (draft_view draft.now) (Ok s)) }
+    ensures refused { IfErr result (λ f. f ≢ DeclFault.Memory → Answers (spec_fault (R.known rules.now) (draft_view draft.now)) (draft_view draft.now) (Err f)) }
 {
-    let plans = planned(alloc, &draft.types)?;
-    match draft_fault(draft, &plans) {
+    let plans = planned(alloc, &draft.definitions, &draft.types)?;
+    match draft_fault(rules, draft, &plans) {
         Some(fault) => Err(fault),
         None => build(alloc, draft, &plans),
     }
 }
 
 /// The schema that a JSON value declares.
-fn schema_of(alloc: Global, value: &Value) -> Result<Schema, DeclFault>
-    ensures taken { IfOk result (λ s. Judged (spec_draft (json_view value.now)) (Ok s)) }
-    ensures refused { IfErr result (λ f. f ≢ DeclFault.Memory → Judged (spec_draft (json_view value.now)) (Err f)) }
+fn schema_of<R: RuleSet>(alloc: Global, rules: &R, value: &Value) -> Result<Schema, DeclFault>
+    ensures taken { IfOk result (λ s. Judged (R.known rules.now) (spec_draft (json_view value.now)) (Ok s)) }
+    ensures refused { IfErr result (λ f. f ≢ DeclFault.Memory → Judged (R.known rules.now) (spec_draft (json_view value.now)) (Err f)) }
 {
     match draft_of(alloc, value)? {
         None => Err(DeclFault::Shape),
-        Some(draft) => schema_of_draft(alloc, &draft),
+        Some(draft) => schema_of_draft(alloc, rules, &draft),
     }
 }
 
-/// The schema that a text declares.
+/// The schema that a text declares, where these rules are there.
 ///
-/// Refused by the first of `NotJson`, `Shape`, `BadName`, `UnknownName`, `TooLarge`, `Attribute`,
-/// `UnexpectedType` and `BadPattern` whose condition holds; by `Memory` at any place.
-pub fn read_schema(alloc: Global, bytes: &[u8]) -> Result<Schema, DeclFault>
-    ensures taken { IfOk result (λ s. Declares bytes.now (Ok s)) }
-    ensures refused { IfErr result (λ f. f ≢ DeclFault.Memory → Declares bytes.now (Err f)) }
+/// Refused by the first of `NotJson`, `Shape`, `BadName`, `UnknownName`, `EmptyConstraint`,
+/// `TooLarge`, `UnknownRule`, `Attribute`, `UnexpectedType` and `BadPattern` whose condition holds;
+/// by `Memory` at any place.
+pub fn read_schema<R: RuleSet>(alloc: Global, rules: &R, bytes: &[u8]) -> Result<Schema, DeclFault>
+    ensures taken { IfOk result (λ s. Declares (R.known rules.now) bytes.now (Ok s)) }
+    ensures fits { IfOk result (λ s. fits (R.known rules.now) s ≡ true) }
+    ensures refused { IfErr result (λ f. f ≢ DeclFault.Memory → Declares (R.known rules.now) bytes.now (Err f)) }
 {
     let value = value_of(alloc, bytes)?;
-    schema_of(alloc, &value)
+    schema_of(alloc, rules, &value)
 }

@@ -13,37 +13,18 @@ ghost use Rattle.fv_declare.specs.DraftViews.{use_view, field_view, type_view, f
 ghost use Rattle.fv_declare.specs.Ordered.{Ascends, names_of};
 
 use crate::attributes::attrs_of;
+use crate::definitions::definitions_of;
 use crate::draft::{Draft, FieldDraft, FormDraft, TypeDraft, UseDraft};
+use crate::members::has_only;
 use fv_model::TypeUse;
 use serde_json::{Map, Value};
 use std::alloc::{AllocError, Global};
-
-/// Whether a value is an object with no member but these two.
-fn has_only(value: &Value, first: &str, second: &str) -> bool
-    ensures { result ≡ has_only first.now second.now (json_view value.now) }
-{
-    match value.as_object() {
-        None => false,
-        Some(members) => only_these(members, first, second),
-    }
-}
-
-fn only_these(members: &Map<String, Value>, first: &str, second: &str) -> bool
-    ensures { result ≡ list_all (λ m. bytes_eq first.now m.0 || bytes_eq second.now m.0) (pairs (members_view members.now.entries)) }
-{
-    for (name, _) in members.iter() {
-        if first != name.as_str() && second != name.as_str() {
-            return false;
-        }
-    }
-    true
-}
 
 /// `{"constraint":NAME,"with":{..}}`, `with` may be missing.
 fn use_of<'a>(alloc: Global, value: &'a Value) -> Result<Option<UseDraft<'a>>, AllocError>
     ensures { IfOk result (λ o. option_map use_view o ≡ spec_use (json_view value.now)) }
 {
-    if !has_only(value, "constraint", "with") {
+    if !has_only(value, &["constraint", "with"]) {
         return Ok(None);
     }
     let Some(constraint) = value.get("constraint").and_then(Value::as_str) else {
@@ -68,7 +49,7 @@ fn uses_in<'a>(alloc: Global, values: &'a [Value]) -> Result<Option<Vec<UseDraft
     Ok(Some(uses))
 }
 
-/// The uses at a field: none where it has no such member.
+/// The uses at a place: none where it has no such member.
 fn uses_of<'a>(
     alloc: Global,
     constraints: Option<&'a Value>,
@@ -103,7 +84,7 @@ fn plain_use(name: &str) -> Option<TypeUse>
 fn reference_of(alloc: Global, value: &Value) -> Result<Option<TypeUse>, AllocError>
     ensures { IfOk result (λ o. option_map held_view o ≡ spec_reference (json_view value.now)) }
 {
-    if !has_only(value, "ref", "ref") {
+    if !has_only(value, &["ref"]) {
         return Ok(None);
     }
     match value.get("ref").and_then(Value::as_str) {
@@ -141,7 +122,7 @@ fn field_of<'a>(
     ensures exact { IfOk result (λ o. option_map field_view o ≡ spec_field (name.now, json_view value.now)) }
     ensures name { IfOk result (λ o. IfSome o (λ x. x.name.now ≡ name.now)) }
 {
-    if !has_only(value, "type", "constraints") {
+    if !has_only(value, &["type", "constraints"]) {
         return Ok(None);
     }
     let Some(type_use) = type_use_in(alloc, value.get("type"))? else {
@@ -175,7 +156,7 @@ fn fields_of<'a>(
     Ok(Some(fields))
 }
 
-/// `{"fields":{..}}`.
+/// `{"fields":{..},"constraints":[..]}`, `constraints` may be missing.
 fn type_of<'a>(
     alloc: Global,
     name: &'a str,
@@ -184,15 +165,18 @@ fn type_of<'a>(
     ensures exact { IfOk result (λ o. option_map type_view o ≡ spec_type (name.now, json_view value.now)) }
     ensures name { IfOk result (λ o. IfSome o (λ x. x.name.now ≡ name.now)) }
 {
-    if !has_only(value, "fields", "fields") {
+    if !has_only(value, &["fields", "constraints"]) {
         return Ok(None);
     }
     let Some(fields) = value.get("fields").and_then(Value::as_object) else {
         return Ok(None);
     };
-    match fields_of(alloc, fields)? {
+    let Some(fields) = fields_of(alloc, fields)? else {
+        return Ok(None);
+    };
+    match uses_of(alloc, value.get("constraints"))? {
         None => Ok(None),
-        Some(fields) => Ok(Some(TypeDraft { name, fields })),
+        Some(uses) => Ok(Some(TypeDraft { name, fields, uses })),
     }
 }
 
@@ -219,7 +203,7 @@ fn form_of<'a>(name: &'a str, value: &'a Value) -> Option<FormDraft<'a>>
     ensures exact { option_map form_view result ≡ spec_form (name.now, json_view value.now) }
     ensures name { IfSome result (λ x. x.name.now ≡ name.now) }
 {
-    if !has_only(value, "root", "root") {
+    if !has_only(value, &["root"]) {
         return None;
     }
     let root = value.get("root").and_then(Value::as_str)?;
@@ -245,11 +229,11 @@ fn forms_of<'a>(
 }
 
 /// The draft that a JSON value is, where it has the form of declarations:
-/// `{"types":{..},"forms":{..}}`.
+/// `{"types":{..},"forms":{..},"constraints":{..}}`, `constraints` may be missing.
 pub(crate) fn draft_of<'a>(alloc: Global, value: &'a Value) -> Result<Option<Draft<'a>>, AllocError>
     ensures { IfOk result (λ o. option_map draft_view o ≡ spec_draft (json_view value.now)) }
 {
-    if !has_only(value, "types", "forms") {
+    if !has_only(value, &["types", "forms", "constraints"]) {
         return Ok(None);
     }
     let Some(named) = value.get("types").and_then(Value::as_object) else {
@@ -261,12 +245,16 @@ pub(crate) fn draft_of<'a>(alloc: Global, value: &'a Value) -> Result<Option<Dra
     let Some(types) = types_of(alloc, named)? else {
         return Ok(None);
     };
-    match forms_of(alloc, forms)? {
+    let Some(forms) = forms_of(alloc, forms)? else {
+        return Ok(None);
+    };
+    match definitions_of(alloc, value.get("constraints"))? {
         None => Ok(None),
-        Some(forms) => Ok(Some(Draft {
+        Some(definitions) => Ok(Some(Draft {
             named,
             types,
             forms,
+            definitions,
         })),
     }
 }

@@ -1,4 +1,5 @@
 //! Declarations, the code of the fault by which they are refused, and which are JSON at all.
+use crate::rules::rules;
 use fv_declare::{DeclFault, read_schema};
 use std::alloc::Global;
 use std::process::Abort;
@@ -6,7 +7,7 @@ use std::test::Fail;
 
 /// The fault by which declarations are refused, if they are.
 fn judged(alloc: Global, declarations: &[u8]) -> Result<Option<DeclFault>, Fail> {
-    match read_schema(alloc, declarations) {
+    match read_schema(alloc, &rules(alloc)?, declarations) {
         Ok(_) => Ok(None),
         Err(DeclFault::Memory) => Err(Fail::from(DeclFault::Memory)),
         Err(fault) => Ok(Some(fault)),

@@ -23,7 +23,7 @@ F2 {"Types":{},"forms":{}}
 F2 {"types":{},"forms":{},"":{}}
 F2 {"types":{},"forms":{},"more":null}
 F2 {"types":{},"forms":{},"groups":{}}
-F2 {"types":{},"forms":{},"constraints":{}}
+taken {"types":{},"forms":{},"constraints":{}}
 F2 {"types":{},"forms":{},"messages":{}}
 F2 {"types":{},"forms":{},"groups":{"G":{}}}
 F2 {"types":{},"forms":{},"constraints":{"C":{"compose":[{"constraint":"NotNull"}]}}}
@@ -58,7 +58,7 @@ F2 {"fields":7}
 F2 {"fields":"f"}
 F2 {"fields":[]}
 F2 {"fields":{},"":null}
-F2 {"fields":{},"constraints":[]}
+taken {"fields":{},"constraints":[]}
 F2 {"fields":{},"constraints":[{"constraint":"NotNull"}]}
 F2 {"fields":{},"sequence":["T"]}
 F2 {"fields":{},"more":1}

@@ -13,6 +13,8 @@ mod declarations;
 #[cfg(test)]
 mod declared_attributes;
 #[cfg(test)]
+mod declared_constraints;
+#[cfg(test)]
 mod declared_kinds;
 #[cfg(test)]
 mod declared_names;
@@ -24,6 +26,8 @@ mod declared_shapes;
 mod messages;
 #[cfg(test)]
 mod numbering;
+#[cfg(test)]
+mod rules;
 #[cfg(test)]
 mod schemas;
 #[cfg(test)]

@@ -1,16 +1,22 @@
 //! What schemas say: their uses of constraints, types and forms, as texts.
-use fv_declare::{DeclFault, Occurrence, Schema, read_schema};
+use crate::rules::rules;
+use fv_declare::{DeclFault, Demand, Occurrence, Schema, read_schema};
 use fv_model::{TypeId, Types};
 use std::alloc::Global;
 use std::process::Abort;
 use std::test::Fail;
 
-/// The name of the field at which a use stands.
+/// The name of the field at which a use stands, or `-` where it stands at the type.
 fn field_of<'a>(types: &'a Types, occurrence: &Occurrence) -> Result<&'a str, Fail> {
     let name = types.name(occurrence.type_id());
     let fields = types.fields(name).ok_or("a type")?;
-    let (field, _) = fields.get_index(occurrence.field()).ok_or("a field")?;
-    Ok(field.as_str())
+    match occurrence.demand() {
+        Demand::OfObject { .. } => Ok("-"),
+        Demand::OfField { field, .. } => {
+            let (name, _) = fields.get_index(*field).ok_or("a field")?;
+            Ok(name.as_str())
+        }
+    }
 }
 
 /// A use's type, field, constraint and message.
@@ -35,7 +41,7 @@ fn uses_shown(alloc: Global, schema: &Schema) -> Result<String, Fail> {
 
 /// The same of the schema of declarations.
 fn uses_of(alloc: Global, declarations: &str) -> Result<String, Fail> {
-    let schema = read_schema(alloc, declarations.as_bytes())?;
+    let schema = read_schema(alloc, &rules(alloc)?, declarations.as_bytes())?;
     uses_shown(alloc, &schema)
 }
 
@@ -71,7 +77,7 @@ fn types_shown(alloc: Global, types: &Types) -> Result<String, Fail> {
 
 /// The same of the schema of declarations.
 fn types_of(alloc: Global, declarations: &str) -> Result<String, Fail> {
-    let schema = read_schema(alloc, declarations.as_bytes())?;
+    let schema = read_schema(alloc, &rules(alloc)?, declarations.as_bytes())?;
     types_shown(alloc, schema.types())
 }
 
@@ -171,7 +177,7 @@ fn forms_have_roots(rt: HostRuntime) -> Result<(), Fail> {
     let declarations =
         r#"{"types":{"b":{"fields":{}},"A":{"fields":{"x":{"type":"text"}}},"c":{"fields":{}}},
         "forms":{"z":{"root":"A"},"y":{"root":"c"},"Y":{"root":"b"},"A":{"root":"c"},"y2":{"root":"c"}}}"#;
-    let schema = read_schema(rt.alloc(), declarations.as_bytes())?;
+    let schema = read_schema(rt.alloc(), &rules(rt.alloc())?, declarations.as_bytes())?;
     check_roots(&rt, &schema);
     Ok(())
 }
@@ -187,7 +193,9 @@ fn faults_have_names_and_codes(rt: HostRuntime) {
     check_fault(&rt, DeclFault::Shape, "Shape", "F2");
     check_fault(&rt, DeclFault::BadName, "BadName", "F3");
     check_fault(&rt, DeclFault::UnknownName, "UnknownName", "F4");
+    check_fault(&rt, DeclFault::EmptyConstraint, "EmptyConstraint", "F13");
     check_fault(&rt, DeclFault::TooLarge, "TooLarge", "F14");
+    check_fault(&rt, DeclFault::UnknownRule, "UnknownRule", "F15");
     check_fault(&rt, DeclFault::Attribute, "Attribute", "F16");
     check_fault(&rt, DeclFault::UnexpectedType, "UnexpectedType", "F17");
     check_fault(&rt, DeclFault::BadPattern, "BadPattern", "F18");

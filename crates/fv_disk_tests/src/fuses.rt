@@ -1,6 +1,8 @@
 //! A disk that fails from one of its calls on, under the whole service: a put is refused, and what
 //! stands on the disk is the records before it or after it.
 use fv_engine::Engine;
+use fv_house::House;
+use fv_registry::{Registry, RuleSet};
 use sqlite::{Alter, Connection, FileStore, Files, Options};
 use sqlite_disk::{Crash, Disk, Fuse, Memory};
 use std::alloc::Global;
@@ -39,9 +41,9 @@ const AFTER: &str =
 "#;
 
 /// The replies to lines, each with its end.
-fn replies<S: Alter>(
+fn replies<R: RuleSet, S: Alter>(
     alloc: Global,
-    engine: &mut Engine<S>,
+    engine: &mut Engine<R, S>,
     lines: &[&str],
 ) -> Result<String, Fail> {
     let mut text = String::new(alloc);
@@ -52,19 +54,32 @@ fn replies<S: Alter>(
     Ok(text)
 }
 
-/// The replies to lines over a database, none where no engine is opened, and the database.
-fn replied<S: Alter + Drop>(
+/// The same over a database, none where no engine is opened, and the database.
+fn replied_by<R: RuleSet + Drop, S: Alter + Drop>(
     alloc: Global,
+    rules: R,
     connection: Connection<S>,
     lines: &[&str],
-) -> Result<(String, Connection<S>), Fail> {
-    match Engine::open(alloc, DECLARATIONS.as_bytes(), connection) {
+) -> Result<(String, Connection<S>), Fail>
+    requires { R.means rules }
+{
+    match Engine::open(alloc, rules, DECLARATIONS.as_bytes(), connection) {
         Ok(mut engine) => {
             let text = replies(alloc, &mut engine, lines)?;
             Ok((text, engine.into_connection()))
         }
         Err((_, connection)) => Ok((String::new(alloc), connection)),
     }
+}
+
+/// The same without any rule.
+fn replied<S: Alter + Drop>(
+    alloc: Global,
+    connection: Connection<S>,
+    lines: &[&str],
+) -> Result<(String, Connection<S>), Fail> {
+    let rules = Registry::<House>::new(alloc, Vec::new(alloc), Vec::new(alloc))?;
+    replied_by(alloc, rules, connection, lines)
 }
 
 /// The files of a database, all of it written there if the disk lets it.

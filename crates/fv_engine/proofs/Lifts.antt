@@ -1,6 +1,7 @@
 -- A run of an engine is a run of the record machine.
 use Rattle.std.proofs.Common.{◌≡◌, ◌⊎◌, ◌≤◌, ◌<◌, ℕ, ℤ, length, List, [], ◌∷◌, Option, refl, sym, subst, ◌∙◌}
 use Rattle.sqlite.specs.State.{State}
+use Rattle.fv_registry.specs.Answers.{Meanings}
 use Rattle.fv_declare.specs.Declarations.{Declarations}
 use Rattle.fv_engine.specs.Engines.{Standing, Turns, ToldStep, StepOf}
 use Rattle.fv_engine.specs.Moves.{Holding, Moves, Told}
@@ -25,30 +26,30 @@ onwards ds a b c R Q one two = record {
       (u.0, (_, t.1, u.1), u.2);
 }
 
-module _ {H : Type 0} (held : H → State) (line : List ℕ) (moment : ℤ) (reply : List ℕ) where
+module _ {H : Type 0} (means : Meanings) (held : H → State) (line : List ℕ) (moment : ℤ) (reply : List ℕ) where
   -- a line that is over the limit
-  pub long_turn : (old new : Standing H) → new ≡ old → 1048576 < length line → reply ≡ line_too_long → StepOf held old line moment reply new
-  long_turn old new same long why = subst (λ (e : Standing H). StepOf held old line moment reply e) (sym same)
-      (long_step old.declared (held old.connection) line moment reply long why, refl)
+  pub long_turn : (old new : Standing H) → new ≡ old → 1048576 < length line → reply ≡ line_too_long → StepOf means held old line moment reply new
+  long_turn old new same long why = subst (λ (e : Standing H). StepOf means held old line moment reply e) (sym same)
+      (long_step means old.declared (held old.connection) line moment reply long why, refl)
 
   -- a line that isn't
   pub short_turn : (old : Standing H) (ds : Declarations) (before after : H) → record { declared = ds; connection = before } ≡ old → length line ≤ 1048576
-      → Moves ds (held before) (held after) (Told (λ m r n. Does ds moment (of_json (json_of line)) m r n ⊎ Refuses out_of_memory m r n) reply)
-      → StepOf held old line moment reply (record { declared = ds; connection = after })
-  short_turn old ds before after is short moves = subst (λ (e : Standing H). StepOf held e line moment reply (record { declared = ds; connection = after })) is
-      (short_step ds (held before) (held after) line moment reply short moves, refl)
+      → Moves ds (held before) (held after) (Told (λ m r n. Does means ds moment (of_json (json_of line)) m r n ⊎ Refuses out_of_memory m r n) reply)
+      → StepOf means held old line moment reply (record { declared = ds; connection = after })
+  short_turn old ds before after is short moves = subst (λ (e : Standing H). StepOf means held e line moment reply (record { declared = ds; connection = after })) is
+      (short_step means ds (held before) (held after) line moment reply short moves, refl)
 
-module _ {H C : Type 0} (held : H → State) (ticks : Ticks C) where
-  pub run_lifted : (e f : Standing H) (c d : C) (lines replies : List (List ℕ)) → Run (StepOf held) ticks e c lines replies f d
-      → Turns held e f (λ m n. Run (ToldStep e.declared) ticks m c lines replies n d)
+module _ {H C : Type 0} (means : Meanings) (held : H → State) (ticks : Ticks C) where
+  pub run_lifted : (e f : Standing H) (c d : C) (lines replies : List (List ℕ)) → Run (StepOf means held) ticks e c lines replies f d
+      → Turns held e f (λ m n. Run (ToldStep means e.declared) ticks m c lines replies n d)
   run_lifted e f c d [] [] ran =
-      subst (λ (x : Standing H). Turns held e x (λ m n. Run (ToldStep e.declared) ticks m c [] [] n d)) (sym ran.0)
+      subst (λ (x : Standing H). Turns held e x (λ m n. Run (ToldStep means e.declared) ticks m c [] [] n d)) (sym ran.0)
       (rests e.declared (held e.connection) _ (λ m. (refl, ran.1)), refl)
   run_lifted e f c d (line ∷ lines) (reply ∷ replies) ran =
       let mid = ran.0 in
       let step = ran.4 in
       let rest = run_lifted mid f ran.1 d lines replies ran.5 in
-      let moves = subst (λ (ds : Declarations). Moves ds (held mid.connection) (held f.connection) (λ m n. Run (ToldStep ds) ticks m ran.1 lines replies n d)) step.1 rest.0 in (
+      let moves = subst (λ (ds : Declarations). Moves ds (held mid.connection) (held f.connection) (λ m n. Run (ToldStep means ds) ticks m ran.1 lines replies n d)) step.1 rest.0 in (
         weaker e.declared (held e.connection) (held f.connection) _ _ (λ m n t. (t.0, ran.1, ran.2, ran.3, t.1, t.2))
             (onwards e.declared (held e.connection) (held mid.connection) (held f.connection) _ _ step.0 moves),
         rest.1 ∙ step.1,
@@ -57,8 +58,8 @@ module _ {H C : Type 0} (held : H → State) (ticks : Ticks C) where
   run_lifted e f c d (line ∷ lines) [] ran = absurd ran
 
   module _ (e f : Standing H) (c d : C) (r q w v : Option (List ℕ)) where
-    pub taken_lifted : (rest : List ℕ) × Taken (StepOf held) ticks r e c w rest q f d v
-        → Turns held e f (λ m n. (rest : List ℕ) × Taken (ToldStep e.declared) ticks r m c w rest q n d v)
+    pub taken_lifted : (rest : List ℕ) × Taken (StepOf means held) ticks r e c w rest q f d v
+        → Turns held e f (λ m n. (rest : List ℕ) × Taken (ToldStep means e.declared) ticks r m c w rest q n d v)
     taken_lifted t =
         let s = t.1.served in
         let ran = run_lifted e f c d s.lines s.replies s.ran in (
@@ -73,7 +74,7 @@ module _ {H C : Type 0} (held : H → State) (ticks : Ticks C) where
           ran.1,
         )
 
-    pub complete_lifted : Complete (StepOf held) ticks r e c w q f d v → Turns held e f (λ m n. Complete (ToldStep e.declared) ticks r m c w q n d v)
+    pub complete_lifted : Complete (StepOf means held) ticks r e c w q f d v → Turns held e f (λ m n. Complete (ToldStep means e.declared) ticks r m c w q n d v)
     complete_lifted t =
         let s = t.finished in
         let ran = run_lifted e f c d _ s.replies s.ran in (
@@ -86,13 +87,13 @@ module _ {H C : Type 0} (held : H → State) (ticks : Ticks C) where
           ran.1,
         )
 
-    pub stopped_lifted : Stopped (StepOf held) ticks r e c w q f d v → Turns held e f (λ m n. Stopped (ToldStep e.declared) ticks r m c w q n d v)
+    pub stopped_lifted : Stopped (StepOf means held) ticks r e c w q f d v → Turns held e f (λ m n. Stopped (ToldStep means e.declared) ticks r m c w q n d v)
     stopped_lifted t =
         let b = t.broken in
         let s = b.served in
         let a = b.answered in
         let ran = run_lifted e b.mid c b.later s.lines s.replies s.ran in
-        let last = subst (λ (ds : Declarations). Moves ds (held b.mid.connection) (held f.connection) (λ m n. ToldStep ds m s.rest a.moment a.reply n)) ran.1 a.stepped.0 in (
+        let last = subst (λ (ds : Declarations). Moves ds (held b.mid.connection) (held f.connection) (λ m n. ToldStep means ds m s.rest a.moment a.reply n)) ran.1 a.stepped.0 in (
           weaker e.declared (held e.connection) (held f.connection) _ _ (λ m n k. record {
             input = t.input;
             consumed = t.consumed;

@@ -9,6 +9,7 @@ use Rattle.serde_json.specs.Data as json
 use Rattle.serde_json.specs.Written.{compact_text}
 use Rattle.fv_datum.specs.Lookup.{at_name}
 use Rattle.fv_model.specs.Reading.{bundle_read}
+use Rattle.fv_registry.specs.Answers.{Meanings}
 use Rattle.fv_declare.specs.Declarations.{Declarations}
 use Rattle.fv_engine.specs.Requests.{Request, too_long, put, get, or_shape, command_of, of_json, asked}
 use Rattle.fv_datum.specs.Parsing.{json_of}
@@ -135,50 +136,50 @@ module _ (ds : Declarations) (old new : State) (clean : HasCleanDisk new → Has
 
 -- ---- judging
 
-judged_kept : (ds : Declarations) (now : ℤ) (id reply : List ℕ) (kept : Kept) → IsListing ds now kept.bundle [] → (m n : Records) → OrMemory (Decides id kept []) m reply n → OrMemory (Judges ds now id kept) m reply n
-judged_kept ds now id reply kept none m n (inl h) = inl ([], none, h)
-judged_kept ds now id reply kept none m n (inr h) = inr h
+judged_kept : (means : Meanings) (ds : Declarations) (now : ℤ) (id reply : List ℕ) (kept : Kept) → IsListing means ds now kept.bundle [] → (m n : Records) → OrMemory (Decides id kept []) m reply n → OrMemory (Judges means ds now id kept) m reply n
+judged_kept means ds now id reply kept none m n (inl h) = inl ([], none, h)
+judged_kept means ds now id reply kept none m n (inr h) = inr h
 
 -- a bundle without violations is kept
-pub judged_empty : (ds : Declarations) (now : ℤ) (old new : State) (id reply : List ℕ) (kept : Kept) (vs : List Reported) → vs ≡ [] → IsListing ds now kept.bundle vs
-    → Moves ds old new (Told (OrMemory (Decides id kept [])) reply) → Moves ds old new (Told (OrMemory (Judges ds now id kept)) reply)
-judged_empty ds now old new id reply kept vs none listing moves =
-    retold ds old new reply _ _ (judged_kept ds now id reply kept (subst (IsListing ds now kept.bundle) none listing)) moves
+pub judged_empty : (means : Meanings) (ds : Declarations) (now : ℤ) (old new : State) (id reply : List ℕ) (kept : Kept) (vs : List Reported) → vs ≡ [] → IsListing means ds now kept.bundle vs
+    → Moves ds old new (Told (OrMemory (Decides id kept [])) reply) → Moves ds old new (Told (OrMemory (Judges means ds now id kept)) reply)
+judged_empty means ds now old new id reply kept vs none listing moves =
+    retold ds old new reply _ _ (judged_kept means ds now id reply kept (subst (IsListing means ds now kept.bundle) none listing)) moves
 
 decided_some : (id reply : List ℕ) (kept : Kept) (vs : List Reported) → (vs ≡ [] → ⊥) → reply ≡ violations_refused id vs → (m : Records) → Decides id kept vs m reply m
 decided_some id reply kept [] some why m = absurd (some refl)
 decided_some id reply kept (v ∷ vs) some why m = (why, refl)
 
 -- one with violations is refused with them
-pub judged_some : (ds : Declarations) (now : ℤ) (s : State) (id reply : List ℕ) (kept : Kept) (vs : List Reported) → (vs ≡ [] → ⊥) → IsListing ds now kept.bundle vs
-    → (reply ≡ violations_refused id vs) ⊎ (reply ≡ out_of_memory) → Moves ds s s (Told (OrMemory (Judges ds now id kept)) reply)
-judged_some ds now s id reply kept vs some listing why =
+pub judged_some : (means : Meanings) (ds : Declarations) (now : ℤ) (s : State) (id reply : List ℕ) (kept : Kept) (vs : List Reported) → (vs ≡ [] → ⊥) → IsListing means ds now kept.bundle vs
+    → (reply ≡ violations_refused id vs) ⊎ (reply ≡ out_of_memory) → Moves ds s s (Told (OrMemory (Judges means ds now id kept)) reply)
+judged_some means ds now s id reply kept vs some listing why =
     stays ds s _ reply (or_memory reply (violations_refused id vs) (violations_error id vs) why)
     (λ m. elim why [ inl e ↦ inl (vs, listing, decided_some id reply kept vs some e m) | inr e ↦ inr (e, refl) ])
 
 -- ---- puts
 
-module _ (ds : Declarations) (now : ℤ) (id form reply : List ℕ) (read : Result Bundled BundleFault) (root : Option (List ℕ)) where
+module _ (means : Meanings) (ds : Declarations) (now : ℤ) (id form reply : List ℕ) (read : Result Bundled BundleFault) (root : Option (List ℕ)) where
   -- the bundle has a fault
   pub put_unread : (s : State) (fault : BundleFault) (declared : Bool) → is_some root ≡ declared → (fault ≢ Memory → read ≡ Err fault)
       → (reply ≡ out_of_memory) ⊎ ((fault ≢ Memory) × (reply ≡ unread fault declared)) → reply ≢ put_taken
-      → Moves ds s s (Told (OrMemory (Puts ds now id form read root)) reply)
+      → Moves ds s s (Told (OrMemory (Puts means ds now id form read root)) reply)
   put_unread s fault declared told is why differs = stays ds s _ reply differs (λ m. elim why [
     | inl e ↦ inr (e, refl)
-    | inr e ↦ inl (subst (λ (r : Result Bundled BundleFault). Puts ds now id form r root m reply m) (sym (is e.0)) (e.1 ∙ ap (unread fault) (sym told), refl))
+    | inr e ↦ inl (subst (λ (r : Result Bundled BundleFault). Puts means ds now id form r root m reply m) (sym (is e.0)) (e.1 ∙ ap (unread fault) (sym told), refl))
   ])
 
   -- the form isn't declared
-  pub put_unknown : (s : State) (b : Bundled) → read ≡ Ok b → root ≡ None → reply ≡ unknown_form → Moves ds s s (Told (OrMemory (Puts ds now id form read root)) reply)
-  put_unknown s b is none why = stays ds s _ reply (other reply unknown_form why form_error) (λ m. inl (subst (λ (r : Result Bundled BundleFault). Puts ds now id form r root m reply m) (sym is)
-      (subst (λ (o : Option (List ℕ)). Puts ds now id form (Ok b) o m reply m) (sym none) (why, refl))))
+  pub put_unknown : (s : State) (b : Bundled) → read ≡ Ok b → root ≡ None → reply ≡ unknown_form → Moves ds s s (Told (OrMemory (Puts means ds now id form read root)) reply)
+  put_unknown s b is none why = stays ds s _ reply (other reply unknown_form why form_error) (λ m. inl (subst (λ (r : Result Bundled BundleFault). Puts means ds now id form r root m reply m) (sym is)
+      (subst (λ (o : Option (List ℕ)). Puts means ds now id form (Ok b) o m reply m) (sym none) (why, refl))))
 
   -- the bundle is judged
   pub put_judged : (old new : State) (b : Bundled) (type : List ℕ) → read ≡ Ok b → root ≡ Some type
-      → Moves ds old new (Told (OrMemory (Judges ds now id (record { form = form; bundle = b }))) reply) → Moves ds old new (Told (OrMemory (Puts ds now id form read root)) reply)
+      → Moves ds old new (Told (OrMemory (Judges means ds now id (record { form = form; bundle = b }))) reply) → Moves ds old new (Told (OrMemory (Puts means ds now id form read root)) reply)
   put_judged old new b type is some moves =
-      subst (λ (r : Result Bundled BundleFault). Moves ds old new (Told (OrMemory (Puts ds now id form r root)) reply)) (sym is)
-      (subst (λ (o : Option (List ℕ)). Moves ds old new (Told (OrMemory (Puts ds now id form (Ok b) o)) reply)) (sym some) moves)
+      subst (λ (r : Result Bundled BundleFault). Moves ds old new (Told (OrMemory (Puts means ds now id form r root)) reply)) (sym is)
+      (subst (λ (o : Option (List ℕ)). Moves ds old new (Told (OrMemory (Puts means ds now id form (Ok b) o)) reply)) (sym some) moves)
 
 -- whether a form is declared
 pub declared_when : {X : Type 0} (f : X → List ℕ) (o : Option X) (root : Option (List ℕ)) (b : Bool) → option_map f o ≡ root → b ≡ is_some o → is_some root ≡ b
@@ -187,27 +188,27 @@ declared_when f (Some x) root b is told = sym (ap is_some is) ∙ sym told
 
 -- ---- commands
 
-pub no_command : (ds : Declarations) (now : ℤ) (s : State) (reply : List ℕ) (asked : Option Request) → asked ≡ None → reply ≡ shape → Moves ds s s (Told (OrMemory (Does ds now (or_shape asked))) reply)
-no_command ds now s reply asked none why = subst (λ (o : Option Request). Moves ds s s (Told (OrMemory (Does ds now (or_shape o))) reply)) (sym none)
+pub no_command : (means : Meanings) (ds : Declarations) (now : ℤ) (s : State) (reply : List ℕ) (asked : Option Request) → asked ≡ None → reply ≡ shape → Moves ds s s (Told (OrMemory (Does means ds now (or_shape asked))) reply)
+no_command means ds now s reply asked none why = subst (λ (o : Option Request). Moves ds s s (Told (OrMemory (Does means ds now (or_shape o))) reply)) (sym none)
     (stays ds s _ reply (other reply shape why shape_error) (λ m. inl (why, refl)))
 
-module _ (ds : Declarations) (now : ℤ) (old new : State) (reply : List ℕ) (asked : Option Request) where
+module _ (means : Meanings) (ds : Declarations) (now : ℤ) (old new : State) (reply : List ℕ) (asked : Option Request) where
   pub put_asked : (id form : List ℕ) (bundle : json.Data) → asked ≡ Some (put id form bundle)
-      → Moves ds old new (Told (OrMemory (Puts ds now id form (bundle_read ds.types (at_name form ds.forms) bundle) (at_name form ds.forms))) reply)
-      → Moves ds old new (Told (OrMemory (Does ds now (or_shape asked))) reply)
-  put_asked id form bundle is moves = subst (λ (o : Option Request). Moves ds old new (Told (OrMemory (Does ds now (or_shape o))) reply)) (sym is) moves
+      → Moves ds old new (Told (OrMemory (Puts means ds now id form (bundle_read ds.types (at_name form ds.forms) bundle) (at_name form ds.forms))) reply)
+      → Moves ds old new (Told (OrMemory (Does means ds now (or_shape asked))) reply)
+  put_asked id form bundle is moves = subst (λ (o : Option Request). Moves ds old new (Told (OrMemory (Does means ds now (or_shape o))) reply)) (sym is) moves
 
-  pub get_asked : (id : List ℕ) → asked ≡ Some (get id) → Moves ds old new (Told (OrMemory (Gets id)) reply) → Moves ds old new (Told (OrMemory (Does ds now (or_shape asked))) reply)
-  get_asked id is moves = subst (λ (o : Option Request). Moves ds old new (Told (OrMemory (Does ds now (or_shape o))) reply)) (sym is) moves
+  pub get_asked : (id : List ℕ) → asked ≡ Some (get id) → Moves ds old new (Told (OrMemory (Gets id)) reply) → Moves ds old new (Told (OrMemory (Does means ds now (or_shape asked))) reply)
+  get_asked id is moves = subst (λ (o : Option Request). Moves ds old new (Told (OrMemory (Does means ds now (or_shape o))) reply)) (sym is) moves
 
 -- ---- lines
 
-module _ (ds : Declarations) (now : ℤ) (old new : State) (reply : List ℕ) (read : Option json.Data) where
-  pub json_read : (j : json.Data) → read ≡ Some j → Moves ds old new (Told (OrMemory (Does ds now (or_shape (command_of j)))) reply) → Moves ds old new (Told (OrMemory (Does ds now (of_json read))) reply)
-  json_read j is moves = subst (λ (o : Option json.Data). Moves ds old new (Told (OrMemory (Does ds now (of_json o))) reply)) (sym is) moves
+module _ (means : Meanings) (ds : Declarations) (now : ℤ) (old new : State) (reply : List ℕ) (read : Option json.Data) where
+  pub json_read : (j : json.Data) → read ≡ Some j → Moves ds old new (Told (OrMemory (Does means ds now (or_shape (command_of j)))) reply) → Moves ds old new (Told (OrMemory (Does means ds now (of_json read))) reply)
+  json_read j is moves = subst (λ (o : Option json.Data). Moves ds old new (Told (OrMemory (Does means ds now (of_json o))) reply)) (sym is) moves
 
-pub json_unread : (ds : Declarations) (now : ℤ) (s : State) (reply : List ℕ) (read : Option json.Data) → read ≡ None → reply ≡ not_json → Moves ds s s (Told (OrMemory (Does ds now (of_json read))) reply)
-json_unread ds now s reply read none why = subst (λ (o : Option json.Data). Moves ds s s (Told (OrMemory (Does ds now (of_json o))) reply)) (sym none)
+pub json_unread : (means : Meanings) (ds : Declarations) (now : ℤ) (s : State) (reply : List ℕ) (read : Option json.Data) → read ≡ None → reply ≡ not_json → Moves ds s s (Told (OrMemory (Does means ds now (of_json read))) reply)
+json_unread means ds now s reply read none why = subst (λ (o : Option json.Data). Moves ds s s (Told (OrMemory (Does means ds now (of_json o))) reply)) (sym none)
     (stays ds s _ reply (other reply not_json why (is_error not_json refl)) (λ m. inl (why, refl)))
 
 -- a length within a limit, and one above it
@@ -225,26 +226,26 @@ asked_long : (line : List ℕ) → 1048576 < length line → asked line ≡ too_
 unfolding asked
 asked_long line long = ap (λ (b : Bool). if b then too_long else of_json (json_of line)) (above (length line) 1048576 long)
 
-refused_long : (ds : Declarations) (line : List ℕ) (moment : ℤ) (reply : List ℕ) → 1048576 < length line → reply ≡ line_too_long → (m : Records) → Step ds m line moment reply m
+refused_long : (means : Meanings) (ds : Declarations) (line : List ℕ) (moment : ℤ) (reply : List ℕ) → 1048576 < length line → reply ≡ line_too_long → (m : Records) → Step means ds m line moment reply m
 unfolding Step
-refused_long ds line moment reply long why m = inl (subst (λ (r : Request). Does ds moment r m reply m) (sym (asked_long line long)) (why, refl))
+refused_long means ds line moment reply long why m = inl (subst (λ (r : Request). Does means ds moment r m reply m) (sym (asked_long line long)) (why, refl))
 
 -- a line that is over the limit
-pub long_step : (ds : Declarations) (s : State) (line : List ℕ) (moment : ℤ) (reply : List ℕ) → 1048576 < length line → reply ≡ line_too_long
-    → Moves ds s s (Told (λ m r n. Step ds m line moment r n) reply)
-long_step ds s line moment reply long why = stays ds s _ reply (other reply line_too_long why (is_error line_too_long refl)) (refused_long ds line moment reply long why)
+pub long_step : (means : Meanings) (ds : Declarations) (s : State) (line : List ℕ) (moment : ℤ) (reply : List ℕ) → 1048576 < length line → reply ≡ line_too_long
+    → Moves ds s s (Told (λ m r n. Step means ds m line moment r n) reply)
+long_step means ds s line moment reply long why = stays ds s _ reply (other reply line_too_long why (is_error line_too_long refl)) (refused_long means ds line moment reply long why)
 
-stepped : (ds : Declarations) (line : List ℕ) (moment : ℤ) (reply : List ℕ) → length line ≤ 1048576 → (m n : Records)
-    → OrMemory (Does ds moment (of_json (json_of line))) m reply n → Step ds m line moment reply n
+stepped : (means : Meanings) (ds : Declarations) (line : List ℕ) (moment : ℤ) (reply : List ℕ) → length line ≤ 1048576 → (m n : Records)
+    → OrMemory (Does means ds moment (of_json (json_of line))) m reply n → Step means ds m line moment reply n
 unfolding Step
-stepped ds line moment reply short m n (inl d) = inl (subst (λ (r : Request). Does ds moment r m reply n) (sym (asked_short line short)) d)
-stepped ds line moment reply short m n (inr r) = inr (short, r)
+stepped means ds line moment reply short m n (inl d) = inl (subst (λ (r : Request). Does means ds moment r m reply n) (sym (asked_short line short)) d)
+stepped means ds line moment reply short m n (inr r) = inr (short, r)
 
 -- a line that isn't
-pub short_step : (ds : Declarations) (old new : State) (line : List ℕ) (moment : ℤ) (reply : List ℕ) → length line ≤ 1048576
-    → Moves ds old new (Told (λ m r n. Does ds moment (of_json (json_of line)) m r n ⊎ Refuses out_of_memory m r n) reply)
-    → Moves ds old new (Told (λ m r n. Step ds m line moment r n) reply)
-short_step ds old new line moment reply short moves = retold ds old new reply _ _ (stepped ds line moment reply short) moves
+pub short_step : (means : Meanings) (ds : Declarations) (old new : State) (line : List ℕ) (moment : ℤ) (reply : List ℕ) → length line ≤ 1048576
+    → Moves ds old new (Told (λ m r n. Does means ds moment (of_json (json_of line)) m r n ⊎ Refuses out_of_memory m r n) reply)
+    → Moves ds old new (Told (λ m r n. Step means ds m line moment r n) reply)
+short_step means ds old new line moment reply short moves = retold ds old new reply _ _ (stepped means ds line moment reply short) moves
 
 -- ---- lists that are empty or not
 

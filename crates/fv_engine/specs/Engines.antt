@@ -1,6 +1,7 @@
 -- What an engine stands for, and what its calls do to the records.
 use Rattle.std.specs.Prelude.{◌≡◌}
 use Rattle.sqlite.specs.State.{State}
+use Rattle.fv_registry.specs.Answers.{Meanings}
 use Rattle.fv_declare.specs.Declarations.{Declarations}
 use Rattle.fv_engine.specs.Moves.{Holding, Moves, Told}
 use Rattle.fv_engine.specs.Runs.{Steps}
@@ -16,9 +17,9 @@ abbrev pub Turns : {H : Type 0} → (H → State) → Standing H → Standing H 
 Turns held old new turns = Moves old.declared (held old.connection) (held new.connection) turns × (new.declared ≡ old.declared)
 
 -- a step of the record machine, told by its reply
-abbrev pub ToldStep : Declarations → Steps Holding
-ToldStep ds old line moment reply new = Told (λ m r n. Step ds m line moment r n) reply old new
+abbrev pub ToldStep : Meanings → Declarations → Steps Holding
+ToldStep m ds old line moment reply new = Told (λ o r n. Step m ds o line moment r n) reply old new
 
--- what one line does to an engine: such a step
-abbrev pub StepOf : {H : Type 0} → (H → State) → Steps (Standing H)
-StepOf held old line moment reply new = Turns held old new (λ m n. ToldStep old.declared m line moment reply n)
+-- what one line does to an engine whose rules mean this: such a step
+abbrev pub StepOf : {H : Type 0} → Meanings → (H → State) → Steps (Standing H)
+StepOf m held old line moment reply new = Turns held old new (λ o n. ToldStep m old.declared o line moment reply n)

@@ -1,34 +1,53 @@
 -- The violations in one object at a moment, use by use; for private clauses.
-use Rattle.std.specs.Prelude.{◌≡◌, ℕ, ℤ, ◌+◌, ◌≤◌, ◌==◌, List, [], ◌∷◌, Option, Some, None, slice_get, if◌then◌else◌}
+use Rattle.std.specs.Prelude.{◌≡◌, ℕ, ℤ, ◌+◌, ◌≤◌, ◌==◌, List, [], ◌∷◌, Option, Some, None, option_map, slice_get, Bool, true, string_bytes, if◌then◌else◌}
 use Rattle.std.specs.List.{AllByRecursion}
-use Rattle.fv_datum.specs.Data.{Data}
-use Rattle.fv_builtin.specs.Says.{says}
-use Rattle.fv_declare.specs.Declarations.{Use}
-use Rattle.fv_engine.specs.Violations.{Reported}
+use Rattle.fv_datum.specs.Data.{Data, reference}
+use Rattle.fv_datum.specs.View.{view}
+use Rattle.fv_model.specs.Bundles.{Thing}
+use Rattle.fv_registry.specs.Answers.{Meanings}
+use Rattle.fv_registry.specs.Rules.{Known, knows_field}
+use Rattle.fv_declare.specs.Declarations.{FieldTest, built_in, by_rule, Demand, of_field, of_object, Use}
+use Rattle.fv_declare.specs.Ordered.{place_of}
+use Rattle.fv_engine.specs.Violations.{Reported, holds}
+use Rattle.fv_engine.specs.declared.demands.Spot.{Spot}
 
--- the report of the use of that number at a field
+-- a path with the value there
+abbrev pub spot_view : Spot → List ℕ × Data
+spot_view s = (string_bytes s.path, view s.value)
+
+-- the rule that a test asks is there
+abbrev pub is_there : Known → FieldTest → Bool
+is_there k (built_in r) = true
+is_there k (by_rule rule attributes) = knows_field rule k
+
+-- the field, where the test doesn't hold of its datum
+unfoldable pub refused_field : Meanings → ℤ → FieldTest → Option (List ℕ × Data) → Option (List ℕ × Data)
+refused_field m now test None = None
+refused_field m now test (Some f) = if holds m now test f.1 then None else Some f
+
+-- the path and the value where a demand isn't met by the object of that name
+unfoldable pub refused_at : Meanings → ℤ → List ℕ → Thing → Demand → Option (List ℕ × Data)
+refused_at m now name object (of_field field kind test) = refused_field m now test (slice_get object.fields field)
+refused_at m now name object (of_object rule attributes) = if m.decides_object rule object attributes then None else Some ([], reference name)
+
+-- the report of the use of that number, of a value at a path
 abbrev pub report_at : ℕ → Use → List ℕ × Data → Reported
 report_at n u f = record { path = f.0; constraint = u.constraint; occurrence = n; message = u.message; value = f.1 }
 
--- what the use reports of a field
-unfoldable pub reported_of : ℕ → Use → ℤ → Option (List ℕ × Data) → Option Reported
-reported_of n u now None = None
-reported_of n u now (Some f) = if says u.rule f.1 now then None else Some (report_at n u f)
-
--- what it reports in an object of the type of a number
-unfoldable pub reported_in : ℕ → Use → ℤ → ℕ → List (List ℕ × Data) → Option Reported
-reported_in n u now type fields = if u.type == type then reported_of n u now (slice_get fields u.field) else None
+-- what the use of that number reports of the object of that name, which is of the type of a number
+unfoldable pub reported_in : Meanings → ℤ → ℕ → List ℕ → Thing → ℕ → Use → Option Reported
+reported_in m now type name object n u = if u.type == type then option_map (report_at n u) (refused_at m now name object u.demand) else None
 
 abbrev pub with_first : Option Reported → List Reported → List Reported
 with_first None vs = vs
 with_first (Some v) vs = v ∷ vs
 
 -- what the uses report, the first of that number
-abbrev pub reported_all : ℕ → List Use → ℤ → ℕ → List (List ℕ × Data) → List Reported
-reported_all n [] now type fields = []
-reported_all n (u ∷ us) now type fields = with_first (reported_in n u now type fields) (reported_all (n + 1) us now type fields)
+abbrev pub reported_all : Meanings → ℤ → ℕ → List ℕ → Thing → ℕ → List Use → List Reported
+reported_all m now type name object n [] = []
+reported_all m now type name object n (u ∷ us) = with_first (reported_in m now type name object n u) (reported_all m now type name object (n + 1) us)
 
--- the uses of one type stand in the order of its fields
+-- the uses of one type stand in the order of its places
 abbrev pub UsesAscend : List Use → Type 0
 UsesAscend [] = Unit {0}
-UsesAscend (u ∷ us) = AllByRecursion (λ w. w.type ≡ u.type → u.field ≤ w.field) us × UsesAscend us
+UsesAscend (u ∷ us) = AllByRecursion (λ w. w.type ≡ u.type → place_of u.demand ≤ place_of w.demand) us × UsesAscend us

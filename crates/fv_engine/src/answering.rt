@@ -19,10 +19,11 @@ ghost use Rattle.fv_engine.specs.Step.{Refuses, Decides, Judges, Puts, Gets, Doe
 use crate::command::{Command, command_of};
 use crate::reply;
 use crate::reply::Reply;
+use crate::rulebook::Rulebook;
 use crate::validate::validate;
 use fv_datum::{JsonFault, read_json};
-use fv_declare::Schema;
 use fv_model::{Bundle, BundleFault, Types, read_bundle};
+use fv_registry::RuleSet;
 use fv_store::{Change, Store, StoreFault};
 use serde_json::Value;
 use sqlite::Alter;
@@ -75,20 +76,20 @@ fn keep<S: Alter>(
 }
 
 /// Stores a bundle of a form under an id, where it has no violation.
-fn judge<S: Alter>(
+fn judge<R: RuleSet, S: Alter>(
     store: &mut Store<S>,
     alloc: Global,
-    schema: &Schema,
+    book: &Rulebook<R>,
     id: &str,
     form: &str,
     bundle: Bundle,
     now: i64,
 ) -> Reply
     requires moment { IsMoment now }
-    requires fits { Fits schema.now.types schema.now.forms (record { form = form.now; bundle = bundle_view bundle }) }
-    ensures { Moves schema.now (state S.Store store.old) (state S.Store store.new) (Told (λ m r n. Judges schema.now now id.now (record { form = form.now; bundle = bundle_view bundle }) m r n ⊎ Refuses out_of_memory m r n) result) }
+    requires fits { Fits book.now.schema.types book.now.schema.forms (record { form = form.now; bundle = bundle_view bundle }) }
+    ensures { Moves book.now.schema (state S.Store store.old) (state S.Store store.new) (Told (λ m r n. Judges R.meaning book.now.schema now id.now (record { form = form.now; bundle = bundle_view bundle }) m r n ⊎ Refuses out_of_memory m r n) result) }
 {
-    match validate(alloc, schema, &bundle, now) {
+    match validate(alloc, book, &bundle, now) {
         Err(_) => Reply::fixed(reply::MEMORY),
         Ok(violations) => if violations.is_empty() {
             keep(store, alloc, id, form, bundle)
@@ -115,26 +116,26 @@ fn unread(alloc: Global, fault: BundleFault, declared: bool) -> Reply
 }
 
 /// Takes a put where its bundle has no violation.
-fn put<S: Alter>(
+fn put<R: RuleSet, S: Alter>(
     store: &mut Store<S>,
     alloc: Global,
-    schema: &Schema,
+    book: &Rulebook<R>,
     id: &str,
     form: &str,
     bundle: &Value,
     now: i64,
 ) -> Reply
     requires { IsMoment now }
-    ensures { Moves schema.now (state S.Store store.old) (state S.Store store.new)
-        (Told (λ m r n. Puts schema.now now id.now form.now (bundle_read schema.now.types (at_name form.now schema.now.forms) (json_view bundle.now)) (at_name form.now schema.now.forms) m r n
+    ensures { Moves book.now.schema (state S.Store store.old) (state S.Store store.new)
+        (Told (λ m r n. Puts R.meaning book.now.schema now id.now form.now (bundle_read book.now.schema.types (at_name form.now book.now.schema.forms) (json_view bundle.now)) (at_name form.now book.now.schema.forms) m r n
         ⊎ Refuses out_of_memory m r n) result) }
 {
-    let root = schema.root_of(form);
-    match read_bundle(alloc, schema.types(), root, bundle) {
+    let root = book.schema.root_of(form);
+    match read_bundle(alloc, book.schema.types(), root, bundle) {
         Err(fault) => unread(alloc, fault, root.is_some()),
         Ok(bundle) => match root {
             None => Reply::fixed(reply::UNKNOWN_FORM),
-            Some(_) => judge(store, alloc, schema, id, form, bundle, now),
+            Some(_) => judge(store, alloc, book, id, form, bundle, now),
         },
     }
 }
@@ -152,40 +153,40 @@ fn get<S: Alter>(store: &mut Store<S>, alloc: Global, types: &Types, id: &str) -
 }
 
 /// The reply to a line's JSON.
-fn answer<S: Alter>(
+fn answer<R: RuleSet, S: Alter>(
     store: &mut Store<S>,
     alloc: Global,
-    schema: &Schema,
+    book: &Rulebook<R>,
     value: &Value,
     now: i64,
 ) -> Reply
     requires { IsMoment now }
-    ensures { Moves schema.now (state S.Store store.old) (state S.Store store.new)
-        (Told (λ m r n. Does schema.now now (or_shape (command_of (json_view value.now))) m r n ⊎ Refuses out_of_memory m r n) result) }
+    ensures { Moves book.now.schema (state S.Store store.old) (state S.Store store.new)
+        (Told (λ m r n. Does R.meaning book.now.schema now (or_shape (command_of (json_view value.now))) m r n ⊎ Refuses out_of_memory m r n) result) }
 {
     match command_of(value) {
         None => Reply::fixed(reply::SHAPE),
         Some(Command::Put { id, form, bundle }) => {
-            put(store, alloc, schema, id, form, bundle, now)
+            put(store, alloc, book, id, form, bundle, now)
         }
-        Some(Command::Get { id }) => get(store, alloc, schema.types(), id),
+        Some(Command::Get { id }) => get(store, alloc, book.schema.types(), id),
     }
 }
 
 /// The reply to a line that isn't over the limit.
-pub(crate) fn answer_short<S: Alter>(
+pub(crate) fn answer_short<R: RuleSet, S: Alter>(
     store: &mut Store<S>,
     alloc: Global,
-    schema: &Schema,
+    book: &Rulebook<R>,
     line: &[u8],
     now: i64,
 ) -> Reply
     requires { IsMoment now }
-    ensures { Moves schema.now (state S.Store store.old) (state S.Store store.new)
-        (Told (λ m r n. Does schema.now now (of_json (json_of line.now)) m r n ⊎ Refuses out_of_memory m r n) result) }
+    ensures { Moves book.now.schema (state S.Store store.old) (state S.Store store.new)
+        (Told (λ m r n. Does R.meaning book.now.schema now (of_json (json_of line.now)) m r n ⊎ Refuses out_of_memory m r n) result) }
 {
     match read_json(alloc, line) {
-        Ok(value) => answer(store, alloc, schema, &value, now),
+        Ok(value) => answer(store, alloc, book, &value, now),
         Err(JsonFault::NotJson) => Reply::fixed(reply::NOT_JSON),
         Err(JsonFault::Memory) => Reply::fixed(reply::MEMORY),
     }

@@ -13,7 +13,9 @@ use crate::answering::answer_short;
 use crate::machine::{LIMIT, Machine};
 use crate::reply;
 use crate::reply::Reply;
-use fv_declare::{DeclFault, Schema, read_schema};
+use crate::rulebook::Rulebook;
+use fv_declare::{DeclFault, read_schema};
+use fv_registry::RuleSet;
 use fv_store::{OpenStoreFault, Store};
 use sqlite::{Alter, Connection};
 use std::alloc::Global;
@@ -47,23 +49,21 @@ impl OpenFault {
     }
 }
 
-/// The record machine: declarations, and the records that a database keeps. Contracts see it as what
-/// is declared and the connection to the database, which is outside a transaction.
-pub struct Engine<S: Alter> {
-    schema: Schema,
+/// The record machine: declarations with the rules that they use, and the records that a database
+/// keeps. Contracts see it as what is declared and the connection to the database, which is outside a
+/// transaction.
+pub struct Engine<R: RuleSet, S: Alter> {
+    book: Rulebook<R>,
     store: Store<S>,
 }
 
-impl<S: Alter + Drop> Drop for Engine<S> {
+impl<R: RuleSet + Drop, S: Alter + Drop> Drop for Engine<R, S> {
     fn drop(self) {
-        let Engine {
-            schema: _,
-            store: _,
-        } = self;
+        let Engine { book: _, store: _ } = self;
     }
 }
 
-impl<S: Alter> Model for Engine<S> {
+impl<R: RuleSet, S: Alter> Model for Engine<R, S> {
     ghost use Rattle.std.specs.Coded.{codes};
     ghost use Rattle.sqlite.specs.Held.{Held, held_code};
     ghost use Rattle.fv_builtin.specs.Codes.{pattern_code};
@@ -73,7 +73,7 @@ impl<S: Alter> Model for Engine<S> {
 
     ghost coded = { Prim.hlevel (codes, pattern_code, held_code S.code) };
 
-    ghost view = { λ e. record { declared = e.schema; connection = e.store } };
+    ghost view = { λ e. record { declared = e.book.schema; connection = e.store } };
 }
 
 /// The fault of an engine whose declarations aren't taken.
@@ -98,18 +98,21 @@ fn store_fault(fault: OpenStoreFault) -> OpenFault
     }
 }
 
-impl<S: Alter + Drop> Engine<S> {
+impl<R: RuleSet + Drop, S: Alter + Drop> Engine<R, S> {
     /// An engine over a database: an empty one is made ready for these declarations, and one that
-    /// was made by them is taken with its records.
+    /// was made by them is taken with its records. The rules are those that declared constraints use.
     ///
     /// `Declarations` with the fault of the declarations, then `Store` with that of the database;
-    /// `Memory` at any place. A refusal hands the connection back, its database as it was.
+    /// `Memory` at any place. A refusal hands the connection back, its database as it was, and drops
+    /// the rules.
     pub fn open(
         alloc: Global,
+        rules: R,
         declarations: &[u8],
         connection: Connection<S>,
-    ) -> Result<Engine<S>, (OpenFault, Connection<S>)>
-        ensures declared { IfOk result (λ e. Declares declarations.now (Ok e.declared)) }
+    ) -> Result<Engine<R, S>, (OpenFault, Connection<S>)>
+        requires { R.means rules }
+        ensures declared { IfOk result (λ e. Declares (R.known rules) declarations.now (Ok e.declared)) }
         ensures clean { IfOk result (λ e. HasCleanDisk (state S.Store e.connection) → HasCleanDisk (state S.Store connection)) }
         ensures open { IfOk result (λ e. HasCleanDisk (state S.Store e.connection) → IsTrue (state S.Store e.connection).is_open) }
         // The records are those that the database handed over.
@@ -117,8 +120,8 @@ impl<S: Alter + Drop> Engine<S> {
         ensures taken { IfOk result (λ e. HasCleanDisk (state S.Store e.connection) → (version : _) (d : _) → Tells (state S.Store connection).now version d → about_fault version d declarations.now ≡ None) }
         ensures same { IfOk result (λ e. HasCleanDisk (state S.Store e.connection) → (d : _) (types : _) (roots : _) (m : _) → Holds (state S.Store connection) d types roots m → d ≡ declarations.now) }
         // The declarations come first, by their first fault.
-        ensures refused { IfErr result (λ r. (fault : _) → r.0 ≡ OpenFault.Declarations fault → Declares declarations.now (Err fault)) }
-        ensures after { IfErr result (λ r. (fault : _) → r.0 ≡ OpenFault.Store fault → (ds : _) × (Declares declarations.now (Ok ds))) }
+        ensures refused { IfErr result (λ r. (fault : _) → r.0 ≡ OpenFault.Declarations fault → Declares (R.known rules) declarations.now (Err fault)) }
+        ensures after { IfErr result (λ r. (fault : _) → r.0 ≡ OpenFault.Store fault → (ds : _) × (Declares (R.known rules) declarations.now (Ok ds))) }
         ensures cause { IfErr result (λ r. (fault : _) → r.0 ≡ OpenFault.Store fault → IsAboutFault fault → HasCleanDisk (state S.Store r.1) → (version : _) (d : _) → Tells (state S.Store connection).now version d → about_fault version d declarations.now ≡ Some fault) }
         ensures other_version { IfErr result (λ r. r.0 ≡ OpenFault.Store OpenStoreFault.OtherVersion → HasCleanDisk (state S.Store r.1) → (d : _) (types : _) (roots : _) (m : _) → Opens (state S.Store connection) d types roots m → ⊥) }
         ensures other_declarations { IfErr result (λ r. r.0 ≡ OpenFault.Store OpenStoreFault.OtherDeclarations → HasCleanDisk (state S.Store r.1) → (d : _) (types : _) (roots : _) (m : _) → Opens (state S.Store connection) d types roots m → d ≢ declarations.now) }
@@ -129,36 +132,30 @@ impl<S: Alter + Drop> Engine<S> {
         ensures untouched { IfErr result (λ r. IsKnown (state S.Store connection).now → Stays (state S.Store connection) (state S.Store r.1)) }
         ensures stays { IfErr result (λ r. (d : _) (types : _) (roots : _) (m : _) → Opens (state S.Store connection) d types roots m → Opens (state S.Store r.1) d types roots m) }
     {
-        let schema = match read_schema(alloc, declarations) {
+        let schema = match read_schema(alloc, &rules, declarations) {
             Ok(schema) => schema,
             Err(fault) => return Err((declarations_fault(fault), connection)),
         };
         match Store::open(connection, declarations) {
-            Ok(store) => Ok(Engine { schema, store }),
+            Ok(store) => Ok(Engine {
+                book: Rulebook::new(rules, schema),
+                store,
+            }),
             Err((fault, connection)) => Err((store_fault(fault), connection)),
         }
     }
 }
 
-impl<S: Alter> Engine<S> {
+impl<R: RuleSet, S: Alter> Engine<R, S> {
     /// The reply to a line at a moment: one step of the record machine.
     pub fn run(&mut self, alloc: Global, line: &[u8], now: i64) -> Reply
         requires { IsMoment now }
-        ensures { StepOf (state S.Store) self.old line.now now result self.new }
+        ensures { StepOf R.meaning (state S.Store) self.old line.now now result self.new }
     {
         if line.len() > LIMIT {
             return self.refuse_long(now);
         }
-        answer_short(&mut self.store, alloc, &self.schema, line, now)
-    }
-
-    /// The database, without the engine. It takes no memory.
-    pub fn into_connection(self) -> Connection<S>
-        ensures same { result ≡ self.connection }
-        ensures holds { (d : _) (types : _) (roots : _) (m : _) → Holds (state S.Store self.connection) d types roots m → Holds (state S.Store result) d types roots m }
-    {
-        let Engine { schema: _, store } = self;
-        store.into_connection()
+        answer_short(&mut self.store, alloc, &self.book, line, now)
     }
 
     /// The refusal of a line that is over the limit.
@@ -170,8 +167,19 @@ impl<S: Alter> Engine<S> {
     }
 }
 
-impl<S: Alter> Machine for Engine<S> {
-    ghost step = { StepOf (state S.Store) };
+impl<R: RuleSet + Drop, S: Alter> Engine<R, S> {
+    /// The database, without the engine. It takes no memory.
+    pub fn into_connection(self) -> Connection<S>
+        ensures same { result ≡ self.connection }
+        ensures holds { (d : _) (types : _) (roots : _) (m : _) → Holds (state S.Store self.connection) d types roots m → Holds (state S.Store result) d types roots m }
+    {
+        let Engine { book: _, store } = self;
+        store.into_connection()
+    }
+}
+
+impl<R: RuleSet, S: Alter> Machine for Engine<R, S> {
+    ghost step = { StepOf R.meaning (state S.Store) };
 
     fn answer_line(&mut self, alloc: Global, line: &[u8], now: i64) -> Reply {
         self.run(alloc, line, now)

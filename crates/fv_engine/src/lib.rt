@@ -5,11 +5,13 @@
 mod answering;
 mod clock;
 mod command;
+mod demands;
 mod engine;
 mod line;
 mod machine;
 mod output;
 mod reply;
+mod rulebook;
 mod serving;
 mod validate;
 

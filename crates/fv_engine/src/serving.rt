@@ -14,6 +14,7 @@ use crate::line::Line;
 use crate::machine::{LIMIT, Machine};
 use crate::output::{WriteFailed, write_line};
 use crate::reply::Reply;
+use fv_registry::RuleSet;
 use sqlite::Alter;
 use std::alloc::Global;
 use std::io::{Read, Write};
@@ -249,19 +250,19 @@ fn serve_machine<M: Machine, R: Read, W: Write, C: Clock>(
 ///
 /// `Memory` where the room for a line was refused; `Read` where a read failed or there were 2^32
 /// reads; `Write` where a write or a flush failed or a write took nothing.
-pub fn serve<S: Alter, R: Read, W: Write, C: Clock>(
+pub fn serve<R: RuleSet, S: Alter, I: Read, W: Write, C: Clock>(
     alloc: Global,
-    engine: &mut Engine<S>,
-    reader: &mut R,
+    engine: &mut Engine<R, S>,
+    reader: &mut I,
     writer: &mut W,
     clock: &mut C,
 ) -> Result<(), ServeFault>
     // What was written is the replies of a run over all lines of the input, each with its end.
-    ensures ok { OnOk result (Turns (state S.Store) engine.old engine.new (λ m n. Complete (ToldStep engine.old.declared) C.ticks (R.remaining reader.old) m clock.old (W.contents writer.old) (R.remaining reader.new) n clock.new (W.contents writer.new))) }
+    ensures ok { OnOk result (Turns (state S.Store) engine.old engine.new (λ m n. Complete (ToldStep R.meaning engine.old.declared) C.ticks (I.remaining reader.old) m clock.old (W.contents writer.old) (I.remaining reader.new) n clock.new (W.contents writer.new))) }
     // The same for the whole lines before.
-    ensures read { IsErrOf result ServeFault.Read → Turns (state S.Store) engine.old engine.new (λ m n. (rest : List ℕ) × Taken (ToldStep engine.old.declared) C.ticks (R.remaining reader.old) m clock.old (W.contents writer.old) rest (R.remaining reader.new) n clock.new (W.contents writer.new)) }
+    ensures read { IsErrOf result ServeFault.Read → Turns (state S.Store) engine.old engine.new (λ m n. (rest : List ℕ) × Taken (ToldStep R.meaning engine.old.declared) C.ticks (I.remaining reader.old) m clock.old (W.contents writer.old) rest (I.remaining reader.new) n clock.new (W.contents writer.new)) }
     // The same for some lines, the last reply in part.
-    ensures write { IsErrOf result ServeFault.Write → Turns (state S.Store) engine.old engine.new (λ m n. Stopped (ToldStep engine.old.declared) C.ticks (R.remaining reader.old) m clock.old (W.contents writer.old) (R.remaining reader.new) n clock.new (W.contents writer.new)) }
+    ensures write { IsErrOf result ServeFault.Write → Turns (state S.Store) engine.old engine.new (λ m n. Stopped (ToldStep R.meaning engine.old.declared) C.ticks (I.remaining reader.old) m clock.old (W.contents writer.old) (I.remaining reader.new) n clock.new (W.contents writer.new)) }
     // Nothing was read.
     ensures memory { IsErrOf result ServeFault.Memory → (reader.new ≡ reader.old) × (writer.new ≡ writer.old) × (engine.new ≡ engine.old) × (clock.new ≡ clock.old) }
 {

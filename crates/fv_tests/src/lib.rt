@@ -9,6 +9,8 @@ mod failing;
 #[cfg(test)]
 mod hostile;
 #[cfg(test)]
+mod house_puts;
+#[cfg(test)]
 mod kept_data;
 #[cfg(test)]
 mod kind_puts;
@@ -26,6 +28,8 @@ mod opening;
 mod puts;
 #[cfg(test)]
 mod reference_faults;
+#[cfg(test)]
+mod rules;
 #[cfg(test)]
 mod serving;
 #[cfg(test)]

@@ -1,7 +1,8 @@
 //! Readers, writers and clocks of the tests' own, and the lines that many tests share.
+use crate::rules::NoRules;
 use fv_datum::moment_ok;
 use fv_engine::{Clock, Engine, serve};
-use sqlite::Connection;
+use sqlite::{Connection, MemStore};
 use std::alloc::Global;
 use std::io;
 use std::io::{Error, ErrorKind, Read, Write};
@@ -93,10 +94,10 @@ impl Write for FailingWriter {
     }
 }
 
-/// An engine over an empty database in memory.
-pub(crate) fn opened(alloc: Global, declarations: &str) -> Result<Engine<sqlite::MemStore>, Fail> {
+/// An engine over an empty database in memory, without rules.
+pub(crate) fn opened(alloc: Global, declarations: &str) -> Result<Engine<NoRules, MemStore>, Fail> {
     let connection = Connection::open_in_memory(alloc)?;
-    match Engine::open(alloc, declarations.as_bytes(), connection) {
+    match Engine::open(alloc, NoRules, declarations.as_bytes(), connection) {
         Ok(engine) => Ok(engine),
         Err((fault, _)) => Err(Fail::from(fault)),
     }

@@ -1,5 +1,6 @@
 //! Engines over a database that another engine left.
 use crate::lines::{DECLARATIONS, GET, PUT, PUT_TAKEN, SHOWN, opened};
+use crate::rules::NoRules;
 use fv_declare::DeclFault;
 use fv_engine::{Engine, OpenFault};
 use fv_store::OpenStoreFault;
@@ -13,12 +14,17 @@ fn a_database_is_opened_again(rt: HostRuntime) -> Result<(), Fail> {
     assert_eq!(rt; engine.run(rt.alloc(), PUT.as_bytes(), 0).text(), PUT_TAKEN);
     let connection = engine.into_connection();
     let other = format!(in rt.alloc(); "{DECLARATIONS} ")?;
-    let (fault, connection) = match Engine::open(rt.alloc(), other.as_bytes(), connection) {
+    let (fault, connection) = match Engine::open(
+        rt.alloc(),
+        NoRules,
+        other.as_bytes(),
+        connection,
+    ) {
         Ok(_) => return Err(Fail::from("other declarations were taken")),
         Err(refused) => refused,
     };
     assert_eq!(rt; fault, OpenFault::Store(OpenStoreFault::OtherDeclarations));
-    let mut engine = match Engine::open(rt.alloc(), DECLARATIONS.as_bytes(), connection) {
+    let mut engine = match Engine::open(rt.alloc(), NoRules, DECLARATIONS.as_bytes(), connection) {
         Ok(engine) => engine,
         Err((fault, _)) => return Err(Fail::from(fault)),
     };
@@ -42,6 +48,14 @@ fn declarations_are_refused(rt: HostRuntime) -> Result<(), Fail> {
             DeclFault::UnknownName,
         ),
         (
+            r#"{"types":{},"forms":{},"constraints":{"C":{}}}"#,
+            DeclFault::EmptyConstraint,
+        ),
+        (
+            r#"{"types":{},"forms":{},"constraints":{"C":{"rule":{"field":99}}}}"#,
+            DeclFault::UnknownRule,
+        ),
+        (
             r#"{"types":{"T":{"fields":{"t":{"type":"text","constraints":[{"constraint":"Size","with":{"min":3,"max":2}}]}}}},"forms":{}}"#,
             DeclFault::Attribute,
         ),
@@ -52,7 +66,7 @@ fn declarations_are_refused(rt: HostRuntime) -> Result<(), Fail> {
     ];
     for (text, fault) in rows {
         let connection = Connection::open_in_memory(rt.alloc())?;
-        match Engine::open(rt.alloc(), text.as_bytes(), connection) {
+        match Engine::open(rt.alloc(), NoRules, text.as_bytes(), connection) {
             Ok(_) => return Err(Fail::from("declarations were taken")),
             Err((found, _)) => assert_eq!(rt; found, OpenFault::Declarations(fault)),
         }

@@ -5,4 +5,4 @@ use Rattle.fv_declare.specs.Planned.{refuses_kind}
 use Rattle.fv_declare.proofs.faults.has_unexpected_type.Given as goal
 
 abbrev pub invariant-loop-plan : goal.invariant-loop-plan
-invariant-loop-plan l = list_any refuses_kind (map plan_view (drop l.plan-index l.plans)) ≡ list_any refuses_kind (map plan_view l.plans)
+invariant-loop-plan g l = list_any (refuses_kind (g.R.RuleSet.known l.rules)) (map plan_view (drop l.plan-index l.plans)) ≡ list_any (refuses_kind (g.R.RuleSet.known l.rules)) (map plan_view l.plans)

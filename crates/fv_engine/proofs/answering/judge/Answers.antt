@@ -14,18 +14,18 @@ returns-in-Err g c = stays _ _ _ _ (other _ _ c.fixed.ensures memory_error) (λ 
 
 pub returns-then-is_empty : goal.returns-then-is_empty
 returns-then-is_empty g c =
-    let ds = c.args.schema.now in
+    let ds = c.args.book.now.schema in
     let kept : Kept = record { form = c.args.form.now; bundle = bundle_view c.args.bundle } in
     let found = c.in-Ok.violations.items in
     let empty : length found ≡ 0 = grind (arith, common_steps, c.if-is_empty.ensures, c.in-Ok.violations.ok) in
-    let listing : IsListing ds c.args.now kept.bundle (map violation_view found) = rw (to_z-of_z w64 c.args.now c.ranges.now) at c.in-Ok.ensures in
-    judged_empty ds c.args.now _ _ c.args.id.now _ kept _ (no_items violation_view found empty) listing (c.keep.ensures ds c.requires.fits)
+    let listing : IsListing g.R.RuleSet.meaning ds c.args.now kept.bundle (map violation_view found) = rw (to_z-of_z w64 c.args.now c.ranges.now) at c.in-Ok.ensures in
+    judged_empty g.R.RuleSet.meaning ds c.args.now _ _ c.args.id.now _ kept _ (no_items violation_view found empty) listing (c.keep.ensures ds c.requires.fits)
 
 pub returns-else-is_empty : goal.returns-else-is_empty
 returns-else-is_empty g c =
-    let ds = c.args.schema.now in
+    let ds = c.args.book.now.schema in
     let kept : Kept = record { form = c.args.form.now; bundle = bundle_view c.args.bundle } in
     let found = c.in-Ok.violations.items in
     let some : length found ≡ 0 → ⊥ = λ e. grind (arith, common_steps, c.if-is_empty.ensures, c.in-Ok.violations.ok) in
-    let listing : IsListing ds c.args.now kept.bundle (map violation_view found) = rw (to_z-of_z w64 c.args.now c.ranges.now) at c.in-Ok.ensures in
-    judged_some ds c.args.now _ c.args.id.now _ kept _ (some_items violation_view found some) listing (rw c.deref.ensures.value at c.violations.ensures)
+    let listing : IsListing g.R.RuleSet.meaning ds c.args.now kept.bundle (map violation_view found) = rw (to_z-of_z w64 c.args.now c.ranges.now) at c.in-Ok.ensures in
+    judged_some g.R.RuleSet.meaning ds c.args.now _ c.args.id.now _ kept _ (some_items violation_view found some) listing (rw c.deref.ensures.value at c.violations.ensures)

@@ -6,8 +6,8 @@ use Rattle.fv_engine.proofs.engine.Engine.run.Goals as goal
 
 pub returns-then-line-gt-LIMIT : goal.returns-then-line-gt-LIMIT
 returns-then-line-gt-LIMIT g c =
-    long_turn (state g.S.Store) c.args.line.now _ _ c.args.self.now _ c.refuse_long.ensures.same c.if-line-gt-LIMIT.true c.refuse_long.ensures.refused
+    long_turn g.R.RuleSet.meaning (state g.S.Store) c.args.line.now _ _ c.args.self.now _ c.refuse_long.ensures.same c.if-line-gt-LIMIT.true c.refuse_long.ensures.refused
 
 pub returns : goal.returns
 returns g c =
-    short_turn (state g.S.Store) c.args.line.now _ _ c.args.self.now _ c.self.inside.store c.answer_short.new.store c.self.view_is c.if-line-gt-LIMIT.false (rw (to_z-of_z w64 c.args.now c.ranges.now) at c.answer_short.ensures)
+    short_turn g.R.RuleSet.meaning (state g.S.Store) c.args.line.now _ _ c.args.self.now _ c.self.inside.store c.answer_short.new.store c.self.view_is c.if-line-gt-LIMIT.false (rw (to_z-of_z w64 c.args.now c.ranges.now) at c.answer_short.ensures)

@@ -3,4 +3,4 @@ use Rattle.fv_engine.proofs.Lifts.{long_turn}
 use Rattle.fv_engine.proofs.engine.EngineMachine.answer_long.Goals as goal
 
 pub returns : goal.returns
-returns g c = λ line long. long_turn (state g.S.Store) line _ _ c.args.self.now _ c.refuse_long.ensures.same long c.refuse_long.ensures.refused
+returns g c = λ line long. long_turn g.R.RuleSet.meaning (state g.S.Store) line _ _ c.args.self.now _ c.refuse_long.ensures.same long c.refuse_long.ensures.refused

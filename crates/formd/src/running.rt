@@ -1,0 +1,61 @@
+use crate::declarations::check_declarations;
+use crate::demonstration::serve_demonstration;
+use crate::failure::Failure;
+use crate::words::{Task, task_of};
+use clap::Error;
+use clap::error::ErrorKind;
+use fv_engine::Clock;
+use fv_registry::RuleSet;
+use std::io::{Read, Write};
+
+/// Writes why the words aren't taken, and gives the exit status.
+fn report_words<E: Write>(refused: &Error, error: &mut E) -> u8 {
+    if refused.kind() == ErrorKind::OutOfMemory {
+        return Failure::Memory.report(error);
+    }
+    let _ = write!(error, "{refused}");
+    2
+}
+
+/// Does what is asked.
+fn run_task<R: RuleSet + Drop, I: Read, W: Write>(
+    rt: &HostRuntime,
+    task: Task<'_>,
+    registry: R,
+    reader: &mut I,
+    output: &mut W,
+) -> Result<(), Failure>
+    requires { R.means registry }
+{
+    match task {
+        Task::Demonstration => serve_demonstration(rt.alloc(), registry, reader, output),
+        Task::Declarations(path) => check_declarations(rt.alloc(), rt, path, &registry, output),
+    }
+}
+
+/// Does what the words ask, without the program's name: without words it serves the demonstration's
+/// declarations over a database in memory at the moment 0, the reader to the output writer;
+/// `declarations F` prints `ok` where the declarations of the file F are taken.
+///
+/// Gives the exit status: 0 done; 2 the words weren't understood, or call for help, with a text on
+/// the error writer; 3 and 4 with a line there.
+pub fn run_words<R: RuleSet + Drop, I: Read, W: Write, E: Write, C: Clock>(
+    rt: &HostRuntime,
+    words: &[String],
+    registry: R,
+    reader: &mut I,
+    output: &mut W,
+    error: &mut E,
+    _clock: &mut C,
+) -> u8
+    requires { R.means registry }
+{
+    let task = match task_of(rt.alloc(), words) {
+        Ok(task) => task,
+        Err(refused) => return report_words(&refused, error),
+    };
+    match run_task(rt, task, registry, reader, output) {
+        Ok(()) => 0,
+        Err(failure) => failure.report(error),
+    }
+}

@@ -1,0 +1,32 @@
+ghost use Rattle.std.specs.Prelude.{◌≡◌, Some, map, option_map};
+ghost use Rattle.fv_builtin.specs.Names.{builtin_named};
+ghost use Rattle.fv_declare.specs.DraftViews.{definition_entry, meant_view};
+ghost use Rattle.fv_declare.specs.Planned.{meant_by};
+
+use crate::draft::DefinitionDraft;
+use fv_builtin::{BuiltinName, builtin_named};
+use std::collections::BTreeMap;
+
+/// What a constraint's name stands for.
+#[derive(Drop)]
+pub(crate) enum Meant<'a> {
+    BuiltIn(BuiltinName),
+    Declared(&'a DefinitionDraft),
+}
+
+/// What a constraint's name stands for: built-in constraints come first.
+pub(crate) fn meant_by<'a>(
+    definitions: &'a BTreeMap<String, DefinitionDraft>,
+    name: &str,
+) -> Option<Meant<'a>>
+    ensures named { (which : _) → result ≡ Some (Meant.BuiltIn which) → builtin_named name.now ≡ Some which }
+    ensures exact { option_map meant_view result ≡ meant_by (map definition_entry definitions.now.entries) name.now }
+{
+    match builtin_named(name) {
+        Some(which) => Some(Meant::BuiltIn(which)),
+        None => match definitions.get(name) {
+            None => None,
+            Some(definition) => Some(Meant::Declared(definition)),
+        },
+    }
+}
