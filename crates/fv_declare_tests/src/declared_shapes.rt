@@ -59,7 +59,7 @@ F2 {"fields":"f"}
 F2 {"fields":[]}
 F2 {"fields":{},"":null}
 taken {"fields":{},"constraints":[]}
-F2 {"fields":{},"constraints":[{"constraint":"NotNull"}]}
+F17 {"fields":{},"constraints":[{"constraint":"NotNull"}]}
 F2 {"fields":{},"sequence":["T"]}
 F2 {"fields":{},"more":1}
 "#;
