@@ -1,30 +1,13 @@
 ghost use Rattle.std.specs.Prelude.{◌≡◌};
 ghost use Rattle.fv_datum.specs.Moments.{IsMoment};
 
-use fv_datum::moment_ok;
+use fv_datum::{LAST_MOMENT, moment_ok};
 use fv_engine::Clock;
 use std::rt::Clock as TimeSource;
 use std::time::{SystemTime, UNIX_EPOCH};
 
-/// The last moment, in seconds since 1970-01-01T00:00:00Z.
-const LAST_MOMENT: i64 = 253402128000;
-
-/// A clock that stands still at 1970-01-01T00:00:00Z.
-#[derive(Drop)]
-pub(crate) struct StoppedClock;
-
-impl Clock for StoppedClock {
-    ghost use Rattle.std.specs.Prelude.{◌≡◌, pos};
-
-    ghost ticks = { λ _ moment _. moment ≡ pos 0 };
-
-    fn now(&mut self) -> i64 {
-        0
-    }
-}
-
-/// The machine's clock, clamped to the range of moments. Where it fails it gives its last answer,
-/// 0 at first.
+/// The machine's clock, clamped to the range of moments. Where it fails, or stands before 1970, it
+/// gives its last answer, 0 at first.
 pub(crate) struct MachineClock<'a, T: TimeSource> {
     source: &'a T,
     last: i64,

@@ -1,7 +1,6 @@
 //! The demonstration: declarations of one form of one type, with three constraints.
-use crate::clocks::StoppedClock;
 use crate::failure::Failure;
-use fv_engine::{Engine, serve};
+use fv_engine::{Engine, FixedClock, serve};
 use fv_registry::RuleSet;
 use sqlite::Connection;
 use std::alloc::Global;
@@ -26,6 +25,6 @@ pub(crate) fn serve_demonstration<R: RuleSet + Drop, I: Read, W: Write>(
         Ok(engine) => engine,
         Err((fault, _)) => return Err(Failure::from(fault)),
     };
-    serve(alloc, &mut engine, reader, output, &mut StoppedClock)?;
+    serve(alloc, &mut engine, reader, output, &mut FixedClock::new(0))?;
     Ok(())
 }

@@ -1,7 +1,7 @@
 //! Runs of the program's words, with the exact bytes on both writers.
-use crate::clocks::StoppedClock;
 use crate::files::{FileFault, read_whole};
 use crate::house::run_with_house;
+use fv_engine::FixedClock;
 use std::io::{Error, ErrorKind, Read, Write};
 use std::process::Abort;
 use std::test::Fail;
@@ -160,7 +160,7 @@ fn check(
         &mut GET,
         &mut told,
         &mut complaint,
-        &mut StoppedClock,
+        &mut FixedClock::new(0),
     );
     assert_eq!(rt; str::from_utf8(&complaint)?, error, "{words:?}");
     assert_eq!(rt; str::from_utf8(&told)?, output, "{words:?}");
@@ -277,7 +277,7 @@ fn a_failing_reader_ends_with_status_4(rt: HostRuntime) -> Result<(), Fail> {
         &mut FailingReader(ErrorKind::Other),
         &mut output,
         &mut error,
-        &mut StoppedClock,
+        &mut FixedClock::new(0),
     );
     assert_eq!(rt; status, 4);
     assert_eq!(rt; output.len(), 0);
@@ -299,7 +299,7 @@ fn a_failing_writer_ends_with_status_4(rt: HostRuntime) -> Result<(), Fail> {
                 &mut GET,
                 &mut output,
                 &mut error,
-                &mut StoppedClock,
+                &mut FixedClock::new(0),
             );
             assert_eq!(rt; status, 4);
             assert_eq!(rt; error.as_slice(), b"formd: write\n".as_slice());

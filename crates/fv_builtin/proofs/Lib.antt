@@ -1,4 +1,5 @@
 pub mod Counts
 pub mod DigitCounts
 pub mod Pieces
+pub mod Templates
 pub mod Units

@@ -10,6 +10,7 @@ use Rattle.regex_hir.specs.contracts.look.Look as looks
 abbrev pub Part : Type 0
 Part = ℕ ⊎ (List ℕ ⊎ (List (ℕ × ℕ) ⊎ (List (ℕ × ℕ) ⊎ (Look ⊎ (ℕ ⊎ Bool)))))
 
+-- the parts of a pattern, each behind those that it is made of
 abbrev pub parts : Re → List Part
 parts empty = inl 0 ∷ []
 parts (literal bytes) = inr (inl bytes) ∷ []
@@ -34,17 +35,21 @@ made (inr (inr (inr (inr (inr (inl n)))))) (a ∷ rs) = group n a ∷ rs
 made (inr (inr (inr (inr (inr (inr greedy)))))) (a ∷ rs) = plus greedy a ∷ rs
 made _ rs = rs
 
+-- what parts, one after another, make of the patterns before them, the last first
 abbrev pub made_all : List Part → List Re → List Re
 made_all [] rs = rs
 made_all (p ∷ ps) rs = made_all ps (made p rs)
 
+-- the first of the patterns, the empty one where there is none
 abbrev pub first_of : List Re → Re
 first_of [] = empty
 first_of (r ∷ rs) = r
 
+-- the pattern that parts make
 abbrev pub from_parts : List Part → Re
 from_parts ps = first_of (made_all ps [])
 
+-- the parts of a pattern put it before the patterns that are there
 pub made-parts : (r : Re) (ps : List Part) (rs : List Re) → made_all (parts r ++ ps) rs ≡ made_all ps (r ∷ rs)
 made-parts empty ps rs = refl
 made-parts (literal bytes) ps rs = refl
@@ -64,15 +69,19 @@ made-parts (plus greedy a) ps rs =
     ap (λ qs. made_all qs rs) (append_assoc (parts a) (inr (inr (inr (inr (inr (inr greedy))))) ∷ []) ps)
     ∙ made-parts a (inr (inr (inr (inr (inr (inr greedy))))) ∷ ps) rs
 
+-- the parts of a pattern make it again
 pub from-parts : (r : Re) → from_parts (parts r) ≡ r
 from-parts r = let whole : made_all (parts r) [] ≡ r ∷ [] = ap (λ ps. made_all ps []) (sym (append-nil (parts r))) ∙ made-parts r [] [] in ap first_of whole
 
+-- how the logic stores a list of ranges
 abbrev pub coded_ranges : Coded (List (ℕ × ℕ))
 coded_ranges = coded_list (coded× coded_ℕ coded_ℕ)
 
+-- how the logic stores a part
 abbrev pub coded_part : Coded Part
 coded_part =
     coded⊎ coded_ℕ (coded⊎ (coded_list coded_ℕ) (coded⊎ coded_ranges (coded⊎ coded_ranges (coded⊎ looks.the_row.coded (coded⊎ coded_ℕ coded_bool)))))
 
+-- how the logic stores a pattern: by its parts
 abbrev pub pattern_code : Coded Re
 pattern_code = code_by (List Part) (coded_list coded_part) parts from_parts from-parts

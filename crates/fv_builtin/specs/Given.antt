@@ -2,15 +2,15 @@
 use Rattle.std.specs.Prelude.{◌≡◌, ℕ, ◌^◌, ◌*ℤ◌, ℤ, pos, List, Bool, true, false, not, nat_le, nat_lt, Option, Some, None, option_map, option_and_then, Result, Ok, Err, if◌then◌else◌, codes}
 use Rattle.std.specs.List.{list_any}
 use Rattle.fv_datum.specs.AttributeKinds.{attribute_kind}
-use Rattle.fv_datum.specs.Attributes.{AttributeValue, integer, text, boolean, Attributes}
+use Rattle.fv_datum.specs.Attributes.{AttributeValue, integer_in, text_in, boolean_in, Attributes}
 use Rattle.fv_datum.specs.Decimals.{decimal_units}
 use Rattle.fv_datum.specs.Lookup.{at_name}
 use Rattle.fv_datum.specs.declared.attribute_kind.AttributeKind.{AttributeKind}
 use Rattle.fv_datum.specs.declared.attribute_kind.AttributeKind.TheVariants as attribute
 use Rattle.regex.specs.Patterns.{Re}
-use Rattle.fv_builtin.specs.Matches.{anchored, IsPatternOf, IsRefused}
-use Rattle.fv_builtin.specs.Rules.{Rule}
-use Rattle.fv_builtin.specs.Rules as rule
+use Rattle.fv_builtin.specs.Matches.{anchored, IsPatternOf, IsNoPattern}
+use Rattle.fv_builtin.specs.BuiltIns.{BuiltIn}
+use Rattle.fv_builtin.specs.BuiltIns as built
 use Rattle.fv_builtin.specs.Table.{kind_of_attribute, default_of}
 use Rattle.fv_builtin.specs.declared.fault.BuiltinFault.{BuiltinFault}
 use Rattle.fv_builtin.specs.declared.fault.BuiltinFault.TheVariants.{Attribute, UnexpectedType, BadPattern, Memory}
@@ -19,47 +19,40 @@ use Rattle.fv_builtin.specs.declared.name.BuiltinName.TheVariants.{Null, NotNull
 
 -- ---- the values in effect
 
--- an attribute's value as it is given, else its default
+-- the value that is given, else the default
 abbrev pub given_or : Option AttributeValue → Option AttributeValue → Option AttributeValue
 given_or given None = given
 given_or None (Some default) = Some default
 given_or (Some a) (Some default) = Some a
 
+-- the value in effect of a constraint's attribute: as it is given, else its default
 abbrev pub in_effect : BuiltinName → Attributes → List ℕ → Option AttributeValue
 in_effect which given name = given_or (at_name name given) (default_of which name)
-
--- the value, if it is of the kind
-abbrev pub integer_in : AttributeValue → Option ℤ
-integer_in (integer n) = Some n
-integer_in _ = None
-
-abbrev pub text_in : AttributeValue → Option (List ℕ)
-text_in (text s) = Some s
-text_in _ = None
-
-abbrev pub boolean_in : AttributeValue → Option Bool
-boolean_in (boolean b) = Some b
-boolean_in _ = None
 
 -- a whole number from 0 to 2147483647
 abbrev pub count_in : ℤ → Option ℕ
 count_in (pos n) = if nat_le n 2147483647 then Some n else None
 count_in _ = None
 
+-- the integer in effect of an attribute, none where it has no value or one of another kind
 abbrev pub integer_at : BuiltinName → Attributes → List ℕ → Option ℤ
 integer_at which given name = option_and_then integer_in (in_effect which given name)
 
+-- the text in effect of an attribute, none where it has no value or one of another kind
 abbrev pub text_at : BuiltinName → Attributes → List ℕ → Option (List ℕ)
 text_at which given name = option_and_then text_in (in_effect which given name)
 
+-- the boolean in effect of an attribute, none where it has no value or one of another kind
 abbrev pub boolean_at : BuiltinName → Attributes → List ℕ → Option Bool
 boolean_at which given name = option_and_then boolean_in (in_effect which given name)
 
+-- the integer in effect of an attribute, if it is from 0 to 2147483647
 abbrev pub count_at : BuiltinName → Attributes → List ℕ → Option ℕ
 count_at which given name = option_and_then count_in (integer_at which given name)
 
 -- ---- what is refused of them
 
+-- two kinds of attributes are equal
 abbrev pub is_same : AttributeKind → AttributeKind → Bool
 is_same attribute.Integer attribute.Integer = true
 is_same attribute.Text attribute.Text = true
@@ -80,7 +73,7 @@ has_foreign which = list_any (λ a. not (has_kind (kind_of_attribute which a.0) 
 
 -- a constraint with its attributes in effect, or the text of a pattern that is still to be read
 pub data Draft : Type 0 where
-  ready : Rule → Draft
+  ready : BuiltIn → Draft
   to_match : List ℕ → Draft
 
 -- two values, if both are there
@@ -103,6 +96,7 @@ digit_counts given = both (count_at Digits given (codes "integer")) (count_at Di
 abbrev pub in_order : ℕ × ℕ → Option (ℕ × ℕ)
 in_order p = if nat_lt p.1 p.0 then None else Some p
 
+-- the least and the greatest size in effect, if each is a count and they are in order
 abbrev pub size_bounds : Attributes → Option (ℕ × ℕ)
 size_bounds given = option_and_then in_order (both (count_at Size given (codes "min")) (count_at Size given (codes "max")))
 
@@ -110,45 +104,46 @@ size_bounds given = option_and_then in_order (both (count_at Size given (codes "
 abbrev pub regexp_of : Attributes → Option (List ℕ)
 regexp_of given = text_at Pattern given (codes "regexp")
 
--- none where an attribute is missing, or its value is one that the constraint refuses
+-- what the attributes make of a constraint: none where one is missing or has a value that the constraint refuses
 abbrev pub accepted : BuiltinName → Attributes → Option Draft
-accepted Null given = Some (ready rule.null)
-accepted NotNull given = Some (ready rule.not_null)
-accepted AssertTrue given = Some (ready rule.assert_true)
-accepted AssertFalse given = Some (ready rule.assert_false)
-accepted Min given = option_map (λ n. ready (rule.min n)) (whole_bound Min given)
-accepted Max given = option_map (λ n. ready (rule.max n)) (whole_bound Max given)
-accepted DecimalMin given = option_map (λ p. ready (rule.decimal_min p.0 p.1)) (decimal_bound DecimalMin given)
-accepted DecimalMax given = option_map (λ p. ready (rule.decimal_max p.0 p.1)) (decimal_bound DecimalMax given)
-accepted Positive given = Some (ready rule.positive)
-accepted PositiveOrZero given = Some (ready rule.positive_or_zero)
-accepted Negative given = Some (ready rule.negative)
-accepted NegativeOrZero given = Some (ready rule.negative_or_zero)
-accepted Digits given = option_map (λ p. ready (rule.digits p.0 p.1)) (digit_counts given)
-accepted Size given = option_map (λ p. ready (rule.size p.0 p.1)) (size_bounds given)
-accepted NotEmpty given = Some (ready rule.not_empty)
-accepted NotBlank given = Some (ready rule.not_blank)
-accepted Past given = Some (ready rule.past)
-accepted PastOrPresent given = Some (ready rule.past_or_present)
-accepted Future given = Some (ready rule.future)
-accepted FutureOrPresent given = Some (ready rule.future_or_present)
+accepted Null given = Some (ready built.null)
+accepted NotNull given = Some (ready built.not_null)
+accepted AssertTrue given = Some (ready built.assert_true)
+accepted AssertFalse given = Some (ready built.assert_false)
+accepted Min given = option_map (λ n. ready (built.min n)) (whole_bound Min given)
+accepted Max given = option_map (λ n. ready (built.max n)) (whole_bound Max given)
+accepted DecimalMin given = option_map (λ p. ready (built.decimal_min p.0 p.1)) (decimal_bound DecimalMin given)
+accepted DecimalMax given = option_map (λ p. ready (built.decimal_max p.0 p.1)) (decimal_bound DecimalMax given)
+accepted Positive given = Some (ready built.positive)
+accepted PositiveOrZero given = Some (ready built.positive_or_zero)
+accepted Negative given = Some (ready built.negative)
+accepted NegativeOrZero given = Some (ready built.negative_or_zero)
+accepted Digits given = option_map (λ p. ready (built.digits p.0 p.1)) (digit_counts given)
+accepted Size given = option_map (λ p. ready (built.size p.0 p.1)) (size_bounds given)
+accepted NotEmpty given = Some (ready built.not_empty)
+accepted NotBlank given = Some (ready built.not_blank)
+accepted Past given = Some (ready built.past)
+accepted PastOrPresent given = Some (ready built.past_or_present)
+accepted Future given = Some (ready built.future)
+accepted FutureOrPresent given = Some (ready built.future_or_present)
 accepted Pattern given = option_map (λ s. to_match s) (regexp_of given)
 
--- the same, where no attribute is foreign
+-- the same, but none also where an attribute is foreign
 abbrev pub drafted : BuiltinName → Attributes → Option Draft
 drafted which given = if has_foreign which given then None else accepted which given
 
 -- ---- what is read
 
--- what a pattern's text is read as: the pattern of the text between its anchors, or a refusal of the regex crate
-abbrev pub IsBuilt : List ℕ → Result Rule BuiltinFault → Type 0
-IsBuilt regexp (Ok r) = (re : Re) × IsPatternOf (anchored regexp) re × (r ≡ rule.pattern re)
-IsBuilt regexp (Err BadPattern) = IsRefused (anchored regexp)
+-- what a pattern's text is read as: the pattern of the text between its anchors, or a refusal of the regex crate, or
+-- want of memory
+abbrev pub IsBuilt : List ℕ → Result BuiltIn BuiltinFault → Type 0
+IsBuilt regexp (Ok r) = (re : Re) × IsPatternOf (anchored regexp) re × (r ≡ built.pattern re)
+IsBuilt regexp (Err BadPattern) = IsNoPattern (anchored regexp)
 IsBuilt regexp (Err Memory) = Unit {0}
 IsBuilt regexp (Err _) = ⊥
 
 -- what is wrong with the attributes comes before the kind, and that before the pattern
-abbrev pub IsRead : Option Draft → Bool → Result Rule BuiltinFault → Type 0
+abbrev pub IsRead : Option Draft → Bool → Result BuiltIn BuiltinFault → Type 0
 IsRead None takes answer = answer ≡ Err Attribute
 IsRead (Some draft) false answer = answer ≡ Err UnexpectedType
 IsRead (Some (ready r)) true answer = answer ≡ Ok r

@@ -7,7 +7,8 @@ use Rattle.fv_builtin.specs.Given.{in_effect}
 use Rattle.fv_builtin.specs.Messages.{message_of}
 use Rattle.fv_builtin.specs.declared.name.BuiltinName.{BuiltinName}
 
--- the text of an attribute's value: an integer in decimal, a text as it is, texts as `[a, b]`
+-- the text of an attribute's value: an integer in decimal, a text as it is, `true` or `false`, texts as
+-- `[a, b]`
 abbrev pub attribute_text : AttributeValue → List ℕ
 attribute_text (integer n) = signed_decimal n
 attribute_text (text s) = s
@@ -18,10 +19,11 @@ attribute_text (texts ts) = codes "[" ++ (join_by (λ t. t) (codes ", ") ts ++ c
 abbrev pub parameter_text : BuiltinName → Attributes → List ℕ → List ℕ
 parameter_text which given name = unwrap_or (option_map attribute_text (in_effect which given name)) (codes "{" ++ (name ++ codes "}"))
 
--- the braces
+-- an opening brace
 abbrev pub opens : ℕ → Bool
 opens b = b == 123
 
+-- a closing brace
 abbrev pub closes : ℕ → Bool
 closes b = b == 125
 
@@ -36,7 +38,8 @@ abbrev pub pieces_text : (List ℕ → List ℕ) → List (List ℕ) → List �
 pieces_text put [] = []
 pieces_text put (first ∷ pieces) = first ++ flat_map (piece_text put) pieces
 
--- a template in which each parameter is replaced, once: what is put in isn't read
+-- a template in which each parameter is replaced, once: what is put in isn't read.
+-- of templates written from texts and parameters, `interpolates` of proofs/Templates says so
 abbrev pub replaced : (List ℕ → List ℕ) → List ℕ → List ℕ
 replaced put template = pieces_text put (slice_split opens template)
 

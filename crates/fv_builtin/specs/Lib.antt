@@ -1,3 +1,4 @@
+pub mod BuiltIns
 pub mod Codes
 pub mod FaultNames
 pub mod Given
@@ -6,7 +7,7 @@ pub mod Matches
 pub mod Messages
 pub mod Names
 pub mod Numbers
-pub mod Rules
+pub mod Passing
 pub mod Says
 pub mod Sizes
 pub mod Table

@@ -23,5 +23,5 @@ abbrev pub IsPatternOf : List ℕ → Re → Type 0
 IsPatternOf source re = (hir : Hir) × (names : Names) × Reads default_config source hir names × (re ≡ meaning hir)
 
 -- the regex crate refused the text, for another cause than memory
-abbrev pub IsRefused : List ℕ → Type 0
-IsRefused source = (e : Error) × (e ≢ OutOfMemory) × IsDefaultFailure source e
+abbrev pub IsNoPattern : List ℕ → Type 0
+IsNoPattern source = (e : Error) × (e ≢ OutOfMemory) × IsDefaultFailure source e

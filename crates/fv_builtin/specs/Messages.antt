@@ -3,6 +3,7 @@ use Rattle.std.specs.Prelude.{ℕ, List, codes}
 use Rattle.fv_builtin.specs.declared.name.BuiltinName.{BuiltinName}
 use Rattle.fv_builtin.specs.declared.name.BuiltinName.TheVariants.{Null, NotNull, AssertTrue, AssertFalse, Min, Max, DecimalMin, DecimalMax, Positive, PositiveOrZero, Negative, NegativeOrZero, Digits, Size, NotEmpty, NotBlank, Past, PastOrPresent, Future, FutureOrPresent, Pattern}
 
+-- the message of a built-in constraint, with its parameters in braces
 abbrev pub message_of : BuiltinName → List ℕ
 message_of Null = codes "must be null"
 message_of NotNull = codes "must not be null"

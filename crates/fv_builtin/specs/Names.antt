@@ -4,6 +4,7 @@ use Rattle.fv_datum.specs.Lookup.{at_name}
 use Rattle.fv_builtin.specs.declared.name.BuiltinName.{BuiltinName}
 use Rattle.fv_builtin.specs.declared.name.BuiltinName.TheVariants.{Null, NotNull, AssertTrue, AssertFalse, Min, Max, DecimalMin, DecimalMax, Positive, PositiveOrZero, Negative, NegativeOrZero, Digits, Size, NotEmpty, NotBlank, Past, PastOrPresent, Future, FutureOrPresent, Pattern}
 
+-- the built-in constraints by their names
 abbrev pub builtin_names : List (List ℕ × BuiltinName)
 builtin_names =
     (codes "Null", Null)

@@ -2,14 +2,15 @@
 use Rattle.std.specs.Prelude.{ℤ, pos, Bool, not}
 use Rattle.fv_datum.specs.Data.{Data}
 use Rattle.fv_datum.specs.Written.{is_null}
-use Rattle.fv_builtin.specs.Rules.{Rule, null, not_null, assert_true, assert_false, min, max, decimal_min, decimal_max, positive, positive_or_zero, negative, negative_or_zero, digits, size, not_empty, not_blank, past, past_or_present, future, future_or_present, pattern}
+use Rattle.fv_builtin.specs.BuiltIns.{BuiltIn, null, not_null, assert_true, assert_false, min, max, decimal_min, decimal_max, positive, positive_or_zero, negative, negative_or_zero, digits, size, not_empty, not_blank, past, past_or_present, future, future_or_present, pattern}
 use Rattle.fv_builtin.specs.Matches.{is_match}
 use Rattle.fv_builtin.specs.Truths.{is_true, is_false}
 use Rattle.fv_builtin.specs.Numbers.{is_at_least, is_above, is_at_most, is_below, is_from, is_up_to, has_digits}
 use Rattle.fv_builtin.specs.Sizes.{is_sized, is_not_empty, is_not_blank}
 use Rattle.fv_builtin.specs.Times.{is_past, is_past_or_present, is_future, is_future_or_present}
 
-abbrev pub says : Rule → Data → ℤ → Bool
+-- a built-in constraint holds of a datum at a moment
+abbrev pub says : BuiltIn → Data → ℤ → Bool
 says null d now = is_null d
 says not_null d now = not (is_null d)
 says assert_true d now = is_true d

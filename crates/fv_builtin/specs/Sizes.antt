@@ -1,10 +1,11 @@
 -- The size of a datum, and the characters of a text.
-use Rattle.std.specs.Prelude.{ℕ, ◌+◌, ◌&&◌, List, Bool, true, not, nat_lt, nat_le, Option, Some, None, if◌then◌else◌}
+use Rattle.std.specs.Prelude.{ℕ, ◌+◌, ◌&&◌, List, Bool, not, nat_lt, nat_le, Option, Some, None, if◌then◌else◌}
 use Rattle.std.specs.Char.{is_whitespace}
 use Rattle.std.specs.List.{sum_by, list_any}
 use Rattle.std.specs.Str.{chars}
 use Rattle.fv_datum.specs.Data.{Data, text, list, map, Items, no_items, item, Entries, no_entries, entry}
 use Rattle.fv_datum.specs.Written.{is_null}
+use Rattle.fv_builtin.specs.Passing.{passes}
 
 -- the UTF-16 code units of a character: one up to U+FFFF, else two
 abbrev pub units_of : ℕ → ℕ
@@ -14,11 +15,12 @@ units_of c = if nat_lt c 65536 then 1 else 2
 abbrev pub utf16_size : List ℕ → ℕ
 utf16_size s = sum_by units_of (chars s)
 
--- how many items a list has, and how many entries a map
+-- how many items a list has
 abbrev pub item_count : Items → ℕ
 item_count no_items = 0
 item_count (item d ds) = item_count ds + 1
 
+-- how many entries a map has
 abbrev pub entry_count : Entries → ℕ
 entry_count no_entries = 0
 entry_count (entry k d es) = entry_count es + 1
@@ -30,18 +32,13 @@ size_of (list ds) = Some (item_count ds)
 size_of (map es) = Some (entry_count es)
 size_of _ = None
 
--- the size passes a test; what has no size passes
-abbrev pub fits : (ℕ → Bool) → Option ℕ → Bool
-fits test None = true
-fits test (Some n) = test n
-
 -- the size is from min to max
 abbrev pub is_sized : ℕ → ℕ → Data → Bool
-is_sized min max d = fits (λ n. nat_le min n && nat_le n max) (size_of d)
+is_sized min max d = passes (λ n. nat_le min n && nat_le n max) (size_of d)
 
 -- not null, and of a size above 0
 abbrev pub is_not_empty : Data → Bool
-is_not_empty d = not (is_null d) && fits (λ n. nat_lt 0 n) (size_of d)
+is_not_empty d = not (is_null d) && passes (λ n. nat_lt 0 n) (size_of d)
 
 -- some character is no white space
 abbrev pub has_ink : List ℕ → Bool

@@ -41,26 +41,31 @@ default_of which name = option_and_then (λ a. a.1) (at_name name (attributes_of
 
 -- ---- kinds
 
+-- integers and decimals
 abbrev pub is_number_kind : Kind → Bool
 is_number_kind kind.Integer = true
 is_number_kind kind.Decimal = true
 is_number_kind _ = false
 
+-- texts, lists and maps, which have a size
 abbrev pub is_sized_kind : Kind → Bool
 is_sized_kind kind.Text = true
 is_sized_kind kind.List = true
 is_sized_kind kind.Map = true
 is_sized_kind _ = false
 
+-- dates and instants
 abbrev pub is_time_kind : Kind → Bool
 is_time_kind kind.Date = true
 is_time_kind kind.Instant = true
 is_time_kind _ = false
 
+-- texts
 abbrev pub is_text_kind : Kind → Bool
 is_text_kind kind.Text = true
 is_text_kind _ = false
 
+-- booleans
 abbrev pub is_boolean_kind : Kind → Bool
 is_boolean_kind kind.Boolean = true
 is_boolean_kind _ = false

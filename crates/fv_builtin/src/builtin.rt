@@ -3,10 +3,10 @@ ghost use Rattle.fv_datum.specs.Moments.{IsMoment};
 ghost use Rattle.fv_datum.specs.View.{view};
 ghost use Rattle.fv_builtin.specs.Given.{drafted, IsRead};
 ghost use Rattle.fv_builtin.specs.Names.{builtin_named, is_builtin};
-ghost use Rattle.fv_builtin.specs.Rules.{is_pattern};
+ghost use Rattle.fv_builtin.specs.BuiltIns.{is_pattern};
 ghost use Rattle.fv_builtin.specs.Says.{says};
 ghost use Rattle.fv_builtin.specs.Table.{takes};
-ghost use Rattle.fv_builtin.specs.Views.{rule_view, answer_view, draft_view};
+ghost use Rattle.fv_builtin.specs.Views.{builtin_view, answer_view, draft_view};
 ghost use Rattle.fv_builtin.specs.declared.name.BuiltinName.{BuiltinName};
 
 use crate::blank::is_not_blank;
@@ -54,7 +54,8 @@ pub enum Builtin {
 impl Builtin {
     /// The built-in constraint of that name with these attributes, for data of that kind.
     ///
-    /// `Attribute`, then `UnexpectedType`, then `BadPattern`. A pattern is built here, once.
+    /// `Attribute`, then `UnexpectedType`, then `BadPattern`. A pattern is built here, once, and
+    /// that alone may answer `Memory`.
     pub fn read(
         alloc: Global,
         name: &str,
@@ -70,13 +71,14 @@ impl Builtin {
         }
     }
 
-    /// Whether the constraint holds for a datum at a moment.
+    /// Whether the constraint holds for a datum at a moment, in whole seconds since
+    /// 1970-01-01T00:00:00Z.
     ///
     /// Only Pattern takes memory.
     pub fn holds(&self, alloc: Global, datum: &Datum, now: i64) -> Result<bool, AllocError>
         requires { IsMoment now }
-        ensures value { IfOk result (λ b. b ≡ says (rule_view self.now) (view datum.now) now) }
-        ensures succeeds { is_pattern (rule_view self.now) ≡ false → IsOk result }
+        ensures value { IfOk result (λ b. b ≡ says (builtin_view self.now) (view datum.now) now) }
+        ensures succeeds { is_pattern (builtin_view self.now) ≡ false → IsOk result }
     {
         match self {
             Builtin::Null => Ok(is_null(datum)),

@@ -1,16 +1,15 @@
 //! The attributes that are given, and their values in effect.
-ghost use Rattle.std.specs.Prelude.{◌≡◌, option_map, map, not};
+ghost use Rattle.std.specs.Prelude.{◌≡◌, option_map};
 ghost use Rattle.std.specs.Option.{option_and_then};
-ghost use Rattle.fv_datum.specs.AttributeKinds.{attribute_kind};
-ghost use Rattle.fv_datum.specs.Attributes.{attribute_view, integer, boolean};
-ghost use Rattle.fv_builtin.specs.Given.{given_or, integer_in, text_in, boolean_in, count_in, has_foreign, has_kind};
+ghost use Rattle.fv_datum.specs.Attributes.{attribute_view, integer, integer_in, text_in, boolean, boolean_in};
+ghost use Rattle.fv_builtin.specs.Given.{given_or, count_in, has_foreign, has_kind};
 
 use crate::name::BuiltinName;
 use crate::table::kind_of_attribute;
 use fv_datum::{Attribute, AttributeKind, Attrs};
 
 /// The greatest count.
-const MOST: i64 = 2147483647;
+const GREATEST_COUNT: i64 = 2147483647;
 
 /// A whole number as it is given, else the default.
 pub(crate) fn integer_or(given: Option<&Attribute>, default: Option<i64>) -> Option<i64>
@@ -48,7 +47,7 @@ pub(crate) fn text_of(given: Option<&Attribute>) -> Option<&str>
 pub(crate) fn count_in(number: i64) -> Option<u32>
     ensures { result ≡ count_in number }
 {
-    if number < 0 || number > MOST {
+    if number < 0 || number > GREATEST_COUNT {
         return None;
     }
     Some(number as u32)

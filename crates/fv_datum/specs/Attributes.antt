@@ -1,5 +1,5 @@
 -- The attributes of a constraint.
-use Rattle.std.specs.Prelude.{ℕ, ℤ, List, Bool, map, String, string_bytes}
+use Rattle.std.specs.Prelude.{ℕ, ℤ, List, Bool, Option, Some, None, map, String, string_bytes}
 use Rattle.std.specs.declared.alloc.Global.{Global}
 use Rattle.fv_datum.specs.declared.attrs.Attribute.{Attribute}
 use Rattle.fv_datum.specs.declared.attrs.Attribute.TheVariants as v
@@ -10,6 +10,21 @@ pub data AttributeValue : Type 0 where
   text : List ℕ → AttributeValue
   boolean : Bool → AttributeValue
   texts : List (List ℕ) → AttributeValue
+
+-- the integer that a value is, if it is one
+abbrev pub integer_in : AttributeValue → Option ℤ
+integer_in (integer n) = Some n
+integer_in _ = None
+
+-- the text that a value is, if it is one
+abbrev pub text_in : AttributeValue → Option (List ℕ)
+text_in (text s) = Some s
+text_in _ = None
+
+-- the boolean that a value is, if it is one
+abbrev pub boolean_in : AttributeValue → Option Bool
+boolean_in (boolean b) = Some b
+boolean_in _ = None
 
 -- a finite map from names, ascending by their bytes
 abbrev pub Attributes : Type 0

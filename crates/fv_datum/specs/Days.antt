@@ -12,13 +12,15 @@ has_date_form s = (length s == 10)
     && are_digits (take 2 (drop 5 s)) && (slice_index s 7 == 45)
     && are_digits (take 2 (drop 8 s))
 
--- the numbers that stand for the year, the month and the day
+-- the number that stands for the year
 abbrev pub year_of : List ℕ → ℕ
 year_of s = digits_value 10 (take 4 s)
 
+-- the number that stands for the month
 abbrev pub month_of : List ℕ → ℕ
 month_of s = digits_value 10 (take 2 (drop 5 s))
 
+-- the number that stands for the day of the month
 abbrev pub month_day_of : List ℕ → ℕ
 month_day_of s = digits_value 10 (take 2 (drop 8 s))
 

@@ -22,7 +22,7 @@ behind_point (b ∷ bs) = if b == 46 then Some bs else behind_point bs
 
 -- ---- which parts are allowed
 
--- one digit or more, and nothing else
+-- one ASCII digit or more, and nothing else
 abbrev pub are_digits : List ℕ → Bool
 are_digits s = nat_lt 0 (length s) && list_all is_ascii_digit s
 

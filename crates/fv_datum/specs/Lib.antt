@@ -8,6 +8,7 @@ pub mod FaultNames
 pub mod Json
 pub mod Kinds
 pub mod Lookup
+pub mod Members
 pub mod Moments
 pub mod Name
 pub mod Parsing

@@ -35,7 +35,7 @@ abbrev pub keys_fit : Entries → Bool
 keys_fit no_entries = true
 keys_fit (entry k d es) = is_text k && below_first k es && keys_fit es
 
--- none where a map's keys aren't as said
+-- the JSON of a datum, none where a map's keys aren't as said
 abbrev mutual
   pub written : Data → Option json.Data
   written null = Some json.null

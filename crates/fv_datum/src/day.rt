@@ -1,5 +1,5 @@
 //! Days: the dates that texts name, and the days of moments.
-ghost use Rattle.std.specs.Prelude.{◌≡◌, ◌<◌, true, option_map};
+ghost use Rattle.std.specs.Prelude.{◌≡◌, ◌<◌, option_map};
 ghost use Rattle.jiff.specs.Words.{epoch_day};
 ghost use Rattle.fv_datum.specs.Days.{has_date_form, calendar_day, day_of, day_at};
 ghost use Rattle.fv_datum.specs.Moments.{IsMoment};
@@ -57,7 +57,7 @@ fn has_date_form(bytes: &[u8]) -> bool
     are_digits(&bytes[8..10])
 }
 
-/// The day of a moment, in UTC.
+/// The day, in UTC, of a moment: whole seconds since 1970-01-01T00:00:00Z.
 pub fn today(now: i64) -> Date
     requires { IsMoment now }
     ensures { epoch_day result ≡ day_at now }

@@ -85,8 +85,8 @@ fn is_fraction(bytes: Option<&[u8]>) -> bool
     }
 }
 
-/// Whether a text is one digit or more, and nothing else.
-pub(crate) fn are_digits(bytes: &[u8]) -> bool
+/// Whether the bytes are one ASCII digit or more, and nothing else.
+pub fn are_digits(bytes: &[u8]) -> bool
     ensures { result ≡ are_digits bytes.now }
 {
     if bytes.is_empty() {

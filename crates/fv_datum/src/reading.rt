@@ -26,7 +26,7 @@ use std::alloc::Global;
 /// The datum of a plain kind that a JSON value spells; `null` is null in every kind.
 ///
 /// What `write_datum` gave for a datum of the kind is read as that datum. `WrongKind` where the
-/// value spells no datum of the kind.
+/// value spells no datum of the kind; `Memory` at any place.
 pub fn read_datum(alloc: Global, kind: Kind, value: &Value) -> Result<Datum, DatumFault>
     requires { is_container kind ≡ false }
     ensures exact { Gives DatumFault.Memory view result (datum_read kind (json_view value.now)) }

@@ -13,7 +13,7 @@ use std::alloc::Global;
 
 /// A datum as JSON. A decimal keeps its text, an empty optional is `[]`.
 ///
-/// `WrongKind` where a map's keys aren't texts ascending by their bytes.
+/// `WrongKind` where a map's keys aren't texts ascending by their bytes; `Memory` at any place.
 #[cycle(write)]
 #[tactic(auto, using(crate::proofs::Unfit::unfit))]
 pub fn write_datum(alloc: Global, datum: &Datum) -> Result<Value, DatumFault>

@@ -4,17 +4,18 @@ use Rattle.std.proofs.lemmas.List.{map-append}
 use Rattle.std.specs.declared.alloc.Global.{Global}
 use Rattle.std.specs.List.Sorted.{IsStrictlySortedBy}
 use Rattle.std.specs.Map.{keys_of}
-use Rattle.fv_model.specs.Draft.{each_some}
-use Rattle.fv_declare.specs.Ordered.{Ascends, names_of}
+use Rattle.fv_datum.specs.Members.{each_some}
+use Rattle.fv_model.specs.Bundles.{IsAscending}
+use Rattle.fv_declare.specs.Ordered.{names_of}
 use Rattle.fv_declare.proofs.Fronts.{with_front, front_more}
 use Rattle.fv_declare.proofs.Sorted.{names-ascend}
 
 -- the name of the next entry is above those before it
 pub next_above : {X V : Type 0} (all it rest : List (String Global × X)) (es : List (String Global × V)) (k : String Global) (x : X) → IsStrictlySortedBy string_cmp (keys_of all) → it ≡ (k, x) ∷ rest
-    → names_of es ++ names_of it ≡ names_of all → (more : List (List ℕ)) × Ascends (names_of es ++ string_bytes k ∷ more)
+    → names_of es ++ names_of it ≡ names_of all → (more : List (List ℕ)) × IsAscending (names_of es ++ string_bytes k ∷ more)
 next_above all it rest es k x sorted steps names =
     let whole : names_of es ++ string_bytes k ∷ names_of rest ≡ names_of all = ap (λ ns. names_of es ++ ns) (sym (ap names_of steps)) ∙ names in
-    let ascends : Ascends (names_of es ++ string_bytes k ∷ names_of rest) = rw whole (names-ascend all sorted) in
+    let ascends : IsAscending (names_of es ++ string_bytes k ∷ names_of rest) = rw whole (names-ascend all sorted) in
     (names_of rest, ascends)
 
 module _ {V : Type 0} (es new : List (String Global × V)) (key : String Global) (v : V) (put : new ≡ es ++ (key, v) ∷ []) where

@@ -1,5 +1,5 @@
 -- Declarations without fault fit the rules by which they were judged.
-use Rattle.std.proofs.Common.{◌≡◌, ℕ, ◌+◌, ◌==◌, ◌||◌, ◌&&◌, List, [], ◌∷◌, ◌++◌, map, Bool, true, false, not, cond, Option, Some, None, Result, Ok, Err, refl, sym, ap, ◌∙◌, true≢false}
+use Rattle.std.proofs.Common.{◌≡◌, ℕ, ◌+◌, ◌==◌, ◌||◌, ◌&&◌, List, [], ◌∷◌, ◌++◌, map, Bool, true, false, not, cond, Option, Some, None, Ok, refl, sym, ap, ◌∙◌, true≢false}
 use Rattle.std.specs.List.{AllByRecursion, AllZip, list_any, list_all, flat_map, enumerate_from}
 use Rattle.std.specs.Str.{bytes_eq}
 use Rattle.fv_datum.specs.Attributes.{Attributes}
@@ -7,13 +7,12 @@ use Rattle.fv_datum.specs.Lookup.{at_name}
 use Rattle.fv_datum.specs.declared.kind.Kind.{Kind}
 use Rattle.fv_builtin.specs.Names.{builtin_named}
 use Rattle.fv_builtin.specs.declared.name.BuiltinName.{BuiltinName}
-use Rattle.fv_registry.specs.Rules.{Known, has_rule, knows_field, knows_object, lists_kind, takes}
-use Rattle.fv_registry.specs.SameKind.{same_kind}
-use Rattle.fv_declare.specs.Declarations.{Demand, of_field, of_object, built_in, by_rule, Use, Declarations}
-use Rattle.fv_declare.specs.Declares.{plans_of, is_unknown_rule, unknown_rule, draft_fault, IsDeclared, Answers, Judged}
+use Rattle.fv_registry.specs.Rules.{Known, has_rule, lists_kind, takes}
+use Rattle.fv_declare.specs.Declarations.{Demand, of_field, of_object, by_rule, Use, Declarations}
+use Rattle.fv_declare.specs.Declares.{plans_of, is_unknown_rule, draft_fault, IsDeclared, Answers, Judged}
 use Rattle.fv_declare.specs.Drafts as spec
 use Rattle.fv_declare.specs.Fits.{demand_fits, fits}
-use Rattle.fv_declare.specs.Planned.{Place, whole, field, Meant, builtin, declared, either_meant, meant_by, Planned, planned_at, field_plan, type_plan, planned, refuses_place, is_misplaced, refuses_kind, demanded, Demands, IsUse}
+use Rattle.fv_declare.specs.Planned.{Place, whole, field, Meant, builtin, declared, either_meant, Planned, planned_at, field_plan, type_plan, refuses_place, is_misplaced, refuses_kind, demanded, Demands, IsUse}
 use Rattle.fv_declare.specs.declared.fault.DeclFault.{DeclFault}
 use Rattle.fv_declare.proofs.Found.{or_left, or_right, is_good, good_kinds}
 

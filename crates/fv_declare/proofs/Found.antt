@@ -14,7 +14,7 @@ use Rattle.fv_declare.specs.Drafts as spec
 use Rattle.fv_declare.specs.Declares.{bad_name, unknown_name, empty_constraint, too_large, unknown_rule, bad_attribute, unexpected_type, plans_of, is_declared, is_lost, lost_field, unknown_target, unknown_root, field_declared, type_declared, draft_fault}
 use Rattle.fv_declare.specs.DraftViews.{form_view}
 use Rattle.fv_declare.specs.declared.draft.FormDraft.{FormDraft}
-use Rattle.fv_declare.specs.Planned.{is_foreign, refuses_attributes, refuses_kind}
+use Rattle.fv_declare.specs.Planned.{is_unknown_constraint, refuses_attributes, refuses_kind}
 use Rattle.fv_declare.specs.Rooting.{lacks_root}
 use Rattle.fv_declare.proofs.Anys.{form_turn}
 use Rattle.fv_declare.proofs.Named.{found_or}
@@ -70,7 +70,7 @@ is_good k d e =
 
 no_lost : (k : Known) (d : spec.Drafted) → draft_fault k d ≡ None → unknown_target d ≡ false
 unfolding unknown_name
-no_lost k d e = let all : unknown_name d ≡ false = (is_good k d e).names in or_right (list_any is_foreign (plans_of d)) _ (or_left _ (unknown_root d) all)
+no_lost k d e = let all : unknown_name d ≡ false = (is_good k d e).names in or_right (list_any is_unknown_constraint (plans_of d)) _ (or_left _ (unknown_root d) all)
 
 pub good_attributes : (k : Known) (d : spec.Drafted) → draft_fault k d ≡ None → list_any refuses_attributes (plans_of d) ≡ false
 unfolding bad_attribute

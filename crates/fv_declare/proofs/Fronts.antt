@@ -3,7 +3,7 @@ use Rattle.std.proofs.Common.{◌≡◌, ℕ, ◌+◌, ◌<◌, List, [], ◌∷
 use Rattle.serde_json.specs.Data as json
 use Rattle.serde_json.specs.View.{view as json_view, items_view}
 use Rattle.serde_json.specs.declared.value.Value.{Value}
-use Rattle.fv_model.specs.Draft.{each_some}
+use Rattle.fv_datum.specs.Members.{each_some}
 use Rattle.fv_declare.specs.Drafts.{listed}
 
 abbrev pub with_front : {X : Type 0} → List X → Option (List X) → Option (List X)

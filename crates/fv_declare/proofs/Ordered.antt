@@ -2,13 +2,13 @@
 use Rattle.std.proofs.Common.{◌≡◌, ℕ, suc, ◌+◌, ◌<◌, ◌≤◌, ◌⊎◌, inl, inr, List, [], ◌∷◌, ◌++◌, length, map, slice_get, Option, Some, None, refl, sym, ap, ◌∙◌, arith}
 use Rattle.std.specs.List.{AllByRecursion, AllZip, flat_map, enumerate_from}
 use Rattle.fv_datum.specs.Attributes.{Attributes}
-use Rattle.fv_datum.specs.declared.kind.Kind.{Kind}
 use Rattle.fv_model.specs.Types.{Held, DeclaredFields, Declared, kind_of}
 use Rattle.fv_declare.specs.Declarations.{by_rule, Demand, of_field, of_object, Use, Declarations}
 use Rattle.fv_declare.specs.Drafts as spec
 use Rattle.fv_declare.specs.Declares.{field_declared, type_declared, form_declared}
 use Rattle.fv_declare.specs.DraftViews.{field_view, type_view, form_view, definition_entry}
-use Rattle.fv_declare.specs.Ordered.{Ascends, place_of, Precedes, IsRising, IsAmong, IsPlaced, AreOrdered}
+use Rattle.fv_model.specs.Bundles.{IsAscending}
+use Rattle.fv_declare.specs.Ordered.{place_of, Precedes, IsRising, IsAmong, IsPlaced, AreOrdered}
 use Rattle.fv_declare.specs.Planned.{Place, whole, field, Meant, builtin, declared, Planned, planned_at, field_plan, type_plan, planned, demanded, Demands, IsUse}
 use Rattle.fv_declare.specs.declared.draft.FieldDraft.{FieldDraft}
 use Rattle.fv_declare.specs.declared.draft.TypeDraft.{TypeDraft}
@@ -210,7 +210,7 @@ field_names : (fs : List FieldDraft) → map (λ f. f.name.now) fs ≡ map (λ f
 field_names [] = refl
 field_names (f ∷ fs) = ap (λ ns. f.name.now ∷ ns) (field_names fs)
 
-fields_ascend : (ts : List TypeDraft) → AllByRecursion (λ t. Ascends (map (λ f. f.0) t.1)) (map type_declared (map type_view ts))
+fields_ascend : (ts : List TypeDraft) → AllByRecursion (λ t. IsAscending (map (λ f. f.0) t.1)) (map type_declared (map type_view ts))
 fields_ascend [] = tt
 fields_ascend (t ∷ ts) = (rw (← field_names t.fields.items) t.ascend, fields_ascend ts)
 

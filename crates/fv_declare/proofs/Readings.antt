@@ -1,9 +1,9 @@
 -- A use whose attributes and kind the constraint takes is refused for its pattern alone.
-use Rattle.std.proofs.Common.{◌≡◌, Bool, true, false, not, Option, Some, None, is_some, Result, Err, refl, sym, ap, ◌∙◌, true≢false}
+use Rattle.std.proofs.Common.{◌≡◌, Bool, true, false, not, Option, Some, None, is_some, Result, Err, refl, ap, true≢false}
 use Rattle.fv_datum.specs.Attributes.{Attributes}
 use Rattle.fv_datum.specs.declared.kind.Kind.{Kind}
 use Rattle.fv_builtin.specs.Given.{Draft, ready, to_match, drafted, IsRead}
-use Rattle.fv_builtin.specs.Rules.{Rule}
+use Rattle.fv_builtin.specs.BuiltIns.{BuiltIn}
 use Rattle.fv_builtin.specs.Table.{takes}
 use Rattle.fv_builtin.specs.Views.{answer_view}
 use Rattle.fv_builtin.specs.declared.builtin.Builtin.{Builtin}
@@ -26,7 +26,7 @@ unread (Some (to_match s)) true UnexpectedType p q other r = r
 unread (Some (to_match s)) true BadPattern p q other r = other
 unread (Some (to_match s)) true Memory p q other r = other
 
-pub not_other : (which : BuiltinName) (given : Attributes) (kind : Kind) (e : BuiltinFault) (answer : Result Rule BuiltinFault) → is_some (drafted which given) ≡ true → takes which kind ≡ true → IsOther e
+pub not_other : (which : BuiltinName) (given : Attributes) (kind : Kind) (e : BuiltinFault) (answer : Result BuiltIn BuiltinFault) → is_some (drafted which given) ≡ true → takes which kind ≡ true → IsOther e
     → answer ≡ Err e → IsRead (drafted which given) (takes which kind) answer → ⊥
 not_other which given kind e answer attributes taken other is r =
     let read : IsRead (drafted which given) (takes which kind) (Err e) = rw is at r in

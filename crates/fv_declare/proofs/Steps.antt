@@ -6,7 +6,8 @@ use Rattle.std.specs.String.{string_eq}
 use Rattle.indexmap.specs.IndexMap as indexed
 use Rattle.fv_declare.specs.declared.fault.DeclFault.{DeclFault}
 use Rattle.fv_declare.specs.declared.fault.DeclFault.TheVariants.{NotJson}
-use Rattle.fv_declare.specs.Ordered.{Ascends, names_of}
+use Rattle.fv_model.specs.Bundles.{IsAscending}
+use Rattle.fv_declare.specs.Ordered.{names_of}
 use Rattle.fv_declare.proofs.Sorted.{entries_insert}
 
 pub map_turn : {X Y : Type 0} (f : X → Y) (xs : List X) (i : ℕ) (x : X) → i < length xs → x ≡ get_or xs i x → map f (drop i xs) ≡ f x ∷ map f (drop (i + 1) xs)
@@ -17,18 +18,18 @@ map_twice f g [] = refl
 map_twice f g (x ∷ xs) = ap (λ ys. g (f x) ∷ ys) (map_twice f g xs)
 
 module _ {X V : Type 0} (name : X → List ℕ) (xs : List X) (i : ℕ) (x : X) (es new : List (String Global × V)) (k : String Global) (v : V) where
-  next : i < length xs → x ≡ get_or xs i x → Ascends (map name xs) → names_of es ++ map name (drop i xs) ≡ map name xs → Ascends (names_of es ++ name x ∷ map name (drop (i + 1) xs))
+  next : i < length xs → x ≡ get_or xs i x → IsAscending (map name xs) → names_of es ++ map name (drop i xs) ≡ map name xs → IsAscending (names_of es ++ name x ∷ map name (drop (i + 1) xs))
   next h is all names =
       let turned : names_of es ++ name x ∷ map name (drop (i + 1) xs) ≡ map name xs = ap (λ ns. names_of es ++ ns) (sym (map_turn name xs i x h is)) ∙ names in
       rw turned all
 
-  pub insert_names : i < length xs → x ≡ get_or xs i x → Ascends (map name xs) → names_of es ++ map name (drop i xs) ≡ map name xs → string_bytes k ≡ name x → new ≡ indexed.insert_entry string_eq es k v
+  pub insert_names : i < length xs → x ≡ get_or xs i x → IsAscending (map name xs) → names_of es ++ map name (drop i xs) ≡ map name xs → string_bytes k ≡ name x → new ≡ indexed.insert_entry string_eq es k v
       → names_of new ++ map name (drop (i + 1) xs) ≡ map name xs
   insert_names h is all names same e =
       ap (λ ns. ns ++ map name (drop (i + 1) xs)) (entries_insert es new k v (name x) (map name (drop (i + 1) xs)) (λ e. string_bytes e.0) same (next h is all names) e ∙ ap (λ n. names_of es ++ n ∷ []) same)
       ∙ append_assoc (names_of es) (name x ∷ []) (map name (drop (i + 1) xs)) ∙ ap (λ ns. names_of es ++ ns) (sym (map_turn name xs i x h is)) ∙ names
 
-  pub insert_entries : i < length xs → x ≡ get_or xs i x → Ascends (map name xs) → names_of es ++ map name (drop i xs) ≡ map name xs → string_bytes k ≡ name x → new ≡ indexed.insert_entry string_eq es k v
+  pub insert_entries : i < length xs → x ≡ get_or xs i x → IsAscending (map name xs) → names_of es ++ map name (drop i xs) ≡ map name xs → string_bytes k ≡ name x → new ≡ indexed.insert_entry string_eq es k v
       → {Y : Type 0} (f : String Global × V → Y) (g : X → Y) → f (k, v) ≡ g x → map f es ++ map g (drop i xs) ≡ map g xs → map f new ++ map g (drop (i + 1) xs) ≡ map g xs
   insert_entries h is all names same e f g here made =
       ap (λ ys. ys ++ map g (drop (i + 1) xs)) (entries_insert es new k v (name x) (map name (drop (i + 1) xs)) f same (next h is all names) e ∙ ap (λ y. map f es ++ y ∷ []) here)

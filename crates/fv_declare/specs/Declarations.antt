@@ -1,13 +1,13 @@
 -- What declarations declare.
 use Rattle.std.specs.Prelude.{ℕ, List}
-use Rattle.fv_builtin.specs.Rules.{Rule}
+use Rattle.fv_builtin.specs.BuiltIns.{BuiltIn}
 use Rattle.fv_datum.specs.Attributes.{Attributes}
 use Rattle.fv_datum.specs.declared.kind.Kind.{Kind}
 use Rattle.fv_model.specs.Types.{Declared}
 
 -- what is asked of a datum: a built-in constraint, or the rule of that number with the attributes in effect
 pub data FieldTest : Type 0 where
-  built_in : Rule → FieldTest
+  built_in : BuiltIn → FieldTest
   by_rule : ℕ → Attributes → FieldTest
 
 -- what a use demands: of the datum in the field of that number, whose data are of the kind, or of the whole object, the rule of that

@@ -18,7 +18,7 @@ use Rattle.fv_declare.specs.Declarations.{Declarations}
 use Rattle.fv_declare.specs.Drafts.{FieldDraft, TypeDraft, FormDraft, AttributeDraft, RuleDraft, DefinitionDraft, Drafted, draft_of}
 use Rattle.fv_declare.specs.Drafts as draft
 use Rattle.fv_declare.specs.Ordered.{AreOrdered}
-use Rattle.fv_declare.specs.Planned.{Planned, planned, is_foreign, refuses_attributes, refuses_kind, IsReadAs, IsUse}
+use Rattle.fv_declare.specs.Planned.{Planned, planned, is_unknown_constraint, refuses_attributes, refuses_kind, IsReadAs, IsUse}
 use Rattle.fv_declare.specs.declared.fault.DeclFault.{DeclFault}
 use Rattle.fv_declare.specs.declared.fault.DeclFault.TheVariants.{NotJson, Shape, BadName, UnknownName, EmptyConstraint, TooLarge, UnknownRule, Attribute, UnexpectedType, BadPattern}
 
@@ -40,14 +40,16 @@ bad_name d = list_any is_bad_type d.types || list_any (λ f. not (names f.name))
 abbrev pub is_declared : List ℕ → List TypeDraft → Bool
 is_declared name = list_any (λ t. bytes_eq name t.name)
 
--- a field holds references to objects of a type that isn't declared
+-- references to objects of a type that isn't declared
 abbrev pub is_lost : List TypeDraft → Held → Bool
 is_lost ts (references type) = not (is_declared type ts)
 is_lost ts _ = false
 
+-- a field holds references to objects of a type that isn't declared
 abbrev pub lost_field : List TypeDraft → FieldDraft → Bool
 lost_field ts f = is_lost ts f.type
 
+-- a field of one of the types holds references to objects of a type that isn't declared
 abbrev pub unknown_target : Drafted → Bool
 unknown_target d = list_any (λ t. list_any (lost_field d.types) t.fields) d.types
 
@@ -61,7 +63,7 @@ plans_of d = planned d.definitions d.types
 
 -- a constraint that is neither built in nor declared, or a type that isn't declared
 unfoldable pub unknown_name : Drafted → Bool
-unknown_name d = list_any is_foreign (plans_of d) || unknown_target d || unknown_root d
+unknown_name d = list_any is_unknown_constraint (plans_of d) || unknown_target d || unknown_root d
 
 -- a declared constraint without a rule
 abbrev pub empty_constraint : Drafted → Bool
@@ -78,6 +80,7 @@ is_unknown_rule k None = false
 is_unknown_rule k (Some (draft.field rule)) = not (knows_field rule k)
 is_unknown_rule k (Some (draft.object rule)) = not (knows_object rule k)
 
+-- the rule of a declared constraint isn't there for its sort
 abbrev pub unknown_rule : Known → Drafted → Bool
 unknown_rule k d = list_any (λ c. is_unknown_rule k c.1.rule) d.definitions
 
@@ -86,6 +89,7 @@ abbrev pub is_other_kind : AttributeKind → Option AttributeValue → Bool
 is_other_kind kind None = false
 is_other_kind kind (Some v) = not (is_same kind (attribute_kind v))
 
+-- an attribute of a declared constraint has a default of another kind
 abbrev pub bad_default : DefinitionDraft → Bool
 bad_default c = list_any (λ a. is_other_kind a.1.kind a.1.default) c.attributes
 
@@ -109,6 +113,7 @@ conditions k d =
     ∷ (unexpected_type k d, UnexpectedType)
     ∷ []
 
+-- the first of them that holds
 abbrev pub draft_fault : Known → Drafted → Option DeclFault
 draft_fault k d = first (conditions k d)
 
@@ -121,12 +126,15 @@ pub record HasBadPattern (d : Drafted) : Type 0 where
 
 -- ---- what is declared where nothing is wrong
 
+-- a field with what it holds
 abbrev pub field_declared : FieldDraft → List ℕ × Held
 field_declared f = (f.name, f.type)
 
+-- a type with its fields
 abbrev pub type_declared : TypeDraft → List ℕ × DeclaredFields
 type_declared t = (t.name, map field_declared t.fields)
 
+-- a form with its root's type
 abbrev pub form_declared : FormDraft → List ℕ × List ℕ
 form_declared f = (f.name, f.root)
 
@@ -148,10 +156,12 @@ abbrev pub Answers : Option DeclFault → Drafted → Result Declarations DeclFa
 Answers (Some fault) d answer = answer ≡ Err fault
 Answers None d answer = IsAnswered d answer
 
+-- the answer to a draft, `Shape` where the JSON has another form
 abbrev pub Judged : Known → Option Drafted → Result Declarations DeclFault → Type 0
 Judged k None answer = answer ≡ Err Shape
 Judged k (Some d) answer = Answers (draft_fault k d) d answer
 
+-- the answer to a JSON value, `NotJson` where the text is none
 abbrev pub DeclaresIn : Known → Option json.Data → Result Declarations DeclFault → Type 0
 DeclaresIn k None answer = answer ≡ Err NotJson
 DeclaresIn k (Some j) answer = Judged k (draft_of j) answer

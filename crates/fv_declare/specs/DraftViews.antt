@@ -1,5 +1,5 @@
 -- The drafts that contracts see.
-use Rattle.std.specs.Prelude.{ℕ, List, Option, map, option_map, String, string_bytes}
+use Rattle.std.specs.Prelude.{ℕ, List, map, option_map, String, string_bytes}
 use Rattle.std.specs.declared.alloc.Global.{Global}
 use Rattle.fv_datum.specs.Attributes.{attribute_view}
 use Rattle.fv_model.specs.Types.{held_view}
@@ -20,18 +20,23 @@ use Rattle.fv_declare.specs.declared.meant.Meant.{Meant}
 use Rattle.fv_declare.specs.declared.meant.Meant.TheVariants as meant
 use Rattle.fv_declare.specs.declared.plan.Plan.{Plan}
 
+-- a use of a constraint, with the attributes that it gives
 abbrev pub use_view : UseDraft → spec.UseDraft
 use_view u = record { constraint = u.constraint.now; given = u.with }
 
+-- a field, with the uses at it
 abbrev pub field_view : FieldDraft → spec.FieldDraft
 field_view f = record { name = f.name.now; type = held_view f.type_use; uses = map use_view f.uses.items }
 
+-- a type, with the uses at the type itself
 abbrev pub type_view : TypeDraft → spec.TypeDraft
 type_view t = record { name = t.name.now; fields = map field_view t.fields.items; uses = map use_view t.uses.items }
 
+-- a form
 abbrev pub form_view : FormDraft → spec.FormDraft
 form_view f = record { name = f.name.now; root = f.root.now }
 
+-- an attribute of a declared constraint
 abbrev pub attribute_draft_view : AttributeDraft → spec.AttributeDraft
 attribute_draft_view a = record { kind = a.kind; default = option_map attribute_view a.default }
 
@@ -39,10 +44,12 @@ attribute_draft_view a = record { kind = a.kind; default = option_map attribute_
 abbrev pub attribute_entry : String Global × AttributeDraft → List ℕ × spec.AttributeDraft
 attribute_entry e = (string_bytes e.0, attribute_draft_view e.1)
 
+-- the number of a rule, of data or of objects
 abbrev pub rule_view : RuleDraft → spec.RuleDraft
 rule_view (rule.Field n) = spec.field n
 rule_view (rule.Object n) = spec.object n
 
+-- a declared constraint
 abbrev pub definition_view : DefinitionDraft → spec.DefinitionDraft
 definition_view d = record { attributes = map attribute_entry d.attributes.entries; rule = option_map rule_view d.rule }
 
@@ -50,17 +57,21 @@ definition_view d = record { attributes = map attribute_entry d.attributes.entri
 abbrev pub definition_entry : String Global × DefinitionDraft → List ℕ × spec.DefinitionDraft
 definition_entry e = (string_bytes e.0, definition_view e.1)
 
+-- a draft
 abbrev pub draft_view : Draft → spec.Drafted
 draft_view d = record { types = map type_view d.types.items; forms = map form_view d.forms.items; definitions = map definition_entry d.definitions.entries }
 
+-- where a use stands
 abbrev pub place_view : Place → planned.Place
 place_view place.Whole = planned.whole
 place_view (place.Field number kind) = planned.field number kind
 
+-- what a constraint's name stands for
 abbrev pub meant_view : Meant → planned.Meant
 meant_view (meant.BuiltIn which) = planned.builtin which
 meant_view (meant.Declared d) = planned.declared (definition_view d.now)
 
+-- a use at its place
 abbrev pub plan_view : Plan → planned.Planned
 plan_view p = record {
   type = p.type_index;

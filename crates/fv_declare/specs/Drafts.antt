@@ -1,7 +1,5 @@
 -- Declarations by their names, before any of them is judged.
-use Rattle.std.specs.Prelude.{ℕ, ℤ, pos, ◌&&◌, List, [], ◌∷◌, Bool, Option, Some, None, option_map, option_and_then, is_some, if◌then◌else◌, nat_le, codes}
-use Rattle.std.specs.List.{list_any, list_all}
-use Rattle.std.specs.Str.{bytes_eq}
+use Rattle.std.specs.Prelude.{ℕ, ℤ, pos, List, [], ◌∷◌, Option, Some, None, option_map, option_and_then, if◌then◌else◌, nat_le, codes}
 use Rattle.serde_json.specs.Data as json
 use Rattle.serde_json.specs.Find.{as_str, as_array, as_object, get}
 use Rattle.fv_datum.specs.Attributes.{AttributeValue, integer, text, boolean, texts, Attributes}
@@ -9,7 +7,7 @@ use Rattle.fv_datum.specs.Json.{whole_of}
 use Rattle.fv_datum.specs.Lookup.{at_name}
 use Rattle.fv_datum.specs.declared.attribute_kind.AttributeKind.{AttributeKind}
 use Rattle.fv_datum.specs.declared.attribute_kind.AttributeKind.TheVariants as attribute
-use Rattle.fv_model.specs.Draft.{pairs, pairs_of, each_some, text_at}
+use Rattle.fv_datum.specs.Members.{pairs, has_only, each_some, text_at}
 use Rattle.fv_model.specs.Types.{Held, texts as text_field, integers as integer_field, decimals as decimal_field, booleans as boolean_field, dates as date_field, instants as instant_field, references}
 
 -- a use of a constraint, with the attributes that it gives
@@ -17,6 +15,7 @@ pub record UseDraft : Type 0 where
   pub constraint : List ℕ
   pub given : Attributes
 
+-- a field: its name, what it holds and the uses at it
 pub record FieldDraft : Type 0 where
   pub name : List ℕ
   pub type : Held
@@ -28,6 +27,7 @@ pub record TypeDraft : Type 0 where
   pub fields : List FieldDraft
   pub uses : List UseDraft
 
+-- a form: its name and that of its root's type
 pub record FormDraft : Type 0 where
   pub name : List ℕ
   pub root : List ℕ
@@ -51,6 +51,7 @@ pub record DefinitionDraft : Type 0 where
 abbrev pub Definitions : Type 0
 Definitions = List (List ℕ × DefinitionDraft)
 
+-- what declarations have: types, forms and declared constraints
 pub record Drafted : Type 0 where
   pub types : List TypeDraft
   pub forms : List FormDraft
@@ -60,10 +61,6 @@ pub record Drafted : Type 0 where
 abbrev pub listed : json.Items → List json.Data
 listed json.no_items = []
 listed (json.item j js) = j ∷ listed js
-
--- an object, and no member has another name than these
-abbrev pub has_only : List (List ℕ) → json.Data → Bool
-has_only names j = is_some (as_object j) && list_all (λ m. list_any (λ n. bytes_eq n m.0) names) (pairs_of (as_object j))
 
 -- each member of an object, or none where it isn't an object or one of them is none
 abbrev pub each_member : {X : Type 0} → (List ℕ × json.Data → Option X) → json.Data → Option (List X)
@@ -77,10 +74,11 @@ attribute_of (json.boolean b) = Some (boolean b)
 attribute_of (json.array js) = option_map texts (each_some as_str (listed js))
 attribute_of _ = None
 
+-- an attribute's value with its name
 abbrev pub attr_of : List ℕ × json.Data → Option (List ℕ × AttributeValue)
 attr_of m = option_map (λ a. (m.0, a)) (attribute_of m.1)
 
--- the attributes that a use gives: none where there is no such member
+-- the attributes that a use gives: empty where there is no such member
 abbrev pub attrs_of : Option json.Data → Option Attributes
 attrs_of None = Some []
 attrs_of (Some j) = each_member attr_of j
@@ -92,7 +90,7 @@ use_of j = if has_only (codes "constraint" ∷ codes "with" ∷ []) j
     (text_at (codes "constraint") j)
     else None
 
--- the uses at a field: none where there is no such member
+-- the uses at a place, a field or a type: empty where there is no such member
 abbrev pub uses_of : Option json.Data → Option (List UseDraft)
 uses_of None = Some []
 uses_of (Some j) = option_and_then (λ js. each_some use_of (listed js)) (as_array j)
@@ -146,7 +144,7 @@ attribute_kinds =
     ∷ (codes "texts", attribute.Texts)
     ∷ []
 
--- an attribute's default: none where there is no such member
+-- an attribute's default: no default where there is no such member
 abbrev pub default_of : Option json.Data → Option (Option AttributeValue)
 default_of None = Some None
 default_of (Some j) = option_map (λ a. Some a) (attribute_of j)
@@ -158,7 +156,7 @@ attribute_draft_of m = if has_only (codes "kind" ∷ codes "default" ∷ []) m.1
     (option_and_then (λ name. at_name name attribute_kinds) (text_at (codes "kind") m.1))
     else None
 
--- the attributes of a declared constraint: none where there is no such member
+-- the attributes of a declared constraint: empty where there is no such member
 abbrev pub attribute_drafts_of : Option json.Data → Option (List (List ℕ × AttributeDraft))
 attribute_drafts_of None = Some []
 attribute_drafts_of (Some j) = each_member attribute_draft_of j
@@ -168,6 +166,7 @@ abbrev pub number_in : ℤ → Option ℕ
 number_in (pos n) = if nat_le n 4294967295 then Some n else None
 number_in _ = None
 
+-- the rule's number that a JSON value is
 abbrev pub rule_number_of : json.Data → Option ℕ
 rule_number_of (json.number n) = option_and_then number_in (whole_of n)
 rule_number_of _ = None
@@ -185,7 +184,7 @@ either None o = o
 abbrev pub rule_of : json.Data → Option RuleDraft
 rule_of j = either (option_map field (rule_number_at (codes "field") j)) (option_map object (rule_number_at (codes "object") j))
 
--- the rule of a declared constraint: none where there is no such member
+-- the rule of a declared constraint: no rule where there is no such member
 abbrev pub rule_draft_of : Option json.Data → Option (Option RuleDraft)
 rule_draft_of None = Some None
 rule_draft_of (Some j) = option_map (λ r. Some r) (rule_of j)
@@ -197,7 +196,7 @@ definition_of m = if has_only (codes "attributes" ∷ codes "rule" ∷ []) m.1
     (attribute_drafts_of (get (codes "attributes") m.1))
     else None
 
--- the declared constraints: none where there is no such member
+-- the declared constraints: empty where there is no such member
 abbrev pub definitions_of : Option json.Data → Option Definitions
 definitions_of None = Some []
 definitions_of (Some j) = each_member definition_of j

@@ -3,6 +3,7 @@ use Rattle.std.specs.Prelude.{ℕ, List, [], codes}
 use Rattle.fv_declare.specs.declared.fault.DeclFault.{DeclFault}
 use Rattle.fv_declare.specs.declared.fault.DeclFault.TheVariants.{NotJson, Shape, BadName, UnknownName, EmptyConstraint, TooLarge, UnknownRule, Attribute, UnexpectedType, BadPattern, Memory}
 
+-- the name of a fault of declarations
 abbrev pub decl_fault_name : DeclFault → List ℕ
 decl_fault_name NotJson = codes "NotJson"
 decl_fault_name Shape = codes "Shape"
@@ -16,6 +17,7 @@ decl_fault_name UnexpectedType = codes "UnexpectedType"
 decl_fault_name BadPattern = codes "BadPattern"
 decl_fault_name Memory = codes "Memory"
 
+-- a fault's code, none for want of memory
 abbrev pub decl_fault_code : DeclFault → List ℕ
 decl_fault_code NotJson = codes "F1"
 decl_fault_code Shape = codes "F2"

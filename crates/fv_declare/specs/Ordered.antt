@@ -1,16 +1,10 @@
 -- The order of declarations.
 use Rattle.std.specs.Prelude.{◌≡◌, ℕ, ◌+◌, ◌<◌, ◌≤◌, ◌⊎◌, List, [], ◌∷◌, map, slice_get, Some, String, string_bytes}
-use Rattle.std.specs.Cmp.Lexicographic.{slice_cmp}
 use Rattle.std.specs.List.{AllByRecursion}
-use Rattle.std.specs.List.Sorted.{IsStrictlySortedBy}
-use Rattle.std.specs.Ordering.{nat_cmp}
 use Rattle.std.specs.declared.alloc.Global.{Global}
+use Rattle.fv_model.specs.Bundles.{IsAscending}
 use Rattle.fv_model.specs.Types.{Held, DeclaredFields, Declared, kind_of}
 use Rattle.fv_declare.specs.Declarations.{Demand, of_field, of_object, Use, Declarations}
-
--- names strictly ascending by their bytes
-abbrev pub Ascends : List (List ℕ) → Type 0
-Ascends = IsStrictlySortedBy (slice_cmp nat_cmp)
 
 -- the names of a map's entries
 abbrev pub names_of : {X : Type 0} → List (String Global × X) → List (List ℕ)
@@ -41,8 +35,8 @@ IsPlaced ts u = (t : List ℕ × DeclaredFields) × (slice_get ts u.type ≡ Som
 
 -- types, forms and the fields of each type ascend by their names, and the uses by their types and places, which are there
 pub record AreOrdered (d : Declarations) : Type 0 where
-  pub types : Ascends (map (λ t. t.0) d.types)
-  pub forms : Ascends (map (λ f. f.0) d.forms)
-  pub fields : AllByRecursion (λ t. Ascends (map (λ f. f.0) t.1)) d.types
+  pub types : IsAscending (map (λ t. t.0) d.types)
+  pub forms : IsAscending (map (λ f. f.0) d.forms)
+  pub fields : AllByRecursion (λ t. IsAscending (map (λ f. f.0) t.1)) d.types
   pub uses : IsRising d.uses
   pub there : AllByRecursion (IsPlaced d.types) d.uses

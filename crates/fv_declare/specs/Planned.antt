@@ -8,11 +8,11 @@ use Rattle.fv_datum.specs.declared.kind.Kind.{Kind}
 use Rattle.fv_builtin.specs.Given.{drafted, given_or, has_kind, IsRead}
 use Rattle.fv_builtin.specs.Interpolation.{message_with}
 use Rattle.fv_builtin.specs.Names.{builtin_named}
-use Rattle.fv_builtin.specs.Rules.{Rule}
+use Rattle.fv_builtin.specs.BuiltIns.{BuiltIn}
 use Rattle.fv_builtin.specs.Table.{takes}
 use Rattle.fv_builtin.specs.declared.fault.BuiltinFault.{BuiltinFault}
 use Rattle.fv_builtin.specs.declared.name.BuiltinName.{BuiltinName}
-use Rattle.fv_model.specs.Draft.{each_some}
+use Rattle.fv_datum.specs.Members.{each_some}
 use Rattle.fv_model.specs.Types.{kind_of}
 use Rattle.fv_registry.specs.Rules.{Known, takes as rule_takes}
 use Rattle.fv_declare.specs.Declarations.{built_in, by_rule, Demand, of_field, of_object, Use}
@@ -34,6 +34,7 @@ abbrev pub either_meant : Option BuiltinName → Option DefinitionDraft → Opti
 either_meant (Some which) found = Some (builtin which)
 either_meant None found = option_map declared found
 
+-- what a constraint's name stands for, none where it is neither built in nor declared
 abbrev pub meant_by : Definitions → List ℕ → Option Meant
 meant_by ds name = either_meant (builtin_named name) (at_name name ds)
 
@@ -45,6 +46,7 @@ pub record Planned : Type 0 where
   pub meant : Option Meant
   pub given : Attributes
 
+-- a use at a place in the type of a number
 abbrev pub planned_at : Definitions → ℕ → Place → UseDraft → Planned
 planned_at ds type place u = record { type = type; place = place; constraint = u.constraint; meant = meant_by ds u.constraint; given = u.given }
 
@@ -64,8 +66,8 @@ planned ds ts = flat_map (type_plan ds) (enumerate_from 0 ts)
 -- ---- the attributes of a declared constraint
 
 -- an attribute is given that the constraint doesn't have, or has with another kind
-abbrev pub has_other : List (List ℕ × AttributeDraft) → Attributes → Bool
-has_other attributes given = list_any (λ g. not (has_kind (option_map (λ a. a.kind) (at_name g.0 attributes)) (attribute_kind g.1))) given
+abbrev pub has_foreign : List (List ℕ × AttributeDraft) → Attributes → Bool
+has_foreign attributes given = list_any (λ g. not (has_kind (option_map (λ a. a.kind) (at_name g.0 attributes)) (attribute_kind g.1))) given
 
 -- the value in effect: that which is given, else the default
 abbrev pub value_of : Attributes → List ℕ × AttributeDraft → Option (List ℕ × AttributeValue)
@@ -78,15 +80,16 @@ in_effect attributes given = each_some (value_of given) attributes
 -- ---- what can be wrong with one of them
 
 -- the constraint is neither built in nor declared
-abbrev pub is_foreign : Planned → Bool
-is_foreign p = not (is_some p.meant)
+abbrev pub is_unknown_constraint : Planned → Bool
+is_unknown_constraint p = not (is_some p.meant)
 
 -- the constraint refuses the attributes that are given
 abbrev pub refuses_given : Option Meant → Attributes → Bool
 refuses_given None given = true
 refuses_given (Some (builtin which)) given = not (is_some (drafted which given))
-refuses_given (Some (declared d)) given = has_other d.attributes given || not (is_some (in_effect d.attributes given))
+refuses_given (Some (declared d)) given = has_foreign d.attributes given || not (is_some (in_effect d.attributes given))
 
+-- a use's constraint refuses the attributes that the use gives
 abbrev pub refuses_attributes : Planned → Bool
 refuses_attributes p = refuses_given p.meant p.given
 
@@ -102,13 +105,14 @@ is_misplaced k (Some (builtin which)) (field f kind) = not (takes which kind)
 is_misplaced k (Some (declared d)) place = refuses_place k d.rule place
 is_misplaced k _ _ = true
 
+-- a use's constraint isn't on objects, or on data of the kind, where the use stands
 abbrev pub refuses_kind : Known → Planned → Bool
 refuses_kind k p = is_misplaced k p.meant p.place
 
 -- ---- what it is read as
 
 -- the answer is what the built-in of that name makes of the attributes, at data of the kind
-pub record IsReadAs (p : Planned) (answer : Result Rule BuiltinFault) : Type 0 where
+pub record IsReadAs (p : Planned) (answer : Result BuiltIn BuiltinFault) : Type 0 where
   pub which : BuiltinName
   pub kind : Kind
   pub number : ℕ
@@ -124,7 +128,8 @@ demanded _ _ _ = None
 
 -- what a constraint demands at a place with the attributes that are given
 abbrev pub Demands : Option Meant → Place → Attributes → Demand → Type 0
-Demands (Some (builtin which)) (field f kind) given d = (r : Rule) × (d ≡ of_field f kind (built_in r)) × IsRead (drafted which given) (takes which kind) (Ok r)
+Demands (Some (builtin which)) (field f kind) given d =
+    (b : BuiltIn) × (d ≡ of_field f kind (built_in b)) × IsRead (drafted which given) (takes which kind) (Ok b)
 Demands (Some (declared c)) place given d = (attrs : Attributes) × (in_effect c.attributes given ≡ Some attrs) × (demanded c.rule place attrs ≡ Some d)
 Demands _ _ _ _ = ⊥
 

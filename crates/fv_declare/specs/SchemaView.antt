@@ -13,6 +13,7 @@ use Rattle.fv_declare.specs.declared.occurrence.Occurrence.{Occurrence}
 abbrev pub form_entry : Declared → String Global × TypeId → List ℕ × List ℕ
 form_entry ts e = (string_bytes e.0, name_at ts e.1.index)
 
+-- the forms by their names, each with its root's type by name
 abbrev pub forms_view : Declared → TextMap TypeId → List (List ℕ × List ℕ)
 forms_view ts m = map (form_entry ts) m.entries
 

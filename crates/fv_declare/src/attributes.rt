@@ -1,12 +1,11 @@
 //! The attributes that a use gives. Where a value is not of the form, a function here answers
 //! `None`.
-ghost use Rattle.std.specs.Prelude.{◌≡◌, ◌++◌, ◌∷◌, ℕ, List, [], IfOk, OnOk, map, option_map, string_bytes};
+ghost use Rattle.std.specs.Prelude.{◌≡◌, IfOk, map, option_map, string_bytes};
 ghost use Rattle.serde_json.specs.Find.{as_str};
 ghost use Rattle.serde_json.specs.View.{view as json_view, items_view, members_view};
-ghost use Rattle.fv_datum.specs.Attributes.{attribute_view, entry_view};
-ghost use Rattle.fv_model.specs.Draft.{pairs, each_some};
+ghost use Rattle.fv_datum.specs.Attributes.{attribute_view};
+ghost use Rattle.fv_datum.specs.Members.{pairs, each_some};
 ghost use Rattle.fv_declare.specs.Drafts.{listed, attribute_of, attr_of, attrs_of as spec_attrs};
-ghost use Rattle.fv_declare.specs.Ordered.{Ascends, names_of};
 
 use crate::members::add_last;
 use fv_datum::{Attribute, Attrs};

@@ -5,14 +5,14 @@ ghost use Rattle.fv_datum.specs.Answers.{Gives};
 ghost use Rattle.fv_builtin.specs.Given.{drafted, IsRead};
 ghost use Rattle.fv_builtin.specs.Names.{builtin_named};
 ghost use Rattle.fv_builtin.specs.Table.{takes};
-ghost use Rattle.fv_builtin.specs.Views.{rule_view};
+ghost use Rattle.fv_builtin.specs.Views.{builtin_view};
 ghost use Rattle.fv_builtin.specs.declared.fault.BuiltinFault.TheVariants as fault;
 ghost use Rattle.fv_model.specs.Types.{fields_view, declared_view};
 ghost use Rattle.fv_model.specs.Views.{types_view};
 ghost use Rattle.fv_registry.specs.Rules.{Known};
 ghost use Rattle.fv_declare.specs.Declares.{field_declared, type_declared, form_declared, plans_of, IsAnswered, draft_fault};
 ghost use Rattle.fv_declare.specs.DraftViews.{field_view, type_view, form_view, definition_view, draft_view, place_view, plan_view};
-ghost use Rattle.fv_declare.specs.Ordered.{Ascends};
+ghost use Rattle.fv_model.specs.Bundles.{IsAscending};
 ghost use Rattle.fv_declare.specs.Planned.{Planned, builtin, declared, in_effect, is_misplaced, refuses_attributes, refuses_place, refuses_kind, IsReadAs, Demands, worded, IsUse};
 ghost use Rattle.fv_declare.specs.OccurrenceView.{demand_view, occurrence_view};
 ghost use Rattle.fv_declare.specs.SchemaView.{forms_view};
@@ -32,7 +32,7 @@ use indexmap::IndexMap;
 use std::alloc::{AllocError, Global};
 
 fn fields_for(alloc: Global, fields: &[FieldDraft]) -> Result<Fields, AllocError>
-    requires { Ascends (map (λ f. f.name.now) fields.now) }
+    requires { IsAscending (map (λ f. f.name.now) fields.now) }
     ensures { IfOk result (λ m. fields_view m ≡ map (λ f. field_declared (field_view f)) fields.now) }
 {
     let mut uses = IndexMap::new(alloc);
@@ -44,7 +44,7 @@ fn fields_for(alloc: Global, fields: &[FieldDraft]) -> Result<Fields, AllocError
 }
 
 fn types_for(alloc: Global, types: &[TypeDraft]) -> Result<IndexMap<String, Fields>, AllocError>
-    requires { Ascends (map (λ t. t.name.now) types.now) }
+    requires { IsAscending (map (λ t. t.name.now) types.now) }
     ensures { IfOk result (λ m. declared_view m ≡ map (λ t. type_declared (type_view t)) types.now) }
 {
     let mut declared = IndexMap::new(alloc);
@@ -65,7 +65,7 @@ fn builtin_of(
     requires named { builtin_named plan.now.constraint.now ≡ Some which }
     requires attributes { is_some (drafted which plan.now.with.now) ≡ true }
     requires kind { takes which kind ≡ true }
-    ensures taken { IfOk result (λ b. IsRead (drafted which plan.now.with.now) (takes which kind) (Ok (rule_view b))) }
+    ensures taken { IfOk result (λ b. IsRead (drafted which plan.now.with.now) (takes which kind) (Ok (builtin_view b))) }
     ensures refused { IfErr result (λ f. f ≢ DeclFault.Memory → (f ≡ DeclFault.BadPattern) × IsRead (drafted which plan.now.with.now) (takes which kind) (Err fault.BadPattern)) }
 {
     match Builtin::read(alloc, plan.constraint, plan.with, kind) {
@@ -182,7 +182,7 @@ fn forms_for(
     types: &Types,
     forms: &[FormDraft],
 ) -> Result<IndexMap<String, TypeId>, DeclFault>
-    requires ascend { Ascends (map (λ f. f.name.now) forms.now) }
+    requires ascend { IsAscending (map (λ f. f.name.now) forms.now) }
     requires known { lacks_root (types_view types.now) (map form_view forms.now) ≡ false }
     ensures { Gives DeclFault.Memory (forms_view (types_view types.now)) result (Ok (map (λ f. form_declared (form_view f)) forms.now)) }
 {

@@ -1,18 +1,17 @@
 //! The declared constraints of a draft. Where a value is not of the form, a function here answers
 //! `None`.
-ghost use Rattle.std.specs.Prelude.{◌≡◌, IfOk, IfSome, map, option_map, string_bytes};
-ghost use Rattle.std.specs.Option.{option_and_then};
+ghost use Rattle.std.specs.Prelude.{◌≡◌, IfOk, map, option_map};
 ghost use Rattle.serde_json.specs.View.{view as json_view, members_view};
 ghost use Rattle.fv_datum.specs.Attributes.{attribute_view};
 ghost use Rattle.fv_datum.specs.Lookup.{at_name};
-ghost use Rattle.fv_model.specs.Draft.{pairs, each_some};
+ghost use Rattle.fv_datum.specs.Members.{pairs, each_some};
 ghost use Rattle.fv_declare.specs.Drafts.{attribute_kinds, default_of, attribute_draft_of, attribute_drafts_of, number_in, rule_number_of, rule_number_at, rule_of as spec_rule, rule_draft_of, definition_of as spec_definition, definitions_of as spec_definitions};
 ghost use Rattle.fv_declare.specs.DraftViews.{attribute_draft_view, attribute_entry, rule_view, definition_view, definition_entry};
 
 use crate::attributes::attribute_of;
 use crate::draft::{AttributeDraft, DefinitionDraft, RuleDraft};
-use crate::members::{add_last, has_only};
-use fv_datum::{Attribute, AttributeKind};
+use crate::members::add_last;
+use fv_datum::{Attribute, AttributeKind, has_only};
 use serde_json::{Map, Value};
 use std::alloc::{AllocError, Global};
 use std::collections::BTreeMap;

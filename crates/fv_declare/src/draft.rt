@@ -1,7 +1,8 @@
 //! Declarations by their names, before any of them is judged.
 ghost use Rattle.std.proofs.Props.{props};
 ghost use Rattle.std.specs.Prelude.{◌≡◌, map};
-ghost use Rattle.fv_declare.specs.Ordered.{Ascends, names_of};
+ghost use Rattle.fv_model.specs.Bundles.{IsAscending};
+ghost use Rattle.fv_declare.specs.Ordered.{names_of};
 
 use fv_datum::{Attribute, AttributeKind, Attrs};
 use fv_model::TypeUse;
@@ -29,7 +30,7 @@ pub(crate) struct TypeDraft<'a> {
     pub(crate) name: &'a str,
     pub(crate) fields: Vec<FieldDraft<'a>>,
     pub(crate) uses: Vec<UseDraft<'a>>,
-    ghost ascend: { Ascends (map (λ f. f.name.now) fields.items) } by { Prim.hlevel props },
+    ghost ascend: { IsAscending (map (λ f. f.name.now) fields.items) } by { Prim.hlevel props },
 }
 
 /// A form.
@@ -72,6 +73,6 @@ pub(crate) struct Draft<'a> {
     /// The declared constraints by their names.
     pub(crate) definitions: BTreeMap<String, DefinitionDraft>,
     ghost named_are: { map (λ t. t.name.now) types.items ≡ names_of named.now.entries },
-    ghost types_ascend: { Ascends (map (λ t. t.name.now) types.items) } by { Prim.hlevel props },
-    ghost forms_ascend: { Ascends (map (λ f. f.name.now) forms.items) } by { Prim.hlevel props },
+    ghost types_ascend: { IsAscending (map (λ t. t.name.now) types.items) } by { Prim.hlevel props },
+    ghost forms_ascend: { IsAscending (map (λ f. f.name.now) forms.items) } by { Prim.hlevel props },
 }

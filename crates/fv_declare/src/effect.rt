@@ -2,11 +2,10 @@
 //! effect.
 ghost use Rattle.std.specs.Prelude.{◌≡◌, IfOk, map, not, is_some, option_map};
 ghost use Rattle.fv_datum.specs.Attributes.{attribute_view};
-ghost use Rattle.fv_datum.specs.AttributeKinds.{attribute_kind};
 ghost use Rattle.fv_datum.specs.Lookup.{at_name};
 ghost use Rattle.fv_builtin.specs.Given.{given_or, has_kind, is_same};
 ghost use Rattle.fv_declare.specs.DraftViews.{attribute_draft_view, attribute_entry};
-ghost use Rattle.fv_declare.specs.Planned.{has_other, in_effect};
+ghost use Rattle.fv_declare.specs.Planned.{has_foreign, in_effect};
 
 use crate::attributes::copy_of;
 use crate::draft::AttributeDraft;
@@ -33,8 +32,8 @@ fn has_kind(attributes: &BTreeMap<String, AttributeDraft>, name: &str, kind: Att
 }
 
 /// Whether an attribute is given that isn't declared, or is of another kind.
-pub(crate) fn has_other(attributes: &BTreeMap<String, AttributeDraft>, given: &Attrs) -> bool
-    ensures { result ≡ has_other (map attribute_entry attributes.now.entries) given.now }
+pub(crate) fn has_foreign(attributes: &BTreeMap<String, AttributeDraft>, given: &Attrs) -> bool
+    ensures { result ≡ has_foreign (map attribute_entry attributes.now.entries) given.now }
 {
     for (name, value) in given.entries().iter() {
         if !has_kind(attributes, name.as_str(), value.kind()) {

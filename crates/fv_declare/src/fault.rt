@@ -29,7 +29,8 @@ pub enum DeclFault {
     /// A rule that isn't registered for its sort.
     #[error("a rule that isn't registered")]
     UnknownRule,
-    /// An unknown, missing or wrongly kinded attribute, or a value that the constraint refuses.
+    /// An unknown, missing or wrongly kinded attribute, a value that the constraint refuses, or a
+    /// default of another kind than its attribute.
     #[error("an attribute that the constraint refuses")]
     Attribute,
     /// A constraint at a place of another sort, or of data of a kind that it doesn't take.

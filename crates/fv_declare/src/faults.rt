@@ -1,18 +1,18 @@
 //! What can be wrong with declarations of the right form: a function for each condition, and the
 //! first that holds. Patterns are built last, with the schema.
-ghost use Rattle.std.specs.Prelude.{◌≡◌, ◌<◌, map, not, nat_lt, length, is_some, option_map};
+ghost use Rattle.std.specs.Prelude.{◌≡◌, ◌<◌, map, not, nat_lt, length, option_map};
 ghost use Rattle.std.specs.List.{list_any};
 ghost use Rattle.fv_datum.specs.Attributes.{attribute_view};
 ghost use Rattle.fv_datum.specs.Name.{names};
 ghost use Rattle.fv_model.specs.Types.{held_view};
-ghost use Rattle.fv_declare.specs.Declares.{is_bad_type, is_bad_definition, bad_name, unknown_name, is_declared, is_lost, lost_field, unknown_target, unknown_root, empty_constraint, too_large, is_unknown_rule, unknown_rule, is_other_kind, bad_default, bad_attribute, unexpected_type, plans_of, draft_fault as spec_fault};
+ghost use Rattle.fv_declare.specs.Declares.{is_bad_type, is_bad_definition, bad_name, unknown_name, is_declared, is_lost, lost_field, unknown_target, unknown_root, empty_constraint, too_large, is_unknown_rule, unknown_rule, is_other_kind, bad_default, bad_attribute, plans_of, draft_fault as spec_fault};
 ghost use Rattle.fv_declare.specs.DraftViews.{field_view, type_view, form_view, attribute_entry, rule_view, definition_view, definition_entry, draft_view, place_view, plan_view};
-ghost use Rattle.fv_declare.specs.Planned.{is_foreign, refuses_attributes, refuses_place, refuses_kind};
+ghost use Rattle.fv_declare.specs.Planned.{is_unknown_constraint, refuses_attributes, refuses_place, refuses_kind};
 
 use crate::draft::{
     AttributeDraft, DefinitionDraft, Draft, FieldDraft, FormDraft, RuleDraft, TypeDraft,
 };
-use crate::effect::{has_other, is_same, lacks_value};
+use crate::effect::{has_foreign, is_same, lacks_value};
 use crate::fault::DeclFault;
 use crate::meant::Meant;
 use crate::plan::{Place, Plan};
@@ -22,8 +22,11 @@ use fv_model::TypeUse;
 use fv_registry::RuleSet;
 use std::collections::BTreeMap;
 
-/// The most types, fields of a type, forms and declared constraints.
-const MOST: usize = 256;
+/// The most types, forms and declared constraints, of each.
+const MOST_DECLARED: usize = 256;
+
+/// The most fields of a type.
+const MOST_FIELDS: usize = 256;
 
 /// The most uses of constraints.
 const MOST_USES: usize = 1024;
@@ -109,8 +112,8 @@ fn bad_name(draft: &Draft) -> bool
 
 /// A constraint is used that is neither built in nor declared.
 #[tactic(auto, using(crate::proofs::Anys::plan_turn))]
-fn has_foreign(plans: &[Plan]) -> bool
-    ensures { result ≡ list_any is_foreign (map plan_view plans.now) }
+fn has_unknown_constraint(plans: &[Plan]) -> bool
+    ensures { result ≡ list_any is_unknown_constraint (map plan_view plans.now) }
 {
     for plan in plans {
         if plan.meant.is_none() {
@@ -180,7 +183,7 @@ fn unknown_name(draft: &Draft, plans: &[Plan]) -> bool
     requires { map plan_view plans.now ≡ plans_of (draft_view draft.now) }
     ensures { result ≡ unknown_name (draft_view draft.now) }
 {
-    has_foreign(plans) || has_unknown_target(draft) || has_unknown_root(draft)
+    has_unknown_constraint(plans) || has_unknown_target(draft) || has_unknown_root(draft)
 }
 
 /// Whether a declared constraint has no rule.
@@ -201,7 +204,7 @@ fn has_large_type(types: &[TypeDraft]) -> bool
     ensures { result ≡ list_any (λ t. nat_lt 256 (length t.fields)) (map type_view types.now) }
 {
     for declared in types {
-        if declared.fields.len() > MOST {
+        if declared.fields.len() > MOST_FIELDS {
             return true;
         }
     }
@@ -214,9 +217,9 @@ fn too_large(draft: &Draft, plans: &[Plan]) -> bool
     requires { map plan_view plans.now ≡ plans_of (draft_view draft.now) }
     ensures { result ≡ too_large (draft_view draft.now) }
 {
-    draft.types.len() > MOST
-        || draft.forms.len() > MOST
-        || draft.definitions.len() > MOST
+    draft.types.len() > MOST_DECLARED
+        || draft.forms.len() > MOST_DECLARED
+        || draft.definitions.len() > MOST_DECLARED
         || has_large_type(&draft.types)
         || plans.len() > MOST_USES
 }
@@ -286,7 +289,7 @@ fn refuses_attributes(plan: &Plan) -> bool
         None => true,
         Some(Meant::BuiltIn(which)) => !takes_attributes(*which, plan.with),
         Some(Meant::Declared(definition)) => {
-            has_other(&definition.attributes, plan.with)
+            has_foreign(&definition.attributes, plan.with)
                 || lacks_value(&definition.attributes, plan.with)
         }
     }

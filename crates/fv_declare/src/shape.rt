@@ -1,21 +1,20 @@
 //! The draft that a JSON value is. Where a value is not of the form, a function here answers
 //! `None`.
-ghost use Rattle.std.specs.Prelude.{◌≡◌, ◌||◌, IfOk, IfSome, map, option_map};
-ghost use Rattle.std.specs.List.{list_all};
+ghost use Rattle.std.specs.Prelude.{◌≡◌, IfOk, IfSome, map, option_map};
 ghost use Rattle.std.specs.Option.{option_and_then};
-ghost use Rattle.std.specs.Str.{bytes_eq};
 ghost use Rattle.serde_json.specs.View.{view as json_view, items_view, members_view};
 ghost use Rattle.fv_datum.specs.Lookup.{at_name};
-ghost use Rattle.fv_model.specs.Draft.{pairs, has_only, each_some};
+ghost use Rattle.fv_datum.specs.Members.{pairs, has_only, each_some};
 ghost use Rattle.fv_model.specs.Types.{held_view};
 ghost use Rattle.fv_declare.specs.Drafts.{listed, use_of as spec_use, uses_of as spec_uses, plain_kinds, reference_of as spec_reference, type_use_of as spec_type_use, field_of as spec_field, type_of as spec_type, form_of as spec_form, draft_of as spec_draft};
 ghost use Rattle.fv_declare.specs.DraftViews.{use_view, field_view, type_view, form_view, draft_view};
-ghost use Rattle.fv_declare.specs.Ordered.{Ascends, names_of};
+ghost use Rattle.fv_model.specs.Bundles.{IsAscending};
+ghost use Rattle.fv_declare.specs.Ordered.{names_of};
 
 use crate::attributes::attrs_of;
 use crate::definitions::definitions_of;
 use crate::draft::{Draft, FieldDraft, FormDraft, TypeDraft, UseDraft};
-use crate::members::has_only;
+use fv_datum::has_only;
 use fv_model::TypeUse;
 use serde_json::{Map, Value};
 use std::alloc::{AllocError, Global};
@@ -144,7 +143,7 @@ fn fields_of<'a>(
 ) -> Result<Option<Vec<FieldDraft<'a>>>, AllocError>
     ensures exact { IfOk result (λ o. option_map (λ v. map field_view v.items) o ≡ each_some spec_field (pairs (members_view members.now.entries))) }
     ensures names { IfOk result (λ o. IfSome o (λ v. map (λ x. x.name.now) v.items ≡ names_of members.now.entries)) }
-    ensures ascend { IfOk result (λ o. IfSome o (λ v. Ascends (map (λ x. x.name.now) v.items))) }
+    ensures ascend { IfOk result (λ o. IfSome o (λ v. IsAscending (map (λ x. x.name.now) v.items))) }
 {
     let mut fields = Vec::with_capacity(alloc, members.len())?;
     for (name, value) in members.iter() {
@@ -186,7 +185,7 @@ fn types_of<'a>(
 ) -> Result<Option<Vec<TypeDraft<'a>>>, AllocError>
     ensures exact { IfOk result (λ o. option_map (λ v. map type_view v.items) o ≡ each_some spec_type (pairs (members_view members.now.entries))) }
     ensures names { IfOk result (λ o. IfSome o (λ v. map (λ x. x.name.now) v.items ≡ names_of members.now.entries)) }
-    ensures ascend { IfOk result (λ o. IfSome o (λ v. Ascends (map (λ x. x.name.now) v.items))) }
+    ensures ascend { IfOk result (λ o. IfSome o (λ v. IsAscending (map (λ x. x.name.now) v.items))) }
 {
     let mut types = Vec::with_capacity(alloc, members.len())?;
     for (name, value) in members.iter() {
@@ -216,7 +215,7 @@ fn forms_of<'a>(
 ) -> Result<Option<Vec<FormDraft<'a>>>, AllocError>
     ensures exact { IfOk result (λ o. option_map (λ v. map form_view v.items) o ≡ each_some spec_form (pairs (members_view members.now.entries))) }
     ensures names { IfOk result (λ o. IfSome o (λ v. map (λ x. x.name.now) v.items ≡ names_of members.now.entries)) }
-    ensures ascend { IfOk result (λ o. IfSome o (λ v. Ascends (map (λ x. x.name.now) v.items))) }
+    ensures ascend { IfOk result (λ o. IfSome o (λ v. IsAscending (map (λ x. x.name.now) v.items))) }
 {
     let mut forms = Vec::with_capacity(alloc, members.len())?;
     for (name, value) in members.iter() {

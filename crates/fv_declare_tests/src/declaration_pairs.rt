@@ -7,7 +7,7 @@ use std::process::Abort;
 use std::test::Fail;
 
 /// The answers in their order.
-const ORDER: &str = "F1 F2 F3 F4 F14 F16 F17 F18 taken";
+const ORDER: &str = "F1 F2 F3 F4 F13 F14 F15 F16 F17 F18 taken";
 
 /// A use at a text field, a field, a form and a type.
 const USE: (&str, &str) = (r#"{"constraint":"Size","with":{"min":"#, "}}");
@@ -204,6 +204,43 @@ fn a_form_beside_another_part(rt: HostRuntime) -> Result<(), Fail> {
         "}}",
     );
     check_pairs(&rt, rt.alloc(), two, (FORMS, FORMS))
+}
+
+/// Declared constraints, each from the end of its name.
+const CONSTRAINTS: &str = r#"
+F2 ":{"rule":{"field":"1"}}
+F2 ":{"rule":{"field":1},"composed":[]}
+F3 -":{"rule":{"field":1}}
+F3 ":{"attributes":{"1":{"kind":"text"}},"rule":{"field":1}}
+F13 ":{}
+F13 ":{"attributes":{"a":{"kind":"integer","default":"1"}}}
+F15 ":{"rule":{"field":99}}
+F15 ":{"rule":{"object":1}}
+F16 ":{"attributes":{"a":{"kind":"integer","default":"1"}},"rule":{"field":1}}
+taken ":{"rule":{"object":3}}
+"#;
+
+/// Beside another, and behind a type and before it. None is used.
+#[test]
+fn a_constraint_beside_another_part(rt: HostRuntime) -> Result<(), Fail> {
+    let two = (
+        r#"{"types":{},"forms":{},"constraints":{"A"#,
+        r#","B"#,
+        "}}",
+    );
+    check_pairs(&rt, rt.alloc(), two, (CONSTRAINTS, CONSTRAINTS))?;
+    let types_first = (
+        r#"{"types":{"T":{"fields":{}},"A"#,
+        r#"},"forms":{},"constraints":{"C"#,
+        "}}",
+    );
+    let constraints_first = (
+        r#"{"constraints":{"C"#,
+        r#"},"forms":{},"types":{"T":{"fields":{}},"A"#,
+        "}}",
+    );
+    check_pairs(&rt, rt.alloc(), types_first, (TYPES, CONSTRAINTS))?;
+    check_pairs(&rt, rt.alloc(), constraints_first, (CONSTRAINTS, TYPES))
 }
 
 /// What is no JSON, before a type and behind it.

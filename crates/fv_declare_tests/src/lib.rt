@@ -23,6 +23,8 @@ mod declared_patterns;
 #[cfg(test)]
 mod declared_shapes;
 #[cfg(test)]
+mod fitting;
+#[cfg(test)]
 mod messages;
 #[cfg(test)]
 mod numbering;

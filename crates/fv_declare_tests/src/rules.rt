@@ -18,13 +18,17 @@ impl Meaning for Lenient {
 }
 
 /// A validator of data of these kinds.
-fn field_rule(alloc: Global, rule: u32, kinds: Vec<Kind>) -> Result<FieldValidator, Fail> {
+pub(crate) fn field_rule(
+    alloc: Global,
+    rule: u32,
+    kinds: Vec<Kind>,
+) -> Result<FieldValidator, Fail> {
     let call: FieldCall = Box::new(alloc, |_datum: &Datum, _attrs: &Attrs| true)?;
     Ok(FieldValidator { rule, kinds, call })
 }
 
 /// A validator of objects.
-fn object_rule(alloc: Global, rule: u32) -> Result<ObjectValidator, Fail> {
+pub(crate) fn object_rule(alloc: Global, rule: u32) -> Result<ObjectValidator, Fail> {
     let call: ObjectCall = Box::new(alloc, |_object: &Object, _attrs: &Attrs| true)?;
     Ok(ObjectValidator { rule, call })
 }

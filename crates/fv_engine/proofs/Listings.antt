@@ -11,17 +11,22 @@ use Rattle.fv_datum.specs.Data.{Data, reference}
 use Rattle.fv_datum.specs.Lookup.{at_name}
 use Rattle.fv_datum.specs.Name.{names}
 use Rattle.fv_datum.specs.declared.kind.Kind.{Kind}
-use Rattle.fv_model.specs.Bundles.{Thing, Things, Bundled}
+use Rattle.fv_model.specs.Bundles.{Thing, Things, Bundled, IsAscending as NamesAscend}
 use Rattle.fv_model.specs.Types.{number_of}
 use Rattle.fv_registry.specs.Answers.{Meanings}
 use Rattle.fv_declare.specs.Declarations.{FieldTest, Demand, of_field, of_object, Use, Declarations}
-use Rattle.fv_declare.specs.Ordered.{Ascends, place_of, Precedes as UsePrecedes, IsRising, AreOrdered}
+use Rattle.fv_declare.specs.Ordered.{place_of, Precedes as UsePrecedes, IsRising, AreOrdered}
 use Rattle.std.specs.List.Sorted.{IsStrictlySortedBy}
 use Rattle.std.specs.List.{prefix_len}
 use Rattle.fv_model.specs.Types.{DeclaredFields, Declared}
 use Rattle.fv_model.specs.WellTyped.{FitsType, FieldsFit, IsWellTyped}
-use Rattle.fv_engine.specs.Judging.{refused_field, refused_at, report_at, reported_in, reported_all, with_first, UsesAscend}
-use Rattle.fv_engine.specs.Violations.{Reported, holds, IsRefused, IsViolation, Precedes, IsAscending, IsListed, IsListing}
+use Rattle.fv_engine.specs.Judging.{refused_field, refused_at, report_at, reported_in, reported_all, with_first}
+use Rattle.fv_engine.specs.Violations.{Reported, holds, IsUnmet, IsViolation, Precedes, IsAscending, IsListed, IsListing}
+
+-- the uses of one type stand in the order of its places
+abbrev UsesAscend : List Use → Type 0
+UsesAscend [] = Unit {0}
+UsesAscend (u ∷ us) = AllByRecursion (λ w. w.type ≡ u.type → place_of u.demand ≤ place_of w.demand) us × UsesAscend us
 
 -- what holds of an answer by two clauses
 pub on_ok_both : {T E : Type 0} (r : Result T E) (P Q R : T → Type 0) → ((x : T) → P x → Q x → R x) → IfOk r P → IfOk r Q → IfOk r R
@@ -77,7 +82,7 @@ module _ (m : Meanings) (now : ℤ) where
   unfolding refused_at refused_field
   unasked name object field kind test none = ap (refused_field m now test) none
 
-  refused_then : (name : List ℕ) (object : Thing) (d : Demand) (s : List ℕ × Data) → refused_at m now name object d ≡ Some s → IsRefused m now name object d s.0 s.1
+  refused_then : (name : List ℕ) (object : Thing) (d : Demand) (s : List ℕ × Data) → refused_at m now name object d ≡ Some s → IsUnmet m now name object d s.0 s.1
   unfolding refused_at
   refused_then name object (of_field field kind test) s e = of_test test (slice_get object.fields field) s e
   refused_then name object (of_object rule attributes) s e =
@@ -85,7 +90,7 @@ module _ (m : Meanings) (now : ℤ) where
       (ap (λ (x : List ℕ × Data). x.0) (sym both.1), ap (λ (x : List ℕ × Data). x.1) (sym both.1), both.0)
 
   -- and the other way round
-  refused_there : (name : List ℕ) (object : Thing) (d : Demand) (path : List ℕ) (value : Data) → IsRefused m now name object d path value → refused_at m now name object d ≡ Some (path, value)
+  refused_there : (name : List ℕ) (object : Thing) (d : Demand) (path : List ℕ) (value : Data) → IsUnmet m now name object d path value → refused_at m now name object d ≡ Some (path, value)
   unfolding refused_at refused_field
   refused_there name object (of_field field kind test) path value is = rw (is.0, is.1) refl
   refused_there name object (of_object rule attributes) path value is = rw (is.2, is.0, is.1) refl
@@ -96,7 +101,7 @@ module _ (m : Meanings) (now : ℤ) where
   pub record Reports (type : ℕ) (name : List ℕ) (object : Thing) (n : ℕ) (u : Use) (v : Reported) : Type 0 where
     pub typed : u.type ≡ type
     pub spot : List ℕ × Data
-    pub refused : IsRefused m now name object u.demand spot.0 spot.1
+    pub refused : IsUnmet m now name object u.demand spot.0 spot.1
     pub is : v ≡ report_at n u spot
 
   chosen : (b : Bool) (o : Option Reported) (v : Reported) → (if b then o else None) ≡ Some v → (b ≡ true) × (o ≡ Some v)
@@ -115,7 +120,7 @@ module _ (m : Meanings) (now : ℤ) where
       record { typed = eqb-true u.type type here.0; spot = found.0; refused = refused_then name object u.demand found.0 found.1; is = found.2 }
 
   -- and the other way round
-  reported : (type : ℕ) (name : List ℕ) (object : Thing) (n : ℕ) (u : Use) (path : List ℕ) (value : Data) → u.type ≡ type → IsRefused m now name object u.demand path value
+  reported : (type : ℕ) (name : List ℕ) (object : Thing) (n : ℕ) (u : Use) (path : List ℕ) (value : Data) → u.type ≡ type → IsUnmet m now name object u.demand path value
       → reported_in m now type name object n u ≡ Some (report_at n u (path, value))
   unfolding reported_in
   reported type name object n u path value typed refused = rw (eq-eqb u.type type typed, refused_there name object u.demand path value refused) refl
@@ -185,7 +190,7 @@ module _ (m : Meanings) (now : ℤ) where
   complete_all ds b root type rooted typed v is =
       let same_root : is.root ≡ root = let e : Some is.root ≡ Some root = sym is.rooted ∙ rooted in some_same _ _ e in
       let same_type : is.used.type ≡ type = let e : Some is.used.type ≡ Some type = sym is.typed ∙ ap (λ (t : Thing). number_of ds.types t.kind) same_root ∙ typed in some_same _ _ e in
-      let refused : IsRefused m now b.root root is.used.demand v.path v.value = subst (λ (t : Thing). IsRefused m now b.root t is.used.demand v.path v.value) same_root is.refused in
+      let refused : IsUnmet m now b.root root is.used.demand v.path v.value = subst (λ (t : Thing). IsUnmet m now b.root t is.used.demand v.path v.value) same_root is.refused in
       let here = reported type b.root root v.occurrence is.used v.path v.value same_type refused ∙ ap (λ (w : Reported). Some w) (same_report v is.used is.named is.worded) in
       let start : v.occurrence ≡ 0 + v.occurrence = omega arith in
       listed type b.root root 0 ds.uses v v.occurrence is.used is.numbered (subst (λ (k : ℕ). reported_in m now type b.root root k is.used ≡ Some v) start here)
@@ -194,7 +199,7 @@ module _ (m : Meanings) (now : ℤ) where
 
   -- the names of the fields rise
   abbrev pub NamesRise : List (List ℕ × Data) → Type 0
-  NamesRise fs = Ascends (map (λ f. f.0) fs)
+  NamesRise fs = NamesAscend (map (λ f. f.0) fs)
 
   in_order : (u w : Use) → UsePrecedes u w → w.type ≡ u.type → place_of u.demand ≤ place_of w.demand
   in_order u w (inl below) same = absurd (omega arith)
@@ -240,7 +245,7 @@ module _ (m : Meanings) (now : ℤ) where
 
   -- the paths rise with the places
   paths_rise : (name : List ℕ) (object : Thing) → NamesRise object.fields → (d e : Demand) → place_of d ≤ place_of e → (p q : List ℕ) (x y : Data)
-      → IsRefused m now name object d p x → IsRefused m now name object e q y → (p ≡ q) ⊎ (is_lt (slice_cmp nat_cmp p q) ≡ true)
+      → IsUnmet m now name object d p x → IsUnmet m now name object e q y → (p ≡ q) ⊎ (is_lt (slice_cmp nat_cmp p q) ≡ true)
   paths_rise name object rise (of_object r a) (of_object s b) le p q x y one two = inl (one.0 ∙ sym two.0)
   paths_rise name object rise (of_object r a) (of_field j l u) le p q x y one two = empty_first p q one.0
   paths_rise name object rise (of_field i k t) (of_object s b) le p q x y one two = absurd (omega arith)
@@ -331,8 +336,8 @@ module _ (m : Meanings) (now : ℤ) where
       let root = there (at_name b.root b.objects) well.rooted in
       let typed : FitsType ds.types b.objects root.0 = found_in (λ (t : Thing). FitsType ds.types b.objects t) b.root b.objects root.0 well.typed root.1 in
       let number = numbered ds.types root.0.kind typed.fields typed.declared in
-      let rise : NamesRise root.0.fields = subst Ascends (same_names b.objects typed.fields root.0.fields typed.fit)
-      (found_in (λ (fs : DeclaredFields). Ascends (map (λ f. f.0) fs)) root.0.kind ds.types typed.fields ordered.fields typed.declared) in
+      let rise : NamesRise root.0.fields = subst NamesAscend (same_names b.objects typed.fields root.0.fields typed.fit)
+      (found_in (λ (fs : DeclaredFields). NamesAscend (map (λ f. f.0) fs)) root.0.kind ds.types typed.fields ordered.fields typed.declared) in
       subst (IsListing m ds now b) (sym (is root.0 number.0 root.1 number.1)) (listing ds b root.0 number.0 root.1 number.1 rise (uses_ascend ds.uses ordered.uses))
 
 -- ---- the root's name

@@ -4,6 +4,7 @@ use Rattle.fv_engine.specs.declared.command.Command.{Command}
 use Rattle.fv_engine.specs.declared.command.Command.TheVariants.{Put, Get}
 use Rattle.fv_engine.specs.Requests.{Request, put, get}
 
+-- the request that a command is
 abbrev pub command_view : Command → Request
 command_view (Put id form bundle) = put id.now form.now (json_view bundle.now)
 command_view (Get id) = get id.now

@@ -1,13 +1,11 @@
 -- The violations in one object at a moment, use by use; for private clauses.
-use Rattle.std.specs.Prelude.{◌≡◌, ℕ, ℤ, ◌+◌, ◌≤◌, ◌==◌, List, [], ◌∷◌, Option, Some, None, option_map, slice_get, Bool, true, string_bytes, if◌then◌else◌}
-use Rattle.std.specs.List.{AllByRecursion}
+use Rattle.std.specs.Prelude.{ℕ, ℤ, ◌+◌, ◌==◌, List, [], ◌∷◌, Option, Some, None, option_map, slice_get, Bool, true, string_bytes, if◌then◌else◌}
 use Rattle.fv_datum.specs.Data.{Data, reference}
 use Rattle.fv_datum.specs.View.{view}
 use Rattle.fv_model.specs.Bundles.{Thing}
 use Rattle.fv_registry.specs.Answers.{Meanings}
 use Rattle.fv_registry.specs.Rules.{Known, knows_field}
 use Rattle.fv_declare.specs.Declarations.{FieldTest, built_in, by_rule, Demand, of_field, of_object, Use}
-use Rattle.fv_declare.specs.Ordered.{place_of}
 use Rattle.fv_engine.specs.Violations.{Reported, holds}
 use Rattle.fv_engine.specs.declared.demands.Spot.{Spot}
 
@@ -38,6 +36,7 @@ report_at n u f = record { path = f.0; constraint = u.constraint; occurrence = n
 unfoldable pub reported_in : Meanings → ℤ → ℕ → List ℕ → Thing → ℕ → Use → Option Reported
 reported_in m now type name object n u = if u.type == type then option_map (report_at n u) (refused_at m now name object u.demand) else None
 
+-- a report, if there is one, before the others
 abbrev pub with_first : Option Reported → List Reported → List Reported
 with_first None vs = vs
 with_first (Some v) vs = v ∷ vs
@@ -46,8 +45,3 @@ with_first (Some v) vs = v ∷ vs
 abbrev pub reported_all : Meanings → ℤ → ℕ → List ℕ → Thing → ℕ → List Use → List Reported
 reported_all m now type name object n [] = []
 reported_all m now type name object n (u ∷ us) = with_first (reported_in m now type name object n u) (reported_all m now type name object (n + 1) us)
-
--- the uses of one type stand in the order of its places
-abbrev pub UsesAscend : List Use → Type 0
-UsesAscend [] = Unit {0}
-UsesAscend (u ∷ us) = AllByRecursion (λ w. w.type ≡ u.type → place_of u.demand ≤ place_of w.demand) us × UsesAscend us

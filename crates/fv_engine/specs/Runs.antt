@@ -45,7 +45,8 @@ pub record Served {M C : Type 0} (step : Steps M) (ticks : Ticks C) (m : M) (c :
 abbrev pub IsWhole : Type 0 → List ℕ → List ℕ → Type 0
 IsWhole at_end line behind = ((more : List ℕ) × (behind ≡ 10 ∷ more)) ⊎ ((behind ≡ []) × (line ≢ []) × at_end)
 
--- a front of the bytes was served, and then a whole line was answered whose reply was not written whole
+-- a front of the bytes was served, and then a whole line was answered whose reply was not both written whole and flushed:
+-- all of it, a part or nothing was written
 pub record Broken {M C : Type 0} (at_end : Type 0) (step : Steps M) (ticks : Ticks C) (m : M) (c : C) (w : Option (List ℕ)) (bytes : List ℕ) (n : M) (d : C)
     (v : Option (List ℕ)) : Type 0 where
   pub front : List ℕ
@@ -81,7 +82,7 @@ pub record Taken {M C : Type 0} (step : Steps M) (ticks : Ticks C) (r : Option (
   pub consumed : Consumes r q input
   pub served : Served step ticks m c w input buffer n d v
 
--- what was read was served up to a line whose reply was not written whole
+-- what was read was served up to a line whose reply was not both written whole and flushed
 pub record Stopped {M C : Type 0} (step : Steps M) (ticks : Ticks C) (r : Option (List ℕ)) (m : M) (c : C) (w : Option (List ℕ))
     (q : Option (List ℕ)) (n : M) (d : C) (v : Option (List ℕ)) : Type 0 where
   pub input : List ℕ

@@ -20,6 +20,7 @@ abbrev pub Decides : List ℕ → Kept → List Reported → Records → List �
 Decides id kept [] old reply new = ((reply ≡ text.put_taken) × (new ≡ with_record id kept old)) ⊎ Refuses text.store_failed old reply new
 Decides id kept (v ∷ vs) old reply new = Refuses (text.violations_refused id (v ∷ vs)) old reply new
 
+-- a put is decided by all violations of its bundle at a moment
 abbrev pub Judges : Meanings → Declarations → ℤ → List ℕ → Kept → Records → List ℕ → Records → Type 0
 Judges m ds now id kept old reply new = (vs : List Reported) × IsListing m ds now kept.bundle vs × Decides id kept vs old reply new
 
@@ -29,10 +30,12 @@ Puts m ds now id form (Err fault) root old reply new = Refuses (text.unread faul
 Puts m ds now id form (Ok b) None old reply new = Refuses text.unknown_form old reply new
 Puts m ds now id form (Ok b) (Some root) old reply new = Judges m ds now id (record { form = form; bundle = b }) old reply new
 
+-- the text of a get's reply: the record of the id, or that it has none
 abbrev pub shown : List ℕ → Option Kept → List ℕ
 shown id None = text.no_record
 shown id (Some kept) = text.record_shown id kept.form kept.bundle
 
+-- a get changes nothing; its reply shows the record or that there is none, unless the store fails
 abbrev pub Gets : List ℕ → Records → List ℕ → Records → Type 0
 Gets id old reply new = Refuses (shown id (old id)) old reply new ⊎ Refuses text.store_failed old reply new
 

@@ -4,6 +4,7 @@ use Rattle.fv_datum.specs.View.{view}
 use Rattle.fv_engine.specs.declared.validate.Violation.{Violation}
 use Rattle.fv_engine.specs.Violations.{Reported}
 
+-- the report that a violation is
 abbrev pub violation_view : Violation → Reported
 violation_view v = record {
   path = string_bytes v.path;

@@ -26,9 +26,9 @@ holds m now (by_rule rule attributes) d = m.decides rule d attributes
 
 -- a demand isn't met by the object of that name at a moment, told by a path and a value: a field's name and its datum, of which the test
 -- doesn't hold; or the empty path and a reference to the object, of which the rule doesn't hold
-abbrev pub IsRefused : Meanings → ℤ → List ℕ → Thing → Demand → List ℕ → Data → Type 0
-IsRefused m now name object (of_field field kind test) path value = (slice_get object.fields field ≡ Some (path, value)) × (holds m now test value ≡ false)
-IsRefused m now name object (of_object rule attributes) path value = (path ≡ []) × (value ≡ reference name) × (m.decides_object rule object attributes ≡ false)
+abbrev pub IsUnmet : Meanings → ℤ → List ℕ → Thing → Demand → List ℕ → Data → Type 0
+IsUnmet m now name object (of_field field kind test) path value = (slice_get object.fields field ≡ Some (path, value)) × (holds m now test value ≡ false)
+IsUnmet m now name object (of_object rule attributes) path value = (path ≡ []) × (value ≡ reference name) × (m.decides_object rule object attributes ≡ false)
 
 -- v is a violation at a moment: the use of its number is of the root's type, and its demand isn't met there
 pub record IsViolation (m : Meanings) (ds : Declarations) (now : ℤ) (b : Bundled) (v : Reported) : Type 0 where
@@ -37,7 +37,7 @@ pub record IsViolation (m : Meanings) (ds : Declarations) (now : ℤ) (b : Bundl
   pub numbered : slice_get ds.uses v.occurrence ≡ Some used
   pub rooted : at_name b.root b.objects ≡ Some root
   pub typed : number_of ds.types root.kind ≡ Some used.type
-  pub refused : IsRefused m now b.root root used.demand v.path v.value
+  pub refused : IsUnmet m now b.root root used.demand v.path v.value
   pub named : v.constraint ≡ used.constraint
   pub worded : v.message ≡ used.message
 
@@ -45,6 +45,7 @@ pub record IsViolation (m : Meanings) (ds : Declarations) (now : ℤ) (b : Bundl
 abbrev pub Precedes : Reported → Reported → Type 0
 Precedes v w = (is_lt (slice_cmp nat_cmp v.path w.path) ≡ true) ⊎ ((v.path ≡ w.path) × (v.occurrence < w.occurrence))
 
+-- each violation precedes those after it
 abbrev pub IsAscending : List Reported → Type 0
 IsAscending [] = Unit {0}
 IsAscending (v ∷ vs) = AllByRecursion (Precedes v) vs × IsAscending vs

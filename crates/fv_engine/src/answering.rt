@@ -1,5 +1,5 @@
 //! What a command does to the records, and its reply.
-ghost use Rattle.std.specs.Prelude.{◌≡◌, ◌≢◌, ◌⊎◌, ℕ, List, [], IfOk, true, string_bytes};
+ghost use Rattle.std.specs.Prelude.{◌≡◌, ◌≢◌, ◌⊎◌, [], IfOk};
 ghost use Rattle.sqlite.specs.Held.{state};
 ghost use Rattle.serde_json.specs.View.{view as json_view};
 ghost use Rattle.fv_datum.specs.Lookup.{at_name};
@@ -31,6 +31,8 @@ use std::alloc::{AllocError, Global};
 
 /// The refusal of a command that the store couldn't do.
 fn refused_by_store(fault: StoreFault) -> Reply
+    ensures store { fault ≡ StoreFault.Store → result ≡ store_failed }
+    ensures memory { fault ≡ StoreFault.Memory → result ≡ out_of_memory }
     ensures why { (result ≡ store_failed) ⊎ (result ≡ out_of_memory) }
     ensures refused { result ≢ put_taken }
 {

@@ -34,7 +34,7 @@ fn all_id_bytes(bytes: &[u8]) -> bool
     bytes.iter().all(|byte| is_id_byte(*byte))
 }
 
-/// Whether a text is an id: 1 to 64 letters, digits, `_` and `-`.
+/// Whether a text is an id: 1 to 64 ASCII letters, ASCII digits, `_` and `-`.
 fn is_id(text: &str) -> bool
     ensures { result ≡ is_id text.now }
 {

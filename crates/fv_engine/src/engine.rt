@@ -147,19 +147,20 @@ impl<R: RuleSet + Drop, S: Alter + Drop> Engine<R, S> {
 }
 
 impl<R: RuleSet, S: Alter> Engine<R, S> {
-    /// The reply to a line at a moment: one step of the record machine.
+    /// The reply to a line at a moment, in whole seconds since 1970-01-01T00:00:00Z: one step of
+    /// the record machine.
     pub fn run(&mut self, alloc: Global, line: &[u8], now: i64) -> Reply
         requires { IsMoment now }
         ensures { StepOf R.meaning (state S.Store) self.old line.now now result self.new }
     {
         if line.len() > LIMIT {
-            return self.refuse_long(now);
+            return self.refuse_long();
         }
         answer_short(&mut self.store, alloc, &self.book, line, now)
     }
 
     /// The refusal of a line that is over the limit.
-    fn refuse_long(&mut self, _now: i64) -> Reply
+    fn refuse_long(&mut self) -> Reply
         ensures refused { result ≡ line_too_long }
         ensures same { self.new ≡ self.old }
     {
@@ -185,7 +186,7 @@ impl<R: RuleSet, S: Alter> Machine for Engine<R, S> {
         self.run(alloc, line, now)
     }
 
-    fn answer_long(&mut self, now: i64) -> Reply {
-        self.refuse_long(now)
+    fn answer_long(&mut self, _now: i64) -> Reply {
+        self.refuse_long()
     }
 }

@@ -1,5 +1,5 @@
-//! The record service: lines become commands, submissions are judged, and what has no violation is
-//! stored.
+//! The record service: lines become commands, the bundle of a put is judged and stored where it has
+//! no violation, and a get shows what is stored.
 #![tactic(auto)]
 
 mod answering;
@@ -7,6 +7,7 @@ mod clock;
 mod command;
 mod demands;
 mod engine;
+mod fixed_clock;
 mod line;
 mod machine;
 mod output;
@@ -17,5 +18,6 @@ mod validate;
 
 pub use clock::Clock;
 pub use engine::{Engine, OpenFault};
+pub use fixed_clock::FixedClock;
 pub use reply::Reply;
 pub use serving::{ServeFault, serve};

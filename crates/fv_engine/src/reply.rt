@@ -15,8 +15,8 @@ use serde_json::{Value, json, push};
 use std::alloc::{AllocError, Global};
 use std::marker::Model;
 
-/// The texts that are there without memory: the codes and names of refusals, and the reply to a
-/// put that was taken. Refusals for a bundle and for violations tell more, and are made below.
+// The texts that are there without memory: refusals by their codes and names, and the reply to a
+// put that was taken. Refusals of a bundle and for violations, and records, are made below.
 pub(crate) const LINE_TOO_LONG: &str = r#"{"error":"C1","name":"LineTooLong"}"#;
 
 pub(crate) const NOT_JSON: &str = r#"{"error":"C2","name":"NotJson"}"#;
@@ -138,7 +138,7 @@ fn bundle_refused(alloc: Global, fault: BundleFault) -> Result<String, AllocErro
     text_of(alloc, &value)
 }
 
-/// A datum as JSON; null for one that can't be written, which no bundle holds.
+/// The JSON of a violation's value; null for a datum that can't be written, which no bundle holds.
 fn value_of(alloc: Global, violation: &Violation) -> Result<Value, AllocError>
     ensures { IfOk result (λ v. json_view v ≡ datum_json (view violation.now.value)) }
 {

@@ -1,4 +1,4 @@
-ghost use Rattle.std.specs.Prelude.{◌≡◌, ◌≢◌, ℕ, ℤ, List, [], ◌∷◌, ◌++◌, Option, OnOk, OnErr, IsErrOf, ◌<◌, length};
+ghost use Rattle.std.specs.Prelude.{◌≡◌, ◌≢◌, ℕ, List, [], ◌∷◌, ◌++◌, Option, OnOk, OnErr, IsErrOf, ◌<◌, length};
 ghost use Rattle.std.specs.Io.KnownBytes.{Appends, Consumes, IsAtEnd};
 ghost use Rattle.sqlite.specs.Held.{state};
 ghost use Rattle.fv_datum.specs.Moments.{IsMoment};
@@ -166,6 +166,7 @@ fn read_once<M: Machine, R: Read, W: Write, C: Clock>(
 ) -> Turn
     requires { 0 < length chunk.old }
     ensures end { result ≡ Turn.End → IsAtEnd (R.remaining reader.new) }
+    ensures more { result ≡ Turn.More → (bytes : List ℕ) × (0 < length bytes) × Consumes (R.remaining reader.old) (R.remaining reader.new) bytes }
     ensures taken { result ≢ Turn.WriteFailed → (r : Option (List ℕ)) (m : M) (c : C) (w : Option (List ℕ)) →
         Taken M.step C.ticks r m c w line.old (R.remaining reader.old) machine.old clock.old (W.contents writer.old) →
         Taken M.step C.ticks r m c w line.new (R.remaining reader.new) machine.new clock.new (W.contents writer.new) }
@@ -230,7 +231,7 @@ fn serve_machine<M: Machine, R: Read, W: Write, C: Clock>(
     ensures ok { OnOk result (Complete M.step C.ticks (R.remaining reader.old) machine.old clock.old (W.contents writer.old) (R.remaining reader.new) machine.new clock.new (W.contents writer.new)) }
     // The same for the whole lines before.
     ensures read { IsErrOf result ServeFault.Read → (rest : List ℕ) × Taken M.step C.ticks (R.remaining reader.old) machine.old clock.old (W.contents writer.old) rest (R.remaining reader.new) machine.new clock.new (W.contents writer.new) }
-    // The same for some lines, the last reply in part.
+    // The same for some lines, the last reply whole, in part or missing.
     ensures write { IsErrOf result ServeFault.Write → Stopped M.step C.ticks (R.remaining reader.old) machine.old clock.old (W.contents writer.old) (R.remaining reader.new) machine.new clock.new (W.contents writer.new) }
     // Nothing was read.
     ensures memory { IsErrOf result ServeFault.Memory → (reader.new ≡ reader.old) × (writer.new ≡ writer.old) × (machine.new ≡ machine.old) × (clock.new ≡ clock.old) }
@@ -261,7 +262,7 @@ pub fn serve<R: RuleSet, S: Alter, I: Read, W: Write, C: Clock>(
     ensures ok { OnOk result (Turns (state S.Store) engine.old engine.new (λ m n. Complete (ToldStep R.meaning engine.old.declared) C.ticks (I.remaining reader.old) m clock.old (W.contents writer.old) (I.remaining reader.new) n clock.new (W.contents writer.new))) }
     // The same for the whole lines before.
     ensures read { IsErrOf result ServeFault.Read → Turns (state S.Store) engine.old engine.new (λ m n. (rest : List ℕ) × Taken (ToldStep R.meaning engine.old.declared) C.ticks (I.remaining reader.old) m clock.old (W.contents writer.old) rest (I.remaining reader.new) n clock.new (W.contents writer.new)) }
-    // The same for some lines, the last reply in part.
+    // The same for some lines, the last reply whole, in part or missing.
     ensures write { IsErrOf result ServeFault.Write → Turns (state S.Store) engine.old engine.new (λ m n. Stopped (ToldStep R.meaning engine.old.declared) C.ticks (I.remaining reader.old) m clock.old (W.contents writer.old) (I.remaining reader.new) n clock.new (W.contents writer.new)) }
     // Nothing was read.
     ensures memory { IsErrOf result ServeFault.Memory → (reader.new ≡ reader.old) × (writer.new ≡ writer.old) × (engine.new ≡ engine.old) × (clock.new ≡ clock.old) }

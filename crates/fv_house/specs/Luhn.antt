@@ -1,8 +1,7 @@
 -- The check of a card's number.
-use Rattle.std.specs.Prelude.{ℕ, ◌+◌, ◌-◌, ◌*◌, ◌%◌, ◌==◌, ◌&&◌, List, [], ◌∷◌, Bool, true, false, if◌then◌else◌, nat_lt, length, reverse}
-use Rattle.std.specs.List.{list_all}
-use Rattle.std.specs.Char.{is_ascii_digit}
+use Rattle.std.specs.Prelude.{ℕ, ◌+◌, ◌-◌, ◌*◌, ◌%◌, ◌==◌, ◌&&◌, List, [], ◌∷◌, Bool, true, false, if◌then◌else◌, nat_lt, reverse}
 use Rattle.fv_datum.specs.Data.{Data, null, text}
+use Rattle.fv_datum.specs.Decimals.{are_digits}
 
 -- the number of an ASCII digit
 abbrev pub digit : ℕ → ℕ
@@ -20,7 +19,7 @@ luhn_sum (a ∷ (b ∷ bs)) = digit a + doubled (digit b) + luhn_sum bs
 
 -- one or more digits, whose sum from the right is a multiple of 10
 abbrev pub luhn_text : List ℕ → Bool
-luhn_text s = nat_lt 0 (length s) && list_all is_ascii_digit s && (luhn_sum (reverse s) % 10 == 0)
+luhn_text s = are_digits s && (luhn_sum (reverse s) % 10 == 0)
 
 -- null, or a text that passes the check
 abbrev pub luhn : Data → Bool

@@ -1,19 +1,13 @@
 -- What the attributes of a constraint on an object name.
 use Rattle.std.specs.Prelude.{ℕ, ℤ, List, Option, Some, None, option_and_then}
-use Rattle.fv_datum.specs.Attributes.{AttributeValue, Attributes}
-use Rattle.fv_datum.specs.Attributes as attribute
+use Rattle.fv_datum.specs.Attributes.{text_in, Attributes}
 use Rattle.fv_datum.specs.Data.{Data, date, integer}
 use Rattle.fv_datum.specs.Lookup.{at_name}
 use Rattle.fv_model.specs.Bundles.{Thing}
 
--- the text that an attribute's value is
-abbrev pub as_text : AttributeValue → Option (List ℕ)
-as_text (attribute.text t) = Some t
-as_text _ = None
-
 -- the datum of the field that the attribute names
 abbrev pub named : Thing → Attributes → List ℕ → Option Data
-named o attrs key = option_and_then (λ t. at_name t o.fields) (option_and_then as_text (at_name key attrs))
+named o attrs key = option_and_then (λ t. at_name t o.fields) (option_and_then text_in (at_name key attrs))
 
 -- the text of the date that a datum is
 abbrev pub as_date : Data → Option (List ℕ)

@@ -16,7 +16,7 @@ abbrev pub in_order : Option (List ℕ) → Option (List ℕ) → Bool
 in_order (Some x) (Some y) = no_later x y
 in_order _ _ = true
 
--- the date that `start` names is no later than the one that `end` names
+-- the date that `start` names is no later than the one that `end` names, or one is missing
 abbrev pub not_after : Thing → Attributes → Bool
 not_after o attrs = in_order (date_of (named o attrs (codes "start"))) (date_of (named o attrs (codes "end")))
 
@@ -25,6 +25,6 @@ abbrev pub add_up : Option ℤ → Option ℤ → Option ℤ → Bool
 add_up (Some x) (Some y) (Some z) = int_eq (x +ℤ y) z
 add_up _ _ _ = true
 
--- the integers that `first` and `second` name make the one that `total` names
+-- the integers that `first` and `second` name make the one that `total` names, or one is missing
 abbrev pub sum_is : Thing → Attributes → Bool
 sum_is o attrs = add_up (integer_of (named o attrs (codes "first"))) (integer_of (named o attrs (codes "second"))) (integer_of (named o attrs (codes "total")))

@@ -1,11 +1,10 @@
 //! The check digit of a card's number, by Luhn's formula.
 ghost use Rattle.std.specs.Prelude.{◌≡◌, true, reverse, ◌%◌, ◌<◌};
-ghost use Rattle.std.specs.List.{list_all};
-ghost use Rattle.std.specs.Char.{is_ascii_digit};
+ghost use Rattle.fv_datum.specs.Decimals.{are_digits};
 ghost use Rattle.fv_datum.specs.View.{view};
 ghost use Rattle.fv_house.specs.Luhn.{luhn, luhn_text, luhn_sum, doubled};
 
-use fv_datum::Datum;
+use fv_datum::{Datum, are_digits};
 
 /// Takes a datum.
 ///
@@ -26,19 +25,10 @@ fn luhn_text(text: &str) -> bool
     ensures { result ≡ luhn_text text.now }
 {
     let bytes = text.as_bytes();
-    if bytes.is_empty() {
-        return false;
-    }
-    if !all_digits(bytes) {
+    if !are_digits(bytes) {
         return false;
     }
     last_digit(bytes) == 0
-}
-
-fn all_digits(bytes: &[u8]) -> bool
-    ensures { result ≡ list_all is_ascii_digit bytes.now }
-{
-    bytes.iter().all(|b| b.is_ascii_digit())
 }
 
 /// Twice a digit, less 9 where above 9.
@@ -52,7 +42,7 @@ fn doubled(digit: u8) -> u8
 
 /// The last digit of the sum, which stays small however many digits there are.
 fn last_digit(bytes: &[u8]) -> u8
-    requires { list_all is_ascii_digit bytes.now ≡ true }
+    requires { are_digits bytes.now ≡ true }
     ensures { result ≡ luhn_sum (reverse bytes.now) % 10 }
 {
     let mut rest = 0u8;

@@ -1,5 +1,5 @@
 //! Rules of objects: two dates in order, and a sum.
-ghost use Rattle.std.specs.Prelude.{◌≡◌, ◌+ℤ◌, option_map};
+ghost use Rattle.std.specs.Prelude.{◌≡◌, ◌+ℤ◌};
 ghost use Rattle.std.specs.Ordering.{int_eq};
 ghost use Rattle.fv_model.specs.Views.{object_view};
 ghost use Rattle.fv_house.specs.Objects.{not_after, sum_is};

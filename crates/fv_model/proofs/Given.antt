@@ -5,7 +5,8 @@ use Rattle.serde_json.specs.Data as json
 use Rattle.serde_json.specs.Find.{get_member}
 use Rattle.fv_datum.specs.Json.{spelled}
 use Rattle.fv_datum.specs.Lookup.{at_name}
-use Rattle.fv_model.specs.Draft.{Part, pairs}
+use Rattle.fv_datum.specs.Members.{pairs}
+use Rattle.fv_model.specs.Draft.{Part}
 use Rattle.fv_model.specs.Reading.{misfits, misfits_in, has_misfit, fits_given, all_fit}
 use Rattle.fv_model.specs.Types.{Held, DeclaredFields, Declared, FieldsApart, kind_of}
 use Rattle.fv_model.proofs.Apart.{found_apart}

@@ -25,7 +25,8 @@ use Rattle.fv_datum.specs.declared.kind.Kind.{Kind}
 use Rattle.fv_datum.specs.declared.kind.Kind.TheVariants as kind
 use Rattle.fv_datum.proofs.Spelled.{spelled-written}
 use Rattle.fv_model.specs.Bundles.{IsAscending, Thing, Things, Bundled}
-use Rattle.fv_model.specs.Draft.{Part, pairs, each_some, part_of, draft_of}
+use Rattle.fv_datum.specs.Members.{pairs, each_some}
+use Rattle.fv_model.specs.Draft.{Part, part_of, draft_of}
 use Rattle.fv_model.specs.Reading.{Kinds, kinds_in, root_missing, undeclared_in, has_undeclared, misfits, misfits_in, has_misfit, dangles, dangles_in, has_dangling, strays, strays_in, has_stray, is_long_text, is_long, long_in, has_long, long_text, root_type, conditions, draft_fault, datum_at, field_of, object_of, bundle_of, judged, bundle_read}
 use Rattle.fv_model.specs.Types.{Held, texts, references, DeclaredFields, Declared, AreApart, FieldsApart, kind_of, name_at}
 use Rattle.fv_model.specs.WellTyped.{NamesObject, RefersTo, IsWithinLimits, FitsUse, FieldsFit, FitsType, IsWellTyped, HasRootType}

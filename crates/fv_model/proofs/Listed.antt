@@ -14,7 +14,8 @@ use Rattle.serde_json.specs.View.{members_view}
 use Rattle.serde_json.specs.declared.value.Value.{Value}
 use Rattle.fv_datum.specs.Lookup.{at_name}
 use Rattle.fv_model.specs.Bundles.{IsAscending}
-use Rattle.fv_model.specs.Draft.{Part, pairs, each_some, part_of}
+use Rattle.fv_datum.specs.Members.{pairs, each_some}
+use Rattle.fv_model.specs.Draft.{Part, part_of}
 use Rattle.fv_model.specs.Reading.{kinds_in, object_of}
 use Rattle.fv_model.specs.Types.{Declared}
 

@@ -20,7 +20,8 @@ use Rattle.fv_datum.specs.Name.{names}
 use Rattle.fv_datum.specs.declared.kind.Kind.TheVariants as kind
 use Rattle.fv_datum.proofs.Spelled.{spelled-fits}
 use Rattle.fv_model.specs.Bundles.{IsAscending, Things, Bundled}
-use Rattle.fv_model.specs.Draft.{Part, Drafted, pairs, draft_of}
+use Rattle.fv_datum.specs.Members.{pairs}
+use Rattle.fv_model.specs.Draft.{Part, Drafted, draft_of}
 use Rattle.fv_model.specs.Reading.{bad_name, root_missing, unknown_type, misfits, misfits_in, has_misfit, wrong_kind, Kinds, kinds_in, is_missing, dangles, dangles_in, has_dangling, dangling_ref, is_other, strays, strays_in, has_stray, ref_type, is_long, long_in, has_long, long_text, too_large, root_type, conditions, draft_fault, datum_at, field_of, object_of, bundle_of, judged, bundle_read}
 use Rattle.fv_model.specs.Types.{Held, texts, integers, decimals, booleans, dates, instants, references, DeclaredFields, Declared, FieldsApart, kind_of, name_at}
 use Rattle.fv_model.specs.Views.{bundle_view}

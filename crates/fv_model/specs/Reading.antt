@@ -11,7 +11,8 @@ use Rattle.fv_datum.specs.Lookup.{at_name}
 use Rattle.fv_datum.specs.Name.{names}
 use Rattle.fv_model.specs.Types.{Held, texts, references, DeclaredFields, Declared, kind_of}
 use Rattle.fv_model.specs.Bundles.{Thing, Bundled}
-use Rattle.fv_model.specs.Draft.{Part, Drafted, pairs, draft_of}
+use Rattle.fv_datum.specs.Members.{pairs}
+use Rattle.fv_model.specs.Draft.{Part, Drafted, draft_of}
 use Rattle.fv_model.specs.declared.fault.BundleFault.{BundleFault}
 use Rattle.fv_model.specs.declared.fault.BundleFault.TheVariants.{Shape, BadName, RootMissing, UnknownType, UnknownField, WrongKind, DanglingRef, RefType, TooLarge, RootType}
 

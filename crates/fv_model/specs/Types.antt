@@ -1,5 +1,5 @@
 -- The declared types.
-use Rattle.std.specs.Prelude.{◌≢◌, ℕ, List, [], ◌∷◌, map, length, slice_get, position, Bool, false, not, ◌||◌, nat_lt, Option, option_map, option_and_then, unwrap_or, is_some, String, string_bytes}
+use Rattle.std.specs.Prelude.{◌≢◌, ℕ, List, [], ◌∷◌, map, length, slice_get, position, Bool, false, not, ◌||◌, nat_lt, Option, option_map, unwrap_or, is_some, String, string_bytes}
 use Rattle.std.specs.List.{All, AllPairs, list_any}
 use Rattle.std.specs.Str.{bytes_eq}
 use Rattle.std.specs.HashMap.{HashMap}
@@ -105,10 +105,6 @@ too_many ts = nat_lt 256 (length ts) || has_large ts
 -- the first fault of types that are declared
 abbrev pub types_fault : Declared → Option TypesFault
 types_fault ts = first ((has_unknown ts, UnknownType) ∷ (too_many ts, TooLarge) ∷ [])
-
--- what a type's field holds
-abbrev pub use_of : Declared → List ℕ → List ℕ → Option Held
-use_of ts type field = option_and_then (at_name field) (at_name type ts)
 
 -- the number of the type of that name
 abbrev pub number_of : Declared → List ℕ → Option ℕ

@@ -40,8 +40,8 @@ pub record FitsType (ts : Declared) (os : Things) (t : Thing) : Type 0 where
   pub declared : at_name t.kind ts ≡ Some fields
   pub fit : FieldsFit os fields t.fields
 
--- at most 256 objects, each name once and in order, which the root is one of; each object is of a declared type, and each
--- datum of it fits its field
+-- at most 256 objects, each by a name, once and in order, which the root is one of; each object is of a declared type,
+-- and each datum of it fits its field
 pub record IsWellTyped (ts : Declared) (b : Bundled) : Type 0 where
   pub few : length b.objects ≤ 256
   pub ascending : IsAscending (keys_of b.objects)

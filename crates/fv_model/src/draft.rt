@@ -1,41 +1,20 @@
 //! A bundle's JSON by its names, before any of them is judged.
-ghost use Rattle.std.specs.Prelude.{◌≡◌, ◌||◌, IfOk, map, option_map, Some, None};
+ghost use Rattle.std.specs.Prelude.{◌≡◌, IfOk, map, option_map, Some, None};
 ghost use Rattle.std.specs.Map.{keys_of};
-ghost use Rattle.std.specs.List.{list_all};
 ghost use Rattle.std.specs.BTreeMap.{IsOrdered};
 ghost use Rattle.std.specs.String.{string_cmp};
-ghost use Rattle.std.specs.Str.{bytes_eq};
 ghost use Rattle.serde_json.specs.View.{view as json_view, members_view};
-ghost use Rattle.fv_model.specs.Draft.{pairs, has_only, part_of as spec_part, given_in as spec_given, each_some, draft_of as spec_draft};
+ghost use Rattle.fv_datum.specs.Members.{pairs, has_only, each_some};
+ghost use Rattle.fv_model.specs.Draft.{part_of as spec_part, given_in as spec_given, draft_of as spec_draft};
 ghost use Rattle.fv_model.specs.Bundles.{IsAscending};
 ghost use Rattle.fv_model.specs.Reading.{kinds_in};
 ghost use Rattle.fv_model.specs.Views.{given_view, kinds_view, part_view, draft_view};
 
 use crate::parts::{Draft, Part};
+use fv_datum::has_only;
 use indexmap::IndexMap;
 use serde_json::{Map, Value};
 use std::alloc::{AllocError, Global};
-
-/// Whether a value is an object with no member but these two.
-fn has_only(value: &Value, first: &str, second: &str) -> bool
-    ensures { result ≡ has_only first.now second.now (json_view value.now) }
-{
-    match value.as_object() {
-        None => false,
-        Some(members) => only_these(members, first, second),
-    }
-}
-
-fn only_these(members: &Map<String, Value>, first: &str, second: &str) -> bool
-    ensures { result ≡ list_all (λ m. bytes_eq first.now m.0 || bytes_eq second.now m.0) (pairs (members_view members.now.entries)) }
-{
-    for (name, _) in members.iter() {
-        if first != name.as_str() && second != name.as_str() {
-            return false;
-        }
-    }
-    true
-}
 
 /// The fields that an object gives: none where it has no such member, and `None` where that is no
 /// object.
@@ -54,7 +33,7 @@ fn given_in<'a>(member: Option<&'a Value>) -> Option<Option<&'a Map<String, Valu
 fn part_of<'a>(name: &'a str, value: &'a Value) -> Option<Part<'a>>
     ensures { option_map part_view result ≡ spec_part (name.now, json_view value.now) }
 {
-    if !has_only(value, "type", "fields") {
+    if !has_only(value, &["type", "fields"]) {
         return None;
     }
     let kind = value.get("type").and_then(Value::as_str)?;
@@ -96,7 +75,7 @@ fn kinds_of<'a>(alloc: Global, parts: &[Part<'a>]) -> Result<IndexMap<&'a str, &
 pub(crate) fn draft_of<'a>(alloc: Global, value: &'a Value) -> Result<Option<Draft<'a>>, AllocError>
     ensures { IfOk result (λ o. option_map draft_view o ≡ spec_draft (json_view value.now)) }
 {
-    if !has_only(value, "root", "objects") {
+    if !has_only(value, &["root", "objects"]) {
         return Ok(None);
     }
     let Some(root) = value.get("root").and_then(Value::as_str) else {

@@ -1,7 +1,7 @@
 //! What can be wrong with a draft: a function for each condition, and the first that holds.
 ghost use Rattle.std.specs.Prelude.{◌≡◌, map, option_map, Some};
 ghost use Rattle.serde_json.specs.View.{view as json_view, members_view};
-ghost use Rattle.fv_model.specs.Draft.{pairs};
+ghost use Rattle.fv_datum.specs.Members.{pairs};
 ghost use Rattle.fv_model.specs.Types.{held_view, fields_view, name_at};
 ghost use Rattle.fv_model.specs.Views.{types_view, part_view, draft_view};
 ghost use Rattle.fv_model.specs.Reading.{bad_name, root_missing, unknown_type, undeclared_in, has_undeclared, unknown_field, misfits, misfits_in, has_misfit, wrong_kind, kinds_in, is_other, dangles, dangles_in, has_dangling, dangling_ref, strays, strays_in, has_stray, ref_type, is_long, long_in, has_long, too_large, root_type, draft_fault};
@@ -14,7 +14,7 @@ use fv_datum::{is_name, spells_datum};
 use serde_json::{Map, Value};
 
 /// The most objects.
-const MOST: usize = 256;
+const MOST_OBJECTS: usize = 256;
 
 /// The most bytes of a text.
 const LONGEST: usize = 65536;
@@ -261,7 +261,7 @@ fn has_long(types: &Types, part: &Part) -> bool
 fn too_large(types: &Types, parts: &[Part]) -> bool
     ensures { result ≡ too_large (types_view types.now) (map part_view parts.now) }
 {
-    if parts.len() > MOST {
+    if parts.len() > MOST_OBJECTS {
         return true;
     }
     for p in parts {

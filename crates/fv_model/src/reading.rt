@@ -24,7 +24,8 @@ use std::alloc::Global;
 /// It is well-typed. What `write_bundle` gave for a well-typed bundle is read as that bundle, where
 /// its root is of the asked type or none is asked.
 /// Refused by the first of `Shape`, `BadName`, `RootMissing`, `UnknownType`, `UnknownField`,
-/// `WrongKind`, `DanglingRef`, `RefType`, `TooLarge` and `RootType` whose condition holds.
+/// `WrongKind`, `DanglingRef`, `RefType`, `TooLarge` and `RootType` whose condition holds; `Memory`
+/// at any place.
 pub fn read_bundle(
     alloc: Global,
     types: &Types,

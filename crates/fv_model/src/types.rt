@@ -1,15 +1,17 @@
 ghost use Rattle.std.specs.Prelude.{◌≡◌, length, option_map, map, MatchResult, Some, None, true, false};
 ghost use Rattle.std.specs.Bool.{OnFalse};
 ghost use Rattle.fv_datum.specs.Lookup.{at_name};
-ghost use Rattle.std.specs.List.{list_any};
 ghost use Rattle.fv_model.specs.Types.{FieldsApart, declared_view, fields_view, held_view, is_unknown, unknown_in, has_unknown, has_large, types_fault, name_at, number_of};
 
 use crate::fault::TypesFault;
 use crate::type_use::TypeUse;
 use indexmap::IndexMap;
 
-/// The most types, and the most fields of a type.
-const MOST: usize = 256;
+/// The most types.
+const MOST_TYPES: usize = 256;
+
+/// The most fields of a type.
+const MOST_FIELDS: usize = 256;
 
 /// A type's fields: what each holds, by its name.
 pub type Fields = IndexMap<String, TypeUse>;
@@ -42,7 +44,7 @@ impl Types {
         if has_unknown(&declared) {
             return Err(TypesFault::UnknownType);
         }
-        if declared.len() > MOST || has_large(&declared) {
+        if declared.len() > MOST_TYPES || has_large(&declared) {
             return Err(TypesFault::TooLarge);
         }
         Ok(Types { types: declared })
@@ -128,7 +130,7 @@ fn has_large(declared: &IndexMap<String, Fields>) -> bool
     ensures apart { OnFalse result (FieldsApart (declared_view declared.now)) }
 {
     for (_, fields) in declared.iter() {
-        if fields.len() > MOST {
+        if fields.len() > MOST_FIELDS {
             return true;
         }
     }

@@ -15,9 +15,11 @@ pub record Known : Type 0 where
 abbrev pub has_rule : ℕ → List ℕ → Bool
 has_rule rule = list_any (λ r. r == rule)
 
+-- the rule of that number is registered for data
 abbrev pub knows_field : ℕ → Known → Bool
 knows_field rule k = has_rule rule (map (λ v. v.0) k.fields)
 
+-- the rule of that number is registered for objects
 abbrev pub knows_object : ℕ → Known → Bool
 knows_object rule k = has_rule rule k.objects
 
@@ -26,11 +28,13 @@ abbrev pub lists_kind : ℕ → Kind → List (ℕ × List Kind) → Bool
 lists_kind rule kind [] = false
 lists_kind rule kind (v ∷ vs) = if v.0 == rule then list_any (λ k. same_kind k kind) v.1 else lists_kind rule kind vs
 
+-- the rule of that number is registered for data and lists the kind
 abbrev pub takes : ℕ → Kind → Known → Bool
 takes rule kind k = lists_kind rule kind k.fields
 
 -- ---- why a registry is refused
 
+-- a number stands twice
 abbrev pub has_twice : List ℕ → Bool
 has_twice [] = false
 has_twice (r ∷ rs) = has_rule r rs || has_twice rs

@@ -15,7 +15,7 @@ use std::alloc::Global;
 use std::marker::PhantomData;
 
 /// The most validators.
-const MOST: usize = 256;
+const MOST_RULES: usize = 256;
 
 /// The validators of a meaning, by their rules' numbers.
 #[derive(Drop)]
@@ -43,7 +43,7 @@ impl<M: Meaning> Registry<M> {
         if has_twice(&rules) {
             return Err(RegistryFault::DuplicateRule);
         }
-        if rules.len() > MOST {
+        if rules.len() > MOST_RULES {
             return Err(RegistryFault::TooMany);
         }
         Ok(Registry {

@@ -22,11 +22,11 @@ use Rattle.sqlite.specs.Listing.{understood}
 use Rattle.sqlite.specs.Effect.{Database}
 use Rattle.sqlite.specs.State.{State, mode_of, Writes, Executes, ExecutesInside}
 use Rattle.sqlite.proofs.Callers.{IsPlain, command_of, statement_of, runs_as, one_step}
-use Rattle.fv_store.specs.Tables.{no_schema, about_table, record_table, store_schema, about_text, record_text}
+use Rattle.fv_store.specs.Tables.{no_schema, about_table, record_table, store_schema}
 use Rattle.fv_store.specs.Records.{no_records}
 use Rattle.fv_store.specs.Stands.{about_row, Spells, IsBlank}
 use Rattle.fv_store.specs.Steps.{Advances, Turns, HasAbout, HasTables, HasNone}
-use Rattle.fv_store.proofs.Texts.{about_schema, about_is, record_is, create_about_is, create_about_plain, create_record_is, create_record_plain, version_text, version_terms, version_is, version_plain}
+use Rattle.fv_store.proofs.Texts.{about_text, record_text, about_schema, about_is, record_is, create_about_is, create_about_plain, create_record_is, create_record_plain, version_text, version_terms, version_is, version_plain}
 use Rattle.fv_store.proofs.Inserts.{went, same_value}
 
 -- one CREATE TABLE, whatever the text and the schema are

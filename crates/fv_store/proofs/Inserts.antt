@@ -16,10 +16,10 @@ use Rattle.sqlite.specs.Listing.{understood}
 use Rattle.sqlite.specs.Effect.{Database}
 use Rattle.sqlite.specs.State.{State, mode_of, Executes}
 use Rattle.sqlite.proofs.Callers.{statement_of, runs_as, one_step}
-use Rattle.fv_store.specs.Tables.{store_schema, kept_table}
+use Rattle.fv_store.specs.Tables.{store_schema}
 use Rattle.fv_store.specs.Records.{Kept, Records, with_record, bundle_text}
 use Rattle.fv_store.specs.Stands.{record_row, Spells, Spelled}
-use Rattle.fv_store.proofs.Texts.{insert_text, insert_terms, insert_is, insert_plain}
+use Rattle.fv_store.proofs.Texts.{kept_table, insert_text, insert_terms, insert_is, insert_plain}
 use Rattle.fv_store.proofs.RowEdits.{spells_put}
 
 either : (b : Bool) (x : Value) → cond b x x ≡ x

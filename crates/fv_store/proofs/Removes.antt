@@ -19,10 +19,10 @@ use Rattle.sqlite.proofs.Callers.{statement_of, runs_as, one_step}
 use Rattle.sqlite_rules.specs.Lists.{Has}
 use Rattle.sqlite_rules.specs.Calls.{ids_of}
 use Rattle.sqlite_rules.proofs.ProbeLemmas.{has_mapped, mapped_has}
-use Rattle.fv_store.specs.Tables.{store_schema, kept_table}
+use Rattle.fv_store.specs.Tables.{store_schema}
 use Rattle.fv_store.specs.Records.{Records, without_record}
 use Rattle.fv_store.specs.Stands.{Spells, Spelled}
-use Rattle.fv_store.proofs.Texts.{remove_text, remove_query, remove_is, remove_plain}
+use Rattle.fv_store.proofs.Texts.{kept_table, remove_text, remove_query, remove_is, remove_plain}
 use Rattle.fv_store.proofs.RowEdits.{AreOf, spells_left}
 use Rattle.fv_store.proofs.OneTable.{by_id, by_id_is, shown_sound, shown_complete}
 use Rattle.fv_store.proofs.Inserts.{went, same_value, zero_is_not_one}

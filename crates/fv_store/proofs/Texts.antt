@@ -14,7 +14,20 @@ use Rattle.sqlite.specs.Command.TheVariants.{Insert, Select, Delete, CreateTable
 use Rattle.sqlite_tied.specs.Compute.{everything}
 use Rattle.sqlite.specs.Listing.{understood, reads_listing}
 use Rattle.sqlite.proofs.Callers.{IsPlain, command_of, statement_of}
-use Rattle.fv_store.specs.Tables.{about_text, record_text, about_table, record_table, no_schema, store_schema}
+use Rattle.sqlite.specs.Table.{Table}
+use Rattle.fv_store.specs.Tables.{about_table, record_table, no_schema, store_schema}
+
+-- how the table of the version and the declarations is made
+abbrev pub about_text : List ℕ
+about_text = codes "CREATE TABLE about (one INTEGER PRIMARY KEY CHECK (one = 1), version INTEGER NOT NULL, declarations BLOB NOT NULL)"
+
+-- how the table of records is made
+abbrev pub record_text : List ℕ
+record_text = codes "CREATE TABLE record (id TEXT NOT NULL PRIMARY KEY, form TEXT NOT NULL, bundle TEXT NOT NULL)"
+
+-- the table of records as it stands in that schema
+abbrev pub kept_table : Table
+kept_table = record record_table { tree = 1 }
 
 pub about_is : table_defined_by about_text ≡ Ok about_table
 unfolding everything

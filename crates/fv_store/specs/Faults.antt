@@ -20,11 +20,12 @@ abbrev pub fault_of : Error → StoreFault
 fault_of (SqliteFailure OutOfMemory) = Memory
 fault_of _ = Store
 
--- of a text that is no JSON
+-- of why a text is no JSON
 abbrev pub code_fault : Code → StoreFault
 code_fault code.OutOfMemory = Memory
 code_fault _ = Store
 
+-- of an error of reading JSON, by its code
 abbrev pub json_fault : json.Error → StoreFault
 json_fault e = code_fault e.code
 
@@ -38,12 +39,12 @@ abbrev pub open_fault_of : Error → OpenStoreFault
 open_fault_of (SqliteFailure OutOfMemory) = refusal.Memory
 open_fault_of _ = refusal.Store
 
--- a fault of what is stored beside the tables
+-- a fault of the row of `about`
 abbrev pub IsAboutFault : OpenStoreFault → Type 0
 IsAboutFault refusal.OtherVersion = Unit {0}
 IsAboutFault refusal.OtherDeclarations = Unit {0}
 IsAboutFault _ = ⊥
 
--- of what is stored beside the tables: the version first, and then the declarations
+-- of the row of `about`: the version first, and then the declarations
 abbrev pub about_fault : ℕ → List ℕ → List ℕ → Option OpenStoreFault
 about_fault version stored given = first ((not (version == 1), refusal.OtherVersion) ∷ (not (bytes_eq stored given), refusal.OtherDeclarations) ∷ [])

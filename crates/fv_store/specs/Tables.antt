@@ -12,14 +12,6 @@ use Rattle.sqlite.specs.Change.{created}
 use Rattle.sqlite.specs.Kind.{Kind}
 use Rattle.sqlite.specs.Kind.TheVariants.{Integer, Text, Any}
 
--- how the table of the version and the declarations is made
-abbrev pub about_text : List ℕ
-about_text = codes "CREATE TABLE about (one INTEGER PRIMARY KEY CHECK (one = 1), version INTEGER NOT NULL, declarations BLOB NOT NULL)"
-
--- how the table of records is made
-abbrev pub record_text : List ℕ
-record_text = codes "CREATE TABLE record (id TEXT NOT NULL PRIMARY KEY, form TEXT NOT NULL, bundle TEXT NOT NULL)"
-
 -- a column with no default
 abbrev pub column_of : List ℕ → Kind → Bool → Column
 column_of name kind required = record { name = name; kind = kind; is_strict = false; not_null = required; default = Null; collation = Binary }
@@ -62,10 +54,6 @@ record_table = record {
 abbrev pub no_schema : Schema
 no_schema = record { tables = []; indexes = []; views = [] }
 
--- the schema that the two texts make: `about` is tree 0, `record` tree 1
+-- both tables, `about` at tree 0 and `record` at tree 1
 abbrev pub store_schema : Schema
 store_schema = created (created no_schema about_table) record_table
-
--- the table of records as it stands in that schema
-abbrev pub kept_table : Table
-kept_table = record record_table { tree = 1 }

@@ -28,8 +28,11 @@ pub(crate) fn read_about<S: Alter>(conn: &mut Connection<S>) -> Result<Vec<Row>,
     conn.query_all(READ_ABOUT, &[])
 }
 
-/// Whether a row shows this version and these declarations. The version is asked first, so that
-/// tables of another version may keep their declarations in another way.
+/// Takes a row that shows this version and these declarations.
+///
+/// `OtherVersion`, then `OtherDeclarations`; `Store` for a row of another form; `Memory` at any
+/// place. The version is asked first, so that tables of another version may keep their declarations
+/// in another way.
 pub(crate) fn agrees(row: &Row, declarations: &[u8]) -> Result<(), OpenStoreFault>
     ensures { (version : ℕ) (stored : List ℕ) → row.now ≡ shown_about version stored → Gives OpenStoreFault.Memory (λ u. u) result (unless_fault (about_fault version stored declarations.now) tt) }
 {

@@ -1,5 +1,5 @@
 //! A record as it is handed out.
-ghost use Rattle.std.specs.Prelude.{◌≡◌, Ok, true, Option, option_map};
+ghost use Rattle.std.specs.Prelude.{◌≡◌, Ok, Option, option_map};
 ghost use Rattle.std.specs.Option.{ForSome};
 ghost use Rattle.fv_datum.specs.Answers.{Gives};
 ghost use Rattle.fv_model.specs.Views.{types_view};

@@ -1,5 +1,5 @@
 //! Bundles as texts.
-ghost use Rattle.std.specs.Prelude.{◌≡◌, IfOk, true, Ok, string_bytes};
+ghost use Rattle.std.specs.Prelude.{◌≡◌, IfOk, Ok, string_bytes};
 ghost use Rattle.fv_datum.specs.Answers.{Gives};
 ghost use Rattle.fv_model.specs.Views.{types_view, bundle_view};
 ghost use Rattle.fv_model.specs.Bundles.{Bundled};

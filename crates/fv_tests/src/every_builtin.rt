@@ -159,9 +159,3 @@ fn null_is_listed_by_three(rt: HostRuntime) -> Result<(), Fail> {
     let wanted = violations_refused(rt.alloc(), NULLS)?;
     check_reply(&rt, rt.alloc(), "", wanted.as_str())
 }
-
-#[test]
-fn there_are_21_constraints(rt: HostRuntime) -> Result<(), Fail> {
-    assert_eq!(rt; CONSTRAINTS.trim().lines().count(), 4 * 21);
-    Ok(())
-}

@@ -1,12 +1,11 @@
 //! Hostile lines: each has its refusal, the next line is answered as ever, and nothing is lost.
 use crate::lines::{DECLARATIONS, GET, NOT_JSON, PUT, PUT_TAKEN, SHOWN, add_line, served};
+use crate::puts::UNKNOWN_FORM;
 use std::alloc::Global;
 use std::str;
 use std::test::Fail;
 
 const SHAPE: &str = r#"{"error":"C3","name":"Shape"}"#;
-
-const UNKNOWN_FORM: &str = r#"{"error":"C4","name":"UnknownForm"}"#;
 
 /// Takes a put, then the line, then shows the record, and gives what was written.
 fn answers(alloc: Global, line: &[u8]) -> Result<Vec<u8>, Fail> {

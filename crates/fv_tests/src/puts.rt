@@ -2,11 +2,14 @@
 //! `r1` and the form `f`.
 use crate::lines::{GET, PUT_TAKEN, add_line, opened, served};
 use fv_datum::moment_ok;
-use fv_engine::{Clock, serve};
+use fv_engine::{Clock, FixedClock, serve};
 use std::alloc::Global;
 use std::process::Abort;
 use std::str;
 use std::test::Fail;
+
+/// The reply to a put of a form that isn't declared.
+pub(crate) const UNKNOWN_FORM: &str = r#"{"error":"C4","name":"UnknownForm"}"#;
 
 /// The reply to a get where nothing is stored.
 pub(crate) const NO_RECORD: &str = r#"{"error":"C6","name":"NoRecord"}"#;
@@ -43,19 +46,11 @@ pub(crate) fn add_item(list: &mut String, item: &str) -> Result<(), Fail> {
 }
 
 /// A clock that stands at a moment.
-#[derive(Drop)]
-struct Still {
-    moment: i64,
-}
-
-impl Clock for Still {
-    ghost ticks = { λ _ _ _. Unit {0} };
-
-    fn now(&mut self) -> i64 {
-        if moment_ok(self.moment) {
-            return self.moment;
-        }
-        0
+fn clock_at(moment: i64) -> Result<FixedClock, Fail> {
+    if moment_ok(moment) {
+        Ok(FixedClock::new(moment))
+    } else {
+        Err(Fail::from("no moment"))
     }
 }
 
@@ -175,7 +170,7 @@ fn puts_and_replies(alloc: Global, table: &str) -> Result<(Vec<u8>, Vec<u8>), Fa
 fn check_table(rt: &impl Abort, alloc: Global, moment: i64, table: &str) -> Result<(), Fail> {
     let (input, expected) = puts_and_replies(alloc, table)?;
     let declarations = declared(alloc, table)?;
-    let found = served_by(alloc, declarations.as_str(), &input, &mut Still { moment })?;
+    let found = served_by(alloc, declarations.as_str(), &input, &mut clock_at(moment)?)?;
     assert_eq!(rt;
         str::from_utf8(&found)?,
         str::from_utf8(&expected)?,

@@ -1,6 +1,6 @@
 //! Puts of bundles whose objects refer to one another.
 use crate::lines::{GET, PUT_TAKEN, replies, written};
-use crate::puts::{NO_RECORD, check_bundles};
+use crate::puts::{NO_RECORD, UNKNOWN_FORM, check_bundles};
 use std::str;
 use std::test::Fail;
 
@@ -24,8 +24,6 @@ fn faulty_references_are_refused(rt: HostRuntime) -> Result<(), Fail> {
 "#;
     check_bundles(&rt, rt.alloc(), P_AND_Q, ("", ""), table)
 }
-
-const UNKNOWN_FORM: &str = r#"{"error":"C4","name":"UnknownForm"}"#;
 
 /// Whether the bundle has a fault or none.
 #[test]

@@ -16,5 +16,6 @@ capitals _ = false
 abbrev pub decides : ℕ → Data → Attributes → Bool
 decides rule d attributes = if rule == 7 then capitals d else true
 
+-- no rule of objects is asked
 abbrev pub decides_object : ℕ → Thing → Attributes → Bool
 decides_object rule o attributes = true

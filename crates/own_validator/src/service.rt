@@ -1,23 +1,11 @@
 use anyhow::Error;
-use fv_engine::{Clock, Engine, serve};
+use fv_engine::{Engine, FixedClock, serve};
 use fv_registry::RuleSet;
 use sqlite::Connection;
 
 /// An order has a code, which is asked by rule 7.
 const DECLARATIONS: &[u8] =
     br#"{"types":{"Order":{"fields":{"code":{"type":"text","constraints":[{"constraint":"Capitals"}]}}}},"forms":{"order":{"root":"Order"}},"constraints":{"Capitals":{"rule":{"field":7}}}}"#;
-
-/// A clock that stands still.
-#[derive(Drop)]
-struct NoClock;
-
-impl Clock for NoClock {
-    ghost ticks = { λ _ _ _. Unit {0} };
-
-    fn now(&mut self) -> i64 {
-        0
-    }
-}
 
 /// Serves orders over a database in memory, from standard input to standard output. The rules are
 /// asked to mean what is stated of them: the program that hands them in owes it.
@@ -35,7 +23,7 @@ pub(crate) fn serve_orders<R: RuleSet + Drop>(rt: &HostRuntime, rules: R) -> Res
         &mut engine,
         &mut rt.stdin(),
         &mut rt.stdout(),
-        &mut NoClock,
+        &mut FixedClock::new(0),
     )?;
     Ok(())
 }

@@ -1,7 +1,7 @@
 use Rattle.std.proofs.Common.{◌≡◌, ◌++◌, map}
 use Rattle.serde_json.specs.View.{members_view}
 use Rattle.fv_datum.specs.Attributes.{entry_view}
-use Rattle.fv_model.specs.Draft.{pairs, each_some}
+use Rattle.fv_datum.specs.Members.{pairs, each_some}
 use Rattle.fv_declare.specs.Drafts.{attr_of}
 use Rattle.fv_declare.proofs.Fronts.{with_front}
 use Rattle.fv_declare.specs.Ordered.{names_of}

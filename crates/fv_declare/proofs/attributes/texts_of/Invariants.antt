@@ -1,7 +1,7 @@
 use Rattle.std.proofs.Common.{◌≡◌, map, drop, string_bytes}
 use Rattle.serde_json.specs.Find.{as_str}
 use Rattle.serde_json.specs.View.{items_view}
-use Rattle.fv_model.specs.Draft.{each_some}
+use Rattle.fv_datum.specs.Members.{each_some}
 use Rattle.fv_declare.specs.Drafts.{listed}
 use Rattle.fv_declare.proofs.Fronts.{with_front}
 use Rattle.fv_declare.proofs.attributes.texts_of.Given as goal

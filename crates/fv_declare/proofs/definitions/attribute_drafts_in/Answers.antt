@@ -1,6 +1,6 @@
 use Rattle.std.proofs.Common.{◌≡◌, Some, string_bytes, sym, ap, ◌∙◌, arith}
 use Rattle.serde_json.specs.View.{view as json_view, members_view}
-use Rattle.fv_model.specs.Draft.{pairs}
+use Rattle.fv_datum.specs.Members.{pairs}
 use Rattle.fv_declare.specs.Drafts.{attribute_draft_of}
 use Rattle.fv_declare.specs.DraftViews.{attribute_entry, attribute_draft_view}
 use Rattle.fv_declare.proofs.Entries.{next_above, more_names, more_made}

@@ -1,6 +1,6 @@
 use Rattle.std.proofs.Common.{◌≡◌, ◌++◌, map}
 use Rattle.serde_json.specs.View.{members_view}
-use Rattle.fv_model.specs.Draft.{pairs, each_some}
+use Rattle.fv_datum.specs.Members.{pairs, each_some}
 use Rattle.fv_declare.specs.Drafts.{definition_of}
 use Rattle.fv_declare.specs.DraftViews.{definition_entry}
 use Rattle.fv_declare.proofs.Fronts.{with_front}

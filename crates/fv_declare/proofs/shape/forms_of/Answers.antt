@@ -2,7 +2,7 @@ use Rattle.std.proofs.Common.{◌≡◌, ◌∷◌, ◌++◌, map, Some, string_
 use Rattle.std.proofs.lemmas.Grind.{common_steps}
 use Rattle.std.proofs.lemmas.List.{map-append}
 use Rattle.serde_json.specs.View.{view as json_view, members_view}
-use Rattle.fv_model.specs.Draft.{pairs, each_some}
+use Rattle.fv_datum.specs.Members.{pairs, each_some}
 use Rattle.fv_declare.specs.Drafts.{form_of}
 use Rattle.fv_declare.specs.DraftViews.{form_view}
 use Rattle.fv_declare.specs.Ordered.{names_of}

@@ -1,6 +1,6 @@
 use Rattle.std.proofs.Common.{◌≡◌, ◌++◌, map}
 use Rattle.serde_json.specs.View.{members_view}
-use Rattle.fv_model.specs.Draft.{pairs, each_some}
+use Rattle.fv_datum.specs.Members.{pairs, each_some}
 use Rattle.fv_declare.specs.Drafts.{type_of}
 use Rattle.fv_declare.specs.DraftViews.{type_view}
 use Rattle.fv_declare.specs.Ordered.{names_of}

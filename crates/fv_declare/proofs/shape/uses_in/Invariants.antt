@@ -1,6 +1,6 @@
 use Rattle.std.proofs.Common.{◌≡◌, map, drop}
 use Rattle.serde_json.specs.View.{items_view}
-use Rattle.fv_model.specs.Draft.{each_some}
+use Rattle.fv_datum.specs.Members.{each_some}
 use Rattle.fv_declare.specs.Drafts.{listed, use_of}
 use Rattle.fv_declare.specs.DraftViews.{use_view}
 use Rattle.fv_declare.proofs.Fronts.{with_front}

@@ -1,6 +1,7 @@
 use Rattle.std.proofs.Common.{◌≡◌, map, Some}
 use Rattle.serde_json.specs.View.{members_view}
-use Rattle.fv_model.specs.Draft.{pairs, each_some, part_of}
+use Rattle.fv_datum.specs.Members.{pairs, each_some}
+use Rattle.fv_model.specs.Draft.{part_of}
 use Rattle.fv_model.specs.Views.{part_view}
 use Rattle.fv_model.proofs.Listed.{parts_ascend}
 use Rattle.fv_model.proofs.draft.draft_of.Goals as goal

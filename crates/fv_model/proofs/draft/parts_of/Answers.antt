@@ -1,7 +1,8 @@
 use Rattle.std.proofs.Common.{◌≡◌, ◌∷◌, map, Some, string_bytes, sym, ◌∙◌, arith}
 use Rattle.std.proofs.lemmas.List.{map-append}
 use Rattle.serde_json.specs.View.{view as json_view, members_view}
-use Rattle.fv_model.specs.Draft.{pairs, each_some, part_of}
+use Rattle.fv_datum.specs.Members.{pairs, each_some}
+use Rattle.fv_model.specs.Draft.{part_of}
 use Rattle.fv_model.specs.Views.{part_view}
 use Rattle.fv_model.proofs.Fronts.{with_front, front_more}
 use Rattle.fv_model.proofs.draft.parts_of.Goals as goal

@@ -1,6 +1,6 @@
 use Rattle.std.proofs.Common.{◌≡◌}
 use Rattle.serde_json.specs.View.{members_view}
-use Rattle.fv_model.specs.Draft.{pairs}
+use Rattle.fv_datum.specs.Members.{pairs}
 use Rattle.fv_model.specs.Types.{fields_view}
 use Rattle.fv_model.specs.Reading.{misfits_in}
 use Rattle.fv_model.proofs.faults.misfits_in.Given as goal

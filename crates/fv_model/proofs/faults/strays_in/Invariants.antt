@@ -1,6 +1,6 @@
 use Rattle.std.proofs.Common.{◌≡◌, map}
 use Rattle.serde_json.specs.View.{members_view}
-use Rattle.fv_model.specs.Draft.{pairs}
+use Rattle.fv_datum.specs.Members.{pairs}
 use Rattle.fv_model.specs.Types.{fields_view}
 use Rattle.fv_model.specs.Views.{part_view}
 use Rattle.fv_model.specs.Reading.{kinds_in, strays_in}

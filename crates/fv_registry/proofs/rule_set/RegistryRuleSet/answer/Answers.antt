@@ -1,5 +1,3 @@
-use Rattle.std.proofs.Common.{◌∙◌, sym, ap, if◌then◌else◌, Some, None}
-use Rattle.fv_datum.specs.View.{view}
 use Rattle.fv_registry.proofs.Known.{paired}
 use Rattle.fv_registry.proofs.rule_set.RegistryRuleSet.answer.Goals as goal
 

@@ -2,8 +2,8 @@ use Rattle.std.proofs.Common.{◌≡◌, map}
 use Rattle.std.specs.List.{list_all, list_any}
 use Rattle.std.specs.Str.{bytes_eq}
 use Rattle.serde_json.specs.View.{members_view}
-use Rattle.fv_model.specs.Draft.{pairs}
-use Rattle.fv_declare.proofs.members.only_these.Given as goal
+use Rattle.fv_datum.specs.Members.{pairs}
+use Rattle.fv_datum.proofs.members.only_these.Given as goal
 
 abbrev pub invariant-loop-name : goal.invariant-loop-name
 invariant-loop-name l =
