@@ -132,7 +132,7 @@ module _ (m : Meanings) (now : ℤ) where
   sound_first ds b None rest one more = more
   sound_first ds b (Some v) rest one more = (one v refl, more)
 
-  violation_at : (ds : Declarations) (b : Bundled) (root : Thing) (type : ℕ) → at_name b.root b.objects ≡ Some root → number_of ds.types root.kind ≡ Some type
+  violation_at : (ds : Declarations) (b : Bundled) (root : Thing) (type : ℕ) → at_name b.root b.objects ≡ Some root → number_of ds.types root.type_name ≡ Some type
       → (n : ℕ) (u : Use) → slice_get ds.uses n ≡ Some u → (v : Reported) → Reports type b.root root n u v → IsViolation m ds now b v
   violation_at ds b root type rooted typed n u numbered v r =
       let V : Reported → Type 0 = IsViolation m ds now b in
@@ -147,7 +147,7 @@ module _ (m : Meanings) (now : ℤ) where
         worded = refl;
       })
 
-  sound_all : (ds : Declarations) (b : Bundled) (root : Thing) (type : ℕ) → at_name b.root b.objects ≡ Some root → number_of ds.types root.kind ≡ Some type
+  sound_all : (ds : Declarations) (b : Bundled) (root : Thing) (type : ℕ) → at_name b.root b.objects ≡ Some root → number_of ds.types root.type_name ≡ Some type
       → (n : ℕ) (us : List Use) → ((i : ℕ) (u : Use) → slice_get us i ≡ Some u → slice_get ds.uses (n + i) ≡ Some u)
       → AllByRecursion (IsViolation m ds now b) (reported_all m now type b.root root n us)
   sound_all ds b root type rooted typed n [] at = tt
@@ -185,11 +185,11 @@ module _ (m : Meanings) (now : ℤ) where
       let R : List ℕ → List ℕ → Reported = λ c w. record { path = v.path; constraint = c; occurrence = v.occurrence; message = w; value = v.value } in
       ap (λ (c : List ℕ). R c u.message) (sym named) ∙ ap (λ (w : List ℕ). R v.constraint w) (sym worded)
 
-  complete_all : (ds : Declarations) (b : Bundled) (root : Thing) (type : ℕ) → at_name b.root b.objects ≡ Some root → number_of ds.types root.kind ≡ Some type
+  complete_all : (ds : Declarations) (b : Bundled) (root : Thing) (type : ℕ) → at_name b.root b.objects ≡ Some root → number_of ds.types root.type_name ≡ Some type
       → (v : Reported) → IsViolation m ds now b v → IsListed (reported_all m now type b.root root 0 ds.uses) v
   complete_all ds b root type rooted typed v is =
       let same_root : is.root ≡ root = let e : Some is.root ≡ Some root = sym is.rooted ∙ rooted in some_same _ _ e in
-      let same_type : is.used.type ≡ type = let e : Some is.used.type ≡ Some type = sym is.typed ∙ ap (λ (t : Thing). number_of ds.types t.kind) same_root ∙ typed in some_same _ _ e in
+      let same_type : is.used.type ≡ type = let e : Some is.used.type ≡ Some type = sym is.typed ∙ ap (λ (t : Thing). number_of ds.types t.type_name) same_root ∙ typed in some_same _ _ e in
       let refused : IsUnmet m now b.root root is.used.demand v.path v.value = subst (λ (t : Thing). IsUnmet m now b.root t is.used.demand v.path v.value) same_root is.refused in
       let here = reported type b.root root v.occurrence is.used v.path v.value same_type refused ∙ ap (λ (w : Reported). Some w) (same_report v is.used is.named is.worded) in
       let start : v.occurrence ≡ 0 + v.occurrence = omega arith in
@@ -286,7 +286,7 @@ module _ (m : Meanings) (now : ℤ) where
       (ascending_all type name object rise (n + 1) us rises.1)
 
   -- what all uses report in the root is the listing
-  listing : (ds : Declarations) (b : Bundled) (root : Thing) (type : ℕ) → at_name b.root b.objects ≡ Some root → number_of ds.types root.kind ≡ Some type
+  listing : (ds : Declarations) (b : Bundled) (root : Thing) (type : ℕ) → at_name b.root b.objects ≡ Some root → number_of ds.types root.type_name ≡ Some type
       → NamesRise root.fields → UsesAscend ds.uses → IsListing m ds now b (reported_all m now type b.root root 0 ds.uses)
   listing ds b root type rooted typed names uses = record {
     sound = sound_all ds b root type rooted typed 0 ds.uses (λ i u e. let same : i ≡ 0 + i = omega arith in subst (λ (k : ℕ). slice_get ds.uses k ≡ Some u) same e);
@@ -330,14 +330,14 @@ module _ (m : Meanings) (now : ℤ) where
 
   -- what was found in a well-typed bundle is its listing
   pub listed_all : (ds : Declarations) (b : Bundled) (vs : List Reported) → AreOrdered ds → IsWellTyped ds.types b
-      → ((root : Thing) (type : ℕ) → at_name b.root b.objects ≡ Some root → number_of ds.types root.kind ≡ Some type → vs ≡ reported_all m now type b.root root 0 ds.uses)
+      → ((root : Thing) (type : ℕ) → at_name b.root b.objects ≡ Some root → number_of ds.types root.type_name ≡ Some type → vs ≡ reported_all m now type b.root root 0 ds.uses)
       → IsListing m ds now b vs
   listed_all ds b vs ordered well is =
       let root = there (at_name b.root b.objects) well.rooted in
       let typed : FitsType ds.types b.objects root.0 = found_in (λ (t : Thing). FitsType ds.types b.objects t) b.root b.objects root.0 well.typed root.1 in
-      let number = numbered ds.types root.0.kind typed.fields typed.declared in
+      let number = numbered ds.types root.0.type_name typed.fields typed.declared in
       let rise : NamesRise root.0.fields = subst NamesAscend (same_names b.objects typed.fields root.0.fields typed.fit)
-      (found_in (λ (fs : DeclaredFields). NamesAscend (map (λ f. f.0) fs)) root.0.kind ds.types typed.fields ordered.fields typed.declared) in
+      (found_in (λ (fs : DeclaredFields). NamesAscend (map (λ f. f.0) fs)) root.0.type_name ds.types typed.fields ordered.fields typed.declared) in
       subst (IsListing m ds now b) (sym (is root.0 number.0 root.1 number.1)) (listing ds b root.0 number.0 root.1 number.1 rise (uses_ascend ds.uses ordered.uses))
 
 -- ---- the root's name

@@ -36,7 +36,7 @@ pub record IsViolation (m : Meanings) (ds : Declarations) (now : ℤ) (b : Bundl
   pub root : Thing
   pub numbered : slice_get ds.uses v.occurrence ≡ Some used
   pub rooted : at_name b.root b.objects ≡ Some root
-  pub typed : number_of ds.types root.kind ≡ Some used.type
+  pub typed : number_of ds.types root.type_name ≡ Some used.type
   pub refused : IsUnmet m now b.root root used.demand v.path v.value
   pub named : v.constraint ≡ used.constraint
   pub worded : v.message ≡ used.message

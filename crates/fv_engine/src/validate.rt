@@ -117,7 +117,7 @@ fn reports<R: RuleSet>(
     requires moment { IsMoment now }
     requires named { names (bundle_view bundle.now).root ≡ true }
     ensures ordered { IfOk result (λ v. AreOrdered book.now.schema) }
-    ensures exact { IfOk result (λ v. (root : Thing) (type : ℕ) → at_name (bundle_view bundle.now).root (bundle_view bundle.now).objects ≡ Some root → number_of book.now.schema.types root.kind ≡ Some type
+    ensures exact { IfOk result (λ v. (root : Thing) (type : ℕ) → at_name (bundle_view bundle.now).root (bundle_view bundle.now).objects ≡ Some root → number_of book.now.schema.types root.type_name ≡ Some type
         → map violation_view v.items ≡ reported_all R.meaning now type (bundle_view bundle.now).root root 0 book.now.schema.uses) }
 {
     let occurrences = book.schema.occurrences();

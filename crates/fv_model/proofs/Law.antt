@@ -27,7 +27,7 @@ use Rattle.fv_datum.proofs.Spelled.{spelled-written}
 use Rattle.fv_model.specs.Bundles.{IsAscending, Thing, Things, Bundled}
 use Rattle.fv_datum.specs.Members.{pairs, each_some}
 use Rattle.fv_model.specs.Draft.{Part, part_of, draft_of}
-use Rattle.fv_model.specs.Reading.{Kinds, kinds_in, root_missing, undeclared_in, has_undeclared, misfits, misfits_in, has_misfit, dangles, dangles_in, has_dangling, strays, strays_in, has_stray, is_long_text, is_long, long_in, has_long, long_text, root_type, conditions, draft_fault, datum_at, field_of, object_of, bundle_of, judged, bundle_read}
+use Rattle.fv_model.specs.Reading.{ObjectTypes, object_types, root_missing, Flaw, flaw_among, has_flaw, undeclared, misfits, dangles, strays, is_long_text, is_long, long_text, root_type, conditions, draft_fault, datum_at, field_of, object_of, bundle_of, judged, bundle_read}
 use Rattle.fv_model.specs.Types.{Held, texts, references, DeclaredFields, Declared, AreApart, FieldsApart, kind_of, name_at}
 use Rattle.fv_model.specs.WellTyped.{NamesObject, RefersTo, IsWithinLimits, FitsUse, FieldsFit, FitsType, IsWellTyped, HasRootType}
 use Rattle.fv_model.specs.Writing.{datum_json, added, thing_json, objects_added, bundle_json}
@@ -160,48 +160,48 @@ found_each (d ∷ ds) apart = (rw (same_bytes d.0) refl, skip d ds ds (apart-hea
 -- ---- references
 
 -- the names of types are those of the objects
-abbrev Agree : Kinds → Things → Type 0
-Agree kinds os = (name : List ℕ) → at_name name kinds ≡ option_map (λ t. t.kind) (at_name name os)
+abbrev Agree : ObjectTypes → Things → Type 0
+Agree types os = (name : List ℕ) → at_name name types ≡ option_map (λ t. t.type_name) (at_name name os)
 
-known_kind : (os : Things) (kinds : Kinds) (type name : List ℕ) → Agree kinds os → NamesObject os type name → at_name name kinds ≡ Some type
-known_kind os kinds type name agree (t, found, kind) = agree name ∙ ap (option_map (λ (u : Thing). u.kind)) found ∙ ap (λ k. Some k) kind
+known_type : (os : Things) (types : ObjectTypes) (type name : List ℕ) → Agree types os → NamesObject os type name → at_name name types ≡ Some type
+known_type os types type name agree (t, found, same) = agree name ∙ ap (option_map (λ (u : Thing). u.type_name)) found ∙ ap (λ n. Some n) same
 
 -- a reference is null, or a name whose object has the type
-referred : (os : Things) (kinds : Kinds) (type : List ℕ) (d : Data) → Agree kinds os → FitsKind kind.Ref d → RefersTo os (references type) d
-    → (as_str (datum_json d) ≡ None) ⊎ ((name : List ℕ) × (as_str (datum_json d) ≡ Some name) × (at_name name kinds ≡ Some type))
-referred os kinds type d agree (inl is) refers = inl (rw is refl)
-referred os kinds type d agree (inr (s, passes, it)) refers = inr (s, rw it refl, known_kind os kinds type s agree (refers s it))
+referred : (os : Things) (types : ObjectTypes) (type : List ℕ) (d : Data) → Agree types os → FitsKind kind.Ref d → RefersTo os (references type) d
+    → (as_str (datum_json d) ≡ None) ⊎ ((name : List ℕ) × (as_str (datum_json d) ≡ Some name) × (at_name name types ≡ Some type))
+referred os types type d agree (inl is) refers = inl (rw is refl)
+referred os types type d agree (inr (s, passes, it)) refers = inr (s, rw it refl, known_type os types type s agree (refers s it))
 
-not_dangling : (os : Things) (kinds : Kinds) (type : Held) (d : Data) → Agree kinds os → FitsKind (kind_of type) d → RefersTo os type d → dangles kinds (Some type) (datum_json d) ≡ false
-not_dangling os kinds (references type) d agree fits refers = elim (referred os kinds type d agree fits refers) [ inl none ↦ rw none refl | inr some ↦ rw (some.1, some.2) refl ]
-not_dangling os kinds _ d agree fits refers = refl
+not_dangling : (os : Things) (types : ObjectTypes) (type : Held) (d : Data) → Agree types os → FitsKind (kind_of type) d → RefersTo os type d → dangles types (Some type) (datum_json d) ≡ false
+not_dangling os types (references type) d agree fits refers = elim (referred os types type d agree fits refers) [ inl none ↦ rw none refl | inr some ↦ rw (some.1, some.2) refl ]
+not_dangling os types _ d agree fits refers = refl
 
-not_stray : (os : Things) (kinds : Kinds) (type : Held) (d : Data) → Agree kinds os → FitsKind (kind_of type) d → RefersTo os type d → strays kinds (Some type) (datum_json d) ≡ false
-not_stray os kinds (references type) d agree fits refers = elim (referred os kinds type d agree fits refers) [ inl none ↦ rw none refl | inr some ↦ rw (some.1, some.2, same_bytes type) refl ]
-not_stray os kinds _ d agree fits refers = refl
+not_stray : (os : Things) (types : ObjectTypes) (type : Held) (d : Data) → Agree types os → FitsKind (kind_of type) d → RefersTo os type d → strays types (Some type) (datum_json d) ≡ false
+not_stray os types (references type) d agree fits refers = elim (referred os types type d agree fits refers) [ inl none ↦ rw none refl | inr some ↦ rw (some.1, some.2, same_bytes type) refl ]
+not_stray os types _ d agree fits refers = refl
 
 -- no field is undeclared, of another kind, refers wrongly or is too long
-record Taken (kinds : Kinds) (all : DeclaredFields) (fs : List (List ℕ × Data)) : Type 0 where
+record Taken (types : ObjectTypes) (all : DeclaredFields) (fs : List (List ℕ × Data)) : Type 0 where
   declared : AllByRecursion (λ f. not (is_some (at_name f.0 all)) ≡ false) fs
   fits : AllByRecursion (λ f. misfits (at_name f.0 all) (datum_json f.1) ≡ false) fs
-  there : AllByRecursion (λ f. dangles kinds (at_name f.0 all) (datum_json f.1) ≡ false) fs
-  own : AllByRecursion (λ f. strays kinds (at_name f.0 all) (datum_json f.1) ≡ false) fs
+  there : AllByRecursion (λ f. dangles types (at_name f.0 all) (datum_json f.1) ≡ false) fs
+  own : AllByRecursion (λ f. strays types (at_name f.0 all) (datum_json f.1) ≡ false) fs
   lengths : AllByRecursion (λ f. is_long (at_name f.0 all) (datum_json f.1) ≡ false) fs
 
-taken : (os : Things) (kinds : Kinds) (all ds : DeclaredFields) (fs : List (List ℕ × Data)) → Agree kinds os → FieldsFit os ds fs → AllByRecursion (λ e. at_name e.0 all ≡ Some e.1) ds → Taken kinds all fs
-taken os kinds all [] [] agree fit known = record { declared = tt; fits = tt; there = tt; own = tt; lengths = tt }
-taken os kinds all (d ∷ ds) (f ∷ fs) agree fit known =
+taken : (os : Things) (types : ObjectTypes) (all ds : DeclaredFields) (fs : List (List ℕ × Data)) → Agree types os → FieldsFit os ds fs → AllByRecursion (λ e. at_name e.0 all ≡ Some e.1) ds → Taken types all fs
+taken os types all [] [] agree fit known = record { declared = tt; fits = tt; there = tt; own = tt; lengths = tt }
+taken os types all (d ∷ ds) (f ∷ fs) agree fit known =
     let found : at_name f.0 all ≡ Some d.1 = rw fit.0 known.0 in
-    let more = taken os kinds all ds fs agree fit.2 known.1 in
+    let more = taken os types all ds fs agree fit.2 known.1 in
     record {
       declared = (rw found refl, more.declared);
       fits = (rw (found, again os d.1 f.1 fit.1) refl, more.fits);
-      there = (rw found (not_dangling os kinds d.1 f.1 agree fit.1.0 fit.1.2), more.there);
-      own = (rw found (not_stray os kinds d.1 f.1 agree fit.1.0 fit.1.2), more.own);
+      there = (rw found (not_dangling os types d.1 f.1 agree fit.1.0 fit.1.2), more.there);
+      own = (rw found (not_stray os types d.1 f.1 agree fit.1.0 fit.1.2), more.own);
       lengths = (rw found (not_long d.1 f.1 fit.1.0 fit.1.1), more.lengths);
     }
-taken os kinds all [] (f ∷ fs) agree fit known = absurd fit
-taken os kinds all (d ∷ ds) [] agree fit known = absurd fit
+taken os types all [] (f ∷ fs) agree fit known = absurd fit
+taken os types all (d ∷ ds) [] agree fit known = absurd fit
 
 none_there : (ds : DeclaredFields) → AllByRecursion (λ e. get_member e.0 json.no_members ≡ None) ds
 none_there [] = tt
@@ -209,60 +209,45 @@ none_there (d ∷ ds) = (refl, none_there ds)
 
 -- ---- one object
 
-none_undeclared : (ts : Declared) (p : Part) (ds : DeclaredFields) → at_name p.kind ts ≡ Some ds → undeclared_in ds (pairs p.given) ≡ false → has_undeclared ts p ≡ false
-unfolding has_undeclared
-none_undeclared ts p ds is e = rw is e
-
-none_misfits : (ts : Declared) (p : Part) (ds : DeclaredFields) → at_name p.kind ts ≡ Some ds → misfits_in ds (pairs p.given) ≡ false → has_misfit ts p ≡ false
-unfolding has_misfit
-none_misfits ts p ds is e = rw is e
-
-none_dangling : (ts : Declared) (kinds : Kinds) (p : Part) (ds : DeclaredFields) → at_name p.kind ts ≡ Some ds → dangles_in kinds ds (pairs p.given) ≡ false → has_dangling ts kinds p ≡ false
-unfolding has_dangling
-none_dangling ts kinds p ds is e = rw is e
-
-none_stray : (ts : Declared) (kinds : Kinds) (p : Part) (ds : DeclaredFields) → at_name p.kind ts ≡ Some ds → strays_in kinds ds (pairs p.given) ≡ false → has_stray ts kinds p ≡ false
-unfolding has_stray
-none_stray ts kinds p ds is e = rw is e
-
-none_long : (ts : Declared) (p : Part) (ds : DeclaredFields) → at_name p.kind ts ≡ Some ds → long_in ds (pairs p.given) ≡ false → has_long ts p ≡ false
-unfolding has_long
-none_long ts p ds is e = rw is e
+-- an object of a declared type has a flaw where its data have it
+pub flaw_known : (flaw : Flaw) (ts : Declared) (p : Part) (ds : DeclaredFields) → at_name p.type_name ts ≡ Some ds → has_flaw flaw ts p ≡ flaw_among flaw ds (pairs p.given)
+unfolding has_flaw
+flaw_known flaw ts p ds is = rw is refl
 
 abbrev the_thing : List ℕ → List (List ℕ × Data) → Thing
-the_thing kind fields = record { kind = kind; fields = fields }
+the_thing type fields = record { type_name = type; fields = fields }
 
 -- an object as it is given by what is written of it
 abbrev part_for : List ℕ × Thing → Part
-part_for o = record { name = o.0; kind = o.1.kind; given = added json.no_members o.1.fields }
+part_for o = record { name = o.0; type_name = o.1.type_name; given = added json.no_members o.1.fields }
 
 -- no fault at an object, which is read as it was
-record IsBack (ts : Declared) (kinds : Kinds) (o : List ℕ × Thing) : Type 0 where
-  typed : not (is_some (at_name o.1.kind ts)) ≡ false
-  declared : has_undeclared ts (part_for o) ≡ false
-  fits : has_misfit ts (part_for o) ≡ false
-  there : has_dangling ts kinds (part_for o) ≡ false
-  own : has_stray ts kinds (part_for o) ≡ false
-  short : has_long ts (part_for o) ≡ false
+record IsBack (ts : Declared) (types : ObjectTypes) (o : List ℕ × Thing) : Type 0 where
+  typed : not (is_some (at_name o.1.type_name ts)) ≡ false
+  declared : has_flaw undeclared ts (part_for o) ≡ false
+  fits : has_flaw misfits ts (part_for o) ≡ false
+  there : has_flaw (dangles types) ts (part_for o) ≡ false
+  own : has_flaw (strays types) ts (part_for o) ≡ false
+  short : has_flaw is_long ts (part_for o) ≡ false
   back : object_of ts (part_for o) ≡ o
 
-object_back : (ts : Declared) (os : Things) (kinds : Kinds) (o : List ℕ × Thing) → FieldsApart ts → Agree kinds os → FitsType ts os o.1 → IsBack ts kinds o
-object_back ts os kinds o ts_apart agree fits_type =
+object_back : (ts : Declared) (os : Things) (types : ObjectTypes) (o : List ℕ × Thing) → FieldsApart ts → Agree types os → FitsType ts os o.1 → IsBack ts types o
+object_back ts os types o ts_apart agree fits_type =
     let fs = o.1.fields in
     let ds : DeclaredFields = fits_type.fields in
-    let is : at_name o.1.kind ts ≡ Some ds = fits_type.declared in
-    let apart : AreApart ds = found_apart o.1.kind ts ds ts_apart is in
+    let is : at_name o.1.type_name ts ≡ Some ds = fits_type.declared in
+    let apart : AreApart ds = found_apart o.1.type_name ts ds ts_apart is in
     let part : Part = part_for o in
-    let all = taken os kinds ds ds fs agree fits_type.fit (found_each ds apart) in
+    let all = taken os types ds ds fs agree fits_type.fit (found_each ds apart) in
     let back : map (field_of (added json.no_members fs)) ds ≡ fs = fields_back os ds fs json.no_members apart fits_type.fit (none_there ds) in
     record {
       typed = rw is refl;
-      declared = none_undeclared ts part ds is (any_added (λ g. not (is_some (at_name g.0 ds))) fs json.no_members all.declared refl);
-      fits = none_misfits ts part ds is (any_added (λ g. misfits (at_name g.0 ds) g.1) fs json.no_members all.fits refl);
-      there = none_dangling ts kinds part ds is (any_added (λ g. dangles kinds (at_name g.0 ds) g.1) fs json.no_members all.there refl);
-      own = none_stray ts kinds part ds is (any_added (λ g. strays kinds (at_name g.0 ds) g.1) fs json.no_members all.own refl);
-      short = none_long ts part ds is (any_added (λ g. is_long (at_name g.0 ds) g.1) fs json.no_members all.lengths refl);
-      back = rw is (ap (λ (xs : List (List ℕ × Data)). (o.0, the_thing o.1.kind xs)) back);
+      declared = flaw_known undeclared ts part ds is ∙ any_added (λ g. not (is_some (at_name g.0 ds))) fs json.no_members all.declared refl;
+      fits = flaw_known misfits ts part ds is ∙ any_added (λ g. misfits (at_name g.0 ds) g.1) fs json.no_members all.fits refl;
+      there = flaw_known (dangles types) ts part ds is ∙ any_added (λ g. dangles types (at_name g.0 ds) g.1) fs json.no_members all.there refl;
+      own = flaw_known (strays types) ts part ds is ∙ any_added (λ g. strays types (at_name g.0 ds) g.1) fs json.no_members all.own refl;
+      short = flaw_known is_long ts part ds is ∙ any_added (λ g. is_long (at_name g.0 ds) g.1) fs json.no_members all.lengths refl;
+      back = rw is (ap (λ (xs : List (List ℕ × Data)). (o.0, the_thing o.1.type_name xs)) back);
     }
 
 -- ---- the objects
@@ -276,17 +261,17 @@ each_of : {X : Type 0} (P Q : X → Type 0) (xs : List X) → ((x : X) → P x �
 each_of P Q [] turn all = tt
 each_of P Q (x ∷ xs) turn all = (turn x all.0, each_of P Q xs turn all.1)
 
-all_back : (ts : Declared) (kinds : Kinds) (os : Things) → AllByRecursion (IsBack ts kinds) os → map (object_of ts) (map part_for os) ≡ os
-all_back ts kinds [] all = refl
-all_back ts kinds (o ∷ os) all = ap (λ x. x ∷ map (object_of ts) (map part_for os)) all.0.back ∙ ap (λ xs. o ∷ xs) (all_back ts kinds os all.1)
+all_back : (ts : Declared) (types : ObjectTypes) (os : Things) → AllByRecursion (IsBack ts types) os → map (object_of ts) (map part_for os) ≡ os
+all_back ts types [] all = refl
+all_back ts types (o ∷ os) all = ap (λ x. x ∷ map (object_of ts) (map part_for os)) all.0.back ∙ ap (λ xs. o ∷ xs) (all_back ts types os all.1)
 
-kind_here : (b : Bool) (t : Thing) (rest : Option (List ℕ)) (found : Option Thing) → rest ≡ option_map (λ u. u.kind) found → cond b (Some t.kind) rest ≡ option_map (λ u. u.kind) (cond b (Some t) found)
-kind_here true t rest found e = refl
-kind_here false t rest found e = e
+type_here : (b : Bool) (t : Thing) (rest : Option (List ℕ)) (found : Option Thing) → rest ≡ option_map (λ u. u.type_name) found → cond b (Some t.type_name) rest ≡ option_map (λ u. u.type_name) (cond b (Some t) found)
+type_here true t rest found e = refl
+type_here false t rest found e = e
 
-kinds_agree : (os : Things) → Agree (kinds_in (map part_for os)) os
-kinds_agree [] name = refl
-kinds_agree (o ∷ os) name = kind_here (bytes_eq name o.0) o.1 _ _ (kinds_agree os name)
+types_agree : (os : Things) → Agree (object_types (map part_for os)) os
+types_agree [] name = refl
+types_agree (o ∷ os) name = type_here (bytes_eq name o.0) o.1 _ _ (types_agree os name)
 
 -- ---- the written objects
 
@@ -336,9 +321,9 @@ no_first (c ∷ cs) all = rw all.0 (no_first cs all.1)
 -- no type is asked of the root, or its own
 root_asked : (asked : Option (List ℕ)) (root : List ℕ) (os : Things) → ((type : List ℕ) → asked ≡ Some type → NamesObject os type root) → root_type asked root (map part_for os) ≡ false
 root_asked None root os own = refl
-root_asked (Some type) root os own = rw (known_kind os (kinds_in (map part_for os)) type root (kinds_agree os) (own type refl), same_bytes type) refl
+root_asked (Some type) root os own = rw (known_type os (object_types (map part_for os)) type root (types_agree os) (own type refl), same_bytes type) refl
 
-is_there : (o : Option Thing) → is_some o ≡ true → not (is_some (option_map (λ t. t.kind) o)) ≡ false
+is_there : (o : Option Thing) → is_some o ≡ true → not (is_some (option_map (λ t. t.type_name) o)) ≡ false
 is_there (Some t) e = refl
 is_there None e = absurd (true≢false (sym e))
 
@@ -346,26 +331,26 @@ law : (ts : Declared) (asked : Option (List ℕ)) (b : Bundled) → FieldsApart 
 law ts asked b apart well rooted =
     let os = b.objects in
     let ps : List Part = map part_for os in
-    let kinds = kinds_in ps in
-    let all : AllByRecursion (IsBack ts kinds) os = each_of (λ o. FitsType ts os o.1) (IsBack ts kinds) os (λ o fits. object_back ts os kinds o apart (kinds_agree os) fits) well.typed in
+    let types = object_types ps in
+    let all : AllByRecursion (IsBack ts types) os = each_of (λ o. FitsType ts os o.1) (IsBack ts types) os (λ o fits. object_back ts os types o apart (types_agree os) fits) well.typed in
     let few : nat_lt 256 (length ps) ≡ false = rw length-map (le-ltb 256 (length os) well.few) in
-    let long : long_text ts ps ≡ false = none_of (has_long ts) part_for (IsBack ts kinds) os (λ o back. back.short) all in
-    let there : root_missing b.root ps ≡ false = rw (kinds_agree os b.root) (is_there (at_name b.root os) well.rooted) in
+    let long : long_text ts ps ≡ false = none_of (has_flaw is_long ts) part_for (IsBack ts types) os (λ o back. back.short) all in
+    let there : root_missing b.root ps ≡ false = rw (types_agree os b.root) (is_there (at_name b.root os) well.rooted) in
     let none : draft_fault ts asked (record { root = b.root; objects = ps }) ≡ None =
     no_first (conditions ts asked (record { root = b.root; objects = ps })) (
       none_of (λ p. not (names p.name)) part_for (λ o. names o.0 ≡ true) os (λ o named. rw named refl) well.named,
       (
         there,
         (
-          none_of (λ p. not (is_some (at_name p.kind ts))) part_for (IsBack ts kinds) os (λ o back. back.typed) all,
+          none_of (λ p. not (is_some (at_name p.type_name ts))) part_for (IsBack ts types) os (λ o back. back.typed) all,
           (
-            none_of (has_undeclared ts) part_for (IsBack ts kinds) os (λ o back. back.declared) all,
+            none_of (has_flaw undeclared ts) part_for (IsBack ts types) os (λ o back. back.declared) all,
             (
-              none_of (has_misfit ts) part_for (IsBack ts kinds) os (λ o back. back.fits) all,
+              none_of (has_flaw misfits ts) part_for (IsBack ts types) os (λ o back. back.fits) all,
               (
-                none_of (has_dangling ts kinds) part_for (IsBack ts kinds) os (λ o back. back.there) all,
+                none_of (has_flaw (dangles types) ts) part_for (IsBack ts types) os (λ o back. back.there) all,
                 (
-                  none_of (has_stray ts kinds) part_for (IsBack ts kinds) os (λ o back. back.own) all,
+                  none_of (has_flaw (strays types) ts) part_for (IsBack ts types) os (λ o back. back.own) all,
                   (or_false _ _ few long, (root_asked asked b.root os rooted, tt)),
                 ),
               ),
@@ -375,7 +360,7 @@ law ts asked b apart well rooted =
       ),
     ) in
     ap (judged ts asked) (draft_back b.root os well.ascending) ∙ ap (λ f. unless_fault f (bundle_of ts (record { root = b.root; objects = ps }))) none
-    ∙ ap (λ (xs : Things). Ok (record { root = b.root; objects = xs })) (all_back ts kinds os all)
+    ∙ ap (λ (xs : Things). Ok (record { root = b.root; objects = xs })) (all_back ts types os all)
 
 -- the same, where the type is asked by its number
 pub law_asked : (ts : Declared) (asked : Option TypeId) (b : Bundled) → FieldsApart ts → IsWellTyped ts b → ForSome asked (λ t. HasRootType (name_at ts t.index) b)

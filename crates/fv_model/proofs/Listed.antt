@@ -1,9 +1,9 @@
 -- Names in order: an entry with a new name goes last.
-use Rattle.std.proofs.Common.{◌≡◌, ℕ, List, [], ◌∷◌, ◌++◌, map, Bool, true, false, cond, Option, Some, None, option_map, option_and_then, String, Global, string_bytes, Ordering, Less, Equal, nat_cmp, bytes_eq, Bor, refl, sym, ap, subst, ◌∙◌}
+use Rattle.std.proofs.Common.{◌≡◌, ℕ, List, [], ◌∷◌, ◌++◌, map, Bool, true, false, cond, Option, Some, None, option_map, option_and_then, String, Global, string_bytes, Ordering, Less, Equal, nat_cmp, bytes_eq, refl, sym, ap, subst, ◌∙◌}
 use Rattle.std.specs.Cmp.Lexicographic.{slice_cmp}
 use Rattle.std.specs.List.{AllByRecursion}
 use Rattle.std.specs.List.Sorted.{IsStrictlySortedBy}
-use Rattle.std.specs.Map.{keys_of, lookup}
+use Rattle.std.specs.Map.{keys_of}
 use Rattle.std.specs.String.{string_cmp}
 use Rattle.std.proofs.lemmas.Cmp.{nat_list_cmp_total, tied_itself}
 use Rattle.std.proofs.lemmas.Map.Keys.{sorted_head, sorted_tail}
@@ -12,11 +12,10 @@ use Rattle.indexmap.specs.IndexMap.{insert_entry}
 use Rattle.serde_json.specs.Data as json
 use Rattle.serde_json.specs.View.{members_view}
 use Rattle.serde_json.specs.declared.value.Value.{Value}
-use Rattle.fv_datum.specs.Lookup.{at_name}
 use Rattle.fv_model.specs.Bundles.{IsAscending}
 use Rattle.fv_datum.specs.Members.{pairs, each_some}
 use Rattle.fv_model.specs.Draft.{Part, part_of}
-use Rattle.fv_model.specs.Reading.{kinds_in, object_of}
+use Rattle.fv_model.specs.Reading.{object_types, object_of}
 use Rattle.fv_model.specs.Types.{Declared}
 
 -- a name that is below those that follow is below one in their midst
@@ -57,14 +56,14 @@ members_ascend (e ∷ es) h = (all_below (string_bytes e.0) es h.0, members_asce
 
 -- ---- the objects that are given
 
-built : (b : Bool) (name : List ℕ) (kind : Option (List ℕ)) (given : Option json.Members) (p : Part)
-    → cond b (option_and_then (λ k. option_map (λ g. record { name = name; kind = k; given = g }) given) kind) None ≡ Some p → p.name ≡ name
-built true name (Some k) (Some g) p e =
-    let same : record { name = name; kind = k; given = g } ≡ p = cc in
+built : (b : Bool) (name : List ℕ) (type : Option (List ℕ)) (given : Option json.Members) (p : Part)
+    → cond b (option_and_then (λ t. option_map (λ g. record { name = name; type_name = t; given = g }) given) type) None ≡ Some p → p.name ≡ name
+built true name (Some t) (Some g) p e =
+    let same : record { name = name; type_name = t; given = g } ≡ p = cc in
     ap (λ (q : Part). q.name) (sym same)
-built true name (Some k) None p e = cc
+built true name (Some t) None p e = cc
 built true name None given p e = cc
-built false name kind given p e = cc
+built false name type given p e = cc
 
 part_named : (m : List ℕ × json.Data) (p : Part) → part_of m ≡ Some p → p.name ≡ m.0
 part_named m p e = built _ m.0 _ _ p e
@@ -75,26 +74,16 @@ both_some (Some x) None xs e = cc
 both_some None rest xs e = cc
 
 -- objects have the names of the members that they are read from
-pub parts_named : (ms : List (List ℕ × json.Data)) (ps : List Part) → each_some part_of ms ≡ Some ps → keys_of (kinds_in ps) ≡ keys_of ms
-parts_named [] ps e = let same : [] ≡ ps = cc in ap (λ (qs : List Part). keys_of (kinds_in qs)) (sym same)
+pub parts_named : (ms : List (List ℕ × json.Data)) (ps : List Part) → each_some part_of ms ≡ Some ps → keys_of (object_types ps) ≡ keys_of ms
+parts_named [] ps e = let same : [] ≡ ps = cc in ap (λ (qs : List Part). keys_of (object_types qs)) (sym same)
 parts_named (m ∷ ms) ps e =
     let found = both_some (part_of m) (each_some part_of ms) ps e in
-    ap (λ (qs : List Part). keys_of (kinds_in qs)) (sym found.4) ∙ ap (λ n. n ∷ keys_of (kinds_in found.1)) (part_named m found.0 found.2) ∙ ap (λ ns. m.0 ∷ ns) (parts_named ms found.1 found.3)
+    ap (λ (qs : List Part). keys_of (object_types qs)) (sym found.4) ∙ ap (λ n. n ∷ keys_of (object_types found.1)) (part_named m found.0 found.2) ∙ ap (λ ns. m.0 ∷ ns) (parts_named ms found.1 found.3)
 
-pub parts_ascend : (es : List (String Global × Value)) (ps : List Part) → IsStrictlySortedBy string_cmp (keys_of es) → Some ps ≡ each_some part_of (pairs (members_view es)) → IsAscending (keys_of (kinds_in ps))
+pub parts_ascend : (es : List (String Global × Value)) (ps : List Part) → IsStrictlySortedBy string_cmp (keys_of es) → Some ps ≡ each_some part_of (pairs (members_view es)) → IsAscending (keys_of (object_types ps))
 parts_ascend es ps ordered e = subst (λ (ns : List (List ℕ)). IsAscending ns) (sym (parts_named (pairs (members_view es)) ps (sym e))) (members_ascend es ordered)
 
 -- objects keep their names
-pub objects_named : (ts : Declared) (ps : List Part) → keys_of (map (object_of ts) ps) ≡ keys_of (kinds_in ps)
+pub objects_named : (ts : Declared) (ps : List Part) → keys_of (map (object_of ts) ps) ≡ keys_of (object_types ps)
 objects_named ts [] = refl
 objects_named ts (p ∷ ps) = ap (λ ns. p.name ∷ ns) (objects_named ts ps)
-
--- ---- look-ups
-
-step : (b : Bool) (x : Bor (List ℕ)) (rest : Option (Bor (List ℕ))) (o : Option (List ℕ)) → option_map (λ s. s.now) rest ≡ o → option_map (λ s. s.now) (cond b (Some x) rest) ≡ cond b (Some x.now) o
-step true x rest o e = refl
-step false x rest o e = e
-
-pub lookup-kinds : (name : List ℕ) (es : List (Bor (List ℕ) × Bor (List ℕ))) → option_map (λ s. s.now) (lookup (λ k. bytes_eq name k.now) es) ≡ at_name name (map (λ e. (e.0.now, e.1.now)) es)
-lookup-kinds name [] = refl
-lookup-kinds name (e ∷ es) = step (bytes_eq name e.0.now) e.1 _ _ (lookup-kinds name es)

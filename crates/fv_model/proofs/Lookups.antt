@@ -28,6 +28,11 @@ pub lookup-at_name : {X Y : Type 0} (f : X → Y) (name : List ℕ) (es : List (
 lookup-at_name f name [] = refl
 lookup-at_name f name (e ∷ es) = step f (bytes_eq name (string_bytes e.0)) e.1 _ _ (lookup-at_name f name es)
 
+-- the same, of a map from names to names
+pub lookup-types : (name : List ℕ) (es : List (Bor (List ℕ) × Bor (List ℕ))) → option_map (λ s. s.now) (lookup (λ k. bytes_eq name k.now) es) ≡ at_name name (map (λ e. (e.0.now, e.1.now)) es)
+lookup-types name [] = refl
+lookup-types name (e ∷ es) = step (λ (s : Bor (List ℕ)). s.now) (bytes_eq name e.0.now) e.1 _ _ (lookup-types name es)
+
 pub option_map-copied : {X Y : Type 0} (f : X → Y) (found : Option (Bor X)) → option_map (λ x. f x.now) found ≡ option_map f (option_copied found)
 option_map-copied f None = refl
 option_map-copied f (Some x) = refl

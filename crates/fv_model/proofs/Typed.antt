@@ -1,5 +1,5 @@
 -- What is read is well-typed, and its root of the asked type.
-use Rattle.std.proofs.Common.{◌≡◌, ◌⊎◌, ℕ, ◌≤◌, List, [], ◌∷◌, map, length, cond, Bool, true, false, not, nat_lt, Option, Some, None, Result, Ok, Err, IfOk, option_map, option_and_then, unwrap_or, Ordering, Less, Equal, Greater, nat_cmp, bytes_eq, is_some, inl, inr, refl, sym, ap, subst}
+use Rattle.std.proofs.Common.{◌≡◌, ◌⊎◌, ℕ, ◌≤◌, List, [], ◌∷◌, map, length, cond, Bool, true, false, not, nat_lt, Option, Some, None, Result, Ok, Err, IfOk, option_map, option_and_then, unwrap_or, Ordering, Less, Equal, Greater, nat_cmp, bytes_eq, is_some, inl, inr, refl, sym, ap, subst, ◌∙◌}
 use Rattle.std.specs.List.{list_any, AllByRecursion}
 use Rattle.std.specs.Map.{keys_of}
 use Rattle.std.specs.Option.{ForSome}
@@ -22,7 +22,7 @@ use Rattle.fv_datum.proofs.Spelled.{spelled-fits}
 use Rattle.fv_model.specs.Bundles.{IsAscending, Things, Bundled}
 use Rattle.fv_datum.specs.Members.{pairs}
 use Rattle.fv_model.specs.Draft.{Part, Drafted, draft_of}
-use Rattle.fv_model.specs.Reading.{bad_name, root_missing, unknown_type, misfits, misfits_in, has_misfit, wrong_kind, Kinds, kinds_in, is_missing, dangles, dangles_in, has_dangling, dangling_ref, is_other, strays, strays_in, has_stray, ref_type, is_long, long_in, has_long, long_text, too_large, root_type, conditions, draft_fault, datum_at, field_of, object_of, bundle_of, judged, bundle_read}
+use Rattle.fv_model.specs.Reading.{bad_name, root_missing, unknown_type, flaw_among, has_flaw, some_flawed, misfits, wrong_kind, ObjectTypes, object_types, is_missing, dangles, dangling_ref, is_other, strays, ref_type, is_long, long_text, too_large, root_type, conditions, draft_fault, datum_at, field_of, object_of, bundle_of, judged, bundle_read}
 use Rattle.fv_model.specs.Types.{Held, texts, integers, decimals, booleans, dates, instants, references, DeclaredFields, Declared, FieldsApart, kind_of, name_at}
 use Rattle.fv_model.specs.Views.{bundle_view}
 use Rattle.fv_model.specs.WellTyped.{NamesObject, RefersTo, IsWithinLimits, FitsUse, FieldsFit, FitsType, IsWellTyped, HasRootType}
@@ -32,7 +32,7 @@ use Rattle.fv_model.specs.declared.fault.BundleFault.TheVariants.{Memory}
 use Rattle.fv_model.specs.declared.types.TypeId.{TypeId}
 use Rattle.fv_model.proofs.Apart.{found_apart}
 use Rattle.fv_model.proofs.Bools.{not_false, or_left, or_right}
-use Rattle.fv_model.proofs.Law.{found_each}
+use Rattle.fv_model.proofs.Law.{found_each, flaw_known}
 
 -- ---- one datum
 
@@ -76,9 +76,9 @@ chosen true x rest y e = inl (refl, cc)
 chosen false x rest y e = inr (refl, e)
 
 -- where a name stands among the names of types, an object of that type has it
-named_object : (ts : Declared) (ps : List Part) (name type : List ℕ) → at_name name (kinds_in ps) ≡ Some type → NamesObject (map (object_of ts) ps) type name
+named_object : (ts : Declared) (ps : List Part) (name type : List ℕ) → at_name name (object_types ps) ≡ Some type → NamesObject (map (object_of ts) ps) type name
 named_object ts [] name type e = cc
-named_object ts (p ∷ ps) name type e = elim (chosen (bytes_eq name p.name) p.kind (at_name name (kinds_in ps)) type e) [
+named_object ts (p ∷ ps) name type e = elim (chosen (bytes_eq name p.name) p.type_name (at_name name (object_types ps)) type e) [
   | inl here ↦ ((object_of ts p).1, rw here.0 refl, here.1)
   | inr more ↦ (let found = named_object ts ps name type more.1 in (found.0, rw more.0 found.1, found.2))
 ]
@@ -95,16 +95,16 @@ read_name type name _ e = cc
 same_name : (x y : List ℕ) → not (bytes_eq x y) ≡ false → x ≡ y
 same_name x y e = (bytes_eq-Decides x y).0 (not_false (bytes_eq x y) e)
 
-refers_at : (ts : Declared) (ps : List Part) (type name : List ℕ) (o : Option (List ℕ)) → is_missing (kinds_in ps) o ≡ false → is_other type (option_and_then (λ n. at_name n (kinds_in ps)) o) ≡ false → o ≡ Some name → NamesObject (map (object_of ts) ps) type name
+refers_at : (ts : Declared) (ps : List Part) (type name : List ℕ) (o : Option (List ℕ)) → is_missing (object_types ps) o ≡ false → is_other type (option_and_then (λ n. at_name n (object_types ps)) o) ≡ false → o ≡ Some name → NamesObject (map (object_of ts) ps) type name
 refers_at ts ps type name None there own is = cc
 refers_at ts ps type name (Some s) there own is =
     let same : s ≡ name = cc in
-    let found = some_of (at_name s (kinds_in ps)) there in
+    let found = some_of (at_name s (object_types ps)) there in
     let other : not (bytes_eq type found.0) ≡ false = rw found.1 at own in
-    let kind : type ≡ found.0 = same_name type found.0 other in
-    subst (λ (n : List ℕ). NamesObject (map (object_of ts) ps) type n) same (named_object ts ps s type (rw kind found.1))
+    let same_type : type ≡ found.0 = same_name type found.0 other in
+    subst (λ (n : List ℕ). NamesObject (map (object_of ts) ps) type n) same (named_object ts ps s type (rw same_type found.1))
 
-refers_some : (ts : Declared) (ps : List Part) (type : Held) (j : json.Data) → dangles (kinds_in ps) (Some type) j ≡ false → strays (kinds_in ps) (Some type) j ≡ false → RefersTo (map (object_of ts) ps) type (datum_at type (Some j))
+refers_some : (ts : Declared) (ps : List Part) (type : Held) (j : json.Data) → dangles (object_types ps) (Some type) j ≡ false → strays (object_types ps) (Some type) j ≡ false → RefersTo (map (object_of ts) ps) type (datum_at type (Some j))
 refers_some ts ps (references type) j there own = λ name is. refers_at ts ps type name (as_str j) there own (read_name type name j is)
 refers_some ts ps _ j there own = tt
 
@@ -130,13 +130,13 @@ none_at t q (json.member l e ms) j is none =
     ]
 
 -- no fault at a given datum
-record IsSound (kinds : Kinds) (type : Option Held) (j : json.Data) : Type 0 where
+record IsSound (types : ObjectTypes) (type : Option Held) (j : json.Data) : Type 0 where
   fits : misfits type j ≡ false
-  there : dangles kinds type j ≡ false
-  own : strays kinds type j ≡ false
+  there : dangles types type j ≡ false
+  own : strays types type j ≡ false
   short : is_long type j ≡ false
 
-fits_at : (ts : Declared) (ps : List Part) (type : Held) (o : Option json.Data) → ((j : json.Data) → o ≡ Some j → IsSound (kinds_in ps) (Some type) j) → FitsUse (map (object_of ts) ps) type (datum_at type o)
+fits_at : (ts : Declared) (ps : List Part) (type : Held) (o : Option json.Data) → ((j : json.Data) → o ≡ Some j → IsSound (object_types ps) (Some type) j) → FitsUse (map (object_of ts) ps) type (datum_at type o)
 fits_at ts ps type None h = (inl refl, tt, refers_null (map (object_of ts) ps) type)
 fits_at ts ps type (Some j) h =
     let sound = h j refl in
@@ -144,64 +144,48 @@ fits_at ts ps type (Some j) h =
     (fits.0, fits.1, refers_some ts ps type j sound.there sound.own)
 
 -- no fault among the given data
-record AreSound (kinds : Kinds) (all : DeclaredFields) (given : List (List ℕ × json.Data)) : Type 0 where
-  fits : misfits_in all given ≡ false
-  there : dangles_in kinds all given ≡ false
-  own : strays_in kinds all given ≡ false
-  short : long_in all given ≡ false
+record AreSound (types : ObjectTypes) (all : DeclaredFields) (given : List (List ℕ × json.Data)) : Type 0 where
+  fits : flaw_among misfits all given ≡ false
+  there : flaw_among (dangles types) all given ≡ false
+  own : flaw_among (strays types) all given ≡ false
+  short : flaw_among is_long all given ≡ false
 
-fits_found : (ts : Declared) (ps : List Part) (all : DeclaredFields) (given : json.Members) (f : List ℕ × Held) → AreSound (kinds_in ps) all (pairs given) → at_name f.0 all ≡ Some f.1 → FitsUse (map (object_of ts) ps) f.1 (datum_at f.1 (get_member f.0 given))
+fits_found : (ts : Declared) (ps : List Part) (all : DeclaredFields) (given : json.Members) (f : List ℕ × Held) → AreSound (object_types ps) all (pairs given) → at_name f.0 all ≡ Some f.1 → FitsUse (map (object_of ts) ps) f.1 (datum_at f.1 (get_member f.0 given))
 fits_found ts ps all given f sound found =
     fits_at ts ps f.1 (get_member f.0 given) (λ j is. record {
       fits = rw found at (none_at (λ g. misfits (at_name g.0 all) g.1) f.0 given j is sound.fits);
-      there = rw found at (none_at (λ g. dangles (kinds_in ps) (at_name g.0 all) g.1) f.0 given j is sound.there);
-      own = rw found at (none_at (λ g. strays (kinds_in ps) (at_name g.0 all) g.1) f.0 given j is sound.own);
+      there = rw found at (none_at (λ g. dangles (object_types ps) (at_name g.0 all) g.1) f.0 given j is sound.there);
+      own = rw found at (none_at (λ g. strays (object_types ps) (at_name g.0 all) g.1) f.0 given j is sound.own);
       short = rw found at (none_at (λ g. is_long (at_name g.0 all) g.1) f.0 given j is sound.short);
     })
 
-fields_fit : (ts : Declared) (ps : List Part) (all ds : DeclaredFields) (given : json.Members) → AreSound (kinds_in ps) all (pairs given) → AllByRecursion (λ e. at_name e.0 all ≡ Some e.1) ds → FieldsFit (map (object_of ts) ps) ds (map (field_of given) ds)
+fields_fit : (ts : Declared) (ps : List Part) (all ds : DeclaredFields) (given : json.Members) → AreSound (object_types ps) all (pairs given) → AllByRecursion (λ e. at_name e.0 all ≡ Some e.1) ds → FieldsFit (map (object_of ts) ps) ds (map (field_of given) ds)
 fields_fit ts ps all [] given sound known = tt
 fields_fit ts ps all (d ∷ ds) given sound known = (refl, fits_found ts ps all given d sound known.0, fields_fit ts ps all ds given sound known.1)
 
 -- ---- the object
 
-pub misfits_none : (ts : Declared) (p : Part) (ds : DeclaredFields) → at_name p.kind ts ≡ Some ds → has_misfit ts p ≡ false → misfits_in ds (pairs p.given) ≡ false
-unfolding has_misfit
-misfits_none ts p ds is e = rw is at e
-
-long_none : (ts : Declared) (p : Part) (ds : DeclaredFields) → at_name p.kind ts ≡ Some ds → has_long ts p ≡ false → long_in ds (pairs p.given) ≡ false
-unfolding has_long
-long_none ts p ds is e = rw is at e
-
-there_none : (ts : Declared) (kinds : Kinds) (p : Part) (ds : DeclaredFields) → at_name p.kind ts ≡ Some ds → has_dangling ts kinds p ≡ false → dangles_in kinds ds (pairs p.given) ≡ false
-unfolding has_dangling
-there_none ts kinds p ds is e = rw is at e
-
-own_none : (ts : Declared) (kinds : Kinds) (p : Part) (ds : DeclaredFields) → at_name p.kind ts ≡ Some ds → has_stray ts kinds p ≡ false → strays_in kinds ds (pairs p.given) ≡ false
-unfolding has_stray
-own_none ts kinds p ds is e = rw is at e
-
 -- no fault at an object
-record IsSoundPart (ts : Declared) (kinds : Kinds) (p : Part) : Type 0 where
-  typed : not (is_some (at_name p.kind ts)) ≡ false
-  fits : has_misfit ts p ≡ false
-  there : has_dangling ts kinds p ≡ false
-  own : has_stray ts kinds p ≡ false
-  short : has_long ts p ≡ false
+record IsSoundPart (ts : Declared) (types : ObjectTypes) (p : Part) : Type 0 where
+  typed : not (is_some (at_name p.type_name ts)) ≡ false
+  fits : has_flaw misfits ts p ≡ false
+  there : has_flaw (dangles types) ts p ≡ false
+  own : has_flaw (strays types) ts p ≡ false
+  short : has_flaw is_long ts p ≡ false
 
-fits_known : (ts : Declared) (ps : List Part) (p : Part) (ds : DeclaredFields) → FieldsApart ts → at_name p.kind ts ≡ Some ds → AreSound (kinds_in ps) ds (pairs p.given) → FitsType ts (map (object_of ts) ps) (object_of ts p).1
+fits_known : (ts : Declared) (ps : List Part) (p : Part) (ds : DeclaredFields) → FieldsApart ts → at_name p.type_name ts ≡ Some ds → AreSound (object_types ps) ds (pairs p.given) → FitsType ts (map (object_of ts) ps) (object_of ts p).1
 fits_known ts ps p ds apart is given =
-    let fit = fields_fit ts ps ds ds p.given given (found_each ds (found_apart p.kind ts ds apart is)) in
+    let fit = fields_fit ts ps ds ds p.given given (found_each ds (found_apart p.type_name ts ds apart is)) in
     record { fields = ds; declared = is; fit = rw is fit }
 
-fits_type : (ts : Declared) (ps : List Part) (p : Part) → FieldsApart ts → IsSoundPart ts (kinds_in ps) p → FitsType ts (map (object_of ts) ps) (object_of ts p).1
+fits_type : (ts : Declared) (ps : List Part) (p : Part) → FieldsApart ts → IsSoundPart ts (object_types ps) p → FitsType ts (map (object_of ts) ps) (object_of ts p).1
 fits_type ts ps p apart sound =
-    let found = some_of (at_name p.kind ts) sound.typed in
+    let found = some_of (at_name p.type_name ts) sound.typed in
     fits_known ts ps p found.0 apart found.1 (record {
-      fits = misfits_none ts p found.0 found.1 sound.fits;
-      there = there_none ts (kinds_in ps) p found.0 found.1 sound.there;
-      own = own_none ts (kinds_in ps) p found.0 found.1 sound.own;
-      short = long_none ts p found.0 found.1 sound.short;
+      fits = sym (flaw_known misfits ts p found.0 found.1) ∙ sound.fits;
+      there = sym (flaw_known (dangles (object_types ps)) ts p found.0 found.1) ∙ sound.there;
+      own = sym (flaw_known (strays (object_types ps)) ts p found.0 found.1) ∙ sound.own;
+      short = sym (flaw_known is_long ts p found.0 found.1) ∙ sound.short;
     })
 
 -- ---- the bundle
@@ -245,27 +229,27 @@ all_of : {X Y : Type 0} (t : X → Bool) (f : X → Y) (P : Y → Type 0) (xs : 
 all_of t f P [] each none = tt
 all_of t f P (x ∷ xs) each none = (each x (or_left (t x) (list_any t xs) none), all_of t f P xs each (or_right (t x) (list_any t xs) none))
 
-typed_all : (ts : Declared) (all ps : List Part) → FieldsApart ts → unknown_type ts ps ≡ false → wrong_kind ts ps ≡ false → list_any (has_dangling ts (kinds_in all)) ps ≡ false → list_any (has_stray ts (kinds_in all)) ps ≡ false → long_text ts ps ≡ false
+typed_all : (ts : Declared) (all ps : List Part) → FieldsApart ts → unknown_type ts ps ≡ false → wrong_kind ts ps ≡ false → some_flawed (dangles (object_types all)) ts ps ≡ false → some_flawed (strays (object_types all)) ts ps ≡ false → long_text ts ps ≡ false
     → AllByRecursion (λ o. FitsType ts (map (object_of ts) all) o.1) (map (object_of ts) ps)
 typed_all ts all [] apart typed fits there own short = tt
 typed_all ts all (p ∷ ps) apart typed fits there own short =
-    let sound : IsSoundPart ts (kinds_in all) p = record {
+    let sound : IsSoundPart ts (object_types all) p = record {
       typed = or_left _ (unknown_type ts ps) typed;
       fits = or_left _ (wrong_kind ts ps) fits;
-      there = or_left _ (list_any (has_dangling ts (kinds_in all)) ps) there;
-      own = or_left _ (list_any (has_stray ts (kinds_in all)) ps) own;
+      there = or_left _ (some_flawed (dangles (object_types all)) ts ps) there;
+      own = or_left _ (some_flawed (strays (object_types all)) ts ps) own;
       short = or_left _ (long_text ts ps) short;
     } in (
       fits_type ts all p apart sound,
-      typed_all ts all ps apart (or_right (not (is_some (at_name p.kind ts))) _ typed) (or_right (has_misfit ts p) _ fits) (or_right (has_dangling ts (kinds_in all) p) _ there)
-          (or_right (has_stray ts (kinds_in all) p) _ own) (or_right (has_long ts p) _ short),
+      typed_all ts all ps apart (or_right (not (is_some (at_name p.type_name ts))) _ typed) (or_right (has_flaw misfits ts p) _ fits) (or_right (has_flaw (dangles (object_types all)) ts p) _ there)
+          (or_right (has_flaw (strays (object_types all)) ts p) _ own) (or_right (has_flaw is_long ts p) _ short),
     )
 
 well_typed_of : (ts : Declared) (asked : Option (List ℕ)) (root : List ℕ) (ps : List Part) → FieldsApart ts → IsFaultless ts asked root ps → IsAscending (keys_of (map (object_of ts) ps)) → IsWellTyped ts (record { root = root; objects = map (object_of ts) ps })
 well_typed_of ts asked root ps apart ok ascending =
     let few : length ps ≤ 256 = ltb-false 256 (length ps) (or_left (nat_lt 256 (length ps)) (long_text ts ps) ok.small) in
-    let kind = some_of (at_name root (kinds_in ps)) ok.rooted in
-    let found = named_object ts ps root kind.0 kind.1 in
+    let root_is = some_of (at_name root (object_types ps)) ok.rooted in
+    let found = named_object ts ps root root_is.0 root_is.1 in
     record {
       few = rw length-map few;
       ascending = ascending;
@@ -276,9 +260,9 @@ well_typed_of ts asked root ps apart ok ascending =
 
 root_of : (ts : Declared) (type root : List ℕ) (ps : List Part) → IsFaultless ts (Some type) root ps → HasRootType type (record { root = root; objects = map (object_of ts) ps })
 root_of ts type root ps ok =
-    let kind = some_of (at_name root (kinds_in ps)) ok.rooted in
-    let own : not (bytes_eq type kind.0) ≡ false = rw kind.1 at ok.type in
-    named_object ts ps root type (rw (same_name type kind.0 own) kind.1)
+    let root_is = some_of (at_name root (object_types ps)) ok.rooted in
+    let own : not (bytes_eq type root_is.0) ≡ false = rw root_is.1 at ok.type in
+    named_object ts ps root type (rw (same_name type root_is.0 own) root_is.1)
 
 pub read_well_typed : (ts : Declared) (asked : Option (List ℕ)) (j : json.Data) (b : Bundled) → FieldsApart ts → IsAscending (keys_of b.objects) → bundle_read ts asked j ≡ Ok b → IsWellTyped ts b
 read_well_typed ts asked j b apart ascending e =

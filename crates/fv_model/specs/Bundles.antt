@@ -9,9 +9,9 @@ use Rattle.fv_datum.specs.Data.{Data}
 abbrev pub IsAscending : List (List ℕ) → Type 0
 IsAscending = IsStrictlySortedBy (slice_cmp nat_cmp)
 
--- an object: its type, and a finite map from the type's fields to data, in the order of the fields
+-- an object: its type's name, and a finite map from the type's fields to data, in the order of the fields
 pub record Thing : Type 0 where
-  pub kind : List ℕ
+  pub type_name : List ℕ
   pub fields : List (List ℕ × Data)
 
 -- objects by their names

@@ -7,7 +7,7 @@ use Rattle.fv_datum.specs.Members.{pairs, has_only, each_some, text_at}
 -- an object's name, its type's name and the fields that are given
 pub record Part : Type 0 where
   pub name : List ℕ
-  pub kind : List ℕ
+  pub type_name : List ℕ
   pub given : json.Members
 
 -- the root's name, and the objects in the order of their names
@@ -23,7 +23,7 @@ given_in (Some j) = as_object j
 -- `{"type":TYPE,"fields":{..}}`, `fields` may be missing
 abbrev pub part_of : List ℕ × json.Data → Option Part
 part_of m = if has_only (codes "type" ∷ codes "fields" ∷ []) m.1
-    then option_and_then (λ kind. option_map (λ given. record { name = m.0; kind = kind; given = given }) (given_in (get
+    then option_and_then (λ type. option_map (λ given. record { name = m.0; type_name = type; given = given }) (given_in (get
     (codes "fields") m.1))) (text_at (codes "type") m.1)
     else None
 

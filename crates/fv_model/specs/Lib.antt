@@ -1,6 +1,7 @@
 pub mod Bundles
 pub mod Draft
 pub mod FaultNames
+pub mod Flaws
 pub mod PartViews
 pub mod Reading
 pub mod Types

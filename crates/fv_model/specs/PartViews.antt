@@ -10,7 +10,7 @@ use Rattle.serde_json.specs.Data as json
 use Rattle.serde_json.specs.View.{members_view}
 use Rattle.serde_json.specs.declared.value.Value.{Value}
 use Rattle.fv_model.specs.Draft as spec
-use Rattle.fv_model.specs.Reading.{Kinds}
+use Rattle.fv_model.specs.Reading.{ObjectTypes}
 use Rattle.fv_model.specs.declared.parts.Part.{Part}
 
 -- the fields that are given: none where there is no such member
@@ -19,9 +19,9 @@ given_view None = json.no_members
 given_view (Some m) = members_view m.now.entries
 
 -- the names of objects' types by the objects' names, as the code has them
-abbrev pub kinds_view : HashMap (Bor (List ℕ)) (Bor (List ℕ)) (BuildHasherDefault FoldHasher) → Kinds
-kinds_view m = map (λ e. (e.0.now, e.1.now)) m.entries
+abbrev pub object_types_view : HashMap (Bor (List ℕ)) (Bor (List ℕ)) (BuildHasherDefault FoldHasher) → ObjectTypes
+object_types_view m = map (λ e. (e.0.now, e.1.now)) m.entries
 
 -- an object of a draft
 abbrev pub part_view : Part → spec.Part
-part_view p = record { name = p.name.now; kind = p.kind.now; given = given_view p.given }
+part_view p = record { name = p.name.now; type_name = p.type_name.now; given = given_view p.given }

@@ -18,15 +18,15 @@ use Rattle.fv_model.specs.declared.fault.BundleFault.TheVariants.{Shape, BadName
 
 -- the fields of a type: none where it isn't declared
 abbrev pub fields_of : Declared → List ℕ → DeclaredFields
-fields_of ts kind = unwrap_or (at_name kind ts) []
+fields_of ts type = unwrap_or (at_name type ts) []
 
 -- the names of objects, each with the name of its type
-abbrev pub Kinds : Type 0
-Kinds = List (List ℕ × List ℕ)
+abbrev pub ObjectTypes : Type 0
+ObjectTypes = List (List ℕ × List ℕ)
 
 -- those of the objects that are given
-abbrev pub kinds_in : List Part → Kinds
-kinds_in = map (λ p. (p.name, p.kind))
+abbrev pub object_types : List Part → ObjectTypes
+object_types = map (λ p. (p.name, p.type_name))
 
 -- ---- what can be wrong
 
@@ -36,111 +36,91 @@ bad_name = list_any (λ p. not (names p.name))
 
 -- the root names no object
 abbrev pub root_missing : List ℕ → List Part → Bool
-root_missing root ps = not (is_some (at_name root (kinds_in ps)))
+root_missing root ps = not (is_some (at_name root (object_types ps)))
 
 -- an object's type isn't declared
 abbrev pub unknown_type : Declared → List Part → Bool
-unknown_type ts = list_any (λ p. not (is_some (at_name p.kind ts)))
+unknown_type ts = list_any (λ p. not (is_some (at_name p.type_name ts)))
 
--- the fields of an object's type, where it is declared, and what is given fail a test
-abbrev pub fails_in : (DeclaredFields → List (List ℕ × json.Data) → Bool) → Option DeclaredFields → json.Members → Bool
-fails_in test None given = false
-fails_in test (Some fields) given = test fields (pairs given)
+-- a test of a datum that is given, and of what its field holds: None where the object's type has no such field
+abbrev pub Flaw : Type 0
+Flaw = Option Held → json.Data → Bool
 
--- a field is given that isn't the type's
-abbrev pub undeclared_in : DeclaredFields → List (List ℕ × json.Data) → Bool
-undeclared_in fields = list_any (λ g. not (is_some (at_name g.0 fields)))
+-- one of the data that are given for the fields of a type has the flaw
+abbrev pub flaw_among : Flaw → DeclaredFields → List (List ℕ × json.Data) → Bool
+flaw_among flaw fields = list_any (λ g. flaw (at_name g.0 fields) g.1)
 
--- a field is given that the object's type doesn't have
-unfoldable pub has_undeclared : Declared → Part → Bool
-has_undeclared ts p = fails_in undeclared_in (at_name p.kind ts) p.given
+-- the same, where the type is declared; none has it where it isn't
+abbrev pub among_fields : Flaw → Option DeclaredFields → json.Members → Bool
+among_fields flaw None given = false
+among_fields flaw (Some fields) given = flaw_among flaw fields (pairs given)
 
--- a field is given that its object's type doesn't have
-abbrev pub unknown_field : Declared → List Part → Bool
-unknown_field ts = list_any (has_undeclared ts)
+-- the same, of an object
+unfoldable pub has_flaw : Flaw → Declared → Part → Bool
+has_flaw flaw ts p = among_fields flaw (at_name p.type_name ts) p.given
 
--- a datum that isn't of its field's type use
-abbrev pub misfits : Option Held → json.Data → Bool
+-- the same, of one of the objects
+abbrev pub some_flawed : Flaw → Declared → List Part → Bool
+some_flawed flaw ts = list_any (has_flaw flaw ts)
+
+-- its object's type has no such field
+abbrev pub undeclared : Flaw
+undeclared held j = not (is_some held)
+
+-- it isn't of its field's type use
+abbrev pub misfits : Flaw
 misfits None j = false
 misfits (Some held) j = not (is_some (spelled (kind_of held) j))
 
--- a given datum isn't of its field's type use
-abbrev pub misfits_in : DeclaredFields → List (List ℕ × json.Data) → Bool
-misfits_in fields = list_any (λ g. misfits (at_name g.0 fields) g.1)
-
--- the same, of an object
-unfoldable pub has_misfit : Declared → Part → Bool
-has_misfit ts p = fails_in misfits_in (at_name p.kind ts) p.given
-
--- a datum isn't of its field's type use
-abbrev pub wrong_kind : Declared → List Part → Bool
-wrong_kind ts = list_any (has_misfit ts)
-
 -- a name that no object has
-abbrev pub is_missing : Kinds → Option (List ℕ) → Bool
-is_missing kinds None = false
-is_missing kinds (Some name) = not (is_some (at_name name kinds))
+abbrev pub is_missing : ObjectTypes → Option (List ℕ) → Bool
+is_missing types None = false
+is_missing types (Some name) = not (is_some (at_name name types))
 
--- a reference to no object
-abbrev pub dangles : Kinds → Option Held → json.Data → Bool
-dangles kinds (Some (references type)) j = is_missing kinds (as_str j)
-dangles kinds _ j = false
-
--- one of the given references is to no object
-abbrev pub dangles_in : Kinds → DeclaredFields → List (List ℕ × json.Data) → Bool
-dangles_in kinds fields = list_any (λ g. dangles kinds (at_name g.0 fields) g.1)
-
--- the same, of an object
-unfoldable pub has_dangling : Declared → Kinds → Part → Bool
-has_dangling ts kinds p = fails_in (dangles_in kinds) (at_name p.kind ts) p.given
-
--- a reference names no object
-abbrev pub dangling_ref : Declared → List Part → Bool
-dangling_ref ts ps = list_any (has_dangling ts (kinds_in ps)) ps
+-- it is a reference to no object
+abbrev pub dangles : ObjectTypes → Flaw
+dangles types (Some (references type)) j = is_missing types (as_str j)
+dangles types _ j = false
 
 -- another type than this one
 abbrev pub is_other : List ℕ → Option (List ℕ) → Bool
 is_other type None = false
-is_other type (Some kind) = not (bytes_eq type kind)
+is_other type (Some own) = not (bytes_eq type own)
 
--- a reference to an object of another type than the field's
-abbrev pub strays : Kinds → Option Held → json.Data → Bool
-strays kinds (Some (references type)) j = is_other type (option_and_then (λ name. at_name name kinds) (as_str j))
-strays kinds _ j = false
+-- it is a reference to an object of another type than the field's
+abbrev pub strays : ObjectTypes → Flaw
+strays types (Some (references type)) j = is_other type (option_and_then (λ name. at_name name types) (as_str j))
+strays types _ j = false
 
--- one of the given references is to an object of another type
-abbrev pub strays_in : Kinds → DeclaredFields → List (List ℕ × json.Data) → Bool
-strays_in kinds fields = list_any (λ g. strays kinds (at_name g.0 fields) g.1)
-
--- the same, of an object
-unfoldable pub has_stray : Declared → Kinds → Part → Bool
-has_stray ts kinds p = fails_in (strays_in kinds) (at_name p.kind ts) p.given
-
--- a reference names an object of another type than declared
-abbrev pub ref_type : Declared → List Part → Bool
-ref_type ts ps = list_any (has_stray ts (kinds_in ps)) ps
-
--- a text of more than 65,536 bytes in a text field
+-- a text of more than 65,536 bytes
 abbrev pub is_long_text : Option (List ℕ) → Bool
 is_long_text None = false
 is_long_text (Some s) = nat_lt 65536 (length s)
 
--- a text that is too long is given for a text field
-abbrev pub is_long : Option Held → json.Data → Bool
+-- it is a text that is too long, for a text field
+abbrev pub is_long : Flaw
 is_long (Some texts) j = is_long_text (as_str j)
 is_long _ j = false
 
--- one of the given texts is too long
-abbrev pub long_in : DeclaredFields → List (List ℕ × json.Data) → Bool
-long_in fields = list_any (λ g. is_long (at_name g.0 fields) g.1)
+-- a field is given that its object's type doesn't have
+abbrev pub unknown_field : Declared → List Part → Bool
+unknown_field = some_flawed undeclared
 
--- the same, of an object
-unfoldable pub has_long : Declared → Part → Bool
-has_long ts p = fails_in long_in (at_name p.kind ts) p.given
+-- a datum isn't of its field's type use
+abbrev pub wrong_kind : Declared → List Part → Bool
+wrong_kind = some_flawed misfits
+
+-- a reference names no object
+abbrev pub dangling_ref : Declared → List Part → Bool
+dangling_ref ts ps = some_flawed (dangles (object_types ps)) ts ps
+
+-- a reference names an object of another type than declared
+abbrev pub ref_type : Declared → List Part → Bool
+ref_type ts ps = some_flawed (strays (object_types ps)) ts ps
 
 -- a text is too long
 abbrev pub long_text : Declared → List Part → Bool
-long_text ts = list_any (has_long ts)
+long_text = some_flawed is_long
 
 -- more than 256 objects, or a text that is too long
 abbrev pub too_large : Declared → List Part → Bool
@@ -149,7 +129,7 @@ too_large ts ps = nat_lt 256 (length ps) || long_text ts ps
 -- the root is of another type than the one that is asked
 abbrev pub root_type : Option (List ℕ) → List ℕ → List Part → Bool
 root_type None root ps = false
-root_type (Some type) root ps = is_other type (at_name root (kinds_in ps))
+root_type (Some type) root ps = is_other type (at_name root (object_types ps))
 
 -- what can be wrong, in the order in which it is answered
 abbrev pub conditions : Declared → Option (List ℕ) → Drafted → List (Bool × BundleFault)
@@ -191,7 +171,7 @@ field_of given f = (f.0, datum_at f.1 (get_member f.0 given))
 
 -- an object with its name: each field of its type, in the type's order
 abbrev pub object_of : Declared → Part → List ℕ × Thing
-object_of ts p = (p.name, record { kind = p.kind; fields = map (field_of p.given) (fields_of ts p.kind) })
+object_of ts p = (p.name, record { type_name = p.type_name; fields = map (field_of p.given) (fields_of ts p.type_name) })
 
 -- the bundle that a draft is
 abbrev pub bundle_of : Declared → Drafted → Bundled

@@ -1,5 +1,5 @@
 -- The values that contracts see.
-pub use Rattle.fv_model.specs.PartViews.{given_view, kinds_view, part_view}
+pub use Rattle.fv_model.specs.PartViews.{given_view, object_types_view, part_view}
 use Rattle.std.specs.Prelude.{ℕ, List, map, String, string_bytes}
 use Rattle.fv_datum.specs.Data.{Data}
 use Rattle.fv_datum.specs.View.{view}
@@ -23,7 +23,7 @@ field_view f = (string_bytes f.name, view f.datum)
 
 -- an object
 abbrev pub object_view : Object → Thing
-object_view o = record { kind = string_bytes o.kind; fields = map field_view o.fields.items }
+object_view o = record { type_name = string_bytes o.type_name; fields = map field_view o.fields.items }
 
 -- an object with its name
 abbrev pub named_view : String Global × Object → List ℕ × Thing

@@ -16,7 +16,7 @@ IsWithinLimits _ = Unit {0}
 
 -- the name is that of an object of the type
 abbrev pub NamesObject : Things → List ℕ → List ℕ → Type 0
-NamesObject os type name = (t : Thing) × (at_name name os ≡ Some t) × (t.kind ≡ type)
+NamesObject os type name = (t : Thing) × (at_name name os ≡ Some t) × (t.type_name ≡ type)
 
 -- where the field holds references, a name that the datum is names an object of their type
 abbrev pub RefersTo : Things → Held → Data → Type 0
@@ -37,7 +37,7 @@ FieldsFit os (d ∷ ds) [] = ⊥
 -- an object of a declared type, in a bundle of these objects
 pub record FitsType (ts : Declared) (os : Things) (t : Thing) : Type 0 where
   pub fields : DeclaredFields
-  pub declared : at_name t.kind ts ≡ Some fields
+  pub declared : at_name t.type_name ts ≡ Some fields
   pub fit : FieldsFit os fields t.fields
 
 -- at most 256 objects, each by a name, once and in order, which the root is one of; each object is of a declared type,

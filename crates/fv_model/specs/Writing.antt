@@ -21,7 +21,7 @@ added ms (f ∷ fs) = added (if is_null f.1 then ms else json.put f.0 (datum_jso
 -- an object's JSON: its fields that aren't null, and its type
 abbrev pub thing_json : Thing → json.Data
 thing_json t = json.object (json.member (codes "fields") (json.object (added json.no_members t.fields)) (json.member (codes "type")
-    (json.string t.kind) json.no_members))
+    (json.string t.type_name) json.no_members))
 
 -- the members with each object put in
 abbrev pub objects_added : json.Members → List (List ℕ × Thing) → json.Members

@@ -8,7 +8,7 @@ ghost use Rattle.std.specs.Map.{keys_of};
 ghost use Rattle.fv_model.specs.Bundles.{IsAscending};
 ghost use Rattle.fv_model.specs.Types.{held_view, fields_view};
 ghost use Rattle.fv_model.specs.Views.{types_view, given_view, part_view, draft_view, field_view, object_view, objects_view, bundle_view};
-ghost use Rattle.fv_model.specs.Reading.{kinds_in, unknown_type, wrong_kind, has_misfit, fits_given, all_fit, datum_at, field_of, object_of, bundle_of};
+ghost use Rattle.fv_model.specs.Reading.{object_types, unknown_type, wrong_kind, has_flaw, misfits, fits_given, all_fit, datum_at, field_of, object_of, bundle_of};
 
 use crate::bundle::{Bundle, Object, Objects};
 use crate::field::Field;
@@ -76,23 +76,23 @@ fn fields_for(
 }
 
 fn object_for(alloc: Global, types: &Types, part: &Part) -> Result<Object, AllocError>
-    requires declared { is_some (at_name part.now.kind.now (types_view types.now)) ≡ true }
-    requires fits { has_misfit (types_view types.now) (part_view part.now) ≡ false }
+    requires declared { is_some (at_name part.now.type_name.now (types_view types.now)) ≡ true }
+    requires fits { has_flaw misfits (types_view types.now) (part_view part.now) ≡ false }
     ensures { IfOk result (λ o. object_view o ≡ (object_of (types_view types.now) (part_view part.now)).1) }
 {
-    let fields = match types.fields(part.kind) {
+    let fields = match types.fields(part.type_name) {
         None => unreachable!(),
         Some(fields) => fields_for(alloc, fields, part.given)?,
     };
     Ok(Object {
-        kind: String::from_str(alloc, part.kind)?,
+        type_name: String::from_str(alloc, part.type_name)?,
         fields,
     })
 }
 
 #[tactic(auto, using(crate::proofs::Anys::part_turn))]
 fn objects_for(alloc: Global, types: &Types, parts: &[Part]) -> Result<Objects, AllocError>
-    requires ascending { IsAscending (keys_of (kinds_in (map part_view parts.now))) }
+    requires ascending { IsAscending (keys_of (object_types (map part_view parts.now))) }
     requires declared { unknown_type (types_view types.now) (map part_view parts.now) ≡ false }
     requires fit { wrong_kind (types_view types.now) (map part_view parts.now) ≡ false }
     ensures { IfOk result (λ m. objects_view m ≡ map (object_of (types_view types.now)) (map part_view parts.now)) }

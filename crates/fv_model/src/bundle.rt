@@ -10,16 +10,16 @@ use indexmap::IndexMap;
 /// An object: its type's name, and a datum for each field of the type, in the fields' order.
 #[derive(Drop)]
 pub struct Object {
-    pub(crate) kind: String,
+    pub(crate) type_name: String,
     pub(crate) fields: Vec<Field>,
 }
 
 impl Object {
     /// The name of the object's type.
     pub fn type_name(&self) -> &str
-        ensures { result.now ≡ (object_view self.now).kind }
+        ensures { result.now ≡ (object_view self.now).type_name }
     {
-        self.kind.as_str()
+        self.type_name.as_str()
     }
 
     /// The fields of the object's type, with their data.

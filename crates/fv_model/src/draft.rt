@@ -1,14 +1,14 @@
-//! A bundle's JSON by its names, before any of them is judged.
-ghost use Rattle.std.specs.Prelude.{◌≡◌, IfOk, map, option_map, Some, None};
+//! A draft is read from JSON.
+ghost use Rattle.std.specs.Prelude.{◌≡◌, IfOk, map, option_map};
 ghost use Rattle.std.specs.Map.{keys_of};
 ghost use Rattle.std.specs.BTreeMap.{IsOrdered};
 ghost use Rattle.std.specs.String.{string_cmp};
 ghost use Rattle.serde_json.specs.View.{view as json_view, members_view};
-ghost use Rattle.fv_datum.specs.Members.{pairs, has_only, each_some};
+ghost use Rattle.fv_datum.specs.Members.{pairs, each_some};
 ghost use Rattle.fv_model.specs.Draft.{part_of as spec_part, given_in as spec_given, draft_of as spec_draft};
 ghost use Rattle.fv_model.specs.Bundles.{IsAscending};
-ghost use Rattle.fv_model.specs.Reading.{kinds_in};
-ghost use Rattle.fv_model.specs.Views.{given_view, kinds_view, part_view, draft_view};
+ghost use Rattle.fv_model.specs.Reading.{object_types};
+ghost use Rattle.fv_model.specs.Views.{given_view, object_types_view, part_view, draft_view};
 
 use crate::parts::{Draft, Part};
 use fv_datum::has_only;
@@ -16,7 +16,7 @@ use indexmap::IndexMap;
 use serde_json::{Map, Value};
 use std::alloc::{AllocError, Global};
 
-/// The fields that an object gives: none where it has no such member, and `None` where that is no
+/// The fields that an object gives: `Some(None)` where it has no such member, `None` where that is no
 /// object.
 fn given_in<'a>(member: Option<&'a Value>) -> Option<Option<&'a Map<String, Value>>>
     ensures { option_map given_view result ≡ spec_given (option_map (λ v. json_view v.now) member.entry) }
@@ -36,9 +36,13 @@ fn part_of<'a>(name: &'a str, value: &'a Value) -> Option<Part<'a>>
     if !has_only(value, &["type", "fields"]) {
         return None;
     }
-    let kind = value.get("type").and_then(Value::as_str)?;
+    let type_name = value.get("type").and_then(Value::as_str)?;
     let given = given_in(value.get("fields"))?;
-    Some(Part { name, kind, given })
+    Some(Part {
+        name,
+        type_name,
+        given,
+    })
 }
 
 #[tactic(auto, using(crate::proofs::Fronts::front_more))]
@@ -60,15 +64,18 @@ fn parts_of<'a>(
 }
 
 /// The names of objects' types by the objects' names, each name once.
-fn kinds_of<'a>(alloc: Global, parts: &[Part<'a>]) -> Result<IndexMap<&'a str, &'a str>, AllocError>
-    requires { IsAscending (keys_of (kinds_in (map part_view parts.now))) }
-    ensures { IfOk result (λ m. kinds_view m ≡ kinds_in (map part_view parts.now)) }
+fn object_types_of<'a>(
+    alloc: Global,
+    parts: &[Part<'a>],
+) -> Result<IndexMap<&'a str, &'a str>, AllocError>
+    requires { IsAscending (keys_of (object_types (map part_view parts.now))) }
+    ensures { IfOk result (λ m. object_types_view m ≡ object_types (map part_view parts.now)) }
 {
-    let mut kinds = IndexMap::with_capacity(alloc, parts.len())?;
+    let mut out = IndexMap::with_capacity(alloc, parts.len())?;
     for part in parts {
-        kinds.insert(part.name, part.kind)?;
+        out.insert(part.name, part.type_name)?;
     }
-    Ok(kinds)
+    Ok(out)
 }
 
 /// The draft that a JSON value is, where it has the form of a bundle.
@@ -87,11 +94,11 @@ pub(crate) fn draft_of<'a>(alloc: Global, value: &'a Value) -> Result<Option<Dra
     match parts_of(alloc, objects)? {
         None => Ok(None),
         Some(objects) => {
-            let kinds = kinds_of(alloc, &objects)?;
+            let type_names = object_types_of(alloc, &objects)?;
             Ok(Some(Draft {
                 root,
                 objects,
-                kinds,
+                type_names,
             }))
         }
     }

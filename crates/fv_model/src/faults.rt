@@ -1,10 +1,12 @@
-//! What can be wrong with a draft: a function for each condition, and the first that holds.
+//! What can be wrong with a draft: with its names and types, with one datum that is given
+//! (`is_flawed`), and which fault is the first.
 ghost use Rattle.std.specs.Prelude.{◌≡◌, map, option_map, Some};
 ghost use Rattle.serde_json.specs.View.{view as json_view, members_view};
 ghost use Rattle.fv_datum.specs.Members.{pairs};
 ghost use Rattle.fv_model.specs.Types.{held_view, fields_view, name_at};
 ghost use Rattle.fv_model.specs.Views.{types_view, part_view, draft_view};
-ghost use Rattle.fv_model.specs.Reading.{bad_name, root_missing, unknown_type, undeclared_in, has_undeclared, unknown_field, misfits, misfits_in, has_misfit, wrong_kind, kinds_in, is_other, dangles, dangles_in, has_dangling, dangling_ref, strays, strays_in, has_stray, ref_type, is_long, long_in, has_long, too_large, root_type, draft_fault};
+ghost use Rattle.fv_model.specs.Flaws.{flaw_of};
+ghost use Rattle.fv_model.specs.Reading.{bad_name, root_missing, unknown_type, flaw_among, has_flaw, some_flawed, misfits, object_types, is_other, dangles, strays, is_long, too_large, root_type, draft_fault};
 
 use crate::fault::BundleFault;
 use crate::parts::{Draft, Part};
@@ -36,7 +38,7 @@ fn bad_name(parts: &[Part]) -> bool
 fn root_missing(draft: &Draft) -> bool
     ensures { result ≡ root_missing (draft_view draft.now).root (draft_view draft.now).objects }
 {
-    draft.kind_at(draft.root).is_none()
+    draft.type_at(draft.root).is_none()
 }
 
 /// An object's type isn't declared.
@@ -45,41 +47,7 @@ fn unknown_type(types: &Types, parts: &[Part]) -> bool
     ensures { result ≡ unknown_type (types_view types.now) (map part_view parts.now) }
 {
     for p in parts {
-        if types.fields(p.kind).is_none() {
-            return true;
-        }
-    }
-    false
-}
-
-/// A field is given that the type doesn't have.
-fn undeclared_in(fields: &Fields, given: &Map<String, Value>) -> bool
-    ensures { result ≡ undeclared_in (fields_view fields.now) (pairs (members_view given.now.entries)) }
-{
-    for (name, _) in given.iter() {
-        if use_in(fields, name.as_str()).is_none() {
-            return true;
-        }
-    }
-    false
-}
-
-#[tactic(auto, unfolding(crate::specs::Reading::has_undeclared))]
-fn has_undeclared(types: &Types, part: &Part) -> bool
-    ensures { result ≡ has_undeclared (types_view types.now) (part_view part.now) }
-{
-    match (types.fields(part.kind), part.given) {
-        (Some(fields), Some(given)) => undeclared_in(fields, given),
-        _ => false,
-    }
-}
-
-#[tactic(auto, using(crate::proofs::Anys::part_turn))]
-fn unknown_field(types: &Types, parts: &[Part]) -> bool
-    ensures { result ≡ unknown_field (types_view types.now) (map part_view parts.now) }
-{
-    for p in parts {
-        if has_undeclared(types, p) {
+        if types.fields(p.type_name).is_none() {
             return true;
         }
     }
@@ -96,133 +64,34 @@ fn misfits(type_use: Option<&TypeUse>, value: &Value) -> bool
     }
 }
 
-fn misfits_in(fields: &Fields, given: &Map<String, Value>) -> bool
-    ensures { result ≡ misfits_in (fields_view fields.now) (pairs (members_view given.now.entries)) }
+/// A reference names no object.
+fn dangles(draft: &Draft, type_use: Option<&TypeUse>, value: &Value) -> bool
+    ensures { result ≡ dangles (object_types (draft_view draft.now).objects) (option_map (λ u. held_view u.now) type_use.entry) (json_view value.now) }
 {
-    for (name, value) in given.iter() {
-        if misfits(use_in(fields, name.as_str()), value) {
-            return true;
-        }
-    }
-    false
-}
-
-#[tactic(auto, unfolding(crate::specs::Reading::has_misfit))]
-fn has_misfit(types: &Types, part: &Part) -> bool
-    ensures { result ≡ has_misfit (types_view types.now) (part_view part.now) }
-{
-    match (types.fields(part.kind), part.given) {
-        (Some(fields), Some(given)) => misfits_in(fields, given),
+    match (type_use, value.as_str()) {
+        (Some(TypeUse::Ref(_)), Some(name)) => draft.type_at(name).is_none(),
         _ => false,
     }
-}
-
-#[tactic(auto, using(crate::proofs::Anys::part_turn))]
-fn wrong_kind(types: &Types, parts: &[Part]) -> bool
-    ensures { result ≡ wrong_kind (types_view types.now) (map part_view parts.now) }
-{
-    for p in parts {
-        if has_misfit(types, p) {
-            return true;
-        }
-    }
-    false
 }
 
 /// An object is of another type than this one.
-fn is_other(kind: &str, own: Option<&str>) -> bool
-    ensures { result ≡ is_other kind.now (option_map (λ s. s.now) own.entry) }
+fn is_other(type_name: &str, own: Option<&str>) -> bool
+    ensures { result ≡ is_other type_name.now (option_map (λ s. s.now) own.entry) }
 {
     match own {
         None => false,
-        Some(own) => kind != own,
+        Some(own) => type_name != own,
     }
-}
-
-/// A reference names no object.
-fn dangles(draft: &Draft, type_use: Option<&TypeUse>, value: &Value) -> bool
-    ensures { result ≡ dangles (kinds_in (draft_view draft.now).objects) (option_map (λ u. held_view u.now) type_use.entry) (json_view value.now) }
-{
-    match (type_use, value.as_str()) {
-        (Some(TypeUse::Ref(_)), Some(name)) => draft.kind_at(name).is_none(),
-        _ => false,
-    }
-}
-
-fn dangles_in(draft: &Draft, fields: &Fields, given: &Map<String, Value>) -> bool
-    ensures { result ≡ dangles_in (kinds_in (draft_view draft.now).objects) (fields_view fields.now) (pairs (members_view given.now.entries)) }
-{
-    for (name, value) in given.iter() {
-        if dangles(draft, use_in(fields, name.as_str()), value) {
-            return true;
-        }
-    }
-    false
-}
-
-#[tactic(auto, unfolding(crate::specs::Reading::has_dangling))]
-fn has_dangling(types: &Types, draft: &Draft, part: &Part) -> bool
-    ensures { result ≡ has_dangling (types_view types.now) (kinds_in (draft_view draft.now).objects) (part_view part.now) }
-{
-    match (types.fields(part.kind), part.given) {
-        (Some(fields), Some(given)) => dangles_in(draft, fields, given),
-        _ => false,
-    }
-}
-
-#[tactic(auto, using(crate::proofs::Anys::part_turn))]
-fn dangling_ref(types: &Types, draft: &Draft) -> bool
-    ensures { result ≡ dangling_ref (types_view types.now) (draft_view draft.now).objects }
-{
-    for p in &draft.objects {
-        if has_dangling(types, draft, p) {
-            return true;
-        }
-    }
-    false
 }
 
 /// A reference names an object of another type than declared.
 fn strays(draft: &Draft, type_use: Option<&TypeUse>, value: &Value) -> bool
-    ensures { result ≡ strays (kinds_in (draft_view draft.now).objects) (option_map (λ u. held_view u.now) type_use.entry) (json_view value.now) }
+    ensures { result ≡ strays (object_types (draft_view draft.now).objects) (option_map (λ u. held_view u.now) type_use.entry) (json_view value.now) }
 {
     match (type_use, value.as_str()) {
-        (Some(TypeUse::Ref(kind)), Some(name)) => is_other(kind.as_str(), draft.kind_at(name)),
+        (Some(TypeUse::Ref(target)), Some(name)) => is_other(target.as_str(), draft.type_at(name)),
         _ => false,
     }
-}
-
-fn strays_in(draft: &Draft, fields: &Fields, given: &Map<String, Value>) -> bool
-    ensures { result ≡ strays_in (kinds_in (draft_view draft.now).objects) (fields_view fields.now) (pairs (members_view given.now.entries)) }
-{
-    for (name, value) in given.iter() {
-        if strays(draft, use_in(fields, name.as_str()), value) {
-            return true;
-        }
-    }
-    false
-}
-
-#[tactic(auto, unfolding(crate::specs::Reading::has_stray))]
-fn has_stray(types: &Types, draft: &Draft, part: &Part) -> bool
-    ensures { result ≡ has_stray (types_view types.now) (kinds_in (draft_view draft.now).objects) (part_view part.now) }
-{
-    match (types.fields(part.kind), part.given) {
-        (Some(fields), Some(given)) => strays_in(draft, fields, given),
-        _ => false,
-    }
-}
-
-#[tactic(auto, using(crate::proofs::Anys::part_turn))]
-fn ref_type(types: &Types, draft: &Draft) -> bool
-    ensures { result ≡ ref_type (types_view types.now) (draft_view draft.now).objects }
-{
-    for p in &draft.objects {
-        if has_stray(types, draft, p) {
-            return true;
-        }
-    }
-    false
 }
 
 /// A text of more bytes than a field may hold.
@@ -235,48 +104,83 @@ fn is_long(type_use: Option<&TypeUse>, value: &Value) -> bool
     }
 }
 
-fn long_in(fields: &Fields, given: &Map<String, Value>) -> bool
-    ensures { result ≡ long_in (fields_view fields.now) (pairs (members_view given.now.entries)) }
+/// What can be wrong with a datum that is given.
+#[derive(Clone, Copy)]
+enum Flaw {
+    /// Its object's type has no such field.
+    Undeclared,
+    /// It is not of its field's type use.
+    Misfit,
+    /// It is a reference to no object.
+    Dangling,
+    /// It is a reference to an object of another type than its field's.
+    Stray,
+    /// It is a text that is too long.
+    LongText,
+}
+
+/// Whether a given datum has the flaw. `type_use` is its field's, `None` where its object's type has
+/// no such field.
+fn is_flawed(flaw: Flaw, draft: &Draft, type_use: Option<&TypeUse>, value: &Value) -> bool
+    ensures { result ≡ flaw_of flaw (object_types (draft_view draft.now).objects) (option_map (λ u. held_view u.now) type_use.entry) (json_view value.now) }
+{
+    match flaw {
+        Flaw::Undeclared => type_use.is_none(),
+        Flaw::Misfit => misfits(type_use, value),
+        Flaw::Dangling => dangles(draft, type_use, value),
+        Flaw::Stray => strays(draft, type_use, value),
+        Flaw::LongText => is_long(type_use, value),
+    }
+}
+
+/// Whether one of the data that are given for a type's fields has the flaw.
+fn flaw_among(flaw: Flaw, draft: &Draft, fields: &Fields, given: &Map<String, Value>) -> bool
+    ensures { result ≡ flaw_among (flaw_of flaw (object_types (draft_view draft.now).objects)) (fields_view fields.now) (pairs (members_view given.now.entries)) }
 {
     for (name, value) in given.iter() {
-        if is_long(use_in(fields, name.as_str()), value) {
+        if is_flawed(flaw, draft, use_in(fields, name.as_str()), value) {
             return true;
         }
     }
     false
 }
 
-#[tactic(auto, unfolding(crate::specs::Reading::has_long))]
-fn has_long(types: &Types, part: &Part) -> bool
-    ensures { result ≡ has_long (types_view types.now) (part_view part.now) }
+/// Whether one of an object's data has the flaw.
+#[tactic(auto, unfolding(crate::specs::Reading::has_flaw))]
+fn has_flaw(flaw: Flaw, types: &Types, draft: &Draft, part: &Part) -> bool
+    ensures { result ≡ has_flaw (flaw_of flaw (object_types (draft_view draft.now).objects)) (types_view types.now) (part_view part.now) }
 {
-    match (types.fields(part.kind), part.given) {
-        (Some(fields), Some(given)) => long_in(fields, given),
+    match (types.fields(part.type_name), part.given) {
+        (Some(fields), Some(given)) => flaw_among(flaw, draft, fields, given),
         _ => false,
     }
 }
 
-/// More than 256 objects, or a text that is too long.
+/// Whether some object's data have the flaw.
 #[tactic(auto, using(crate::proofs::Anys::part_turn))]
-fn too_large(types: &Types, parts: &[Part]) -> bool
-    ensures { result ≡ too_large (types_view types.now) (map part_view parts.now) }
+fn some_flawed(flaw: Flaw, types: &Types, draft: &Draft) -> bool
+    ensures { result ≡ some_flawed (flaw_of flaw (object_types (draft_view draft.now).objects)) (types_view types.now) (draft_view draft.now).objects }
 {
-    if parts.len() > MOST_OBJECTS {
-        return true;
-    }
-    for p in parts {
-        if has_long(types, p) {
+    for p in &draft.objects {
+        if has_flaw(flaw, types, draft, p) {
             return true;
         }
     }
     false
 }
 
-/// The root is of another type than this one.
-fn root_type(kind: &str, draft: &Draft) -> bool
-    ensures { result ≡ root_type (Some kind.now) (draft_view draft.now).root (draft_view draft.now).objects }
+/// More than 256 objects, or a text that is too long.
+fn too_large(types: &Types, draft: &Draft) -> bool
+    ensures { result ≡ too_large (types_view types.now) (draft_view draft.now).objects }
 {
-    is_other(kind, draft.kind_at(draft.root))
+    draft.objects.len() > MOST_OBJECTS || some_flawed(Flaw::LongText, types, draft)
+}
+
+/// The root is of another type than this one.
+fn root_type(type_name: &str, draft: &Draft) -> bool
+    ensures { result ≡ root_type (Some type_name.now) (draft_view draft.now).root (draft_view draft.now).objects }
+{
+    is_other(type_name, draft.type_at(draft.root))
 }
 
 /// The first fault of a draft, apart from want of memory.
@@ -296,19 +200,19 @@ pub(crate) fn draft_fault(
     if unknown_type(types, &draft.objects) {
         return Some(BundleFault::UnknownType);
     }
-    if unknown_field(types, &draft.objects) {
+    if some_flawed(Flaw::Undeclared, types, draft) {
         return Some(BundleFault::UnknownField);
     }
-    if wrong_kind(types, &draft.objects) {
+    if some_flawed(Flaw::Misfit, types, draft) {
         return Some(BundleFault::WrongKind);
     }
-    if dangling_ref(types, draft) {
+    if some_flawed(Flaw::Dangling, types, draft) {
         return Some(BundleFault::DanglingRef);
     }
-    if ref_type(types, draft) {
+    if some_flawed(Flaw::Stray, types, draft) {
         return Some(BundleFault::RefType);
     }
-    if too_large(types, &draft.objects) {
+    if too_large(types, draft) {
         return Some(BundleFault::TooLarge);
     }
     match asked {

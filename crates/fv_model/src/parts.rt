@@ -1,11 +1,11 @@
-//! A bundle as it is given: names, not judged yet.
+//! The parts of a bundle as it is given, before it is judged.
 ghost use Rattle.std.specs.Prelude.{◌≡◌, map, option_map};
 ghost use Rattle.std.specs.Map.{keys_of};
 ghost use Rattle.std.proofs.Props.{props};
 ghost use Rattle.fv_datum.specs.Lookup.{at_name};
 ghost use Rattle.fv_model.specs.Bundles.{IsAscending};
-ghost use Rattle.fv_model.specs.Reading.{kinds_in};
-ghost use Rattle.fv_model.specs.PartViews.{kinds_view, part_view};
+ghost use Rattle.fv_model.specs.Reading.{object_types};
+ghost use Rattle.fv_model.specs.PartViews.{object_types_view, part_view};
 
 use indexmap::IndexMap;
 use serde_json::{Map, Value};
@@ -14,8 +14,8 @@ use serde_json::{Map, Value};
 #[derive(Drop)]
 pub(crate) struct Part<'a> {
     pub(crate) name: &'a str,
-    pub(crate) kind: &'a str,
-    /// Its fields, where there are any.
+    pub(crate) type_name: &'a str,
+    /// The member `fields`, where there is one.
     pub(crate) given: Option<&'a Map<String, Value>>,
 }
 
@@ -25,18 +25,18 @@ pub(crate) struct Draft<'a> {
     pub(crate) root: &'a str,
     pub(crate) objects: Vec<Part<'a>>,
     /// The names of the objects' types, each by its object's name.
-    pub(crate) kinds: IndexMap<&'a str, &'a str>,
-    ghost ascending: { IsAscending (keys_of (kinds_in (map part_view objects.items))) } by { Prim.hlevel props },
-    ghost known: { kinds_view kinds ≡ kinds_in (map part_view objects.items) },
+    pub(crate) type_names: IndexMap<&'a str, &'a str>,
+    ghost ascending: { IsAscending (keys_of (object_types (map part_view objects.items))) } by { Prim.hlevel props },
+    ghost known: { object_types_view type_names ≡ object_types (map part_view objects.items) },
 }
 
 impl<'a> Draft<'a> {
     ghost use Rattle.fv_model.specs.Views.{draft_view};
 
     /// The name of the type of the object of that name.
-    pub(crate) fn kind_at(&self, name: &str) -> Option<&'a str>
-        ensures { option_map (λ s. s.now) result ≡ at_name name.now (kinds_in (draft_view self.now).objects) }
+    pub(crate) fn type_at(&self, name: &str) -> Option<&'a str>
+        ensures { option_map (λ s. s.now) result ≡ at_name name.now (object_types (draft_view self.now).objects) }
     {
-        self.kinds.get(name).copied()
+        self.type_names.get(name).copied()
     }
 }

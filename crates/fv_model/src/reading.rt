@@ -1,4 +1,4 @@
-ghost use Rattle.std.specs.Prelude.{◌≡◌, option_map, IfOk, None, Ok};
+ghost use Rattle.std.specs.Prelude.{◌≡◌, option_map, IfOk, Ok};
 ghost use Rattle.std.specs.Option.{ForSome};
 ghost use Rattle.serde_json.specs.View.{view as json_view};
 ghost use Rattle.fv_datum.specs.Answers.{Gives};

@@ -1,4 +1,4 @@
-ghost use Rattle.std.specs.Prelude.{◌≡◌, length, option_map, map, MatchResult, Some, None, true, false};
+ghost use Rattle.std.specs.Prelude.{◌≡◌, length, option_map, MatchResult, Some, None};
 ghost use Rattle.std.specs.Bool.{OnFalse};
 ghost use Rattle.fv_datum.specs.Lookup.{at_name};
 ghost use Rattle.fv_model.specs.Types.{FieldsApart, declared_view, fields_view, held_view, is_unknown, unknown_in, has_unknown, has_large, types_fault, name_at, number_of};

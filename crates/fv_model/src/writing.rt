@@ -1,4 +1,4 @@
-ghost use Rattle.std.specs.Prelude.{◌≡◌, IfOk, map, Ok};
+ghost use Rattle.std.specs.Prelude.{◌≡◌, IfOk, map};
 ghost use Rattle.serde_json.specs.Data as json;
 ghost use Rattle.serde_json.specs.View.{view as json_view, members_view};
 ghost use Rattle.fv_model.specs.Views.{field_view, object_view, objects_view, bundle_view};
@@ -42,7 +42,7 @@ fn write_object(alloc: Global, object: &Object) -> Result<Value, AllocError>
         &mut members,
         alloc,
         "type",
-        Value::String(object.kind.clone()?),
+        Value::String(object.type_name.clone()?),
     )?;
     let fields = write_fields(alloc, &object.fields)?;
     put(&mut members, alloc, "fields", Value::Object(fields))?;

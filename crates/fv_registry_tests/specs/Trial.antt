@@ -19,7 +19,7 @@ short _ = false
 
 -- an object of the type Item
 abbrev pub is_item : Thing → Bool
-is_item o = bytes_eq o.kind (codes "Item")
+is_item o = bytes_eq o.type_name (codes "Item")
 
 -- rules of data: 100 has the number 18
 abbrev pub trial : ℕ → Data → Attributes → Bool

@@ -13,7 +13,7 @@ use sqlite::{Alter, Connection, Error, Row};
 
 const READ_ABOUT: &str = "SELECT version, declarations FROM about";
 
-/// The version of the tables that are made and read here.
+/// The version of the tables.
 const VERSION: i64 = 1;
 
 /// The rows that show the version and the declarations: one.

@@ -13,6 +13,7 @@ const CREATE_ABOUT: &str =
 const CREATE_RECORD: &str =
     "CREATE TABLE record (id TEXT NOT NULL PRIMARY KEY, form TEXT NOT NULL, bundle TEXT NOT NULL)";
 
+/// The one row of `about`. Its version is `about::VERSION`: `insert_about` isn't proved with another.
 const INSERT_ABOUT: &str = "INSERT INTO about (one, version, declarations) VALUES (1, 1, ?1)";
 
 fn create_about<S: Alter>(tx: &mut Transaction<'_, S>) -> Result<usize, Error>

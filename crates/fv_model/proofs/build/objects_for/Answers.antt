@@ -2,7 +2,7 @@ use Rattle.std.proofs.Common.{◌≡◌, ℕ, List, ◌∷◌, ◌+◌, ◌++◌
 use Rattle.std.specs.Map.{keys_of}
 use Rattle.fv_datum.specs.Lookup.{at_name}
 use Rattle.fv_model.specs.Bundles.{IsAscending, Things}
-use Rattle.fv_model.specs.Reading.{has_misfit, object_of}
+use Rattle.fv_model.specs.Reading.{has_flaw, misfits, object_of}
 use Rattle.fv_model.specs.Views.{types_view, object_view, objects_view, part_view}
 use Rattle.fv_model.proofs.Anys.{part_turn}
 use Rattle.fv_model.proofs.Bools.{or_right}
@@ -25,7 +25,7 @@ loop-part-preserved c =
     let ascending = subst (λ (ns : List (List ℕ)). IsAscending ns) (sym (objects_named ts (map part_view ps))) c.requires.ascending in
     let left = subst (λ (os : Things). IsAscending (keys_of os)) (sym whole) ascending in
     record {
-      declared = or_right _ _ (sym (part_turn (λ q. not (is_some (at_name q.kind ts))) ps i p c.loop-part-test.true c.part-item.is) ∙ c.loop-part.invariant.declared);
-      fit = or_right _ _ (sym (part_turn (has_misfit ts) ps i p c.loop-part-test.true c.part-item.is) ∙ c.loop-part.invariant.fit);
+      declared = or_right _ _ (sym (part_turn (λ q. not (is_some (at_name q.type_name ts))) ps i p c.loop-part-test.true c.part-item.is) ∙ c.loop-part.invariant.declared);
+      fit = or_right _ _ (sym (part_turn (has_flaw misfits ts) ps i p c.loop-part-test.true c.part-item.is) ∙ c.loop-part.invariant.fit);
       made = rw c.in_ok-insert.ensures.entries (insert_last string_bytes object_view c.loop-part.out.entries name object more left ∙ whole);
     }

@@ -6,8 +6,8 @@ use Rattle.fv_model.specs.Views.{part_view}
 use Rattle.fv_model.proofs.Listed.{parts_ascend}
 use Rattle.fv_model.proofs.draft.draft_of.Goals as goal
 
-pub kinds_of-requires : goal.kinds_of-requires
-kinds_of-requires c =
+pub object_types_of-requires : goal.object_types_of-requires
+object_types_of-requires c =
     let es = c.in-Some-and_then.objects.now.entries in
     let parts : Some (map part_view c.in-Some-2.objects.items) ≡ each_some part_of (pairs (members_view es)) = rw c.in-Some-2.is at c.in_ok-parts_of.ensures.parts in
     rw c.deref.ensures.value (parts_ascend es (map part_view c.in-Some-2.objects.items) c.in_ok-parts_of.ensures.ordered parts)
@@ -19,4 +19,4 @@ invariant_of-result-clause-ascending c =
     parts_ascend es (map part_view c.in-Some-2.objects.items) c.in_ok-parts_of.ensures.ordered parts
 
 pub invariant_of-result-clause-known : goal.invariant_of-result-clause-known
-invariant_of-result-clause-known c = rw c.deref.ensures.value at c.in_ok-kinds-in-Some-2.ensures
+invariant_of-result-clause-known c = rw c.deref.ensures.value at c.in_ok-type_names-in-Some-2.ensures
