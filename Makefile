@@ -1,5 +1,10 @@
 # Everything is done by the toolchain's command rt (see README.md).
-.PHONY: all demo test
+.PHONY: all demo test rows planted
+
+# As many lanes as there are processors, or quarters of the free memory in GB where these are fewer.
+lanes := $(shell free=$$(awk '/MemAvailable/ { print int($$2 / 4194304) }' /proc/meminfo); \
+	cpus=$$(nproc); if [ $$free -lt $$cpus ]; then cpus=$$free; fi; \
+	if [ $$cpus -lt 1 ]; then cpus=1; fi; echo $$cpus)
 
 # Proves formd and the crates that it stands on, runs it, and leaves it as crates/formd/out/formd.
 all:
@@ -9,6 +14,14 @@ all:
 demo:
 	cd crates/formd && rt try < stdin
 
-# The merge gate: every proof from nothing, the must-fail edits, the tests, the program's run.
+# The merge gate: every proof from nothing, the must-fail edits, the tests, the programs' runs.
 test:
-	rt ci
+	RT_JOBS=$(lanes) rt ci
+
+# Compares the rows of crates/fv_rows/data, without a proof.
+rows:
+	cd crates/fv_rows && rt try $$(sed 's|.*|--data &=data/&|' args) -- $$(cat args)
+
+# Tries the wrong bodies that the gate doesn't try: make planted, or make planted NAME=fv_model.
+planted:
+	tests/planted.sh $(NAME)

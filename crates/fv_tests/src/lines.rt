@@ -110,26 +110,18 @@ pub(crate) fn add_line(bytes: &mut Vec<u8>, line: &[u8]) -> Result<(), Fail> {
     Ok(())
 }
 
-/// What an engine of these declarations writes for an input, at the moment 0.
-pub(crate) fn served(alloc: Global, declarations: &str, input: &[u8]) -> Result<Vec<u8>, Fail> {
+/// What an engine of these declarations writes for an input, by that clock.
+pub(crate) fn served_by<C: Clock>(
+    alloc: Global,
+    declarations: &str,
+    input: &[u8],
+    clock: &mut C,
+) -> Result<Vec<u8>, Fail> {
     let mut engine = opened(alloc, declarations)?;
     let mut reader = input;
     let mut output = Vec::new(alloc);
-    let mut clock = ListedClock {
-        moments: &[],
-        at: 0,
-    };
-    serve(alloc, &mut engine, &mut reader, &mut output, &mut clock)?;
+    serve(alloc, &mut engine, &mut reader, &mut output, clock)?;
     Ok(output)
-}
-
-/// Serves lines, each with its end.
-pub(crate) fn replies(alloc: Global, declarations: &str, lines: &[&str]) -> Result<Vec<u8>, Fail> {
-    let mut input = Vec::new(alloc);
-    for line in lines {
-        add_line(&mut input, line.as_bytes())?;
-    }
-    served(alloc, declarations, &input)
 }
 
 /// The bytes of lines, each with its end.

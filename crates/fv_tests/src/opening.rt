@@ -1,7 +1,6 @@
 //! Engines over a database that another engine left.
 use crate::lines::{DECLARATIONS, GET, PUT, PUT_TAKEN, SHOWN, opened};
 use crate::rules::NoRules;
-use fv_declare::DeclFault;
 use fv_engine::{Engine, OpenFault};
 use fv_store::OpenStoreFault;
 use sqlite::Connection;
@@ -29,47 +28,5 @@ fn a_database_is_opened_again(rt: HostRuntime) -> Result<(), Fail> {
         Err((fault, _)) => return Err(Fail::from(fault)),
     };
     assert_eq!(rt; engine.run(rt.alloc(), GET.as_bytes(), 0).text(), SHOWN);
-    Ok(())
-}
-
-/// Declarations with one fault each.
-#[test]
-fn declarations_are_refused(rt: HostRuntime) -> Result<(), Fail> {
-    let rows = [
-        ("{", DeclFault::NotJson),
-        ("[]", DeclFault::Shape),
-        (r#"{"types":{},"forms":{},"groups":{}}"#, DeclFault::Shape),
-        (
-            r#"{"types":{"1":{"fields":{}}},"forms":{}}"#,
-            DeclFault::BadName,
-        ),
-        (
-            r#"{"types":{},"forms":{"f":{"root":"T"}}}"#,
-            DeclFault::UnknownName,
-        ),
-        (
-            r#"{"types":{},"forms":{},"constraints":{"C":{}}}"#,
-            DeclFault::EmptyConstraint,
-        ),
-        (
-            r#"{"types":{},"forms":{},"constraints":{"C":{"rule":{"field":99}}}}"#,
-            DeclFault::UnknownRule,
-        ),
-        (
-            r#"{"types":{"T":{"fields":{"t":{"type":"text","constraints":[{"constraint":"Size","with":{"min":3,"max":2}}]}}}},"forms":{}}"#,
-            DeclFault::Attribute,
-        ),
-        (
-            r#"{"types":{"T":{"fields":{"n":{"type":"integer","constraints":[{"constraint":"Size"}]}}}},"forms":{}}"#,
-            DeclFault::UnexpectedType,
-        ),
-    ];
-    for (text, fault) in rows {
-        let connection = Connection::open_in_memory(rt.alloc())?;
-        match Engine::open(rt.alloc(), NoRules, text.as_bytes(), connection) {
-            Ok(_) => return Err(Fail::from("declarations were taken")),
-            Err((found, _)) => assert_eq!(rt; found, OpenFault::Declarations(fault)),
-        }
-    }
     Ok(())
 }

@@ -1,5 +1,0 @@
-//! Tests of the service over disks that fail.
-#![tactic(auto)]
-
-#[cfg(test)]
-mod fuses;

@@ -1,0 +1,128 @@
+//! What a schema says.
+use crate::report::Report;
+use crate::table::Table;
+use crate::texts::{Names, expanded};
+use anyhow::{Context, Result};
+use fv_declare::{Demand, Occurrence, Schema, read_schema};
+use fv_model::{TypeId, Types};
+use fv_registry::RuleSet;
+use std::alloc::Global;
+
+/// The schema of a table's head.
+fn schema_of<R: RuleSet>(
+    alloc: Global,
+    rules: &R,
+    names: &Names,
+    table: &Table<'_>,
+) -> Result<Schema> {
+    let text = expanded(alloc, names, table.head)?;
+    Ok(read_schema(alloc, rules, text.as_bytes())?)
+}
+
+/// The lines found are the table's rows.
+fn compare_lines(
+    alloc: Global,
+    table: &Table<'_>,
+    lines: &[String],
+    report: &mut Report,
+) -> Result<()> {
+    let mut found = lines.iter();
+    for row in &table.rows {
+        let line = match found.next() {
+            Some(line) => line.as_str(),
+            None => "nothing",
+        };
+        report.compare(alloc, row, row, line)?;
+    }
+    for line in found {
+        report.compare(alloc, table.head, "no more", line.as_str())?;
+    }
+    Ok(())
+}
+
+/// The name of the field at which a use stands, or `-` where it stands at the type.
+fn field_of<'a>(types: &'a Types, occurrence: &Occurrence) -> Result<&'a str> {
+    let name = types.name(occurrence.type_id());
+    let fields = types.fields(name).context("a type")?;
+    match occurrence.demand() {
+        Demand::OfObject { .. } => Ok("-"),
+        Demand::OfField { field, .. } => {
+            let (name, _) = fields.get_index(*field).context("a field")?;
+            Ok(name.as_str())
+        }
+    }
+}
+
+/// A use by its number: its type, field, constraint and message.
+fn use_shown(
+    alloc: Global,
+    types: &Types,
+    number: usize,
+    occurrence: &Occurrence,
+) -> Result<String> {
+    let name = types.name(occurrence.type_id());
+    let field = field_of(types, occurrence)?;
+    let constraint = occurrence.constraint();
+    let message = occurrence.message();
+    Ok(format!(in alloc; "{number} {name} {field} {constraint} {message}")?)
+}
+
+/// Rows `NUMBER TYPE FIELD CONSTRAINT MESSAGE`: the uses of constraints of the head's declarations, by
+/// their numbers.
+pub(crate) fn uses<R: RuleSet>(
+    alloc: Global,
+    rules: &R,
+    names: &Names,
+    table: &Table<'_>,
+    report: &mut Report,
+) -> Result<()> {
+    let schema = schema_of(alloc, rules, names, table)?;
+    let mut lines = Vec::new(alloc);
+    for (number, occurrence) in schema.occurrences().iter().enumerate() {
+        lines.push(use_shown(alloc, schema.types(), number, occurrence)?)?;
+    }
+    compare_lines(alloc, table, &lines, report)
+}
+
+/// Rows `TYPE {"FIELD": KIND, ..}`: the types of the head's declarations, in their order.
+pub(crate) fn types<R: RuleSet>(
+    alloc: Global,
+    rules: &R,
+    names: &Names,
+    table: &Table<'_>,
+    report: &mut Report,
+) -> Result<()> {
+    let schema = schema_of(alloc, rules, names, table)?;
+    let types = schema.types();
+    let mut lines = Vec::new(alloc);
+    for index in 0..types.count() {
+        let name = types.name(TypeId { index });
+        let fields = types.fields(name).context("a type")?;
+        lines.push(format!(in alloc; "{name} {fields:?}")?)?;
+    }
+    compare_lines(alloc, table, &lines, report)
+}
+
+/// The name of the type of a form's root, or `none`.
+fn root_shown<'a>(schema: &'a Schema, form: &str) -> &'a str {
+    match schema.root_of(form) {
+        Some(root) => schema.types().name(root),
+        None => "none",
+    }
+}
+
+/// Rows `ROOT: FORM`: the type of a form's root under the head's declarations, or `none`.
+pub(crate) fn forms<R: RuleSet>(
+    alloc: Global,
+    rules: &R,
+    names: &Names,
+    table: &Table<'_>,
+    report: &mut Report,
+) -> Result<()> {
+    let schema = schema_of(alloc, rules, names, table)?;
+    for row in &table.rows {
+        let (wanted, form) = row.split_once(": ").context("a root and a form")?;
+        report.compare(alloc, row, wanted, root_shown(&schema, form))?;
+    }
+    Ok(())
+}
