@@ -1,4 +1,4 @@
-//! Declarations: JSON in, a schema or the first fault out. Nothing else reads declarations.
+//! Declarations: JSON in, a schema or the first fault out. Nothing else judges them.
 #![tactic(auto)]
 
 mod build;
