@@ -1,12 +1,13 @@
 -- Whether some draft or plan passes a test, seen from one of them on.
 use Rattle.std.proofs.Common.{◌≡◌, ℕ, ◌+◌, ◌<◌, List, length, get_or, drop, map, Bool, ◌||◌, refl, add-one, drop-cons}
 use Rattle.std.specs.List.{list_any}
-use Rattle.fv_declare.specs.Drafts as spec
-use Rattle.fv_declare.specs.DraftViews.{field_view, type_view, form_view, plan_view}
+use Rattle.fv_draft.specs.Drafts as spec
+use Rattle.fv_draft.specs.DraftViews.{field_view, type_view, form_view}
+use Rattle.fv_declare.specs.PlanViews.{plan_view}
 use Rattle.fv_declare.specs.Planned.{Planned}
-use Rattle.fv_declare.specs.declared.draft.FieldDraft.{FieldDraft}
-use Rattle.fv_declare.specs.declared.draft.TypeDraft.{TypeDraft}
-use Rattle.fv_declare.specs.declared.draft.FormDraft.{FormDraft}
+use Rattle.fv_draft.specs.declared.draft.FieldDraft.{FieldDraft}
+use Rattle.fv_draft.specs.declared.draft.TypeDraft.{TypeDraft}
+use Rattle.fv_draft.specs.declared.draft.FormDraft.{FormDraft}
 use Rattle.fv_declare.specs.declared.plan.Plan.{Plan}
 
 turn : {X Y : Type 0} (view : X → Y) (test : Y → Bool) (xs : List X) (i : ℕ) (x : X) → i < length xs → x ≡ get_or xs i x

@@ -10,7 +10,7 @@ use Rattle.fv_builtin.specs.declared.name.BuiltinName.{BuiltinName}
 use Rattle.fv_registry.specs.Rules.{Known, has_rule, lists_kind, takes}
 use Rattle.fv_declare.specs.Declarations.{Demand, of_field, of_object, by_rule, Use, Declarations}
 use Rattle.fv_declare.specs.Declares.{plans_of, is_unknown_rule, draft_fault, IsDeclared, Answers, Judged}
-use Rattle.fv_declare.specs.Drafts as spec
+use Rattle.fv_draft.specs.Drafts as spec
 use Rattle.fv_declare.specs.Fits.{demand_fits, fits}
 use Rattle.fv_declare.specs.Planned.{Place, whole, field, Meant, builtin, declared, either_meant, Planned, planned_at, field_plan, type_plan, refuses_place, is_misplaced, refuses_kind, demanded, Demands, IsUse}
 use Rattle.fv_declare.specs.declared.fault.DeclFault.{DeclFault}

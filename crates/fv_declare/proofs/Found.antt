@@ -10,10 +10,10 @@ use Rattle.fv_datum.specs.Lookup.{at_name}
 use Rattle.fv_model.specs.Types.{Held, texts, integers, decimals, booleans, dates, instants, references, DeclaredFields, Declared, number_of, name_at, is_unknown, unknown_in, has_large, too_many, types_fault}
 use Rattle.fv_model.specs.declared.fault.TypesFault.{TypesFault}
 use Rattle.fv_registry.specs.Rules.{Known}
-use Rattle.fv_declare.specs.Drafts as spec
+use Rattle.fv_draft.specs.Drafts as spec
 use Rattle.fv_declare.specs.Declares.{bad_name, unknown_name, empty_constraint, too_large, unknown_rule, bad_attribute, unexpected_type, plans_of, is_declared, is_lost, lost_field, unknown_target, unknown_root, field_declared, type_declared, draft_fault}
-use Rattle.fv_declare.specs.DraftViews.{form_view}
-use Rattle.fv_declare.specs.declared.draft.FormDraft.{FormDraft}
+use Rattle.fv_draft.specs.DraftViews.{form_view}
+use Rattle.fv_draft.specs.declared.draft.FormDraft.{FormDraft}
 use Rattle.fv_declare.specs.Planned.{is_unknown_constraint, refuses_attributes, refuses_kind}
 use Rattle.fv_declare.specs.Rooting.{lacks_root}
 use Rattle.fv_declare.proofs.Anys.{form_turn}

@@ -1,12 +1,10 @@
 pub mod Anys
-pub mod Entries
 pub mod Fits
 pub mod Found
-pub mod Fronts
+pub mod Inserted
 pub mod Lookups
 pub mod Named
 pub mod Ordered
 pub mod Readings
-pub mod Sorted
 pub mod Steps
 pub mod Zips

@@ -7,9 +7,9 @@ use Rattle.std.specs.List.{list_any}
 use Rattle.std.specs.Map.{lookup}
 use Rattle.std.proofs.lemmas.Map.Text.{is_eq-slice_cmp}
 use Rattle.fv_declare.specs.Declares.{is_declared}
-use Rattle.fv_declare.specs.DraftViews.{type_view}
-use Rattle.fv_declare.specs.Ordered.{names_of}
-use Rattle.fv_declare.specs.declared.draft.TypeDraft.{TypeDraft}
+use Rattle.fv_draft.specs.DraftViews.{type_view}
+use Rattle.fv_draft.specs.EntryNames.{names_of}
+use Rattle.fv_draft.specs.declared.draft.TypeDraft.{TypeDraft}
 
 pub found_or : {X : Type 0} (a b : Bool) (x : X) (rest : Option X) (more : Bool) → a ≡ b → is_some rest ≡ more → is_some (cond a (Some x) rest) ≡ (b || more)
 found_or true true x rest more e h = refl

@@ -4,16 +4,16 @@ use Rattle.std.specs.List.{AllByRecursion, AllZip, flat_map, enumerate_from}
 use Rattle.fv_datum.specs.Attributes.{Attributes}
 use Rattle.fv_model.specs.Types.{Held, DeclaredFields, Declared, kind_of}
 use Rattle.fv_declare.specs.Declarations.{by_rule, Demand, of_field, of_object, Use, Declarations}
-use Rattle.fv_declare.specs.Drafts as spec
+use Rattle.fv_draft.specs.Drafts as spec
 use Rattle.fv_declare.specs.Declares.{field_declared, type_declared, form_declared}
-use Rattle.fv_declare.specs.DraftViews.{field_view, type_view, form_view, definition_entry}
+use Rattle.fv_draft.specs.DraftViews.{field_view, type_view, form_view, definition_entry}
 use Rattle.fv_model.specs.Bundles.{IsAscending}
 use Rattle.fv_declare.specs.Ordered.{place_of, Precedes, IsRising, IsAmong, IsPlaced, AreOrdered}
 use Rattle.fv_declare.specs.Planned.{Place, whole, field, Meant, builtin, declared, Planned, planned_at, field_plan, type_plan, planned, demanded, Demands, IsUse}
-use Rattle.fv_declare.specs.declared.draft.FieldDraft.{FieldDraft}
-use Rattle.fv_declare.specs.declared.draft.TypeDraft.{TypeDraft}
-use Rattle.fv_declare.specs.declared.draft.FormDraft.{FormDraft}
-use Rattle.fv_declare.specs.declared.draft.Draft.{Draft}
+use Rattle.fv_draft.specs.declared.draft.FieldDraft.{FieldDraft}
+use Rattle.fv_draft.specs.declared.draft.TypeDraft.{TypeDraft}
+use Rattle.fv_draft.specs.declared.draft.FormDraft.{FormDraft}
+use Rattle.fv_draft.specs.declared.draft.Draft.{Draft}
 
 -- ---- lists of plans
 

@@ -7,8 +7,8 @@ use Rattle.indexmap.specs.IndexMap as indexed
 use Rattle.fv_declare.specs.declared.fault.DeclFault.{DeclFault}
 use Rattle.fv_declare.specs.declared.fault.DeclFault.TheVariants.{NotJson}
 use Rattle.fv_model.specs.Bundles.{IsAscending}
-use Rattle.fv_declare.specs.Ordered.{names_of}
-use Rattle.fv_declare.proofs.Sorted.{entries_insert}
+use Rattle.fv_draft.specs.EntryNames.{names_of}
+use Rattle.fv_declare.proofs.Inserted.{entries_insert}
 
 pub map_turn : {X Y : Type 0} (f : X → Y) (xs : List X) (i : ℕ) (x : X) → i < length xs → x ≡ get_or xs i x → map f (drop i xs) ≡ f x ∷ map f (drop (i + 1) xs)
 map_turn f xs i x h is = rw (add-one, drop-cons xs i x h, ← is) refl

@@ -3,7 +3,7 @@ use Rattle.std.proofs.Common.{◌≡◌, ℕ, zero, suc, ◌+◌, ◌<◌, List,
 use Rattle.std.specs.List.{AllZip, list_any}
 use Rattle.std.proofs.lemmas.Slice.Zip.{all_zipped_more}
 use Rattle.fv_declare.specs.Declarations.{Use}
-use Rattle.fv_declare.specs.DraftViews.{plan_view}
+use Rattle.fv_declare.specs.PlanViews.{plan_view}
 use Rattle.fv_declare.specs.Planned.{Planned, IsUse}
 use Rattle.fv_declare.specs.declared.plan.Plan.{Plan}
 use Rattle.fv_declare.proofs.Anys.{plan_turn}

@@ -15,8 +15,8 @@ use Rattle.fv_datum.specs.declared.attribute_kind.AttributeKind.{AttributeKind}
 use Rattle.fv_model.specs.Types.{Held, references, DeclaredFields}
 use Rattle.fv_registry.specs.Rules.{Known, knows_field, knows_object}
 use Rattle.fv_declare.specs.Declarations.{Declarations}
-use Rattle.fv_declare.specs.Drafts.{FieldDraft, TypeDraft, FormDraft, AttributeDraft, RuleDraft, DefinitionDraft, Drafted, draft_of}
-use Rattle.fv_declare.specs.Drafts as draft
+use Rattle.fv_draft.specs.Drafts.{FieldDraft, TypeDraft, FormDraft, AttributeDraft, RuleDraft, DefinitionDraft, Drafted, draft_of}
+use Rattle.fv_draft.specs.Drafts as draft
 use Rattle.fv_declare.specs.Ordered.{AreOrdered}
 use Rattle.fv_declare.specs.Planned.{Planned, planned, is_unknown_constraint, refuses_attributes, refuses_kind, IsReadAs, IsUse}
 use Rattle.fv_declare.specs.declared.fault.DeclFault.{DeclFault}

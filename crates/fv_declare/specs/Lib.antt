@@ -1,11 +1,10 @@
 pub mod Declarations
 pub mod Declares
-pub mod DraftViews
-pub mod Drafts
 pub mod FaultNames
 pub mod Fits
 pub mod OccurrenceView
 pub mod Ordered
+pub mod PlanViews
 pub mod Planned
 pub mod Rooting
 pub mod SchemaView

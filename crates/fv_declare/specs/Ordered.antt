@@ -1,14 +1,9 @@
 -- The order of declarations.
-use Rattle.std.specs.Prelude.{◌≡◌, ℕ, ◌+◌, ◌<◌, ◌≤◌, ◌⊎◌, List, [], ◌∷◌, map, slice_get, Some, String, string_bytes}
+use Rattle.std.specs.Prelude.{◌≡◌, ℕ, ◌+◌, ◌<◌, ◌≤◌, ◌⊎◌, List, [], ◌∷◌, map, slice_get, Some}
 use Rattle.std.specs.List.{AllByRecursion}
-use Rattle.std.specs.declared.alloc.Global.{Global}
 use Rattle.fv_model.specs.Bundles.{IsAscending}
 use Rattle.fv_model.specs.Types.{Held, DeclaredFields, Declared, kind_of}
 use Rattle.fv_declare.specs.Declarations.{Demand, of_field, of_object, Use, Declarations}
-
--- the names of a map's entries
-abbrev pub names_of : {X : Type 0} → List (String Global × X) → List (List ℕ)
-names_of = map (λ e. string_bytes e.0)
 
 -- where a demand stands in its type: the object first, then the fields
 abbrev pub place_of : Demand → ℕ

@@ -16,8 +16,8 @@ use Rattle.fv_datum.specs.Members.{each_some}
 use Rattle.fv_model.specs.Types.{kind_of}
 use Rattle.fv_registry.specs.Rules.{Known, takes as rule_takes}
 use Rattle.fv_declare.specs.Declarations.{built_in, by_rule, Demand, of_field, of_object, Use}
-use Rattle.fv_declare.specs.Drafts.{UseDraft, FieldDraft, TypeDraft, AttributeDraft, RuleDraft, DefinitionDraft, Definitions}
-use Rattle.fv_declare.specs.Drafts as draft
+use Rattle.fv_draft.specs.Drafts.{UseDraft, FieldDraft, TypeDraft, AttributeDraft, RuleDraft, DefinitionDraft, Definitions}
+use Rattle.fv_draft.specs.Drafts as draft
 
 -- where a use stands: at the type itself, or at the field of that number, whose data are of the kind
 pub data Place : Type 0 where

@@ -2,7 +2,7 @@
 use Rattle.std.specs.Prelude.{List, Bool, not, is_some}
 use Rattle.std.specs.List.{list_any}
 use Rattle.fv_model.specs.Types.{Declared, number_of}
-use Rattle.fv_declare.specs.Drafts.{FormDraft}
+use Rattle.fv_draft.specs.Drafts.{FormDraft}
 
 -- a form's root is none of the types
 abbrev pub lacks_root : Declared → List FormDraft → Bool

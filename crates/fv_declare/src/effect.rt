@@ -4,13 +4,11 @@ ghost use Rattle.std.specs.Prelude.{◌≡◌, IfOk, map, not, is_some, option_m
 ghost use Rattle.fv_datum.specs.Attributes.{attribute_view};
 ghost use Rattle.fv_datum.specs.Lookup.{at_name};
 ghost use Rattle.fv_builtin.specs.Given.{given_or, has_kind, is_same};
-ghost use Rattle.fv_declare.specs.DraftViews.{attribute_draft_view, attribute_entry};
+ghost use Rattle.fv_draft.specs.DraftViews.{attribute_draft_view, attribute_entry};
 ghost use Rattle.fv_declare.specs.Planned.{has_foreign, in_effect};
 
-use crate::attributes::copy_of;
-use crate::draft::AttributeDraft;
-use crate::members::add_last;
 use fv_datum::{Attribute, AttributeKind, Attrs};
+use fv_draft::{AttributeDraft, add_last, copy_of};
 use std::alloc::{AllocError, Global};
 use std::collections::BTreeMap;
 

@@ -6,18 +6,19 @@ ghost use Rattle.fv_datum.specs.Attributes.{attribute_view};
 ghost use Rattle.fv_datum.specs.Name.{names};
 ghost use Rattle.fv_model.specs.Types.{held_view};
 ghost use Rattle.fv_declare.specs.Declares.{is_bad_type, is_bad_definition, bad_name, unknown_name, is_declared, is_lost, lost_field, unknown_target, unknown_root, empty_constraint, too_large, is_unknown_rule, unknown_rule, is_other_kind, bad_default, bad_attribute, plans_of, draft_fault as spec_fault};
-ghost use Rattle.fv_declare.specs.DraftViews.{field_view, type_view, form_view, attribute_entry, rule_view, definition_view, definition_entry, draft_view, place_view, plan_view};
+ghost use Rattle.fv_draft.specs.DraftViews.{field_view, type_view, form_view, attribute_entry, rule_view, definition_view, definition_entry, draft_view};
+ghost use Rattle.fv_declare.specs.PlanViews.{place_view, plan_view};
 ghost use Rattle.fv_declare.specs.Planned.{is_unknown_constraint, refuses_attributes, refuses_place, refuses_kind};
 
-use crate::draft::{
-    AttributeDraft, DefinitionDraft, Draft, FieldDraft, FormDraft, RuleDraft, TypeDraft,
-};
 use crate::effect::{has_foreign, is_same, lacks_value};
 use crate::fault::DeclFault;
 use crate::meant::Meant;
 use crate::plan::{Place, Plan};
 use fv_builtin::{is_builtin, takes_attributes, takes_kind};
 use fv_datum::{Attribute, AttributeKind, is_name};
+use fv_draft::{
+    AttributeDraft, DefinitionDraft, Draft, FieldDraft, FormDraft, RuleDraft, TypeDraft,
+};
 use fv_model::TypeUse;
 use fv_registry::RuleSet;
 use std::collections::BTreeMap;

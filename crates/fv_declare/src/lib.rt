@@ -1,21 +1,16 @@
-//! Declarations: JSON in, a schema or the first fault out. Nothing else reads declarations.
+//! Declarations: JSON in, a schema or the first fault out. Nothing else judges them.
 #![tactic(auto)]
 
-mod attributes;
 mod build;
-mod definitions;
-mod draft;
 mod effect;
 mod fault;
 mod faults;
 mod meant;
-mod members;
 mod occurrence;
 mod plan;
 mod planning;
 mod reading;
 mod schema;
-mod shape;
 
 pub use fault::DeclFault;
 pub use occurrence::{Demand, FieldTest, Occurrence};

@@ -1,10 +1,11 @@
 ghost use Rattle.std.specs.Prelude.{◌≡◌, Some, map, option_map};
 ghost use Rattle.fv_builtin.specs.Names.{builtin_named};
-ghost use Rattle.fv_declare.specs.DraftViews.{definition_entry, meant_view};
+ghost use Rattle.fv_draft.specs.DraftViews.{definition_entry};
+ghost use Rattle.fv_declare.specs.PlanViews.{meant_view};
 ghost use Rattle.fv_declare.specs.Planned.{meant_by};
 
-use crate::draft::DefinitionDraft;
 use fv_builtin::{BuiltinName, builtin_named};
+use fv_draft::DefinitionDraft;
 use std::collections::BTreeMap;
 
 /// What a constraint's name stands for.

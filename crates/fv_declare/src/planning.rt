@@ -1,12 +1,13 @@
 //! Lays out the uses of constraints at their places, in the order of their numbers.
 ghost use Rattle.std.specs.Prelude.{◌≡◌, ◌++◌, IfOk, OnOk, map};
 ghost use Rattle.std.specs.List.{flat_map, enumerate_from};
-ghost use Rattle.fv_declare.specs.DraftViews.{use_view, field_view, type_view, definition_entry, place_view, plan_view};
+ghost use Rattle.fv_draft.specs.DraftViews.{use_view, field_view, type_view, definition_entry};
+ghost use Rattle.fv_declare.specs.PlanViews.{place_view, plan_view};
 ghost use Rattle.fv_declare.specs.Planned.{planned_at, field_plan, type_plan, planned};
 
-use crate::draft::{DefinitionDraft, FieldDraft, TypeDraft, UseDraft};
 use crate::meant::meant_by;
 use crate::plan::{Place, Plan};
+use fv_draft::{DefinitionDraft, FieldDraft, TypeDraft, UseDraft};
 use std::alloc::{AllocError, Global};
 use std::collections::BTreeMap;
 

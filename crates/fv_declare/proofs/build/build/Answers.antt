@@ -3,7 +3,7 @@ use Rattle.std.specs.List.{AllZip, list_any}
 use Rattle.fv_model.specs.Types.{declared_view}
 use Rattle.fv_model.specs.Views.{types_view}
 use Rattle.fv_declare.specs.Declares.{type_declared, form_declared, plans_of}
-use Rattle.fv_declare.specs.DraftViews.{type_view, form_view, draft_view}
+use Rattle.fv_draft.specs.DraftViews.{type_view, form_view, draft_view}
 use Rattle.fv_declare.specs.OccurrenceView.{occurrence_view}
 use Rattle.fv_declare.specs.Planned.{refuses_attributes, refuses_kind, IsUse}
 use Rattle.fv_declare.specs.SchemaView.{forms_view}

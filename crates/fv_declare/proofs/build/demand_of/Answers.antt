@@ -1,5 +1,5 @@
 use Rattle.std.proofs.Common.{rules, ◌≡◌, ◌∙◌, Some, option_map, sym, ap}
-use Rattle.fv_declare.specs.DraftViews.{meant_view}
+use Rattle.fv_declare.specs.PlanViews.{meant_view}
 use Rattle.fv_declare.specs.Planned.{builtin, refuses_given}
 use Rattle.fv_declare.proofs.Fits.{not_false}
 use Rattle.fv_declare.proofs.build.demand_of.Goals as goal

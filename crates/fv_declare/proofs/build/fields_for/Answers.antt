@@ -1,7 +1,7 @@
 use Rattle.std.proofs.Common.{◌≡◌, string_bytes, ap, ◌∙◌, arith}
 use Rattle.fv_model.specs.Types.{use_view, held_view}
 use Rattle.fv_declare.specs.Declares.{field_declared}
-use Rattle.fv_declare.specs.DraftViews.{field_view}
+use Rattle.fv_draft.specs.DraftViews.{field_view}
 use Rattle.fv_declare.proofs.Steps.{insert_names, insert_entries}
 use Rattle.fv_declare.proofs.build.fields_for.Goals as goal
 

@@ -1,8 +1,8 @@
 use Rattle.std.proofs.Common.{◌≡◌, ◌++◌, map, drop}
 use Rattle.fv_model.specs.Types.{fields_view}
 use Rattle.fv_declare.specs.Declares.{field_declared}
-use Rattle.fv_declare.specs.DraftViews.{field_view}
-use Rattle.fv_declare.specs.Ordered.{names_of}
+use Rattle.fv_draft.specs.DraftViews.{field_view}
+use Rattle.fv_draft.specs.EntryNames.{names_of}
 use Rattle.fv_declare.proofs.build.fields_for.Given as goal
 
 abbrev pub invariant-loop-field : goal.invariant-loop-field

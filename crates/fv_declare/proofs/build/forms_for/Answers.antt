@@ -2,7 +2,7 @@ use Rattle.std.proofs.Common.{◌≡◌, Some, None, not, is_some, true, false, 
 use Rattle.fv_model.specs.Types.{number_of, name_at}
 use Rattle.fv_model.specs.Views.{types_view}
 use Rattle.fv_declare.specs.Declares.{form_declared}
-use Rattle.fv_declare.specs.DraftViews.{form_view}
+use Rattle.fv_draft.specs.DraftViews.{form_view}
 use Rattle.fv_declare.specs.SchemaView.{form_entry}
 use Rattle.fv_declare.proofs.Found.{no_form, known_here, known_later, found_name}
 use Rattle.fv_declare.proofs.Steps.{insert_names, insert_entries, same_at}

@@ -1,8 +1,8 @@
 use Rattle.std.proofs.Common.{◌≡◌, ◌++◌, map, drop, false}
 use Rattle.fv_model.specs.Views.{types_view}
 use Rattle.fv_declare.specs.Declares.{form_declared}
-use Rattle.fv_declare.specs.DraftViews.{form_view}
-use Rattle.fv_declare.specs.Ordered.{names_of}
+use Rattle.fv_draft.specs.DraftViews.{form_view}
+use Rattle.fv_draft.specs.EntryNames.{names_of}
 use Rattle.fv_declare.specs.SchemaView.{forms_view}
 use Rattle.fv_declare.specs.Rooting.{lacks_root}
 use Rattle.fv_declare.proofs.build.forms_for.Given as goal

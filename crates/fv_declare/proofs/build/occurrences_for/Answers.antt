@@ -1,7 +1,7 @@
 use Rattle.std.proofs.Common.{map, ◌∙◌, arith}
 use Rattle.std.proofs.lemmas.Result.{err_from_is_err_and}
 use Rattle.std.proofs.lemmas.List.{map-append}
-use Rattle.fv_declare.specs.DraftViews.{plan_view}
+use Rattle.fv_declare.specs.PlanViews.{plan_view}
 use Rattle.fv_declare.specs.OccurrenceView.{occurrence_view}
 use Rattle.fv_declare.specs.Planned.{refuses_attributes, refuses_kind}
 use Rattle.fv_declare.proofs.Zips.{got, zipped, passes_here, passes_later}

@@ -1,7 +1,7 @@
 use Rattle.std.proofs.Common.{◌≡◌, false, map, drop, take}
 use Rattle.std.specs.List.{AllZip, list_any}
 use Rattle.fv_registry.specs.Rules.{Known}
-use Rattle.fv_declare.specs.DraftViews.{plan_view}
+use Rattle.fv_declare.specs.PlanViews.{plan_view}
 use Rattle.fv_declare.specs.OccurrenceView.{occurrence_view}
 use Rattle.fv_declare.specs.Planned.{refuses_attributes, refuses_kind, IsUse}
 use Rattle.fv_declare.proofs.build.occurrences_for.Given as goal

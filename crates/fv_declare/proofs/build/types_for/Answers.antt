@@ -1,7 +1,7 @@
 use Rattle.std.proofs.Common.{◌≡◌, map, string_bytes, ap, ◌∙◌, arith}
 use Rattle.fv_model.specs.Types.{type_view as entry_view, fields_view}
 use Rattle.fv_declare.specs.Declares.{field_declared, type_declared}
-use Rattle.fv_declare.specs.DraftViews.{field_view, type_view}
+use Rattle.fv_draft.specs.DraftViews.{field_view, type_view}
 use Rattle.fv_declare.proofs.Steps.{insert_names, insert_entries, map_twice}
 use Rattle.fv_declare.proofs.build.types_for.Goals as goal
 

@@ -1,8 +1,8 @@
 use Rattle.std.proofs.Common.{◌≡◌, ◌++◌, map, drop}
 use Rattle.fv_model.specs.Types.{declared_view}
 use Rattle.fv_declare.specs.Declares.{type_declared}
-use Rattle.fv_declare.specs.DraftViews.{type_view}
-use Rattle.fv_declare.specs.Ordered.{names_of}
+use Rattle.fv_draft.specs.DraftViews.{type_view}
+use Rattle.fv_draft.specs.EntryNames.{names_of}
 use Rattle.fv_declare.proofs.build.types_for.Given as goal
 
 abbrev pub invariant-loop-given : goal.invariant-loop-given

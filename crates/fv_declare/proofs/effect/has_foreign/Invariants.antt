@@ -1,6 +1,6 @@
 use Rattle.std.proofs.Common.{◌≡◌, map}
 use Rattle.fv_datum.specs.Attributes.{entry_view}
-use Rattle.fv_declare.specs.DraftViews.{attribute_entry}
+use Rattle.fv_draft.specs.DraftViews.{attribute_entry}
 use Rattle.fv_declare.specs.Planned.{has_foreign}
 use Rattle.fv_declare.proofs.effect.has_foreign.Given as goal
 

@@ -1,6 +1,6 @@
 use Rattle.std.proofs.Common.{ap, option_map, ◌∙◌, sym}
 use Rattle.fv_builtin.specs.Given.{has_kind}
-use Rattle.fv_declare.specs.DraftViews.{attribute_draft_view}
+use Rattle.fv_draft.specs.DraftViews.{attribute_draft_view}
 use Rattle.fv_declare.proofs.Lookups.{found_at}
 use Rattle.fv_declare.proofs.effect.has_kind.Goals as goal
 

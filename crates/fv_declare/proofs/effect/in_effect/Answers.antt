@@ -2,9 +2,9 @@ use Rattle.std.proofs.Common.{◌≡◌, Some, map, option_map, string_bytes, re
 use Rattle.fv_datum.specs.Attributes.{entry_view, attribute_view}
 use Rattle.fv_datum.specs.Lookup.{at_name}
 use Rattle.fv_builtin.specs.Given.{given_or}
-use Rattle.fv_declare.specs.DraftViews.{attribute_entry}
+use Rattle.fv_draft.specs.DraftViews.{attribute_entry}
 use Rattle.fv_declare.specs.Planned.{value_of}
-use Rattle.fv_declare.proofs.Entries.{next_above, more_names, more_made}
+use Rattle.fv_draft.proofs.Entries.{next_above, more_names, more_made}
 use Rattle.fv_declare.proofs.effect.in_effect.Goals as goal
 
 pub add_last-requires : goal.add_last-requires

@@ -1,9 +1,9 @@
 use Rattle.std.proofs.Common.{◌≡◌, ◌++◌, map}
 use Rattle.fv_datum.specs.Attributes.{entry_view}
-use Rattle.fv_declare.specs.DraftViews.{attribute_entry}
-use Rattle.fv_declare.specs.Ordered.{names_of}
+use Rattle.fv_draft.specs.DraftViews.{attribute_entry}
+use Rattle.fv_draft.specs.EntryNames.{names_of}
 use Rattle.fv_declare.specs.Planned.{in_effect}
-use Rattle.fv_declare.proofs.Fronts.{with_front}
+use Rattle.fv_draft.proofs.Fronts.{with_front}
 use Rattle.fv_declare.proofs.effect.in_effect.Given as goal
 
 abbrev pub invariant-loop-name : goal.invariant-loop-name

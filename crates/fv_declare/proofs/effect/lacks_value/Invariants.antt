@@ -1,5 +1,5 @@
 use Rattle.std.proofs.Common.{◌≡◌, map, is_some}
-use Rattle.fv_declare.specs.DraftViews.{attribute_entry}
+use Rattle.fv_draft.specs.DraftViews.{attribute_entry}
 use Rattle.fv_declare.specs.Planned.{in_effect}
 use Rattle.fv_declare.proofs.effect.lacks_value.Given as goal
 

@@ -1,6 +1,6 @@
 use Rattle.std.proofs.Common.{◌≡◌, map, not, is_some}
 use Rattle.std.specs.List.{list_any}
-use Rattle.fv_declare.specs.DraftViews.{definition_entry}
+use Rattle.fv_draft.specs.DraftViews.{definition_entry}
 use Rattle.fv_declare.proofs.faults.empty_constraint.Given as goal
 
 abbrev pub invariant-loop-definition : goal.invariant-loop-definition

@@ -1,7 +1,7 @@
 use Rattle.std.proofs.Common.{◌≡◌, map, not}
 use Rattle.std.specs.List.{list_any}
 use Rattle.fv_datum.specs.Name.{names}
-use Rattle.fv_declare.specs.DraftViews.{attribute_entry}
+use Rattle.fv_draft.specs.DraftViews.{attribute_entry}
 use Rattle.fv_declare.proofs.faults.has_bad_attribute_name.Given as goal
 
 abbrev pub invariant-loop-name : goal.invariant-loop-name

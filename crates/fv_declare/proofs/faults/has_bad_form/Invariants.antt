@@ -1,7 +1,7 @@
 use Rattle.std.proofs.Common.{◌≡◌, map, drop, not}
 use Rattle.std.specs.List.{list_any}
 use Rattle.fv_datum.specs.Name.{names}
-use Rattle.fv_declare.specs.DraftViews.{form_view}
+use Rattle.fv_draft.specs.DraftViews.{form_view}
 use Rattle.fv_declare.proofs.faults.has_bad_form.Given as goal
 
 abbrev pub invariant-loop-form : goal.invariant-loop-form

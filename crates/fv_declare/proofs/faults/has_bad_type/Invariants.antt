@@ -1,7 +1,7 @@
 use Rattle.std.proofs.Common.{◌≡◌, map, drop}
 use Rattle.std.specs.List.{list_any}
 use Rattle.fv_declare.specs.Declares.{is_bad_type}
-use Rattle.fv_declare.specs.DraftViews.{type_view}
+use Rattle.fv_draft.specs.DraftViews.{type_view}
 use Rattle.fv_declare.proofs.faults.has_bad_type.Given as goal
 
 abbrev pub invariant-loop-declared : goal.invariant-loop-declared

@@ -1,6 +1,6 @@
 use Rattle.std.proofs.Common.{◌≡◌, map, drop, nat_lt, length}
 use Rattle.std.specs.List.{list_any}
-use Rattle.fv_declare.specs.DraftViews.{type_view}
+use Rattle.fv_draft.specs.DraftViews.{type_view}
 use Rattle.fv_declare.proofs.faults.has_large_type.Given as goal
 
 abbrev pub invariant-loop-declared : goal.invariant-loop-declared

@@ -1,7 +1,7 @@
 use Rattle.std.proofs.Common.{◌≡◌, map, drop}
 use Rattle.std.specs.List.{list_any}
 use Rattle.fv_declare.specs.Declares.{lost_field}
-use Rattle.fv_declare.specs.DraftViews.{field_view, draft_view}
+use Rattle.fv_draft.specs.DraftViews.{field_view, draft_view}
 use Rattle.fv_declare.proofs.faults.has_lost_field.Given as goal
 
 abbrev pub invariant-loop-field : goal.invariant-loop-field

@@ -1,6 +1,6 @@
 use Rattle.std.proofs.Common.{◌≡◌, map, drop}
 use Rattle.std.specs.List.{list_any}
-use Rattle.fv_declare.specs.DraftViews.{plan_view}
+use Rattle.fv_declare.specs.PlanViews.{plan_view}
 use Rattle.fv_declare.specs.Planned.{refuses_kind}
 use Rattle.fv_declare.proofs.faults.has_unexpected_type.Given as goal
 

@@ -1,6 +1,6 @@
 use Rattle.std.proofs.Common.{◌≡◌, map, drop}
 use Rattle.std.specs.List.{list_any}
-use Rattle.fv_declare.specs.DraftViews.{plan_view}
+use Rattle.fv_declare.specs.PlanViews.{plan_view}
 use Rattle.fv_declare.specs.Planned.{is_unknown_constraint}
 use Rattle.fv_declare.proofs.faults.has_unknown_constraint.Given as goal
 

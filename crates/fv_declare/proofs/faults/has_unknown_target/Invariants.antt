@@ -1,7 +1,7 @@
 use Rattle.std.proofs.Common.{◌≡◌, map, drop}
 use Rattle.std.specs.List.{list_any}
 use Rattle.fv_declare.specs.Declares.{lost_field, unknown_target}
-use Rattle.fv_declare.specs.DraftViews.{type_view, draft_view}
+use Rattle.fv_draft.specs.DraftViews.{type_view, draft_view}
 use Rattle.fv_declare.proofs.faults.has_unknown_target.Given as goal
 
 abbrev pub invariant-loop-declared : goal.invariant-loop-declared

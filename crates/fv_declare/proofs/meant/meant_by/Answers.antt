@@ -1,6 +1,6 @@
 use Rattle.std.proofs.Common.{◌≡◌, None, option_map, sym, ap, ◌∙◌}
 use Rattle.fv_builtin.specs.Names.{builtin_named}
-use Rattle.fv_declare.specs.DraftViews.{definition_view}
+use Rattle.fv_draft.specs.DraftViews.{definition_view}
 use Rattle.fv_declare.specs.Planned.{declared}
 use Rattle.fv_declare.proofs.Lookups.{found_at}
 use Rattle.fv_declare.proofs.meant.meant_by.Goals as goal

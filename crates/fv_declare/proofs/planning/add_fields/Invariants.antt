@@ -1,6 +1,7 @@
 use Rattle.std.proofs.Common.{◌≡◌, ◌++◌, map, drop}
 use Rattle.std.specs.List.{flat_map, enumerate_from}
-use Rattle.fv_declare.specs.DraftViews.{field_view, definition_entry, plan_view}
+use Rattle.fv_draft.specs.DraftViews.{field_view, definition_entry}
+use Rattle.fv_declare.specs.PlanViews.{plan_view}
 use Rattle.fv_declare.specs.Planned.{field_plan}
 use Rattle.fv_declare.proofs.planning.add_fields.Given as goal
 

@@ -1,5 +1,6 @@
 use Rattle.std.proofs.Common.{◌≡◌, ◌++◌, map, drop}
-use Rattle.fv_declare.specs.DraftViews.{use_view, definition_entry, place_view, plan_view}
+use Rattle.fv_draft.specs.DraftViews.{use_view, definition_entry}
+use Rattle.fv_declare.specs.PlanViews.{place_view, plan_view}
 use Rattle.fv_declare.specs.Planned.{planned_at}
 use Rattle.fv_declare.proofs.planning.add_uses.Given as goal
 

@@ -1,6 +1,7 @@
 use Rattle.std.proofs.Common.{◌≡◌, ◌++◌, map, drop}
 use Rattle.std.specs.List.{flat_map, enumerate_from}
-use Rattle.fv_declare.specs.DraftViews.{type_view, definition_entry, plan_view}
+use Rattle.fv_draft.specs.DraftViews.{type_view, definition_entry}
+use Rattle.fv_declare.specs.PlanViews.{plan_view}
 use Rattle.fv_declare.specs.Planned.{type_plan, planned}
 use Rattle.fv_declare.proofs.planning.planned.Given as goal
 

@@ -1,7 +1,7 @@
 use Rattle.std.proofs.lemmas.Result.{IfOk-weaker}
 use Rattle.serde_json.specs.View.{view as json_view}
 use Rattle.fv_datum.specs.Parsing.{json_of}
-use Rattle.fv_declare.specs.Drafts.{draft_of}
+use Rattle.fv_draft.specs.Drafts.{draft_of}
 use Rattle.fv_declare.proofs.Fits.{judged_fit}
 use Rattle.fv_declare.proofs.Steps.{ok_found}
 use Rattle.fv_declare.proofs.reading.read_schema.Goals as goal

@@ -1,0 +1,3 @@
+pub mod DraftViews
+pub mod Drafts
+pub mod EntryNames

@@ -1,0 +1,78 @@
+//! Declarations by their names, before any of them is judged.
+ghost use Rattle.std.proofs.Props.{props};
+ghost use Rattle.std.specs.Prelude.{◌≡◌, map};
+ghost use Rattle.fv_model.specs.Bundles.{IsAscending};
+ghost use Rattle.fv_draft.specs.EntryNames.{names_of};
+
+use fv_datum::{Attribute, AttributeKind, Attrs};
+use fv_model::TypeUse;
+use serde_json::{Map, Value};
+use std::collections::BTreeMap;
+
+/// A use of a constraint.
+#[derive(Drop)]
+pub struct UseDraft<'a> {
+    pub constraint: &'a str,
+    pub with: Attrs,
+}
+
+/// A field of a type.
+#[derive(Drop)]
+pub struct FieldDraft<'a> {
+    pub name: &'a str,
+    pub type_use: TypeUse,
+    pub uses: Vec<UseDraft<'a>>,
+}
+
+/// A type, its fields ascending by the bytes of their names, and the uses at itself.
+#[derive(Drop)]
+pub struct TypeDraft<'a> {
+    pub name: &'a str,
+    pub fields: Vec<FieldDraft<'a>>,
+    pub uses: Vec<UseDraft<'a>>,
+    pub ghost ascend: { IsAscending (map (λ f. f.name.now) fields.items) } by { Prim.hlevel props },
+}
+
+/// A form.
+#[derive(Drop)]
+pub struct FormDraft<'a> {
+    pub name: &'a str,
+    pub root: &'a str,
+}
+
+/// An attribute of a declared constraint.
+#[derive(Drop)]
+pub struct AttributeDraft {
+    pub kind: AttributeKind,
+    pub default: Option<Attribute>,
+}
+
+/// The number of a rule.
+#[derive(Clone, Copy, Debug, PartialEq, Eq)]
+pub enum RuleDraft {
+    /// Of data.
+    Field(u32),
+    /// Of objects.
+    Object(u32),
+}
+
+/// A declared constraint: its attributes by their names, and its rule.
+#[derive(Drop)]
+pub struct DefinitionDraft {
+    pub attributes: BTreeMap<String, AttributeDraft>,
+    pub rule: Option<RuleDraft>,
+}
+
+/// Declarations, types and forms ascending by the bytes of their names.
+#[derive(Drop)]
+pub struct Draft<'a> {
+    /// The types by their names.
+    pub named: &'a Map<String, Value>,
+    pub types: Vec<TypeDraft<'a>>,
+    pub forms: Vec<FormDraft<'a>>,
+    /// The declared constraints by their names.
+    pub definitions: BTreeMap<String, DefinitionDraft>,
+    pub ghost named_are: { map (λ t. t.name.now) types.items ≡ names_of named.now.entries },
+    pub ghost types_ascend: { IsAscending (map (λ t. t.name.now) types.items) } by { Prim.hlevel props },
+    pub ghost forms_ascend: { IsAscending (map (λ f. f.name.now) forms.items) } by { Prim.hlevel props },
+}

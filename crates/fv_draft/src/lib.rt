@@ -1,0 +1,15 @@
+//! Declarations as they are written: JSON in, a draft out, or none where the form isn't kept.
+#![tactic(auto)]
+
+mod attributes;
+mod definitions;
+mod draft;
+mod members;
+mod shape;
+
+pub use attributes::copy_of;
+pub use draft::{
+    AttributeDraft, DefinitionDraft, Draft, FieldDraft, FormDraft, RuleDraft, TypeDraft, UseDraft,
+};
+pub use members::add_last;
+pub use shape::draft_of;
