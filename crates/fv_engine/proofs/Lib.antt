@@ -1,9 +1,7 @@
 pub mod Keys
 pub mod Lifts
-pub mod Lines
 pub mod Listings
 pub mod Members
 pub mod Movings
 pub mod NoFloats
 pub mod Openings
-pub mod Writes

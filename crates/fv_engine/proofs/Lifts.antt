@@ -5,7 +5,7 @@ use Rattle.fv_registry.specs.Answers.{Meanings}
 use Rattle.fv_declare.specs.Declarations.{Declarations}
 use Rattle.fv_engine.specs.Engines.{Standing, Turns, ToldStep, StepOf}
 use Rattle.fv_engine.specs.Moves.{Holding, Moves, Told}
-use Rattle.fv_engine.specs.Runs.{Ticks, Run, Taken, Stopped, Complete}
+use Rattle.fv_lines.specs.Runs.{Ticks, Run, Taken, Stopped, Complete}
 use Rattle.fv_datum.specs.Parsing.{json_of}
 use Rattle.fv_engine.specs.Replies.{line_too_long, out_of_memory}
 use Rattle.fv_engine.specs.Requests.{of_json}

@@ -4,7 +4,7 @@ use Rattle.sqlite.specs.State.{State}
 use Rattle.fv_registry.specs.Answers.{Meanings}
 use Rattle.fv_declare.specs.Declarations.{Declarations}
 use Rattle.fv_engine.specs.Moves.{Holding, Moves, Told}
-use Rattle.fv_engine.specs.Runs.{Steps}
+use Rattle.fv_lines.specs.Runs.{Steps}
 use Rattle.fv_engine.specs.Step.{Step}
 
 -- what is declared, and the connection to the database that keeps the records

@@ -2,13 +2,10 @@ pub mod CommandView
 pub mod Engines
 pub mod FaultNames
 pub mod Judging
-pub mod Lines
 pub mod Moves
 pub mod Replies
 pub mod Reply
 pub mod Requests
-pub mod Runs
 pub mod Step
 pub mod ViolationView
 pub mod Violations
-pub mod Writes

@@ -10,11 +10,11 @@ ghost use Rattle.fv_engine.specs.FaultNames.{open_fault_name};
 ghost use Rattle.fv_engine.specs.Replies.{line_too_long};
 
 use crate::answering::answer_short;
-use crate::machine::{LIMIT, Machine};
 use crate::reply;
 use crate::reply::Reply;
 use crate::rulebook::Rulebook;
 use fv_declare::{DeclFault, read_schema};
+use fv_lines::{LIMIT, Machine};
 use fv_registry::RuleSet;
 use fv_store::{OpenStoreFault, Store};
 use sqlite::{Alter, Connection};
@@ -180,6 +180,8 @@ impl<R: RuleSet + Drop, S: Alter> Engine<R, S> {
 }
 
 impl<R: RuleSet, S: Alter> Machine for Engine<R, S> {
+    type Reply = Reply;
+
     ghost step = { StepOf R.meaning (state S.Store) };
 
     fn answer_line(&mut self, alloc: Global, line: &[u8], now: i64) -> Reply {

@@ -3,21 +3,15 @@
 #![tactic(auto)]
 
 mod answering;
-mod clock;
 mod command;
 mod demands;
 mod engine;
-mod fixed_clock;
-mod line;
-mod machine;
-mod output;
 mod reply;
 mod rulebook;
 mod serving;
 mod validate;
 
-pub use clock::Clock;
 pub use engine::{Engine, OpenFault};
-pub use fixed_clock::FixedClock;
+pub use fv_lines::{Clock, FixedClock, ServeFault};
 pub use reply::Reply;
-pub use serving::{ServeFault, serve};
+pub use serving::serve;

@@ -10,6 +10,7 @@ ghost use Rattle.fv_engine.specs.ViolationView.{violation_view};
 
 use crate::validate::Violation;
 use fv_datum::{DatumFault, write_datum};
+use fv_lines::Answer;
 use fv_model::{Bundle, BundleFault, write_bundle};
 use serde_json::{Value, json, push};
 use std::alloc::{AllocError, Global};
@@ -112,6 +113,14 @@ impl Reply {
             Text::Fixed(text) => text,
             Text::Made(text) => text.as_str(),
         }
+    }
+}
+
+impl Answer for Reply {
+    ghost bytes = { λ r. r };
+
+    fn text(&self) -> &str {
+        self.text()
     }
 }
 

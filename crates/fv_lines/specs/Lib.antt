@@ -1,0 +1,4 @@
+pub mod FaultNames
+pub mod Lines
+pub mod Runs
+pub mod Writes
