@@ -1,40 +1,46 @@
-//! The program `formd`: words, files, standard input and output, the machine's clock, exit statuses.
+//! The program `formd`: the words, streams and clock of the machine, and closures for the rules of
+//! the house.
 #![tactic(auto)]
 
-mod clocks;
-mod declarations;
-mod demonstration;
-mod failure;
-mod files;
-mod house;
-mod running;
-#[cfg(test)]
-mod tests;
-mod words;
-
-use clocks::MachineClock;
-use failure::Failure;
-use house::run_with_house;
+use fv_datum::{Attrs, Datum};
+use fv_house::{house_registry, luhn, not_after, one_of, sum_is};
+use fv_model::Object;
+use fv_registry::{FieldCall, ObjectCall};
+use fv_words::{Failure, MachineClock, given_words, run_words};
 use std::process::ExitCode;
-use std::{env, io};
 
-/// The words behind the program's name.
-fn given_words(rt: &HostRuntime) -> io::Result<Vec<String>> {
-    let words = env::args(rt)?.skip(1).collect(rt.alloc())?;
-    Ok(words)
-}
-
-fn main(rt: HostRuntime) -> ExitCode {
-    let Ok(words) = given_words(&rt) else {
-        return ExitCode::from(Failure::Memory.report(&mut rt.stderr()));
+/// Makes the closures, does what the program's words ask, and gives the exit status. Refused for
+/// words that aren't UTF-8, or for want of memory for them and the closures.
+fn run(rt: &HostRuntime) -> Result<u8, Failure> {
+    let alloc = rt.alloc();
+    let words = given_words(rt)?;
+    let digits: FieldCall = Box::new(alloc, |datum: &Datum, _attrs: &Attrs| luhn(datum))?;
+    let listed: FieldCall = Box::new(alloc, |datum: &Datum, attrs: &Attrs| one_of(datum, attrs))?;
+    let ordered: ObjectCall = Box::new(
+        alloc,
+        |object: &Object, attrs: &Attrs| not_after(object, attrs),
+    )?;
+    let summed: ObjectCall = Box::new(
+        alloc,
+        |object: &Object, attrs: &Attrs| sum_is(object, attrs),
+    )?;
+    let Ok(registry) = house_registry(alloc, digits, listed, ordered, summed) else {
+        return Err(Failure::Memory);
     };
-    let mut clock = MachineClock::new(&rt);
-    ExitCode::from(run_with_house(
-        &rt,
+    Ok(run_words(
+        rt,
         &words,
+        registry,
         &mut rt.stdin(),
         &mut rt.stdout(),
         &mut rt.stderr(),
-        &mut clock,
+        &mut MachineClock::new(rt),
     ))
+}
+
+fn main(rt: HostRuntime) -> ExitCode {
+    ExitCode::from(match run(&rt) {
+        Ok(status) => status,
+        Err(failure) => failure.report(&mut rt.stderr()),
+    })
 }

@@ -1,3 +1,4 @@
 pub mod Adds
 pub mod Among
 pub mod Digits
+pub mod Registries

@@ -1,5 +1,5 @@
 //! Tests of the service that no row can make: readers, writers and disks that fail, clocks, a
-//! database that is opened again.
+//! database that is opened again, the words of the program.
 #![tactic(auto)]
 
 #[cfg(test)]
@@ -18,3 +18,5 @@ mod rules;
 mod serving;
 #[cfg(test)]
 mod trickle;
+#[cfg(test)]
+mod words;

@@ -1,7 +1,10 @@
 //! Runs of the program's words, with the exact bytes on both writers.
-use crate::files::{FileFault, read_whole};
-use crate::house::run_with_house;
+use fv_datum::{Attrs, Datum};
 use fv_engine::FixedClock;
+use fv_house::{house_registry, luhn, not_after, one_of, sum_is};
+use fv_model::Object;
+use fv_registry::{FieldCall, ObjectCall};
+use fv_words::{Failure, FileFault, read_whole, run_words};
 use std::io::{Error, ErrorKind, Read, Write};
 use std::process::Abort;
 use std::test::Fail;
@@ -89,6 +92,13 @@ Usage: formd declarations <FILE>
 For more information, try '--help'.
 ";
 
+const NOT_UTF8: &str = "error: invalid UTF-8 was detected in one or more arguments
+
+Usage: formd [COMMAND]
+
+For more information, try '--help'.
+";
+
 const TWO_FILES: &str = "error: unexpected argument 'b' found
 
 Usage: formd declarations <FILE>
@@ -144,6 +154,30 @@ fn given(rt: &HostRuntime, words: &[&str]) -> Result<Vec<String>, Fail> {
     Ok(given)
 }
 
+/// Does what the words ask with the rules of the house, at the moment 0.
+fn run_with_house<I: Read, W: Write, E: Write>(
+    rt: &HostRuntime,
+    words: &[String],
+    reader: &mut I,
+    output: &mut W,
+    error: &mut E,
+) -> Result<u8, Fail> {
+    let alloc = rt.alloc();
+    let digits: FieldCall = Box::new(alloc, |datum: &Datum, _attrs: &Attrs| luhn(datum))?;
+    let listed: FieldCall = Box::new(alloc, |datum: &Datum, attrs: &Attrs| one_of(datum, attrs))?;
+    let ordered: ObjectCall = Box::new(
+        alloc,
+        |object: &Object, attrs: &Attrs| not_after(object, attrs),
+    )?;
+    let summed: ObjectCall = Box::new(
+        alloc,
+        |object: &Object, attrs: &Attrs| sum_is(object, attrs),
+    )?;
+    let registry = house_registry(alloc, digits, listed, ordered, summed)?;
+    let mut clock = FixedClock::new(0);
+    Ok(run_words(rt, words, registry, reader, output, error, &mut clock))
+}
+
 /// A run of these words over one command line ends so: its status and the texts on both writers.
 fn check(
     rt: &impl Abort,
@@ -154,14 +188,7 @@ fn check(
     let given = given(host, words)?;
     let mut told = Vec::new(host.alloc());
     let mut complaint = Vec::new(host.alloc());
-    let ended = run_with_house(
-        host,
-        &given,
-        &mut GET,
-        &mut told,
-        &mut complaint,
-        &mut FixedClock::new(0),
-    );
+    let ended = run_with_house(host, &given, &mut GET, &mut told, &mut complaint)?;
     assert_eq!(rt; str::from_utf8(&complaint)?, error, "{words:?}");
     assert_eq!(rt; str::from_utf8(&told)?, output, "{words:?}");
     assert_eq!(rt; ended, status, "{words:?}");
@@ -277,8 +304,7 @@ fn a_failing_reader_ends_with_status_4(rt: HostRuntime) -> Result<(), Fail> {
         &mut FailingReader(ErrorKind::Other),
         &mut output,
         &mut error,
-        &mut FixedClock::new(0),
-    );
+    )?;
     assert_eq!(rt; status, 4);
     assert_eq!(rt; output.len(), 0);
     assert_eq!(rt; error.as_slice(), b"formd: read\n".as_slice());
@@ -299,12 +325,21 @@ fn a_failing_writer_ends_with_status_4(rt: HostRuntime) -> Result<(), Fail> {
                 &mut GET,
                 &mut output,
                 &mut error,
-                &mut FixedClock::new(0),
-            );
+            )?;
             assert_eq!(rt; status, 4);
             assert_eq!(rt; error.as_slice(), b"formd: write\n".as_slice());
         }
     }
     fs::remove_file(&rt, path)?;
+    Ok(())
+}
+
+/// The program says so where a word isn't UTF-8, which no word of these tests can be.
+#[test]
+fn words_that_are_not_utf_8_end_with_status_2(rt: HostRuntime) -> Result<(), Fail> {
+    let mut error = Vec::new(rt.alloc());
+    let status = Failure::NotUtf8.report(&mut error);
+    assert_eq!(rt; status, 2);
+    assert_eq!(rt; str::from_utf8(&error)?, NOT_UTF8);
     Ok(())
 }

@@ -5,17 +5,30 @@ use fv_store::OpenStoreFault;
 use std::alloc::AllocFailed;
 use std::io::Write;
 
-/// Why the program ended early: its line on standard error and its exit status.
+/// The text for words that aren't UTF-8, in the form of the other refusals of words.
+const NOT_UTF8: &str = "error: invalid UTF-8 was detected in one or more arguments
+
+Usage: formd [COMMAND]
+
+For more information, try '--help'.
+";
+
+/// Why the program ended early: its text on standard error and its exit status.
 #[derive(Clone, Copy, Debug, PartialEq, Eq)]
-pub(crate) enum Failure {
+pub enum Failure {
+    /// A word isn't UTF-8.
+    NotUtf8,
     /// The file of the declarations can't be read.
     Unreadable,
     /// The declarations aren't taken.
     Declarations(DeclFault),
     /// The database isn't taken.
     Store(OpenStoreFault),
+    /// A read failed, or there were too many of them.
     Read,
+    /// A write or a flush failed, or a write took nothing.
     Write,
+    /// An allocation was refused.
     Memory,
 }
 
@@ -64,17 +77,19 @@ impl From<ServeFault> for Failure {
 }
 
 impl Failure {
-    /// The exit status: 3 for declarations, else 4.
+    /// The exit status: 2 for words, 3 for declarations, else 4.
     fn status(self) -> u8 {
         match self {
+            Failure::NotUtf8 => 2,
             Failure::Declarations(_) => 3,
             _ => 4,
         }
     }
 
-    /// Writes the line and gives the exit status, also where the line isn't taken.
-    pub(crate) fn report<E: Write>(self, error: &mut E) -> u8 {
+    /// Writes the text and gives the exit status, also where the text isn't taken.
+    pub fn report<E: Write>(self, error: &mut E) -> u8 {
         let _ = match self {
+            Failure::NotUtf8 => write!(error, "{NOT_UTF8}"),
             Failure::Unreadable => writeln!(error, "formd: cannot read declarations"),
             Failure::Declarations(fault) => {
                 let code = fault.code();

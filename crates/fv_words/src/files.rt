@@ -11,7 +11,7 @@ const MOST_BYTES: usize = 16777216;
 
 /// Why a file isn't read.
 #[derive(Clone, Copy, Debug, PartialEq, Eq)]
-pub(crate) enum FileFault {
+pub enum FileFault {
     /// It isn't opened, a read failed, or it has more bytes than are read.
     Unreadable,
     /// An allocation was refused.
@@ -28,7 +28,7 @@ impl From<Error> for FileFault {
 }
 
 /// All that a reader gives, up to the limit: with more it isn't readable.
-pub(crate) fn read_whole<R: Read + Drop>(alloc: Global, reader: R) -> Result<Vec<u8>, FileFault>
+pub fn read_whole<R: Read + Drop>(alloc: Global, reader: R) -> Result<Vec<u8>, FileFault>
     ensures limit { IfOk result (λ bytes. length bytes.items ≤ 16777216) }
     ensures whole { IfOk result (λ bytes. IfSome (R.remaining reader) (λ given. bytes.items ≡ given)) }
 {

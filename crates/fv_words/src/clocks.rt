@@ -8,14 +8,15 @@ use std::time::{SystemTime, UNIX_EPOCH};
 
 /// The machine's clock, clamped to the range of moments. Where it fails, or stands before 1970, it
 /// gives its last answer, 0 at first.
-pub(crate) struct MachineClock<'a, T: TimeSource> {
+pub struct MachineClock<'a, T: TimeSource> {
     source: &'a T,
     last: i64,
     ghost in_range: { IsMoment last },
 }
 
 impl<'a, T: TimeSource> MachineClock<'a, T> {
-    pub(crate) fn new(source: &'a T) -> MachineClock<'a, T> {
+    /// The clock over a source of the time.
+    pub fn new(source: &'a T) -> MachineClock<'a, T> {
         MachineClock { source, last: 0 }
     }
 }

@@ -1,6 +1,6 @@
 use Rattle.std.proofs.Common.{rules}
-use Rattle.formd.proofs.Fronts.{front_is_all}
-use Rattle.formd.proofs.files.read_whole.Goals as goal
+use Rattle.fv_words.proofs.Fronts.{front_is_all}
+use Rattle.fv_words.proofs.files.read_whole.Goals as goal
 
 pub returns-clause-whole : goal.returns-clause-whole
 returns-clause-whole g c =

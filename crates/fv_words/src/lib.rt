@@ -1,0 +1,17 @@
+//! The words of formd: files, statuses, the texts on standard error.
+#![tactic(auto)]
+
+mod clocks;
+mod declarations;
+mod demonstration;
+mod failure;
+mod files;
+mod given;
+mod running;
+mod words;
+
+pub use clocks::MachineClock;
+pub use failure::Failure;
+pub use files::{FileFault, read_whole};
+pub use given::given_words;
+pub use running::run_words;
