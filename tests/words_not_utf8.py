@@ -1,0 +1,36 @@
+#!/usr/bin/env python3
+"""Runs formd with words that aren't UTF-8: each run must end with status 2, as for any words that
+aren't understood, with nothing on standard output and the text below on standard error.
+
+Run it behind `make`, which leaves the program as crates/formd/out/formd; another program may be named
+by a word. No test of the gate reaches this: a program's words there are UTF-8.
+"""
+
+import subprocess
+import sys
+from pathlib import Path
+
+FORMD = Path(__file__).resolve().parent.parent / "crates" / "formd" / "out" / "formd"
+TEXT = b"""error: invalid UTF-8 was detected in one or more arguments
+
+Usage: formd [COMMAND]
+
+For more information, try '--help'.
+"""
+# A byte that no UTF-8 has, a byte that only goes on, a character cut short, half a surrogate pair,
+# a slash written too long.
+BYTES = [b"\xff", b"\x80", b"\xe2\x82", b"\xed\xa0\x80", b"\xc0\xaf"]
+
+
+def main():
+    program = sys.argv[1] if len(sys.argv) > 1 else FORMD
+    for bad in BYTES:
+        for words in [bad], [b"a" + bad], [b"declarations", bad], [bad, b"--help"]:
+            run = subprocess.run([program, *words], input=b"", capture_output=True, timeout=60)
+            if (run.returncode, run.stdout, run.stderr) != (2, b"", TEXT):
+                sys.exit(f"{words}: status {run.returncode}, {run.stdout!r}, {run.stderr!r}")
+    print(f"{4 * len(BYTES)} runs with words that aren't UTF-8: each ended with status 2 and its text")
+
+
+if __name__ == "__main__":
+    main()
