@@ -1,9 +1,9 @@
 //! Puts that the rules of the house judge: of data, and of whole objects.
-use fv_datum::{Attrs, Datum, Kind};
+use fv_datum::{Attrs, Datum};
 use fv_engine::Engine;
-use fv_house::{House, luhn, not_after, one_of, sum_is};
+use fv_house::{house_registry, luhn, not_after, one_of, sum_is};
 use fv_model::Object;
-use fv_registry::{FieldCall, FieldValidator, ObjectCall, ObjectValidator, Registry, RuleSet};
+use fv_registry::{FieldCall, ObjectCall, RuleSet};
 use sqlite::Connection;
 use std::alloc::Global;
 use std::process::Abort;
@@ -128,27 +128,6 @@ fn the_rules_of_the_house_judge_puts(rt: HostRuntime) -> Result<(), Fail> {
         alloc,
         |object: &Object, attrs: &Attrs| sum_is(object, attrs),
     )?;
-    let fields = vec![in alloc;
-        FieldValidator {
-            rule: 1,
-            kinds: vec![in alloc; Kind::Text]?,
-            call: digits
-        },
-        FieldValidator {
-            rule: 2,
-            kinds: vec![in alloc; Kind::Text]?,
-            call: listed
-        },
-    ]?;
-    let objects = vec![in alloc;
-        ObjectValidator {
-            rule: 3,
-            call: ordered
-        },
-        ObjectValidator {
-            rule: 4,
-            call: summed
-        },
-    ]?;
-    check_puts(&rt, alloc, Registry::<House>::new(alloc, fields, objects)?)
+    let registry = house_registry(alloc, digits, listed, ordered, summed)?;
+    check_puts(&rt, alloc, registry)
 }
