@@ -1,11 +1,9 @@
 //! The rules of the house, asked by their numbers.
 use crate::given::{attrs_of, bundle_of, text};
-use fv_datum::{Attrs, Datum, Kind};
-use fv_house::{House, luhn, not_after, one_of, sum_is};
+use fv_datum::{Attrs, Datum};
+use fv_house::{house_registry, luhn, not_after, one_of, sum_is};
 use fv_model::Object;
-use fv_registry::{
-    FieldCall, FieldValidator, ObjectCall, ObjectValidator, Registry, RuleSet, Ruled,
-};
+use fv_registry::{FieldCall, ObjectCall, RuleSet, Ruled};
 use std::alloc::Global;
 use std::process::Abort;
 use std::test::Fail;
@@ -105,27 +103,9 @@ fn the_four_rules_answer_by_their_numbers(rt: HostRuntime) -> Result<(), Fail> {
         alloc,
         |object: &Object, attrs: &Attrs| sum_is(object, attrs),
     )?;
-    let fields = vec![in alloc;
-        FieldValidator {
-            rule: 1,
-            kinds: vec![in alloc; Kind::Text]?,
-            call: first
-        },
-        FieldValidator {
-            rule: 2,
-            kinds: vec![in alloc; Kind::Text]?,
-            call: second
-        },
-    ]?;
-    let objects = vec![in alloc;
-        ObjectValidator {
-            rule: 3,
-            call: third
-        },
-        ObjectValidator {
-            rule: 4,
-            call: fourth
-        },
-    ]?;
-    check_answers(&rt, alloc, Registry::<House>::new(alloc, fields, objects)?)
+    check_answers(
+        &rt,
+        alloc,
+        house_registry(alloc, first, second, third, fourth)?,
+    )
 }
