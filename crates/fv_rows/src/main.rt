@@ -8,6 +8,7 @@ mod declared;
 mod files;
 mod lines;
 mod puts;
+mod registry;
 mod replies;
 mod report;
 mod schemas;
@@ -17,13 +18,13 @@ mod texts;
 
 use anyhow::Error;
 use files::run_files;
-use fv_datum::{Attrs, Datum, Kind};
-use fv_house::{House, luhn, not_after, one_of, sum_is};
+use fv_datum::{Attrs, Datum};
+use fv_house::{luhn, not_after, one_of, sum_is};
 use fv_model::Object;
-use fv_registry::{FieldCall, FieldValidator, ObjectCall, ObjectValidator, Registry};
+use fv_registry::{FieldCall, ObjectCall};
+use registry::rows_registry;
 
-/// Hands in the rules of the house and some that hold of everything: 5 takes no kind, 6 integers and
-/// dates, 4294967295 texts, and 0 is of objects.
+/// Makes the closures of the rules and compares the rows of the files that the words name.
 fn main(rt: HostRuntime) -> Result<(), Error> {
     let alloc = rt.alloc();
     let digits: FieldCall = Box::new(alloc, |datum: &Datum, _attrs: &Attrs| luhn(datum))?;
@@ -40,47 +41,8 @@ fn main(rt: HostRuntime) -> Result<(), Error> {
         |object: &Object, attrs: &Attrs| sum_is(object, attrs),
     )?;
     let whole: ObjectCall = Box::new(alloc, |_object: &Object, _attrs: &Attrs| true)?;
-    let fields = vec![in alloc;
-        FieldValidator {
-            rule: 1,
-            kinds: vec![in alloc; Kind::Text]?,
-            call: digits
-        },
-        FieldValidator {
-            rule: 2,
-            kinds: vec![in alloc; Kind::Text]?,
-            call: listed
-        },
-        FieldValidator {
-            rule: 5,
-            kinds: Vec::new(alloc),
-            call: none
-        },
-        FieldValidator {
-            rule: 6,
-            kinds: vec![in alloc; Kind::Integer, Kind::Date]?,
-            call: some
-        },
-        FieldValidator {
-            rule: 4294967295,
-            kinds: vec![in alloc; Kind::Text]?,
-            call: last
-        },
-    ]?;
-    let objects = vec![in alloc;
-        ObjectValidator {
-            rule: 3,
-            call: ordered
-        },
-        ObjectValidator {
-            rule: 4,
-            call: summed
-        },
-        ObjectValidator {
-            rule: 0,
-            call: whole
-        },
-    ]?;
-    let registry = Registry::<House>::new(alloc, fields, objects)?;
+    let registry = rows_registry(
+        alloc, digits, listed, none, some, last, ordered, summed, whole,
+    )?;
     run_files(&rt, &registry)
 }
