@@ -1,30 +1,40 @@
-//! Tests of data and of the constraints on them: tables of examples from outside, whose wanted
-//! answers are written down and never taken from the program.
+//! Tests of what no line of the service reaches: calls of the crates below, over tables of examples
+//! from outside, whose wanted answers are written down and never taken from the program.
 #![tactic(auto)]
 
 #[cfg(test)]
-mod builtins_containers;
+mod answers;
 #[cfg(test)]
-mod builtins_kinds;
+mod bundles;
 #[cfg(test)]
-mod builtins_messages;
+mod constraints;
 #[cfg(test)]
-mod builtins_numbers;
-#[cfg(test)]
-mod builtins_taken;
-#[cfg(test)]
-mod builtins_texts;
-#[cfg(test)]
-mod builtins_times;
-#[cfg(test)]
-mod calendar;
+mod containers;
 #[cfg(test)]
 mod data;
 #[cfg(test)]
-mod decimals;
+mod fitting;
 #[cfg(test)]
-mod judged;
+mod given;
 #[cfg(test)]
-mod names;
+mod house;
+#[cfg(test)]
+mod hubs;
+#[cfg(test)]
+mod messages;
+#[cfg(test)]
+mod other_data;
 #[cfg(test)]
 mod plain_data;
+#[cfg(test)]
+mod refusals;
+#[cfg(test)]
+mod rules;
+#[cfg(test)]
+mod texts;
+#[cfg(test)]
+mod trial;
+#[cfg(test)]
+mod types;
+#[cfg(test)]
+mod written;

@@ -12,6 +12,9 @@ use std::test::Fail;
 const ATTRIBUTES: &str =
     r#"{"words":["red","79927398710"],"start":"from","end":"to","first":"a","second":"b","total":"c"}"#;
 
+/// The type of the objects.
+const ITEM: &str = "Item = from: date, to: date, a: integer, b: integer, c: integer";
+
 /// Texts, and what the rules 1 and 2 answer for them.
 const TEXTS: [(&str, bool, bool); 4] = [
     ("79927398713", true, false),
@@ -42,34 +45,30 @@ const OBJECTS: [(&str, bool, bool); 4] = [
 
 fn check_datum<R: RuleSet>(
     rt: &impl Abort,
-    alloc: Global,
     rules: &Ruled<R>,
-    datum: &Datum,
+    (datum, attrs): (&Datum, &Attrs),
     wanted: (bool, bool),
-) -> Result<(), Fail> {
-    let attrs = attrs_of(alloc, ATTRIBUTES)?;
-    assert_eq!(rt; rules.ask(1, datum, &attrs), Some(wanted.0));
-    assert_eq!(rt; rules.ask(2, datum, &attrs), Some(wanted.1));
+) {
+    assert_eq!(rt; rules.ask(1, datum, attrs), Some(wanted.0));
+    assert_eq!(rt; rules.ask(2, datum, attrs), Some(wanted.1));
     for rule in [0, 3, 4, 5] {
-        assert_eq!(rt; rules.ask(rule, datum, &attrs), None, "{rule}");
+        assert_eq!(rt; rules.ask(rule, datum, attrs), None, "{rule}");
     }
-    Ok(())
 }
 
 fn check_object<R: RuleSet>(
     rt: &impl Abort,
     alloc: Global,
     rules: &Ruled<R>,
-    fields: &str,
+    (fields, attrs): (&str, &Attrs),
     wanted: (bool, bool),
 ) -> Result<(), Fail> {
-    let attrs = attrs_of(alloc, ATTRIBUTES)?;
-    let bundle = bundle_of(alloc, "Item", fields)?;
+    let bundle = bundle_of(alloc, ITEM, ("Item", fields))?;
     let object = bundle.object("a").ok_or("an object")?;
-    assert_eq!(rt; rules.ask_object(3, object, &attrs), Some(wanted.0));
-    assert_eq!(rt; rules.ask_object(4, object, &attrs), Some(wanted.1));
+    assert_eq!(rt; rules.ask_object(3, object, attrs), Some(wanted.0));
+    assert_eq!(rt; rules.ask_object(4, object, attrs), Some(wanted.1));
     for rule in [0, 1, 2, 5] {
-        assert_eq!(rt; rules.ask_object(rule, object, &attrs), None, "{rule}");
+        assert_eq!(rt; rules.ask_object(rule, object, attrs), None, "{rule}");
     }
     Ok(())
 }
@@ -79,13 +78,14 @@ fn check_answers<R: RuleSet + Drop>(rt: &impl Abort, alloc: Global, rules: R) ->
     requires { R.means rules }
 {
     let rules = Ruled::new(rules);
+    let attrs = attrs_of(alloc, ATTRIBUTES)?;
     for (given, first, second) in TEXTS {
-        check_datum(rt, alloc, &rules, &text(alloc, given)?, (first, second))?;
+        check_datum(rt, &rules, (&text(alloc, given)?, &attrs), (first, second));
     }
-    check_datum(rt, alloc, &rules, &Datum::Null, (true, true))?;
-    check_datum(rt, alloc, &rules, &Datum::Integer(0), (false, false))?;
+    check_datum(rt, &rules, (&Datum::Null, &attrs), (true, true));
+    check_datum(rt, &rules, (&Datum::Integer(0), &attrs), (false, false));
     for (fields, third, fourth) in OBJECTS {
-        check_object(rt, alloc, &rules, fields, (third, fourth))?;
+        check_object(rt, alloc, &rules, (fields, &attrs), (third, fourth))?;
     }
     Ok(())
 }

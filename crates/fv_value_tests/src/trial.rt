@@ -3,7 +3,7 @@
 ghost use Rattle.std.specs.Prelude.{◌≡◌};
 ghost use Rattle.fv_datum.specs.View.{view};
 ghost use Rattle.fv_model.specs.Views.{object_view};
-ghost use Rattle.fv_registry_tests.specs.Trial.{at_least, short, is_item, trial, trial_object};
+ghost use Rattle.fv_value_tests.specs.Trial.{at_least, short, is_item, trial, trial_object};
 
 use fv_datum::Datum;
 use fv_model::Object;
