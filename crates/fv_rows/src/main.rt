@@ -19,10 +19,10 @@ mod texts;
 use anyhow::Error;
 use files::run_files;
 use fv_datum::{Attrs, Datum};
-use fv_house::{luhn, not_after, one_of, sum_is};
+use fv_house::{House, luhn, not_after, one_of, sum_is};
 use fv_model::Object;
-use fv_registry::{FieldCall, ObjectCall};
-use registry::rows_registry;
+use fv_registry::{FieldCall, ObjectCall, Registry};
+use registry::{field_validators, object_validators};
 
 /// Makes the closures of the rules and compares the rows of the files that the words name.
 fn main(rt: HostRuntime) -> Result<(), Error> {
@@ -41,8 +41,8 @@ fn main(rt: HostRuntime) -> Result<(), Error> {
         |object: &Object, attrs: &Attrs| sum_is(object, attrs),
     )?;
     let whole: ObjectCall = Box::new(alloc, |_object: &Object, _attrs: &Attrs| true)?;
-    let registry = rows_registry(
-        alloc, digits, listed, none, some, last, ordered, summed, whole,
-    )?;
+    let fields = field_validators(alloc, digits, listed, none, some, last)?;
+    let objects = object_validators(alloc, ordered, summed, whole)?;
+    let registry = Registry::<House>::new(alloc, fields, objects)?;
     run_files(&rt, &registry)
 }

@@ -4,15 +4,12 @@ ghost use Rattle.fv_registry.specs.Answers.{FieldAnswers, FieldsMean, ObjectAnsw
 ghost use Rattle.fv_house.specs.House.{decides, decides_object};
 
 use fv_datum::Kind;
-use fv_house::House;
-use fv_registry::{
-    FieldCall, FieldValidator, ObjectCall, ObjectValidator, Registry, RegistryFault, RuleSet,
-};
+use fv_registry::{FieldCall, FieldValidator, ObjectCall, ObjectValidator};
 use std::alloc::{AllocError, Global};
 
 /// The validators of data: the rules 1 and 2 of the house, and three that hold of everything: 5 takes
 /// no kind, 6 integers and dates, 4294967295 texts.
-fn field_validators(
+pub(crate) fn field_validators(
     alloc: Global,
     digits: FieldCall,
     listed: FieldCall,
@@ -60,7 +57,7 @@ fn field_validators(
 }
 
 /// The validators of objects: the rules 3 and 4 of the house, and 0, which holds of every object.
-fn object_validators(
+pub(crate) fn object_validators(
     alloc: Global,
     ordered: ObjectCall,
     summed: ObjectCall,
@@ -87,34 +84,4 @@ fn object_validators(
         },
     ]?;
     Ok(validators)
-}
-
-/// The registry of these validators.
-pub(crate) fn rows_registry(
-    alloc: Global,
-    digits: FieldCall,
-    listed: FieldCall,
-    none: FieldCall,
-    some: FieldCall,
-    last: FieldCall,
-    ordered: ObjectCall,
-    summed: ObjectCall,
-    whole: ObjectCall,
-) -> Result<Registry<House>, RegistryFault>
-    requires house { FieldCall.IsAlwaysCallable digits × FieldCall.IsAlwaysCallable listed }
-    requires others { FieldCall.IsAlwaysCallable none × FieldCall.IsAlwaysCallable some × FieldCall.IsAlwaysCallable last }
-    requires objects { ObjectCall.IsAlwaysCallable ordered × ObjectCall.IsAlwaysCallable summed × ObjectCall.IsAlwaysCallable whole }
-    requires digits { FieldAnswers (FieldCall.post digits) (decides 1) }
-    requires listed { FieldAnswers (FieldCall.post listed) (decides 2) }
-    requires none { FieldAnswers (FieldCall.post none) (decides 5) }
-    requires some { FieldAnswers (FieldCall.post some) (decides 6) }
-    requires last { FieldAnswers (FieldCall.post last) (decides 4294967295) }
-    requires ordered { ObjectAnswers (ObjectCall.post ordered) (decides_object 3) }
-    requires summed { ObjectAnswers (ObjectCall.post summed) (decides_object 4) }
-    requires whole { ObjectAnswers (ObjectCall.post whole) (decides_object 0) }
-    ensures { IfOk result (λ r. ⟦<Registry<House> as RuleSet>⟧.means r) }
-{
-    let fields = field_validators(alloc, digits, listed, none, some, last)?;
-    let objects = object_validators(alloc, ordered, summed, whole)?;
-    Registry::new(alloc, fields, objects)
 }
