@@ -4,7 +4,6 @@ use fv_datum::Datum;
 use fv_model::{Bundle, BundleFault, Object, read_bundle, write_bundle};
 use serde_json::Value;
 use std::alloc::Global;
-use std::process::Abort;
 use std::test::Fail;
 
 const ITEM: &str = "Item = name: text, count: integer\nNote = text: text";

@@ -3,7 +3,6 @@ use crate::given::{built, declared};
 use fv_model::{Fields, TypeId, TypeUse, Types, TypesFault};
 use indexmap::IndexMap;
 use std::alloc::Global;
-use std::process::Abort;
 use std::test::Fail;
 
 /// Two types.
