@@ -53,10 +53,10 @@ fn field_for(
     requires fits { fits_given (held_view type_use.now) (get_member name.now (given_view given)) ≡ true }
     ensures { IfOk result (λ f. field_view f ≡ field_of (given_view given.entry) (name.now, held_view type_use.now)) }
 {
-    let datum = datum_for(alloc, type_use, find_given(given, name))?;
+    let value = find_given(given, name);
     Ok(Field {
         name: String::from_str(alloc, name)?,
-        datum,
+        datum: datum_for(alloc, type_use, value)?,
     })
 }
 
