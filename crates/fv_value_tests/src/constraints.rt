@@ -43,17 +43,6 @@ fn constraints_are_on_their_kinds_alone(rt: HostRuntime) -> Result<(), Fail> {
     Ok(())
 }
 
-/// Other names, with `|` between them.
-const NOT_BUILT_IN: &str =
-    "|null|NULL|Null | Null|Nul|Nulls|Email|Not|Decimal|Valid|Patterns|AssertNull|SIZE|Past\0";
-
-#[test]
-fn other_names_are_not_built_in(rt: HostRuntime) {
-    for name in NOT_BUILT_IN.split('|') {
-        check_that(&rt, !is_builtin(name), name);
-    }
-}
-
 /// A constraint, attributes and the letter of a kind: whether the attributes are taken, whether the
 /// kind is, and the fault of both, or `taken`. Attributes are judged before kinds, and these before
 /// patterns.

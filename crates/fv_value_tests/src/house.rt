@@ -61,14 +61,14 @@ fn asked_object<R: RuleSet>(
 
 /// Texts and fields of objects, with what the rules answer for them.
 const ROWS: &str = r#"
--yn--- 79927398713
--ny--- 79927398710
--ny--- red
--nn--- 
----ny- {"from":"2024-02-02","to":"2024-02-01","a":1,"b":2,"c":3}
----yn- {"from":"2024-02-01","to":"2024-02-02","a":1,"b":2,"c":4}
----yn- {"a":9223372036854775807,"b":1,"c":-9223372036854775808}
----yy- {"a":9223372036854775807,"b":1}
+79927398713 => -yn---
+79927398710 => -ny---
+red => -ny---
+ => -nn---
+{"from":"2024-02-02","to":"2024-02-01","a":1,"b":2,"c":3} => ---ny-
+{"from":"2024-02-01","to":"2024-02-02","a":1,"b":2,"c":4} => ---yn-
+{"a":9223372036854775807,"b":1,"c":-9223372036854775808} => ---yn-
+{"a":9223372036854775807,"b":1} => ---yy-
 "#;
 
 /// What the rules answer for a row's text or fields.
@@ -92,26 +92,14 @@ fn check_answers<R: RuleSet + Drop>(rt: &impl Abort, alloc: Global, rules: R) ->
     let rules = Ruled::new(rules);
     let attrs = attrs_of(alloc, ATTRIBUTES)?;
     for row in ROWS.trim().lines() {
-        let (wanted, given) = row.split_once(' ').ok_or("a row")?;
-        check(
-            rt,
-            answers(alloc, &rules, given, &attrs)?.as_str(),
-            wanted,
-            row,
-        );
+        let (given, wanted) = row.split_once(" => ").ok_or("a row")?;
+        let found = answers(alloc, &rules, given, &attrs)?;
+        check(rt, found.as_str(), wanted, row);
     }
-    check(
-        rt,
-        asked(alloc, &rules, &Datum::Null, &attrs)?.as_str(),
-        "-yy---",
-        "null",
-    );
-    check(
-        rt,
-        asked(alloc, &rules, &Datum::Integer(0), &attrs)?.as_str(),
-        "-nn---",
-        "0",
-    );
+    let found = asked(alloc, &rules, &Datum::Null, &attrs)?;
+    check(rt, found.as_str(), "-yy---", "null");
+    let found = asked(alloc, &rules, &Datum::Integer(0), &attrs)?;
+    check(rt, found.as_str(), "-nn---", "0");
     Ok(())
 }
 

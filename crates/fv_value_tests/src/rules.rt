@@ -78,12 +78,8 @@ const RULES: [(u32, &str); 7] = [
 fn rules_are_there_in_any_order(rt: HostRuntime) -> Result<(), Fail> {
     let registry = registry_of(rt.alloc(), "4:T 2:DI 5:", "3 0")??;
     for (rule, wanted) in RULES {
-        check(
-            &rt,
-            rule_shown(rt.alloc(), &registry, rule)?.as_str(),
-            wanted,
-            "a rule",
-        );
+        let found = rule_shown(rt.alloc(), &registry, rule)?;
+        check(&rt, found.as_str(), wanted, "a rule");
     }
     let mut rules = [4, 2, 5].iter();
     for validator in registry.fields() {
@@ -202,12 +198,8 @@ fn a_schema_fits_the_rules_that_it_uses(rt: HostRuntime) -> Result<(), Fail> {
         check(&rt, fits(rt.alloc(), &schema, given)?.as_str(), wanted, row);
     }
     let schema = schema_of(rt.alloc(), NO_RULES)?;
-    check(
-        &rt,
-        fits(rt.alloc(), &schema, " | ")?.as_str(),
-        "true",
-        "no rules",
-    );
+    let found = fits(rt.alloc(), &schema, " | ")?;
+    check(&rt, found.as_str(), "true", "no rules");
     Ok(())
 }
 

@@ -13,11 +13,9 @@ const ITEM_AND_A: &str =
 fn types_have_numbers_and_fields(rt: HostRuntime) -> Result<(), Fail> {
     let types = built(rt.alloc(), ITEM_AND_A)?;
     check_that(&rt, types.count() == 2, "two types");
-    check_that(&rt, types.find("Item") == Some(TypeId { index: 0 }), "Item");
     check_that(&rt, types.find("A") == Some(TypeId { index: 1 }), "A");
     check_that(&rt, types.find("item").is_none(), "item");
-    check(&rt, types.name(TypeId { index: 1 }), "A", "the second");
-    check_that(&rt, types.fields("item").is_none(), "item");
+    check(&rt, types.name(TypeId { index: 0 }), "Item", "the first");
     let fields = types.fields("Item").ok_or("declared")?;
     let shown = format!(in rt.alloc(); "{fields:?}")?;
     check(&rt, shown.as_str(), FIELDS, "Item");
