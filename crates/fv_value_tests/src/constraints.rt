@@ -5,7 +5,7 @@ use fv_builtin::{
     Builtin, BuiltinFault, builtin_message, builtin_named, is_builtin, message, takes_attributes,
     takes_kind,
 };
-use fv_datum::{Datum, Kind};
+use fv_datum::{Attrs, Datum, Kind};
 use std::alloc::Global;
 use std::test::Fail;
 
@@ -60,11 +60,25 @@ Past {"nope":1} O => false false Attribute
 Pattern {"regexp":"("} T => true true BadPattern
 "#;
 
+/// The constraint of that name with these attributes, for data of a kind.
+fn read(
+    alloc: Global,
+    name: &str,
+    attrs: &Attrs,
+    kind: Kind,
+) -> Result<Result<Builtin, BuiltinFault>, Fail> {
+    if is_builtin(name) {
+        Ok(Builtin::read(alloc, name, attrs, kind))
+    } else {
+        Err("a name".into())
+    }
+}
+
 /// Whether a constraint takes attributes and a kind, and the fault of both.
 fn taken(alloc: Global, name: &str, with: &str, kind: Kind) -> Result<String, Fail> {
     let which = builtin_named(name).ok_or("a name")?;
     let attrs = attrs_of(alloc, with)?;
-    let read = Builtin::read(alloc, name, &attrs, kind);
+    let read = read(alloc, name, &attrs, kind)?;
     let fault = match &read {
         Ok(_) => "taken",
         Err(fault) => fault.name(),
@@ -104,7 +118,7 @@ fn of_size(alloc: Global, count: usize) -> Result<(Datum, Datum), Fail> {
 
 /// Whether a constraint with the attributes of a JSON object holds of a datum of a kind.
 fn holds(alloc: Global, name: &str, with: &str, kind: Kind, datum: &Datum) -> Result<bool, Fail> {
-    let read = Builtin::read(alloc, name, &attrs_of(alloc, with)?, kind)?;
+    let read = read(alloc, name, &attrs_of(alloc, with)?, kind)??;
     Ok(read.holds(alloc, datum, 0)?)
 }
 

@@ -2,7 +2,8 @@
 //! data of other kinds.
 use crate::given::{attrs_of, check, check_that, type_use};
 use fv_datum::{
-    Attribute, Datum, DatumFault, Name, is_name, is_null, read_datum, spells_datum, write_datum,
+    Attribute, Attrs, Datum, DatumFault, Name, is_name, is_null, read_datum, spells_datum,
+    write_datum,
 };
 use fv_house::{luhn, one_of};
 use serde_json::Value;
@@ -83,21 +84,28 @@ fn not_texts(rt: &impl Abort, alloc: Global) -> Result<Vec<Datum>, Fail> {
 /// Those data as JSON: an optional is written as a list of what it holds, or an empty one.
 const WRITTEN: &str = r#"[18,true,18,"_18","18","2018-01-18",["18"],{"18":"18"},["18"],[]]"#;
 
-/// Each datum is not null and passes neither rule, and their list and its copy are written so.
 #[test]
-fn data_of_other_kinds_are_no_texts(rt: HostRuntime) -> Result<(), Fail> {
-    let words = r#"{"words":["","18","true","2018-01-18","_18","null"]}"#;
-    let attrs = attrs_of(rt.alloc(), words)?;
-    let data = not_texts(&rt, rt.alloc())?;
-    for datum in &data {
-        let passes = luhn(datum) || one_of(datum, &attrs) || is_null(datum);
-        check_that(&rt, !passes, "data of other kinds");
-    }
-    let list = Datum::List(data);
+fn data_of_all_kinds_are_written_and_copied(rt: HostRuntime) -> Result<(), Fail> {
+    let list = Datum::List(not_texts(&rt, rt.alloc())?);
     check(&rt, written(rt.alloc(), &list)?.as_str(), WRITTEN, "a list");
     let copy = list.copy(rt.alloc())?;
-    let found = written(rt.alloc(), &copy)?;
-    check(&rt, found.as_str(), WRITTEN, "its copy");
+    check(&rt, written(rt.alloc(), &copy)?.as_str(), WRITTEN, "a copy");
+    Ok(())
+}
+
+/// Whether a datum is null or passes one of the rules of texts.
+fn passes(datum: &Datum, attrs: &Attrs) -> bool {
+    luhn(datum) || one_of(datum, attrs) || is_null(datum)
+}
+
+#[test]
+fn of_other_data_null_alone_passes(rt: HostRuntime) -> Result<(), Fail> {
+    let words = r#"{"words":["","18","true","2018-01-18","_18","null"]}"#;
+    let attrs = attrs_of(rt.alloc(), words)?;
+    for datum in &not_texts(&rt, rt.alloc())? {
+        check_that(&rt, !passes(datum, &attrs), "data of other kinds");
+    }
+    check_that(&rt, is_null(&Datum::Null), "null");
     Ok(())
 }
 

@@ -101,15 +101,19 @@ fn fields_of(alloc: Global, text: &str) -> Result<Fields, Fail> {
 }
 
 /// Types, one a line, as `P = to: &P, count: I`, or `Q` for a type without fields.
-pub(crate) fn built(alloc: Global, table: &str) -> Result<Types, Fail> {
+fn declared(alloc: Global, table: &str) -> Result<IndexMap<String, Fields>, Fail> {
     let mut types = IndexMap::new(alloc);
     for line in table.lines() {
-        let fields = match line.split_once(" = ") {
-            None => IndexMap::new(alloc),
-            Some((_, text)) => fields_of(alloc, text)?,
+        let (name, fields) = match line.split_once(" = ") {
+            None => (line, IndexMap::new(alloc)),
+            Some((name, text)) => (name, fields_of(alloc, text)?),
         };
-        let name = line.split(' ').next().ok_or("a name")?;
         types.insert(String::from_str(alloc, name)?, fields)?;
     }
-    Ok(Types::build(types)?)
+    Ok(types)
+}
+
+/// The same, built.
+pub(crate) fn built(alloc: Global, table: &str) -> Result<Types, Fail> {
+    Ok(Types::build(declared(alloc, table)?)?)
 }
