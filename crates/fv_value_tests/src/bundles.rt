@@ -1,137 +1,139 @@
 //! What a bundle holds, bundles whose root may be of any type, and the faults' codes and names.
-use crate::given::{built, bundle_of};
+use crate::given::{built, check, check_that};
 use fv_datum::Datum;
-use fv_model::{Bundle, BundleFault, Object, read_bundle, write_bundle};
+use fv_model::{Bundle, BundleFault, Types, read_bundle, write_bundle};
 use serde_json::Value;
 use std::alloc::Global;
 use std::test::Fail;
 
-const ITEM: &str = "Item = name: text, count: integer\nNote = text: text";
-
-/// The object of that name.
-fn object_in<'a>(bundle: &'a Bundle, name: &str) -> Result<&'a Object, Fail> {
-    Ok(bundle.object(name).ok_or("an object")?)
-}
-
-#[test]
-fn a_text_is_held_by_its_characters(rt: HostRuntime) -> Result<(), Fail> {
-    let fields = "{\"name\":\"\\ud83d\\ude00bc\\u0000\"}";
-    let bundle = bundle_of(rt.alloc(), ITEM, ("Item", fields))?;
-    let name = match object_in(&bundle, "a")?.field("name") {
-        Some(Datum::Text(text)) => text.as_str(),
-        _ => "",
-    };
-    assert_eq!(rt; name, "\u{1f600}bc\0");
-    Ok(())
-}
-
-#[test]
-fn an_object_has_each_field_of_its_type(rt: HostRuntime) -> Result<(), Fail> {
-    let bundle = bundle_of(rt.alloc(), ITEM, ("Item", "{\"count\":-3}"))?;
-    assert_eq!(rt; bundle.root(), "a");
-    assert!(rt; bundle.object("b").is_none());
-    let object = object_in(&bundle, "a")?;
-    assert_eq!(rt; object.type_name(), "Item");
-    assert!(rt; matches!(object.field("count"), Some(Datum::Integer(-3))));
-    assert!(rt; matches!(object.field("name"), Some(Datum::Null)));
-    assert!(rt; object.field("text").is_none());
-    Ok(())
-}
-
-#[test]
-fn fields_stand_in_the_order_of_the_type(rt: HostRuntime) -> Result<(), Fail> {
-    let bundle = bundle_of(rt.alloc(), ITEM, ("Item", "{\"count\":-3}"))?;
-    let fields = object_in(&bundle, "a")?.fields();
-    assert_eq!(rt; fields.len(), 2);
-    for (field, (name, is_null)) in fields.iter().zip([("name", true), ("count", false)]) {
-        assert_eq!(rt; field.name(), name);
-        assert_eq!(rt; matches!(field.datum(), Datum::Null), is_null);
+/// A bundle as a text: its root, its objects with their types and with the names of their fields, `0`
+/// before one that is null, and the bundle as JSON.
+fn shown(alloc: Global, bundle: &Bundle) -> Result<String, Fail> {
+    let root = bundle.root();
+    let mut text = format!(in alloc; "root {root}")?;
+    for (name, object) in bundle.objects().iter() {
+        let type_name = object.type_name();
+        text.push_str(format!(in alloc; "; {name} {type_name}")?.as_str())?;
+        for field in object.fields() {
+            text.push_str(if matches!(field.datum(), Datum::Null) {
+                " 0"
+            } else {
+                " "
+            })?;
+            text.push_str(field.name())?;
+        }
     }
-    Ok(())
+    text.push_str(" => ")?;
+    text.push_str(write_bundle(alloc, bundle)?.to_string(alloc)?.as_str())?;
+    Ok(text)
 }
 
-/// What a text of JSON is read as, whatever the type of its root, written again, or the fault's name.
-fn read_and_written(alloc: Global, types: &str, text: &str) -> Result<String, Fail> {
-    let value = Value::from_str(alloc, text)?;
-    match read_bundle(alloc, &built(alloc, types)?, None, &value) {
-        Ok(bundle) => Ok(write_bundle(alloc, &bundle)?.to_string(alloc)?),
-        Err(fault) => Ok(String::from_str(alloc, fault.name())?),
-    }
-}
+const TYPES: &str = "P = to: &P, q: &Q\nQ\nItem = name: T, count: I\nNote = text: T";
 
-/// Bundles without an asked type of the root. A command would refuse the first as none of its own.
+/// Bundles without an asked type of the root: what each is, or the code and the name of its fault. A
+/// command would refuse the first as none of its own. Objects stand by their names, fields in the
+/// order of the type.
 const BUNDLES: &str = r#"
-{"root":"a"} => Shape
-{"root":"a","objects":{"a":{"type":"Nope"}}} => UnknownType
-{"root":"b","objects":{"a":{"type":"P","fields":{"q":"a"}}}} => RootMissing
-{"root":"a","objects":{"a":{"type":"P","fields":{"q":"a"}}}} => RefType
-{"root":"a","objects":{"a":{"type":"P"}}} => {"objects":{"a":{"fields":{},"type":"P"}},"root":"a"}
-{"root":"b","objects":{"b":{"type":"Q"},"a":{"type":"P","fields":{"q":"b"}}}} => {"objects":{"a":{"fields":{"q":"b"},"type":"P"},"b":{"fields":{},"type":"Q"}},"root":"b"}
+{"root":"a"} => B0 Shape
+{"root":"1","objects":{"1":{"type":"Q"}}} => B1 BadName
+{"root":"b","objects":{"a":{"type":"P","fields":{"q":"a"}}}} => B2 RootMissing
+{"root":"a","objects":{"a":{"type":"Nope"}}} => B3 UnknownType
+{"root":"a","objects":{"a":{"type":"Q","fields":{"q":"a"}}}} => B4 UnknownField
+{"root":"a","objects":{"a":{"type":"P","fields":{"q":1}}}} => B5 WrongKind
+{"root":"a","objects":{"a":{"type":"P","fields":{"q":"b"}}}} => B6 DanglingRef
+{"root":"a","objects":{"a":{"type":"P","fields":{"q":"a"}}}} => B7 RefType
+{"root":"a","objects":{"a":{"type":"P"}}} => root a; a P 0to 0q => {"objects":{"a":{"fields":{},"type":"P"}},"root":"a"}
+{"root":"b","objects":{"b":{"type":"Q"},"a":{"type":"P","fields":{"q":"b"}}}} => root b; a P 0to q; b Q => {"objects":{"a":{"fields":{"q":"b"},"type":"P"},"b":{"fields":{},"type":"Q"}},"root":"b"}
+{"root":"a","objects":{"a":{"type":"Item","fields":{"count":-3}}}} => root a; a Item 0name count => {"objects":{"a":{"fields":{"count":-3},"type":"Item"}},"root":"a"}
+{"root":"a","objects":{"a":{"type":"Item","fields":{"name":"\ud83d\ude00bc\u0000"}}}} => root a; a Item name 0count => {"objects":{"a":{"fields":{"name":"😀bc\u0000"},"type":"Item"}},"root":"a"}
 "#;
+
+/// What a text of JSON is read as.
+fn read(alloc: Global, types: &Types, given: &str) -> Result<String, Fail> {
+    let value = Value::from_str(alloc, given)?;
+    match read_bundle(alloc, types, None, &value) {
+        Ok(bundle) => shown(alloc, &bundle),
+        Err(fault) => Ok(format!(in alloc; "{} {}", fault.code(), fault.name())?),
+    }
+}
 
 #[test]
 fn roots_may_be_of_any_type(rt: HostRuntime) -> Result<(), Fail> {
+    let types = built(rt.alloc(), TYPES)?;
     for row in BUNDLES.trim().lines() {
         let (given, wanted) = row.split_once(" => ").ok_or("a row")?;
-        let answer = read_and_written(rt.alloc(), "P = to: P, q: Q\nQ", given)?;
-        assert_eq!(rt; answer.as_str(), wanted, "{given}");
+        let found = read(rt.alloc(), &types, given)?;
+        check(&rt, found.as_str(), wanted, given);
     }
     Ok(())
 }
 
-/// A bundle whose root `b`, a `Q`, is what its other object `a` refers to.
-fn a_and_b(alloc: Global) -> Result<Bundle, Fail> {
-    let text = r#"{"root":"b","objects":{"b":{"type":"Q"},"a":{"type":"P","fields":{"q":"b"}}}}"#;
-    let types = built(alloc, "P = to: P, q: Q\nQ")?;
+#[test]
+fn other_faults_have_names(rt: HostRuntime) {
+    for (fault, name) in [
+        (BundleFault::TooLarge, "TooLarge"),
+        (BundleFault::RootType, "RootType"),
+        (BundleFault::Memory, "Memory"),
+    ] {
+        check(&rt, fault.name(), name, name);
+    }
+}
+
+/// The bundle of a text of JSON, whose root is of that type.
+fn bundle_of(alloc: Global, types: &Types, root: &str, text: &str) -> Result<Bundle, Fail> {
     let value = Value::from_str(alloc, text)?;
-    Ok(read_bundle(alloc, &types, types.find("Q"), &value)?)
-}
-
-/// The name of an object's type.
-fn type_of<'a>(bundle: &'a Bundle, name: &str) -> Option<&'a str> {
-    Some(bundle.object(name)?.type_name())
+    Ok(read_bundle(alloc, types, types.find(root), &value)?)
 }
 
 #[test]
-fn objects_are_found_by_their_names(rt: HostRuntime) -> Result<(), Fail> {
-    let bundle = a_and_b(rt.alloc())?;
-    assert_eq!(rt; bundle.root(), "b");
-    assert_eq!(rt; bundle.objects().len(), 2);
-    for (name, wanted) in [("a", Some("P")), ("b", Some("Q")), ("c", None)] {
-        assert_eq!(rt; type_of(&bundle, name), wanted, "{name}");
-    }
+fn objects_and_fields_are_found_by_their_names(rt: HostRuntime) -> Result<(), Fail> {
+    let text = r#"{"root":"b","objects":{"b":{"type":"Q"},"a":{"type":"P","fields":{"q":"b"}}}}"#;
+    let types = built(rt.alloc(), TYPES)?;
+    let bundle = bundle_of(rt.alloc(), &types, "Q", text)?;
+    let object = bundle.object("a").ok_or("an object")?;
+    check_that(&rt, matches!(object.field("q"), Some(Datum::Ref(_))), "q");
+    check_that(&rt, matches!(object.field("to"), Some(Datum::Null)), "to");
+    check_that(&rt, object.field("text").is_none(), "text");
+    check_that(&rt, bundle.object("c").is_none(), "c");
     Ok(())
 }
 
-#[test]
-fn objects_stand_by_their_names(rt: HostRuntime) -> Result<(), Fail> {
-    let bundle = a_and_b(rt.alloc())?;
-    let (name, object) = bundle.objects().get_index(0).ok_or("an object")?;
-    assert_eq!(rt; name.as_str(), "a");
-    assert!(rt; matches!(object.field("q"), Some(Datum::Ref(name)) if name.as_str() == "b"));
-    assert!(rt; matches!(object.field("to"), Some(Datum::Null)));
-    Ok(())
+/// Items for the numbers from 1000 to 1255, with commas between: `#` in an item is the number.
+fn items(alloc: Global, item: &str, comma: &str) -> Result<String, Fail> {
+    let mut text = String::new(alloc);
+    for i in 1000..1256 {
+        if i > 1000 {
+            text.push_str(comma)?;
+        }
+        let number = format!(in alloc; "{i}")?;
+        text.push_str(item.replace(alloc, "#", number.as_str())?.as_str())?;
+    }
+    Ok(text)
 }
 
-/// The faults, with their codes and their names.
-const FAULTS: [(BundleFault, &str, &str); 11] = [
-    (BundleFault::Shape, "B0", "Shape"),
-    (BundleFault::BadName, "B1", "BadName"),
-    (BundleFault::RootMissing, "B2", "RootMissing"),
-    (BundleFault::UnknownType, "B3", "UnknownType"),
-    (BundleFault::UnknownField, "B4", "UnknownField"),
-    (BundleFault::WrongKind, "B5", "WrongKind"),
-    (BundleFault::DanglingRef, "B6", "DanglingRef"),
-    (BundleFault::RefType, "B7", "RefType"),
-    (BundleFault::TooLarge, "B8", "TooLarge"),
-    (BundleFault::RootType, "B9", "RootType"),
-    (BundleFault::Memory, "", "Memory"),
-];
+/// The type `Hub`, with a reference to a `Hub` for each number.
+fn hub(alloc: Global) -> Result<Types, Fail> {
+    let fields = items(alloc, "f#: &Hub", ", ")?;
+    let line = format!(in alloc; "Hub = {fields}")?;
+    built(alloc, line.as_str())
+}
 
+/// A bundle of hubs, each of which refers to all of them.
+fn net(alloc: Global) -> Result<String, Fail> {
+    let spokes = items(alloc, "\"f#\":\"h#\"", ",")?;
+    let hub = format!(in alloc; "\"h#\":{{\"fields\":{{{spokes}}},\"type\":\"Hub\"}}")?;
+    let hubs = items(alloc, hub.as_str(), ",")?;
+    Ok(format!(in alloc; "{{\"objects\":{{{hubs}}},\"root\":\"h1000\"}}")?)
+}
+
+/// The largest bundle: 256 hubs, each of which refers to all of them, 65,536 references. As a line it
+/// would have more than a mebibyte.
 #[test]
-fn faults_of_bundles_have_names_and_codes(rt: HostRuntime) {
-    for (fault, code, name) in FAULTS {
-        assert_eq!(rt; fault.code(), code);
-        assert_eq!(rt; fault.name(), name);
-    }
+fn all_objects_refer_to_all(rt: HostRuntime) -> Result<(), Fail> {
+    let types = hub(rt.alloc())?;
+    let text = net(rt.alloc())?;
+    let bundle = bundle_of(rt.alloc(), &types, "Hub", text.as_str())?;
+    let written = write_bundle(rt.alloc(), &bundle)?.to_string(rt.alloc())?;
+    check_that(&rt, written.as_str() == text.as_str(), "the net");
+    Ok(())
 }

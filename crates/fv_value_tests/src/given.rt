@@ -1,6 +1,6 @@
-//! Data, attributes, types and objects for tests.
-use fv_datum::{Attribute, Attrs, Datum, Kind, Name, is_name};
-use fv_model::{Bundle, Fields, TypeUse, Types, read_bundle};
+//! Kinds, attributes and types that tests are given, written as texts.
+use fv_datum::{Attribute, Attrs, Kind};
+use fv_model::{Fields, TypeUse, Types};
 use indexmap::IndexMap;
 use serde_json::Value;
 use std::alloc::Global;
@@ -8,30 +8,43 @@ use std::collections::BTreeMap;
 use std::process::Abort;
 use std::test::Fail;
 
-/// The kinds, each with a letter.
-pub(crate) const KINDS: [(char, Kind); 10] = [
-    ('T', Kind::Text),
-    ('I', Kind::Integer),
-    ('D', Kind::Decimal),
-    ('B', Kind::Boolean),
-    ('E', Kind::Date),
-    ('M', Kind::Instant),
-    ('R', Kind::Ref),
-    ('L', Kind::List),
-    ('P', Kind::Map),
-    ('O', Kind::Optional),
-];
-
-/// A text.
-pub(crate) fn text(alloc: Global, text: &str) -> Result<Datum, Fail> {
-    Ok(Datum::Text(String::from_str(alloc, text)?))
+/// What is found for a row is what is wanted of it.
+pub(crate) fn check(rt: &impl Abort, found: &str, wanted: &str, row: &str) {
+    assert_eq!(rt; found, wanted, "{row}");
 }
 
-/// A reference.
-pub(crate) fn reference(rt: &impl Abort, alloc: Global, text: &str) -> Result<Datum, Fail> {
-    let text = String::from_str(alloc, text)?;
-    assert!(rt; is_name(text.as_str()));
-    Ok(Datum::Ref(Name::new(text)))
+/// What a row says holds.
+pub(crate) fn check_that(rt: &impl Abort, holds: bool, row: &str) {
+    assert!(rt; holds, "{row}");
+}
+
+/// The letters of all kinds.
+pub(crate) const KINDS: &str = "TIDBEMRLPO";
+
+/// The kind of a letter.
+pub(crate) fn kind_of(letter: char) -> Result<Kind, Fail> {
+    match letter {
+        'T' => Ok(Kind::Text),
+        'I' => Ok(Kind::Integer),
+        'D' => Ok(Kind::Decimal),
+        'B' => Ok(Kind::Boolean),
+        'E' => Ok(Kind::Date),
+        'M' => Ok(Kind::Instant),
+        'R' => Ok(Kind::Ref),
+        'L' => Ok(Kind::List),
+        'P' => Ok(Kind::Map),
+        'O' => Ok(Kind::Optional),
+        _ => Err("a kind".into()),
+    }
+}
+
+/// The kinds of letters.
+pub(crate) fn kinds_of(alloc: Global, letters: &str) -> Result<Vec<Kind>, Fail> {
+    let mut kinds = Vec::new(alloc);
+    for letter in letters.chars() {
+        kinds.push(kind_of(letter)?)?;
+    }
+    Ok(kinds)
 }
 
 fn attribute_of(alloc: Global, value: &Value) -> Result<Attribute, Fail> {
@@ -61,20 +74,23 @@ pub(crate) fn attrs_of(alloc: Global, text: &str) -> Result<Attrs, Fail> {
     Ok(Attrs::new(entries))
 }
 
-/// What a field holds, by the name of its kind, or else by the name of the type that it refers to.
-fn type_use(alloc: Global, name: &str) -> Result<TypeUse, Fail> {
-    Ok(match name {
-        "text" => TypeUse::Text,
-        "integer" => TypeUse::Integer,
-        "decimal" => TypeUse::Decimal,
-        "boolean" => TypeUse::Boolean,
-        "date" => TypeUse::Date,
-        "instant" => TypeUse::Instant,
-        _ => TypeUse::Ref(String::from_str(alloc, name)?),
-    })
+/// What a field holds: data of the kind of a letter, or behind `&` a reference to a type.
+pub(crate) fn type_use(alloc: Global, held: &str) -> Result<TypeUse, Fail> {
+    if let Some(name) = held.strip_prefix("&") {
+        return Ok(TypeUse::Ref(String::from_str(alloc, name)?));
+    }
+    match held.chars().next() {
+        Some('T') => Ok(TypeUse::Text),
+        Some('I') => Ok(TypeUse::Integer),
+        Some('D') => Ok(TypeUse::Decimal),
+        Some('B') => Ok(TypeUse::Boolean),
+        Some('E') => Ok(TypeUse::Date),
+        Some('M') => Ok(TypeUse::Instant),
+        _ => Err("a plain kind".into()),
+    }
 }
 
-/// A type's fields, as `to: P, count: integer`.
+/// A type's fields, as `to: &P, count: I`.
 fn fields_of(alloc: Global, text: &str) -> Result<Fields, Fail> {
     let mut fields = IndexMap::new(alloc);
     for field in text.split(", ") {
@@ -84,8 +100,8 @@ fn fields_of(alloc: Global, text: &str) -> Result<Fields, Fail> {
     Ok(fields)
 }
 
-/// Types, one a line, as `P = to: P, count: integer`, or `Q` for a type without fields.
-pub(crate) fn declared(alloc: Global, table: &str) -> Result<IndexMap<String, Fields>, Fail> {
+/// Types, one a line, as `P = to: &P, count: I`, or `Q` for a type without fields.
+fn declared(alloc: Global, table: &str) -> Result<IndexMap<String, Fields>, Fail> {
     let mut types = IndexMap::new(alloc);
     for line in table.lines() {
         let (name, fields) = match line.split_once(" = ") {
@@ -100,17 +116,4 @@ pub(crate) fn declared(alloc: Global, table: &str) -> Result<IndexMap<String, Fi
 /// The same, built.
 pub(crate) fn built(alloc: Global, table: &str) -> Result<Types, Fail> {
     Ok(Types::build(declared(alloc, table)?)?)
-}
-
-/// A bundle of these types, whose object `a` has that type and the fields of a JSON object.
-pub(crate) fn bundle_of(
-    alloc: Global,
-    types: &str,
-    (name, fields): (&str, &str),
-) -> Result<Bundle, Fail> {
-    let text = format!(in alloc;
-        "{{\"objects\":{{\"a\":{{\"fields\":{fields},\"type\":\"{name}\"}}}},\"root\":\"a\"}}"
-    )?;
-    let value = Value::from_str(alloc, text.as_str())?;
-    Ok(read_bundle(alloc, &built(alloc, types)?, None, &value)?)
 }

@@ -1,133 +1,92 @@
 //! Declared types, their numbers and their limits.
-use crate::given::{built, declared};
-use fv_model::{Fields, TypeId, TypeUse, Types, TypesFault};
+use crate::given::{built, check, check_that, type_use};
+use fv_model::{Fields, TypeId, Types, TypesFault};
 use indexmap::IndexMap;
 use std::alloc::Global;
 use std::test::Fail;
 
 /// Two types.
-const ITEM_AND_NOTE: &str = "Item = name: text, count: integer\nNote = text: text";
+const ITEM_AND_A: &str =
+    "Item = name: T, count: I, next: &Item, price: D, full: B, day: E, at: M\nA = a: T";
 
 #[test]
-fn types_are_numbered_in_their_order(rt: HostRuntime) -> Result<(), Fail> {
-    let types = built(rt.alloc(), ITEM_AND_NOTE)?;
-    assert_eq!(rt; types.count(), 2);
-    assert_eq!(rt; types.find("Item"), Some(TypeId { index: 0 }));
-    assert_eq!(rt; types.find("Note"), Some(TypeId { index: 1 }));
-    assert_eq!(rt; types.find("item"), None);
-    assert_eq!(rt; types.name(TypeId { index: 1 }), "Note");
+fn types_have_numbers_and_fields(rt: HostRuntime) -> Result<(), Fail> {
+    let types = built(rt.alloc(), ITEM_AND_A)?;
+    check_that(&rt, types.count() == 2, "two types");
+    check_that(&rt, types.find("A") == Some(TypeId { index: 1 }), "A");
+    check_that(&rt, types.find("item").is_none(), "item");
+    check(&rt, types.name(TypeId { index: 0 }), "Item", "the first");
+    let fields = types.fields("Item").ok_or("declared")?;
+    let shown = format!(in rt.alloc(); "{fields:?}")?;
+    check(&rt, shown.as_str(), FIELDS, "Item");
     Ok(())
 }
 
-/// What a field of a type holds.
-fn held_by<'a>(types: &'a Types, name: &str, field: &str) -> Option<&'a TypeUse> {
-    types.fields(name)?.get(field)
-}
+/// Each field of `Item`, with what it holds.
+const FIELDS: &str =
+    r#"{"name": Text, "count": Integer, "next": Ref("Item"), "price": Decimal, "full": Boolean, "day": Date, "at": Instant}"#;
 
-/// The type that a reference names.
-fn name_in<'a>(held: &'a TypeUse) -> Option<&'a str> {
-    match held {
-        TypeUse::Ref(name) => Some(name.as_str()),
-        _ => None,
-    }
-}
-
-#[test]
-fn types_have_their_fields(rt: HostRuntime) -> Result<(), Fail> {
-    let types = built(rt.alloc(), ITEM_AND_NOTE)?;
-    assert!(rt; matches!(held_by(&types, "Item", "count"), Some(TypeUse::Integer)));
-    assert!(rt; types.fields("Nope").is_none());
-    let types = built(rt.alloc(), "Link = next: Link")?;
-    let held = held_by(&types, "Link", "next").ok_or("declared")?;
-    assert_eq!(rt; name_in(held), Some("Link"));
-    Ok(())
-}
-
+/// What each field of `Item` holds is copied.
 #[test]
 fn type_uses_are_copied(rt: HostRuntime) -> Result<(), Fail> {
-    let table = "All = a: text, b: integer, c: decimal, d: boolean, e: date, f: instant, g: All";
-    let types = built(rt.alloc(), table)?;
-    for (_, held) in types.fields("All").ok_or("declared")?.iter() {
-        assert!(rt; held.copy()? == *held);
-    }
-    assert!(rt; matches!(TypeUse::Date.copy()?, TypeUse::Date));
-    let link = TypeUse::Ref(String::from_str(rt.alloc(), "Link")?);
-    assert_eq!(rt; name_in(&link.copy()?), Some("Link"));
-    Ok(())
-}
-
-/// The fault of declared types, or `None`.
-fn fault_of(declared: IndexMap<String, Fields>) -> Option<TypesFault> {
-    Types::build(declared).err()
-}
-
-#[test]
-fn references_are_to_declared_types(rt: HostRuntime) -> Result<(), Fail> {
-    for (held, fault) in [
-        ("Head", None),
-        ("Body", None),
-        ("body", Some(TypesFault::UnknownType)),
-        ("Nope", Some(TypesFault::UnknownType)),
-    ] {
-        let types = format!(in rt.alloc(); "Head = next: {held}\nBody = name: text")?;
-        let declared = declared(rt.alloc(), types.as_str())?;
-        assert_eq!(rt; fault_of(declared), fault, "{held}");
+    let types = built(rt.alloc(), ITEM_AND_A)?;
+    for (name, held) in types.fields("Item").ok_or("declared")?.iter() {
+        check_that(&rt, held.copy()? == *held, name.as_str());
     }
     Ok(())
 }
 
-/// That many types without fields.
-fn types_in_number(alloc: Global, count: usize) -> Result<IndexMap<String, Fields>, Fail> {
+/// That many types `T0`, `T1` and so on without fields, and `Wide` of that many text fields and one
+/// more that holds the last.
+fn with_wide(
+    alloc: Global,
+    count: u32,
+    fields: u32,
+    last: &str,
+) -> Result<IndexMap<String, Fields>, Fail> {
     let mut declared = IndexMap::new(alloc);
     for i in 0..count {
         declared.insert(format!(in alloc; "T{i}")?, IndexMap::new(alloc))?;
     }
-    Ok(declared)
-}
-
-#[test]
-fn there_are_256_types_at_most(rt: HostRuntime) -> Result<(), Fail> {
-    let most = Types::build(types_in_number(rt.alloc(), 256)?)?;
-    assert_eq!(rt; most.count(), 256);
-    assert_eq!(rt; most.find("T255"), Some(TypeId { index: 255 }));
-    let more = types_in_number(rt.alloc(), 257)?;
-    assert_eq!(rt; fault_of(more), Some(TypesFault::TooLarge));
-    Ok(())
-}
-
-/// That many types without fields, and one of that many text fields and that of another type.
-fn with_wide(
-    alloc: Global,
-    types: usize,
-    fields: usize,
-    last: TypeUse,
-) -> Result<IndexMap<String, Fields>, Fail> {
-    let mut declared = types_in_number(alloc, types)?;
     let mut wide = IndexMap::new(alloc);
     for i in 0..fields {
-        wide.insert(format!(in alloc; "f{i}")?, TypeUse::Text)?;
+        wide.insert(format!(in alloc; "f{i}")?, type_use(alloc, "T")?)?;
     }
-    wide.insert(String::from_str(alloc, "next")?, last)?;
+    wide.insert(String::from_str(alloc, "next")?, type_use(alloc, last)?)?;
     declared.insert(String::from_str(alloc, "Wide")?, wide)?;
     Ok(declared)
 }
 
-/// A reference to no type comes before limits.
-#[test]
-fn a_type_has_256_fields_at_most(rt: HostRuntime) -> Result<(), Fail> {
-    let alloc = rt.alloc();
-    let most = with_wide(alloc, 2, 255, TypeUse::Text)?;
-    assert_eq!(rt; fault_of(most), None);
-    let more = with_wide(alloc, 2, 256, TypeUse::Text)?;
-    assert_eq!(rt; fault_of(more), Some(TypesFault::TooLarge));
-    let nope = TypeUse::Ref(String::from_str(alloc, "Nope")?);
-    let both = with_wide(alloc, 256, 257, nope)?;
-    assert_eq!(rt; fault_of(both), Some(TypesFault::UnknownType));
-    Ok(())
+/// How many types there are beside `Wide`, how many fields beside its last, what the last holds, and
+/// the fault, or `-`: 256 of each are taken, and a reference to no type comes before limits.
+const LIMITS: &str = "
+2 255 T => -
+2 256 T => TooLarge
+255 0 T => -
+256 0 T => TooLarge
+2 0 &Wide => -
+2 0 &T1 => -
+2 0 &t1 => UnknownType
+2 0 &T2 => UnknownType
+256 257 &Nope => UnknownType
+";
+
+/// The fault of a row's types.
+fn fault_of(alloc: Global, given: &str) -> Result<String, Fail> {
+    let (count, rest) = given.split_once(' ').ok_or("fields")?;
+    let (fields, last) = rest.split_once(' ').ok_or("a last one")?;
+    let declared = with_wide(alloc, count.parse::<u32>()?, fields.parse::<u32>()?, last)?;
+    match Types::build(declared) {
+        Ok(_) => Ok(String::from_str(alloc, "-")?),
+        Err(fault) => Ok(String::from_str(alloc, fault.name())?),
+    }
 }
 
 #[test]
-fn faults_of_types_have_names(rt: HostRuntime) {
-    assert_eq!(rt; TypesFault::TooLarge.name(), "TooLarge");
-    assert_eq!(rt; TypesFault::UnknownType.name(), "UnknownType");
+fn types_have_limits_and_references(rt: HostRuntime) -> Result<(), Fail> {
+    for row in LIMITS.trim().lines() {
+        let (given, wanted) = row.split_once(" => ").ok_or("a row")?;
+        check(&rt, fault_of(rt.alloc(), given)?.as_str(), wanted, row);
+    }
+    Ok(())
 }
