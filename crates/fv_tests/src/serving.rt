@@ -68,8 +68,22 @@ fn whole_lines(bytes: &[u8]) -> usize {
     bytes.iter().filter(|byte| **byte == 10).count()
 }
 
+/// Serving by streams of that width has ended well, this was written, and the clock was asked once a
+/// line.
+fn check_told(
+    rt: &impl Abort,
+    ended: Result<(), ServeFault>,
+    (written, asked): (&[u8], usize),
+    wanted: &str,
+    width: usize,
+) {
+    assert_eq!(rt; ended, Ok(()), "{width}");
+    assert_eq!(rt; str::from_utf8(written), Ok(wanted), "{width}");
+    assert_eq!(rt; asked, whole_lines(wanted.as_bytes()), "{width}");
+}
+
 /// What is written for an input where no stream fails in time: by width, and by the calls that would
-/// fail. The clock is asked once a line.
+/// fail.
 fn check_answered(
     rt: &impl Abort,
     alloc: Global,
@@ -79,32 +93,34 @@ fn check_answered(
 ) -> Result<(), Fail> {
     let mut engine = opened(alloc, declarations)?;
     let (ended, written, asked) = served(alloc, &mut engine, moments, input, streams);
-    let width = streams.0;
-    assert_eq!(rt; ended, Ok(()), "{width}");
-    assert_eq!(rt; str::from_utf8(&written), Ok(wanted), "{width}");
-    assert_eq!(rt; asked, whole_lines(wanted.as_bytes()), "{width}");
+    check_told(rt, ended, (&written, asked), wanted, streams.0);
     Ok(())
 }
 
-/// A reader fails at a call: what is written is the replies to the whole lines that came before, and
-/// the clock was asked once for each.
+/// The read of a number has failed, and this was written: the replies to so many lines, for each of
+/// which the clock was asked once.
+fn check_stopped(
+    rt: &impl Abort,
+    ended: Result<(), ServeFault>,
+    (written, asked): (&[u8], usize),
+    lines: usize,
+    reads: usize,
+) {
+    assert_eq!(rt; ended, Err(ServeFault::Read), "{reads}");
+    assert_eq!(rt; asked, lines, "{reads}");
+    assert_eq!(rt; whole_lines(written), lines, "{reads}");
+    assert!(rt; OUTPUT.as_bytes().starts_with(written), "{reads}");
+    assert!(rt; written.is_empty() || written.ends_with(b"\n"), "{reads}");
+}
+
+/// A reader fails at a call: the whole lines that came before are answered.
 fn check_read(rt: &impl Abort, alloc: Global, width: usize, reads: usize) -> Result<(), Fail> {
+    let given = reads.saturating_mul(width).min(INPUT.len());
+    let lines = whole_lines(&INPUT.as_bytes()[..given]);
     let mut engine = opened(alloc, DECLARATIONS)?;
     let streams = (width, reads, NEVER);
     let (ended, written, asked) = served(alloc, &mut engine, &[], INPUT.as_bytes(), streams);
-    let given = reads.saturating_mul(width).min(INPUT.len());
-    let lines = whole_lines(&INPUT.as_bytes()[..given]);
-    assert_eq!(rt; ended, Err(ServeFault::Read), "{width} {reads}");
-    assert_eq!(rt;
-        (asked, whole_lines(&written)),
-        (lines, lines),
-        "{width} {reads}"
-    );
-    assert!(rt; OUTPUT.as_bytes().starts_with(&written), "{width} {reads}");
-    assert!(rt;
-        written.is_empty() || written.ends_with(b"\n"),
-        "{width} {reads}"
-    );
+    check_stopped(rt, ended, (&written, asked), lines, reads);
     Ok(())
 }
 

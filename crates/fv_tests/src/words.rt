@@ -75,11 +75,17 @@ Usage: formd declarations <FILE>
 For more information, try '--help'.
 ";
 
-/// The words as the program is given them: each ends with a line's end.
+/// Adds a word.
+fn add_word(words: &mut Vec<String>, alloc: Global, word: &str) -> Result<(), Fail> {
+    words.push(String::from_str(alloc, word)?)?;
+    Ok(())
+}
+
+/// The words as the program is given them: each is a line.
 fn given(alloc: Global, words: &str) -> Result<Vec<String>, Fail> {
     let mut given = Vec::new(alloc);
     for word in words.lines() {
-        given.push(String::from_str(alloc, word)?)?;
+        add_word(&mut given, alloc, word)?;
     }
     Ok(given)
 }
@@ -121,18 +127,28 @@ fn ran<I: Read, W: Write>(
     Ok((status, complaint))
 }
 
+/// A status and the texts on both writers are these.
+fn check_ended(
+    rt: &impl Abort,
+    words: &str,
+    (ended, told, complaint): (u8, &[u8], &[u8]),
+    (status, output, error): (u8, &str, &str),
+) {
+    assert_eq!(rt; str::from_utf8(complaint), Ok(error), "{words}");
+    assert_eq!(rt; str::from_utf8(told), Ok(output), "{words}");
+    assert_eq!(rt; ended, status, "{words}");
+}
+
 /// A run of these words over one command line ends so: its status and the texts on both writers.
 fn check(
     rt: &impl Abort,
     host: &HostRuntime,
     words: &str,
-    (status, output, error): (u8, &str, &str),
+    wanted: (u8, &str, &str),
 ) -> Result<(), Fail> {
     let mut told = Vec::new(host.alloc());
     let (ended, complaint) = ran(host, words, &mut GET, &mut told)?;
-    assert_eq!(rt; str::from_utf8(&complaint), Ok(error), "{words}");
-    assert_eq!(rt; str::from_utf8(&told), Ok(output), "{words}");
-    assert_eq!(rt; ended, status, "{words}");
+    check_ended(rt, words, (ended, &told, &complaint), wanted);
     Ok(())
 }
 
@@ -330,33 +346,43 @@ fn a_failed_read_is_told_apart_from_memory(rt: HostRuntime) {
     check_unread(&rt, rt.alloc(), ErrorKind::OutOfMemory, FileFault::Memory);
 }
 
+/// A run of these words ends with status 4 and this complaint.
+fn check_failed(rt: &impl Abort, words: &str, (status, complaint): (u8, &[u8]), wanted: &str) {
+    assert_eq!(rt; status, 4, "{words}");
+    assert_eq!(rt; str::from_utf8(complaint), Ok(wanted), "{words}");
+}
+
 #[test]
 fn a_failing_reader_ends_with_status_4(rt: HostRuntime) -> Result<(), Fail> {
     let mut output = Vec::new(rt.alloc());
     let mut reader = failing(&[], 0, ErrorKind::Other);
     let (status, complaint) = ran(&rt, "", &mut reader, &mut output)?;
-    assert_eq!(rt; (status, output.len()), (4, 0));
-    assert_eq!(rt; str::from_utf8(&complaint), Ok("formd: read\n"));
+    check_failed(&rt, "", (status, &complaint), "formd: read\n");
+    assert!(rt; output.is_empty());
     Ok(())
 }
 
-/// A writer that fails at its first write, or at its first flush.
+/// A writer that takes all it is given and fails at the write of a number, or at its first flush.
+fn unwritten(alloc: Global, fails_at: usize, fails_flushes: bool) -> Writer {
+    Writer {
+        taken: Vec::new(alloc),
+        width: NEVER,
+        calls: 0,
+        fails_at,
+        fails_flushes,
+    }
+}
+
+/// A run of these words whose output can't be written.
 fn check_unwritten(
     rt: &impl Abort,
     host: &HostRuntime,
     words: &str,
-    fails_flushes: bool,
+    (fails_at, fails_flushes): (usize, bool),
 ) -> Result<(), Fail> {
-    let mut output = Writer {
-        taken: Vec::new(host.alloc()),
-        width: NEVER,
-        calls: 0,
-        fails_at: if fails_flushes { NEVER } else { 0 },
-        fails_flushes,
-    };
+    let mut output = unwritten(host.alloc(), fails_at, fails_flushes);
     let (status, complaint) = ran(host, words, &mut GET, &mut output)?;
-    assert_eq!(rt; status, 4, "{words}");
-    assert_eq!(rt; str::from_utf8(&complaint), Ok("formd: write\n"), "{words}");
+    check_failed(rt, words, (status, &complaint), "formd: write\n");
     Ok(())
 }
 
@@ -364,10 +390,10 @@ fn check_unwritten(
 fn a_failing_writer_ends_with_status_4(rt: HostRuntime) -> Result<(), Fail> {
     let words = "declarations\nformd_unwritten.json";
     fs::write(&rt, "formd_unwritten.json", r#"{"types":{},"forms":{}}"#)?;
-    check_unwritten(&rt, &rt, "", false)?;
-    check_unwritten(&rt, &rt, "", true)?;
-    check_unwritten(&rt, &rt, words, false)?;
-    check_unwritten(&rt, &rt, words, true)?;
+    check_unwritten(&rt, &rt, "", (0, false))?;
+    check_unwritten(&rt, &rt, "", (NEVER, true))?;
+    check_unwritten(&rt, &rt, words, (0, false))?;
+    check_unwritten(&rt, &rt, words, (NEVER, true))?;
     fs::remove_file(&rt, "formd_unwritten.json")?;
     Ok(())
 }
