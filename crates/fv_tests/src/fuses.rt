@@ -160,30 +160,61 @@ fn add_outcome(
 /// More calls than a run makes.
 const NEVER: u64 = 1000000;
 
-/// The call of the log from which on it fails: while it is opened, while a put is written, and later.
-const LOG_CALLS: [u64; 15] = [0, 8, 16, 24, 28, 29, 30, 31, 32, 33, 34, 35, 36, 40, 48];
-
-/// The put is refused at some calls, and is taken once the log fails late enough.
-#[test]
-fn a_log_fails_from_a_call_on(rt: HostRuntime) -> Result<(), Fail> {
-    let files = with_records(&rt, rt.alloc())?;
-    let mut outcomes = String::new(rt.alloc());
-    for calls in &LOG_CALLS {
-        add_outcome(&mut outcomes, &rt, rt.alloc(), &files, (*calls, NEVER))?;
+/// The same for each of some calls.
+fn outcomes(rt: &impl Abort, alloc: Global, table: &[(u64, u64)]) -> Result<String, Fail> {
+    let files = with_records(rt, alloc)?;
+    let mut outcomes = String::new(alloc);
+    for calls in table {
+        add_outcome(&mut outcomes, rt, alloc, &files, *calls)?;
     }
+    Ok(outcomes)
+}
+
+#[test]
+fn a_log_fails_while_it_is_opened(rt: HostRuntime) -> Result<(), Fail> {
+    let table = [(0, NEVER), (8, NEVER), (16, NEVER), (24, NEVER)];
+    let outcomes = outcomes(&rt, rt.alloc(), &table)?;
     assert!(rt; outcomes.starts_with('-'), "{outcomes}");
+    Ok(())
+}
+
+/// At some of these calls the put is refused.
+#[test]
+fn a_log_fails_while_a_put_is_written(rt: HostRuntime) -> Result<(), Fail> {
+    let table = [
+        (28, NEVER),
+        (29, NEVER),
+        (30, NEVER),
+        (31, NEVER),
+        (32, NEVER),
+        (33, NEVER),
+        (34, NEVER),
+    ];
+    let outcomes = outcomes(&rt, rt.alloc(), &table)?;
     assert!(rt; outcomes.contains('r'), "{outcomes}");
+    Ok(())
+}
+
+#[test]
+fn a_log_fails_once_a_put_is_taken(rt: HostRuntime) -> Result<(), Fail> {
+    let table = [(35, NEVER), (36, NEVER), (40, NEVER), (48, NEVER)];
+    let outcomes = outcomes(&rt, rt.alloc(), &table)?;
     assert!(rt; outcomes.ends_with('t'), "{outcomes}");
     Ok(())
 }
 
 #[test]
-fn a_database_file_fails_from_a_call_on(rt: HostRuntime) -> Result<(), Fail> {
-    let files = with_records(&rt, rt.alloc())?;
-    let mut outcomes = String::new(rt.alloc());
-    for calls in &[0, 12, 20, 22, 23, 24, 48] {
-        add_outcome(&mut outcomes, &rt, rt.alloc(), &files, (NEVER, *calls))?;
-    }
+fn a_database_file_fails(rt: HostRuntime) -> Result<(), Fail> {
+    let table = [
+        (NEVER, 0),
+        (NEVER, 12),
+        (NEVER, 20),
+        (NEVER, 22),
+        (NEVER, 23),
+        (NEVER, 24),
+        (NEVER, 48),
+    ];
+    let outcomes = outcomes(&rt, rt.alloc(), &table)?;
     assert!(rt; outcomes.starts_with('-'), "{outcomes}");
     assert!(rt; outcomes.ends_with('t'), "{outcomes}");
     Ok(())
