@@ -1,5 +1,5 @@
 //! Tests of the store: examples from outside, whose wanted answers are written down and never taken
-//! from the program.
+//! from the program. Each is a transcript: lines that are asked, and behind each what is answered.
 #![tactic(auto)]
 
 #[cfg(test)]
@@ -7,10 +7,14 @@ mod databases;
 #[cfg(test)]
 mod disks;
 #[cfg(test)]
-mod refused_databases;
-#[cfg(test)]
-mod stores;
+mod refusals;
 #[cfg(test)]
 mod storing;
+#[cfg(test)]
+mod telling;
+#[cfg(test)]
+mod texts;
+#[cfg(test)]
+mod transcripts;
 #[cfg(test)]
 mod types;

@@ -3,20 +3,16 @@
 #![tactic(auto)]
 
 #[cfg(test)]
-mod failing;
+mod databases;
+#[cfg(test)]
+mod engines;
 #[cfg(test)]
 mod fuses;
-#[cfg(test)]
-mod lines;
-#[cfg(test)]
-mod moments;
-#[cfg(test)]
-mod opening;
 #[cfg(test)]
 mod rules;
 #[cfg(test)]
 mod serving;
 #[cfg(test)]
-mod trickle;
+mod streams;
 #[cfg(test)]
 mod words;

@@ -1,47 +1,16 @@
 //! Runs of the program's words, with the exact bytes on both writers.
+use crate::streams::{NEVER, Reader, Writer};
 use fv_datum::{Attrs, Datum};
 use fv_engine::FixedClock;
 use fv_house::{house_registry, luhn, not_after, one_of, sum_is};
 use fv_model::Object;
 use fv_registry::{FieldCall, ObjectCall};
 use fv_words::{Failure, FileFault, read_whole, run_words};
-use std::io::{Error, ErrorKind, Read, Write};
+use std::alloc::Global;
+use std::io::{ErrorKind, Read, Write};
 use std::process::Abort;
 use std::test::Fail;
-use std::{fs, io, str};
-
-/// A reader that fails at its first call.
-#[derive(Drop)]
-struct FailingReader(ErrorKind);
-
-impl Read for FailingReader {
-    fn read(&mut self, _buf: &mut [u8]) -> io::Result<usize> {
-        Err(Error::from(self.0))
-    }
-}
-
-/// A writer that fails at its first write, or at its first flush.
-#[derive(Drop)]
-enum FailingWriter {
-    Write,
-    Flush,
-}
-
-impl Write for FailingWriter {
-    fn write(&mut self, buf: &[u8]) -> io::Result<usize> {
-        match self {
-            FailingWriter::Write => Err(Error::from(ErrorKind::Other)),
-            FailingWriter::Flush => Ok(buf.len()),
-        }
-    }
-
-    fn flush(&mut self) -> io::Result<()> {
-        match self {
-            FailingWriter::Write => Ok(()),
-            FailingWriter::Flush => Err(Error::from(ErrorKind::Other)),
-        }
-    }
-}
+use std::{fs, str};
 
 const GET: &[u8] = b"{\"do\":\"get\",\"id\":\"r1\"}\n";
 
@@ -106,18 +75,139 @@ Usage: formd declarations <FILE>
 For more information, try '--help'.
 ";
 
-/// Words that aren't understood or call for help, with their texts.
-const TEXTS: [(&[&str], &str); 9] = [
-    (&["serve"], NO_COMMAND),
-    (&["--now"], NO_OPTION),
-    (&["declarations"], NO_FILE),
-    (&["declarations", "a", "b"], TWO_FILES),
-    (&["--help"], HELP),
-    (&["-h"], HELP),
-    (&["help"], HELP),
-    (&["declarations", "--help"], DECLARATIONS_HELP),
-    (&["help", "declarations"], DECLARATIONS_HELP),
-];
+/// Adds a word.
+fn add_word(words: &mut Vec<String>, alloc: Global, word: &str) -> Result<(), Fail> {
+    words.push(String::from_str(alloc, word)?)?;
+    Ok(())
+}
+
+/// The words as the program is given them: each is a line.
+fn given(alloc: Global, words: &str) -> Result<Vec<String>, Fail> {
+    let mut given = Vec::new(alloc);
+    for word in words.lines() {
+        add_word(&mut given, alloc, word)?;
+    }
+    Ok(given)
+}
+
+/// Does what the words ask with the rules of the house, at the moment 0.
+fn run_with_house<I: Read, W: Write>(
+    rt: &HostRuntime,
+    words: &[String],
+    reader: &mut I,
+    output: &mut W,
+    error: &mut Vec<u8>,
+) -> Result<u8, Fail> {
+    let alloc = rt.alloc();
+    let digits: FieldCall = Box::new(alloc, |datum: &Datum, _attrs: &Attrs| luhn(datum))?;
+    let listed: FieldCall = Box::new(alloc, |datum: &Datum, attrs: &Attrs| one_of(datum, attrs))?;
+    let ordered: ObjectCall = Box::new(
+        alloc,
+        |object: &Object, attrs: &Attrs| not_after(object, attrs),
+    )?;
+    let summed: ObjectCall = Box::new(
+        alloc,
+        |object: &Object, attrs: &Attrs| sum_is(object, attrs),
+    )?;
+    let registry = house_registry(alloc, digits, listed, ordered, summed)?;
+    let mut clock = FixedClock::new(0);
+    Ok(run_words(rt, words, registry, reader, output, error, &mut clock))
+}
+
+/// The status of a run of these words, and its complaint.
+fn ran<I: Read, W: Write>(
+    host: &HostRuntime,
+    words: &str,
+    reader: &mut I,
+    output: &mut W,
+) -> Result<(u8, Vec<u8>), Fail> {
+    let given = given(host.alloc(), words)?;
+    let mut complaint = Vec::new(host.alloc());
+    let status = run_with_house(host, &given, reader, output, &mut complaint)?;
+    Ok((status, complaint))
+}
+
+/// A status and the texts on both writers are these.
+fn check_ended(
+    rt: &impl Abort,
+    words: &str,
+    (ended, told, complaint): (u8, &[u8], &[u8]),
+    (status, output, error): (u8, &str, &str),
+) {
+    assert_eq!(rt; str::from_utf8(complaint), Ok(error), "{words}");
+    assert_eq!(rt; str::from_utf8(told), Ok(output), "{words}");
+    assert_eq!(rt; ended, status, "{words}");
+}
+
+/// A run of these words over one command line ends so: its status and the texts on both writers.
+fn check(
+    rt: &impl Abort,
+    host: &HostRuntime,
+    words: &str,
+    wanted: (u8, &str, &str),
+) -> Result<(), Fail> {
+    let mut told = Vec::new(host.alloc());
+    let (ended, complaint) = ran(host, words, &mut GET, &mut told)?;
+    check_ended(rt, words, (ended, &told, &complaint), wanted);
+    Ok(())
+}
+
+#[test]
+fn no_words_serve_the_demonstration(rt: HostRuntime) -> Result<(), Fail> {
+    check(&rt, &rt, "", (0, NO_RECORD, ""))
+}
+
+#[test]
+fn words_that_are_not_understood_end_with_status_2(rt: HostRuntime) -> Result<(), Fail> {
+    check(&rt, &rt, "serve", (2, "", NO_COMMAND))?;
+    check(&rt, &rt, "--now", (2, "", NO_OPTION))?;
+    check(&rt, &rt, "declarations", (2, "", NO_FILE))?;
+    check(&rt, &rt, "declarations\na\nb", (2, "", TWO_FILES))
+}
+
+#[test]
+fn words_that_call_for_help_end_with_status_2(rt: HostRuntime) -> Result<(), Fail> {
+    check(&rt, &rt, "--help", (2, "", HELP))?;
+    check(&rt, &rt, "-h", (2, "", HELP))?;
+    check(&rt, &rt, "help", (2, "", HELP))?;
+    check(&rt, &rt, "declarations\n--help", (2, "", DECLARATIONS_HELP))?;
+    check(&rt, &rt, "help\ndeclarations", (2, "", DECLARATIONS_HELP))
+}
+
+/// A run of `declarations` on a file at that path with these bytes ends so.
+fn check_file(
+    rt: &impl Abort,
+    host: &HostRuntime,
+    (path, bytes): (&str, &[u8]),
+    ended: (u8, &str, &str),
+) -> Result<(), Fail> {
+    let words = format!(in host.alloc(); "declarations\n{path}")?;
+    fs::write(host, path, bytes)?;
+    check(rt, host, words.as_str(), ended)?;
+    fs::remove_file(host, path)?;
+    Ok(())
+}
+
+/// The same for declarations that are refused for a fault.
+fn check_refused(
+    rt: &impl Abort,
+    host: &HostRuntime,
+    file: (&str, &[u8]),
+    fault: &str,
+) -> Result<(), Fail> {
+    let error = format!(in host.alloc(); "formd: declarations refused: {fault}\n")?;
+    check_file(rt, host, file, (3, "", error.as_str()))
+}
+
+/// The same for a row of the table.
+fn check_row(rt: &impl Abort, host: &HostRuntime, row: &str) -> Result<(), Fail> {
+    let (wanted, declarations) = row.split_once(": ").ok_or("a row")?;
+    let file = ("formd_declared.json", declarations.as_bytes());
+    if wanted == "ok" {
+        return check_file(rt, host, file, (0, "ok\n", ""));
+    }
+    check_refused(rt, host, file, wanted)
+}
 
 /// The faults of declarations, or `ok` where they are taken, and behind ": " the declarations.
 const DECLARED: &str = r#"
@@ -143,203 +233,176 @@ F17 UnexpectedType: {"types":{"T":{"fields":{},"constraints":[{"constraint":"C"}
 F18 BadPattern: {"types":{"T":{"fields":{"f":{"type":"text","constraints":[{"constraint":"Pattern","with":{"regexp":"("}}]}}}},"forms":{}}
 "#;
 
-const NOT_READ: &str = "formd: cannot read declarations\n";
-
-/// The words as the program is given them.
-fn given(rt: &HostRuntime, words: &[&str]) -> Result<Vec<String>, Fail> {
-    let mut given = Vec::new(rt.alloc());
-    for word in words {
-        given.push(String::from_str(rt.alloc(), word)?)?;
-    }
-    Ok(given)
-}
-
-/// Does what the words ask with the rules of the house, at the moment 0.
-fn run_with_house<I: Read, W: Write, E: Write>(
-    rt: &HostRuntime,
-    words: &[String],
-    reader: &mut I,
-    output: &mut W,
-    error: &mut E,
-) -> Result<u8, Fail> {
-    let alloc = rt.alloc();
-    let digits: FieldCall = Box::new(alloc, |datum: &Datum, _attrs: &Attrs| luhn(datum))?;
-    let listed: FieldCall = Box::new(alloc, |datum: &Datum, attrs: &Attrs| one_of(datum, attrs))?;
-    let ordered: ObjectCall = Box::new(
-        alloc,
-        |object: &Object, attrs: &Attrs| not_after(object, attrs),
-    )?;
-    let summed: ObjectCall = Box::new(
-        alloc,
-        |object: &Object, attrs: &Attrs| sum_is(object, attrs),
-    )?;
-    let registry = house_registry(alloc, digits, listed, ordered, summed)?;
-    let mut clock = FixedClock::new(0);
-    Ok(run_words(rt, words, registry, reader, output, error, &mut clock))
-}
-
-/// A run of these words over one command line ends so: its status and the texts on both writers.
-fn check(
-    rt: &impl Abort,
-    host: &HostRuntime,
-    words: &[&str],
-    (status, output, error): (u8, &str, &str),
-) -> Result<(), Fail> {
-    let given = given(host, words)?;
-    let mut told = Vec::new(host.alloc());
-    let mut complaint = Vec::new(host.alloc());
-    let ended = run_with_house(host, &given, &mut GET, &mut told, &mut complaint)?;
-    assert_eq!(rt; str::from_utf8(&complaint)?, error, "{words:?}");
-    assert_eq!(rt; str::from_utf8(&told)?, output, "{words:?}");
-    assert_eq!(rt; ended, status, "{words:?}");
-    Ok(())
-}
-
-/// The same for `declarations` on a file with these bytes, of which a line says what is wrong with
-/// them, or `ok`.
-fn check_file(
-    rt: &impl Abort,
-    host: &HostRuntime,
-    path: &str,
-    (bytes, wanted): (&[u8], &str),
-) -> Result<(), Fail> {
-    fs::write(host, path, bytes)?;
-    let refused = format!(in host.alloc(); "formd: declarations refused: {wanted}\n")?;
-    let ended = match wanted {
-        "ok" => (0, "ok\n", ""),
-        _ => (3, "", refused.as_str()),
-    };
-    check(rt, host, &["declarations", path], ended)?;
-    fs::remove_file(host, path)?;
-    Ok(())
-}
-
-#[test]
-fn no_words_serve_the_demonstration(rt: HostRuntime) -> Result<(), Fail> {
-    check(&rt, &rt, &[], (0, NO_RECORD, ""))
-}
-
-#[test]
-fn words_that_ask_nothing_end_with_status_2(rt: HostRuntime) -> Result<(), Fail> {
-    for (words, text) in TEXTS {
-        check(&rt, &rt, words, (2, "", text))?;
-    }
-    Ok(())
-}
-
 #[test]
 fn declarations_are_taken_or_refused_by_their_fault(rt: HostRuntime) -> Result<(), Fail> {
     for row in DECLARED.trim().lines() {
-        let (wanted, declarations) = row.split_once(": ").ok_or("a row")?;
-        check_file(
-            &rt,
-            &rt,
-            "formd_declared.json",
-            (declarations.as_bytes(), wanted),
-        )?;
+        check_row(&rt, &rt, row)?;
     }
     Ok(())
+}
+
+/// Adds a form of a number.
+fn add_form(text: &mut String, number: i32) -> Result<(), Fail> {
+    write!(text, ",\"f{number}\":{{\"root\":\"T\"}}")?;
+    Ok(())
+}
+
+/// Declarations of 257 forms, one more than may be.
+fn many_forms(alloc: Global) -> Result<String, Fail> {
+    let mut text = String::from_str(
+        alloc,
+        r#"{"types":{"T":{"fields":{}}},"forms":{"f":{"root":"T"}"#,
+    )?;
+    for number in 0..256 {
+        add_form(&mut text, number)?;
+    }
+    text.push_str("}}")?;
+    Ok(text)
 }
 
 #[test]
 fn too_many_forms_are_refused(rt: HostRuntime) -> Result<(), Fail> {
-    let mut text = String::from_str(rt.alloc(), r#"{"types":{"T":{"fields":{}}},"forms":{"#)?;
-    for number in 0..257 {
-        let comma = if number > 0 { "," } else { "" };
-        let form = format!(in rt.alloc(); "{comma}\"f{number}\":{{\"root\":\"T\"}}")?;
-        text.push_str(form.as_str())?;
-    }
-    text.push_str("}}")?;
-    check_file(
+    let text = many_forms(rt.alloc())?;
+    check_refused(
         &rt,
         &rt,
-        "formd_forms.json",
-        (text.as_bytes(), "F14 TooLarge"),
+        ("formd_forms.json", text.as_bytes()),
+        "F14 TooLarge",
     )
+}
+
+const NOT_READ: &str = "formd: cannot read declarations\n";
+
+/// So many spaces.
+fn spaces(alloc: Global, count: usize) -> Result<Vec<u8>, Fail> {
+    let mut spaces = Vec::new(alloc);
+    spaces.resize(count, b' ')?;
+    Ok(spaces)
 }
 
 /// No JSON, but read: as many spaces as are read.
 #[test]
-fn a_file_of_16_mib_is_read_and_no_larger_one(rt: HostRuntime) -> Result<(), Fail> {
-    let mut spaces = Vec::new(rt.alloc());
-    spaces.resize(16777216, b' ')?;
-    check_file(&rt, &rt, "formd_spaces.json", (&spaces, "F1 NotJson"))?;
-    spaces.push(b' ')?;
-    let path = "formd_more_spaces.json";
-    fs::write(&rt, path, spaces.as_slice())?;
-    check(&rt, &rt, &["declarations", path], (4, "", NOT_READ))?;
-    fs::remove_file(&rt, path)?;
-    Ok(())
+fn a_file_of_16_mib_is_read(rt: HostRuntime) -> Result<(), Fail> {
+    let bytes = spaces(rt.alloc(), 16777216)?;
+    check_refused(&rt, &rt, ("formd_spaces.json", &bytes), "F1 NotJson")
 }
 
+#[test]
+fn a_larger_file_is_not_read(rt: HostRuntime) -> Result<(), Fail> {
+    let bytes = spaces(rt.alloc(), 16777217)?;
+    check_file(
+        &rt,
+        &rt,
+        ("formd_more_spaces.json", &bytes),
+        (4, "", NOT_READ),
+    )
+}
+
+/// No path, a folder, a file and a folder that aren't there, and a path that no file can have.
 #[test]
 fn no_file_is_not_read(rt: HostRuntime) -> Result<(), Fail> {
-    for path in ["", ".", "formd_missing.json", "formd_missing/a", "a\0b"] {
-        check(&rt, &rt, &["declarations", path], (4, "", NOT_READ))?;
-    }
-    Ok(())
+    check(&rt, &rt, "declarations\n\n", (4, "", NOT_READ))?;
+    check(&rt, &rt, "declarations\n.", (4, "", NOT_READ))?;
+    check(
+        &rt,
+        &rt,
+        "declarations\nformd_missing.json",
+        (4, "", NOT_READ),
+    )?;
+    check(&rt, &rt, "declarations\nformd_missing/a", (4, "", NOT_READ))?;
+    check(&rt, &rt, "declarations\na\0b", (4, "", NOT_READ))
 }
 
-/// Also where bytes came before.
-#[test]
-fn a_failed_read_is_told_apart_from_memory(rt: HostRuntime) -> Result<(), Fail> {
-    for (kind, fault) in [
-        (ErrorKind::Other, FileFault::Unreadable),
-        (ErrorKind::IsADirectory, FileFault::Unreadable),
-        (ErrorKind::OutOfMemory, FileFault::Memory),
-    ] {
-        let reader = b"{}".as_slice().chain(FailingReader(kind));
-        assert_eq!(rt; read_whole(rt.alloc(), reader), Err(fault));
+/// A reader that gives these bytes in one call and then fails.
+fn failing(bytes: &[u8], fails_at: usize, fails_by: ErrorKind) -> Reader<'_> {
+    Reader {
+        bytes,
+        width: NEVER,
+        calls: 0,
+        fails_at,
+        fails_by,
     }
-    Ok(())
+}
+
+/// A read that fails behind some bytes is told so.
+fn check_unread(rt: &impl Abort, alloc: Global, fails_by: ErrorKind, fault: FileFault) {
+    let reader = failing(b"{}", 1, fails_by);
+    assert_eq!(rt;
+        read_whole(alloc, reader).err(),
+        Some(fault),
+        "{fails_by:?}"
+    );
+}
+
+#[test]
+fn a_failed_read_is_told_apart_from_memory(rt: HostRuntime) {
+    check_unread(&rt, rt.alloc(), ErrorKind::Other, FileFault::Unreadable);
+    check_unread(
+        &rt,
+        rt.alloc(),
+        ErrorKind::IsADirectory,
+        FileFault::Unreadable,
+    );
+    check_unread(&rt, rt.alloc(), ErrorKind::OutOfMemory, FileFault::Memory);
+}
+
+/// A run of these words ends with status 4 and this complaint.
+fn check_failed(rt: &impl Abort, words: &str, (status, complaint): (u8, &[u8]), wanted: &str) {
+    assert_eq!(rt; status, 4, "{words}");
+    assert_eq!(rt; str::from_utf8(complaint), Ok(wanted), "{words}");
 }
 
 #[test]
 fn a_failing_reader_ends_with_status_4(rt: HostRuntime) -> Result<(), Fail> {
     let mut output = Vec::new(rt.alloc());
-    let mut error = Vec::new(rt.alloc());
-    let status = run_with_house(
-        &rt,
-        &[],
-        &mut FailingReader(ErrorKind::Other),
-        &mut output,
-        &mut error,
-    )?;
-    assert_eq!(rt; status, 4);
-    assert_eq!(rt; output.len(), 0);
-    assert_eq!(rt; error.as_slice(), b"formd: read\n".as_slice());
+    let mut reader = failing(&[], 0, ErrorKind::Other);
+    let (status, complaint) = ran(&rt, "", &mut reader, &mut output)?;
+    check_failed(&rt, "", (status, &complaint), "formd: read\n");
+    assert!(rt; output.is_empty());
+    Ok(())
+}
+
+/// A writer that takes all it is given and fails at the write of a number, or at its first flush.
+fn unwritten(alloc: Global, fails_at: usize, fails_flushes: bool) -> Writer {
+    Writer {
+        taken: Vec::new(alloc),
+        width: NEVER,
+        calls: 0,
+        fails_at,
+        fails_flushes,
+    }
+}
+
+/// A run of these words whose output can't be written.
+fn check_unwritten(
+    rt: &impl Abort,
+    host: &HostRuntime,
+    words: &str,
+    (fails_at, fails_flushes): (usize, bool),
+) -> Result<(), Fail> {
+    let mut output = unwritten(host.alloc(), fails_at, fails_flushes);
+    let (status, complaint) = ran(host, words, &mut GET, &mut output)?;
+    check_failed(rt, words, (status, &complaint), "formd: write\n");
     Ok(())
 }
 
 #[test]
 fn a_failing_writer_ends_with_status_4(rt: HostRuntime) -> Result<(), Fail> {
-    let path = "formd_unwritten.json";
-    fs::write(&rt, path, r#"{"types":{},"forms":{}}"#)?;
-    for words in [[].as_slice(), &["declarations", path]] {
-        for writer in [FailingWriter::Write, FailingWriter::Flush] {
-            let mut output = writer;
-            let mut error = Vec::new(rt.alloc());
-            let status = run_with_house(
-                &rt,
-                &given(&rt, words)?,
-                &mut GET,
-                &mut output,
-                &mut error,
-            )?;
-            assert_eq!(rt; status, 4);
-            assert_eq!(rt; error.as_slice(), b"formd: write\n".as_slice());
-        }
-    }
-    fs::remove_file(&rt, path)?;
+    let words = "declarations\nformd_unwritten.json";
+    fs::write(&rt, "formd_unwritten.json", r#"{"types":{},"forms":{}}"#)?;
+    check_unwritten(&rt, &rt, "", (0, false))?;
+    check_unwritten(&rt, &rt, "", (NEVER, true))?;
+    check_unwritten(&rt, &rt, words, (0, false))?;
+    check_unwritten(&rt, &rt, words, (NEVER, true))?;
+    fs::remove_file(&rt, "formd_unwritten.json")?;
     Ok(())
 }
 
 /// The program says so where a word isn't UTF-8, which no word of these tests can be.
 #[test]
-fn words_that_are_not_utf_8_end_with_status_2(rt: HostRuntime) -> Result<(), Fail> {
+fn words_that_are_not_utf_8_end_with_status_2(rt: HostRuntime) {
     let mut error = Vec::new(rt.alloc());
     let status = Failure::NotUtf8.report(&mut error);
     assert_eq!(rt; status, 2);
-    assert_eq!(rt; str::from_utf8(&error)?, NOT_UTF8);
-    Ok(())
+    assert_eq!(rt; str::from_utf8(&error), Ok(NOT_UTF8));
 }

@@ -1,0 +1,209 @@
+//! Databases that a store refuses: the connection comes back, its database as it was.
+use crate::transcripts::{check, check_each};
+use std::test::Fail;
+
+/// Other declarations or not, the version is asked first.
+#[test]
+fn later_tables_are_of_another_version(rt: HostRuntime) -> Result<(), Fail> {
+    check_each(
+        &rt,
+        rt.alloc(),
+        "{given} := declarations\n\n{given} := others",
+        r#"
+CREATE TABLE about (one INTEGER PRIMARY KEY CHECK (one = 1), version INTEGER NOT NULL, declarations BLOB NOT NULL)
+CREATE TABLE record (id TEXT NOT NULL PRIMARY KEY, form TEXT NOT NULL, root TEXT NOT NULL)
+CREATE TABLE object (rec TEXT NOT NULL REFERENCES record (id) ON DELETE CASCADE, name TEXT NOT NULL, kind TEXT NOT NULL, fields TEXT NOT NULL, PRIMARY KEY (rec, name))
+INSERT INTO about VALUES (1, 2, x'6465636c61726174696f6e73')
+INSERT INTO record VALUES ('r1', 'item', 'a')
+INSERT INTO object VALUES ('r1', 'a', 'Item', '{"count":1}')
+
+open [{given}]
+= OtherVersion
+
+{show tables}
+= {about}
+= CREATE TABLE object (rec TEXT NOT NULL REFERENCES record (id) ON DELETE CASCADE, name TEXT NOT NULL, kind TEXT NOT NULL, fields TEXT NOT NULL, PRIMARY KEY (rec, name))
+= CREATE TABLE record (id TEXT NOT NULL PRIMARY KEY, form TEXT NOT NULL, root TEXT NOT NULL)
+{show about}
+= 1 2 [6465636C61726174696F6E73]
+SELECT id || ' ' || form || ' ' || root FROM record
+= r1 item a
+SELECT rec || ' ' || name || ' ' || kind || ' ' || fields FROM object
+= r1 a Item {"count":1}
+"#,
+    )
+}
+
+/// Statements that make the row of `about` another, the fault of each, and the row.
+const CHANGES: &str = "{change} := UPDATE about SET version = 2
+{fault} := OtherVersion
+{row} := 1 2 [6465636C61726174696F6E73]
+
+{change} := UPDATE about SET version = 0
+{fault} := OtherVersion
+{row} := 1 0 [6465636C61726174696F6E73]
+
+{change} := UPDATE about SET version = -1
+{fault} := OtherVersion
+{row} := 1 -1 [6465636C61726174696F6E73]
+
+{change} := UPDATE about SET version = 7
+{fault} := OtherVersion
+{row} := 1 7 [6465636C61726174696F6E73]
+
+{change} := UPDATE about SET version = 2, declarations = x''
+{fault} := OtherVersion
+{row} := 1 2 []
+
+{change} := UPDATE about SET declarations = x'6465636c61726174696f6e7320'
+{fault} := OtherDeclarations
+{row} := 1 1 [6465636C61726174696F6E7320]
+
+{change} := UPDATE about SET declarations = x'4465636c61726174696f6e73'
+{fault} := OtherDeclarations
+{row} := 1 1 [4465636C61726174696F6E73]
+
+{change} := UPDATE about SET declarations = x'6465636c61726174696f6e'
+{fault} := OtherDeclarations
+{row} := 1 1 [6465636C61726174696F6E]
+
+{change} := UPDATE about SET declarations = x'6f7468657273'
+{fault} := OtherDeclarations
+{row} := 1 1 [6F7468657273]
+
+{change} := UPDATE about SET declarations = x''
+{fault} := OtherDeclarations
+{row} := 1 1 []
+
+{change} := UPDATE about SET version = 'first'
+{fault} := Store
+{row} := 1 first [6465636C61726174696F6E73]";
+
+#[test]
+fn other_rows_are_refused(rt: HostRuntime) -> Result<(), Fail> {
+    check_each(
+        &rt,
+        rt.alloc(),
+        CHANGES,
+        "
+{about}; {record}
+{first}
+INSERT INTO record VALUES ('r1', 'item', '<1>')
+{change}
+
+open [declarations]
+= {fault}
+
+{show tables}
+= {about}
+= {record}
+{show about}
+= {row}
+{show records}
+= r1 item <1>
+",
+    )
+}
+
+/// The row of `about` isn't there, nor then the table.
+#[test]
+fn no_row_and_no_table_are_refused(rt: HostRuntime) -> Result<(), Fail> {
+    check(
+        &rt,
+        rt.alloc(),
+        "
+{about}; {record}
+{first}
+INSERT INTO record VALUES ('r1', 'item', '<1>')
+DELETE FROM about
+
+open [declarations]
+= Store
+
+{show tables}
+= {about}
+= {record}
+{show about}
+{show records}
+= r1 item <1>
+DROP TABLE about
+
+open [declarations]
+= Store
+
+{show tables}
+= {record}
+{show records}
+= r1 item <1>
+",
+    )
+}
+
+/// A database that has something else isn't given the tables.
+#[test]
+fn a_foreign_database_is_left_alone(rt: HostRuntime) -> Result<(), Fail> {
+    check_each(
+        &rt,
+        rt.alloc(),
+        "{foreign} := CREATE TABLE note (text TEXT)\n\n{foreign} := CREATE VIEW about AS SELECT 1 AS version",
+        "
+{foreign}
+
+open [declarations]
+= Store
+
+SELECT sql FROM sqlite_schema
+= {foreign}
+",
+    )
+}
+
+/// The connection comes back, and with the declarations that are stored it finds the records.
+#[test]
+fn a_refused_open_hands_the_connection_back(rt: HostRuntime) -> Result<(), Fail> {
+    check(
+        &rt,
+        rt.alloc(),
+        "
+open [declarations]
+commit; r1 item <1>; r2 item <2>
+
+open [declarations ]
+= OtherDeclarations
+
+open []
+= OtherDeclarations
+
+open [declarations]
+get r1
+= item <1>
+get r2
+= item <2>
+",
+    )
+}
+
+/// What the transaction has changed so far is there still, and can be taken back.
+#[test]
+fn a_connection_inside_a_transaction_is_refused(rt: HostRuntime) -> Result<(), Fail> {
+    check(
+        &rt,
+        rt.alloc(),
+        "
+{about}; {record}
+{first}
+INSERT INTO record VALUES ('r1', 'item', '<1>')
+BEGIN; DELETE FROM record
+
+open [declarations]
+= Store
+
+{show records}
+ROLLBACK
+
+open [declarations]
+get r1
+= item <1>
+",
+    )
+}

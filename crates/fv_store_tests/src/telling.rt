@@ -1,0 +1,94 @@
+//! What a store and a database answer to a line.
+use crate::texts::add;
+use fv_model::{Types, read_bundle, write_bundle};
+use fv_store::{Change, Store, Stored};
+use serde_json::Value;
+use sqlite::{Alter, Connection, Row};
+use std::alloc::Global;
+use std::test::Fail;
+
+/// The put of a record: its id, its form, and its bundle as JSON.
+fn put_of(alloc: Global, types: &Types, record: &str) -> Result<Change, Fail> {
+    let (id, rest) = record.split_once(' ').ok_or("an id")?;
+    let (form, bundle) = rest.split_once(' ').ok_or("a form")?;
+    let value = Value::from_str(alloc, bundle)?;
+    Ok(Change::Put {
+        id: String::from_str(alloc, id)?,
+        form: String::from_str(alloc, form)?,
+        bundle: read_bundle(alloc, types, None, &value)?,
+    })
+}
+
+/// The puts of a line: a record behind each "; ".
+fn puts_of(alloc: Global, types: &Types, line: &str) -> Result<Vec<Change>, Fail> {
+    let mut changes = Vec::new(alloc);
+    for record in line.split("; ").skip(1) {
+        changes.push(put_of(alloc, types, record)?)?;
+    }
+    Ok(changes)
+}
+
+/// Adds the form of a record and its bundle's JSON.
+fn add_stored(told: &mut String, alloc: Global, stored: &Stored) -> Result<(), Fail> {
+    let form = stored.form.as_str();
+    let bundle = write_bundle(alloc, &stored.bundle)?.to_string(alloc)?;
+    write!(told, "= {form} {bundle}\n")?;
+    Ok(())
+}
+
+/// Adds what a store tells of an id: the form and the bundle, `none`, or the fault's name.
+fn add_found<S: Alter>(
+    told: &mut String,
+    alloc: Global,
+    (store, types): (&mut Store<S>, &Types),
+    id: &str,
+) -> Result<(), Fail> {
+    match store.get(alloc, types, id) {
+        Ok(Some(stored)) => add_stored(told, alloc, &stored),
+        Ok(None) => add(told, "= ", "none"),
+        Err(fault) => add(told, "= ", fault.name()),
+    }
+}
+
+/// A line to a store: `get` of an id, or `commit` of puts, all of them in one.
+pub(crate) fn ask_store<S: Alter>(
+    told: &mut String,
+    alloc: Global,
+    (store, types): (&mut Store<S>, &Types),
+    line: &str,
+) -> Result<(), Fail> {
+    if let Some(id) = line.strip_prefix("get") {
+        return add_found(told, alloc, (store, types), id.trim_start());
+    }
+    let changes = puts_of(alloc, types, line)?;
+    store.commit(alloc, &changes)?;
+    Ok(())
+}
+
+/// Adds the text that a row shows.
+fn add_row(told: &mut String, row: &Row) -> Result<(), Fail> {
+    let text: String = row.get(0)?;
+    add(told, "= ", text.as_str())
+}
+
+/// Adds the text that each row shows.
+fn add_rows(told: &mut String, rows: &[Row]) -> Result<(), Fail> {
+    for row in rows {
+        add_row(told, row)?;
+    }
+    Ok(())
+}
+
+/// A line to a database: a query of texts, or statements.
+pub(crate) fn ask_database<S: Alter>(
+    told: &mut String,
+    connection: &mut Connection<S>,
+    line: &str,
+) -> Result<(), Fail> {
+    if line.starts_with("SELECT") {
+        let rows = connection.query_all(line, &[])?;
+        return add_rows(told, &rows);
+    }
+    connection.execute_batch(line)?;
+    Ok(())
+}
