@@ -91,12 +91,7 @@ get c
 
 /// Ids that differ in the case of a letter or that begin with one another. A put that changed another
 /// record would show: the records are put in turn, and then in the other order.
-#[test]
-fn ids_that_are_alike_are_apart(rt: HostRuntime) -> Result<(), Fail> {
-    check(
-        &rt,
-        rt.alloc(),
-        "
+const ALIKE: &str = "
 open [declarations]
 commit; a item <0>; A item <1>; ab item <2>; aB item <3>; a1 item <4>; a- item <5>; a_ item <6>; a1-_ item <7>; - item <8>; _ item <9>; 1 item <10>; 01 item <11>; 1a item <12>
 get a
@@ -164,8 +159,11 @@ get 01
 = item <111>
 get 1a
 = item <112>
-",
-    )
+";
+
+#[test]
+fn ids_that_are_alike_are_apart(rt: HostRuntime) -> Result<(), Fail> {
+    check(&rt, rt.alloc(), ALIKE)
 }
 
 /// Adds what is asked of the record of a number, an `Item` of that count.
