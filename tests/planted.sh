@@ -25,7 +25,8 @@ if [ ${#names[@]} -eq 0 ]; then
   exit 2
 fi
 rt must-fail "${names[@]}" | tee said || true
-refused=$(grep -c ': refused, as it must be' said || true)
+# (refused only since a proof names what the edit took away: that shows nothing of a contract)
+refused=$(grep ': refused, as it must be' said | grep -vc 'only because a proof file names' || true)
 total=$(find "${names[@]/#/crates/}" -path '*/must-fail/*.edit' | wc -l)
 echo "$refused passed, $((total - refused)) failed"
 [ "$refused" -eq "$total" ]

@@ -74,7 +74,7 @@ get r2
 = item <3>
 ";
 
-/// Other declarations and another version are refused as well.
+/// Other declarations are refused.
 const REFUSED: &str = "
 open [others]
 = OtherDeclarations
@@ -83,6 +83,7 @@ open [declarations ]
 = OtherDeclarations
 ";
 
+/// A refused open has changed nothing. The version that is then written is refused as another.
 const LAST: &str = "
 open [declarations]
 get r1

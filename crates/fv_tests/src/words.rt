@@ -1,10 +1,11 @@
 //! Runs of the program's words, with the exact bytes on both writers.
 use crate::streams::{NEVER, Reader, Writer};
 use fv_datum::{Attrs, Datum};
-use fv_engine::FixedClock;
+use fv_engine::{FixedClock, OpenFault};
 use fv_house::{house_registry, luhn, not_after, one_of, sum_is};
 use fv_model::Object;
 use fv_registry::{FieldCall, ObjectCall};
+use fv_store::OpenStoreFault;
 use fv_words::{Failure, FileFault, read_whole, run_words};
 use std::alloc::Global;
 use std::io::{ErrorKind, Read, Write};
@@ -398,11 +399,24 @@ fn a_failing_writer_ends_with_status_4(rt: HostRuntime) -> Result<(), Fail> {
     Ok(())
 }
 
+/// The program ends by a failure with that status, and says that.
+fn check_reported(rt: &impl Abort, alloc: Global, failure: Failure, (status, text): (u8, &str)) {
+    let mut error = Vec::new(alloc);
+    assert_eq!(rt; failure.report(&mut error), status, "{text}");
+    assert_eq!(rt; str::from_utf8(&error), Ok(text));
+}
+
 /// The program says so where a word isn't UTF-8, which no word of these tests can be.
 #[test]
 fn words_that_are_not_utf_8_end_with_status_2(rt: HostRuntime) {
-    let mut error = Vec::new(rt.alloc());
-    let status = Failure::NotUtf8.report(&mut error);
-    assert_eq!(rt; status, 2);
-    assert_eq!(rt; str::from_utf8(&error), Ok(NOT_UTF8));
+    check_reported(&rt, rt.alloc(), Failure::NotUtf8, (2, NOT_UTF8));
+}
+
+/// A database that isn't taken, and want of memory, which no run of these tests meets.
+#[test]
+fn failures_to_open_end_with_status_4(rt: HostRuntime) {
+    let store = Failure::from(OpenFault::Store(OpenStoreFault::OtherVersion));
+    check_reported(&rt, rt.alloc(), store, (4, "formd: store: OtherVersion\n"));
+    let memory = Failure::from(OpenFault::Memory);
+    check_reported(&rt, rt.alloc(), memory, (4, "formd: memory\n"));
 }

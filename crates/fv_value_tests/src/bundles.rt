@@ -91,7 +91,8 @@ fn objects_and_fields_are_found_by_their_names(rt: HostRuntime) -> Result<(), Fa
     let types = built(rt.alloc(), TYPES)?;
     let bundle = bundle_of(rt.alloc(), &types, "Q", text)?;
     let object = bundle.object("a").ok_or("an object")?;
-    check_that(&rt, matches!(object.field("q"), Some(Datum::Ref(_))), "q");
+    let refers = matches!(object.field("q"), Some(Datum::Ref(name)) if name.as_str() == "b");
+    check_that(&rt, refers, "q");
     check_that(&rt, matches!(object.field("to"), Some(Datum::Null)), "to");
     check_that(&rt, object.field("text").is_none(), "text");
     check_that(&rt, bundle.object("c").is_none(), "c");

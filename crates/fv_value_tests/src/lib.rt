@@ -4,6 +4,8 @@
 #![tactic(auto)]
 
 #[cfg(test)]
+mod asking;
+#[cfg(test)]
 mod bundles;
 #[cfg(test)]
 mod constraints;
@@ -17,5 +19,7 @@ mod house;
 mod rules;
 #[cfg(test)]
 mod texts;
+#[cfg(test)]
+mod trial;
 #[cfg(test)]
 mod types;

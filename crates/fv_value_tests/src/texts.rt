@@ -59,6 +59,7 @@ fn check_today(rt: &impl Abort, now: i64, text: &str) {
 #[test]
 fn moments_are_on_days(rt: HostRuntime) {
     for (now, text) in [
+        (-62135596800, "0001-01-01"),
         (-62135510401, "0001-01-01"),
         (-62135510400, "0001-01-02"),
         (-86401, "1969-12-30"),
@@ -68,6 +69,7 @@ fn moments_are_on_days(rt: HostRuntime) {
         (1709164799, "2024-02-28"),
         (1709251200, "2024-03-01"),
         (253402127999, "9999-12-29"),
+        (253402128000, "9999-12-30"),
     ] {
         check_today(&rt, now, text);
     }
@@ -75,8 +77,16 @@ fn moments_are_on_days(rt: HostRuntime) {
 
 #[test]
 fn moments_have_a_first_and_a_last(rt: HostRuntime) {
-    for seconds in [i64::MIN, -62135596801, 253402128001, i64::MAX] {
-        assert!(rt; !moment_ok(seconds), "{seconds}");
+    for (seconds, wanted) in [
+        (i64::MIN, false),
+        (-62135596801, false),
+        (-62135596800, true),
+        (0, true),
+        (253402128000, true),
+        (253402128001, false),
+        (i64::MAX, false),
+    ] {
+        assert_eq!(rt; moment_ok(seconds), wanted, "{seconds}");
     }
 }
 
