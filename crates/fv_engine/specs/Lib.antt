@@ -1,11 +1,7 @@
 pub mod CommandView
-pub mod Engines
 pub mod FaultNames
-pub mod Judging
-pub mod Moves
-pub mod Replies
-pub mod Reply
+pub mod Keeping
+pub mod Machines
+pub mod Refusals
 pub mod Requests
 pub mod Step
-pub mod ViolationView
-pub mod Violations

@@ -1,53 +1,72 @@
--- The record machine: what a line does to the records, and its reply.
-use Rattle.std.specs.Prelude.{◌≡◌, ◌⊎◌, ◌≤◌, ℕ, ℤ, length, List, [], ◌∷◌, Option, Some, None, Result, Ok, Err, is_some}
-use Rattle.fv_datum.specs.Lookup.{at_name}
+-- The step of the record machine: what a line does to it, and the answer.
+use Rattle.std.specs.Prelude.{◌≡◌, ◌⊎◌, ℕ, ℤ, IsTrue, false, List, [], ◌∷◌, Option, Some, None, Ok}
+use Rattle.fv_engine.specs.Machines.{Machine}
+use Rattle.fv_engine.specs.Refusals.{is_too_long, bundle_under, refusal}
+use Rattle.fv_engine.specs.Requests.{Request, put, get, asked}
 use Rattle.fv_model.specs.Bundles.{Bundled}
-use Rattle.fv_model.specs.Reading.{bundle_read}
-use Rattle.fv_model.specs.declared.fault.BundleFault.{BundleFault}
 use Rattle.fv_registry.specs.Answers.{Meanings}
-use Rattle.fv_declare.specs.Declarations.{Declarations}
+use Rattle.fv_reply.specs.Answers.{Answer, taken, shown, violated, refused}
+use Rattle.fv_reply.specs.Texts.{answer_text}
+use Rattle.fv_reply.specs.declared.answer.Refusal.{Refusal}
+use Rattle.fv_reply.specs.declared.answer.Refusal.TheVariants.{Store, Memory}
 use Rattle.fv_store.specs.Records.{Kept, Records, with_record}
-use Rattle.fv_engine.specs.Replies as text
-use Rattle.fv_engine.specs.Requests.{Request, too_long, not_json, shape, put, get, asked}
-use Rattle.fv_engine.specs.Violations.{Reported, IsListing}
+use Rattle.fv_validate.specs.Violations.{Reported, IsListing}
 
--- a refusal, which changes nothing
-abbrev pub Refuses : List ℕ → Records → List ℕ → Records → Type 0
-Refuses why old reply new = (reply ≡ why) × (new ≡ old)
+-- nothing has changed, but that a failure may have shut the connection
+pub record Stays (old new : Machine Records) : Type 0 where
+  pub declared : new.declared ≡ old.declared
+  pub records : new.records ≡ old.records
+  pub was_open : IsTrue new.is_open → IsTrue old.is_open
 
--- a bundle that is judged at a moment: taken where it has no violation, unless the store fails, and else refused with all of them
-abbrev pub Decides : List ℕ → Kept → List Reported → Records → List ℕ → Records → Type 0
-Decides id kept [] old reply new = ((reply ≡ text.put_taken) × (new ≡ with_record id kept old)) ⊎ Refuses text.store_failed old reply new
-Decides id kept (v ∷ vs) old reply new = Refuses (text.violations_refused id (v ∷ vs)) old reply new
+-- the id has this record now, and nothing else has changed; the connection was open and is
+pub record Takes (id : List ℕ) (kept : Kept) (old new : Machine Records) : Type 0 where
+  pub declared : new.declared ≡ old.declared
+  pub records : new.records ≡ with_record id kept old.records
+  pub was_open : IsTrue old.is_open
+  pub is_open : IsTrue new.is_open
 
--- a put is decided by all violations of its bundle at a moment
-abbrev pub Judges : Meanings → Declarations → ℤ → List ℕ → Kept → Records → List ℕ → Records → Type 0
-Judges m ds now id kept old reply new = (vs : List Reported) × IsListing m ds now kept.bundle vs × Decides id kept vs old reply new
+-- what the violations of a record decide: it is taken where there are none, and else refused by all of them
+abbrev pub Decided : List ℕ → Kept → List Reported → Machine Records → Answer → Machine Records → Type 0
+Decided id kept [] old answer new = (answer ≡ taken) × Takes id kept old new
+Decided id kept (v ∷ vs) old answer new = (answer ≡ violated id (v ∷ vs)) × Stays old new
 
--- a put, by what its bundle's JSON spells and by its form's root
-abbrev pub Puts : Meanings → Declarations → ℤ → List ℕ → List ℕ → Result Bundled BundleFault → Option (List ℕ) → Records → List ℕ → Records → Type 0
-Puts m ds now id form (Err fault) root old reply new = Refuses (text.unread fault (is_some root)) old reply new
-Puts m ds now id form (Ok b) None old reply new = Refuses text.unknown_form old reply new
-Puts m ds now id form (Ok b) (Some root) old reply new = Judges m ds now id (record { form = form; bundle = b }) old reply new
+-- a record is judged at a moment
+abbrev pub Judged : Meanings → ℤ → List ℕ → Kept → Machine Records → Answer → Machine Records → Type 0
+Judged means now id kept old answer new = (vs : List Reported) × IsListing means old.declared now kept.bundle vs × Decided id kept vs old answer new
 
--- the text of a get's reply: the record of the id, or that it has none
-abbrev pub shown : List ℕ → Option Kept → List ℕ
-shown id None = text.no_record
-shown id (Some kept) = text.record_shown id kept.form kept.bundle
+-- what a request does at a moment that nothing refuses
+abbrev pub Serves : Meanings → ℤ → Request → Machine Records → Answer → Machine Records → Type 0
+Serves means now (put id form bundle) old answer new =
+    (b : Bundled) × (bundle_under old.declared form bundle ≡ Ok b) × Judged means now id (record { form = form; bundle = b }) old answer new
+Serves means now (get id) old answer new = (kept : Kept) × (old.records id ≡ Some kept) × (answer ≡ shown id kept.form kept.bundle) × Stays old new
+Serves means now _ old answer new = ⊥
 
--- a get changes nothing; its reply shows the record or that there is none, unless the store fails
-abbrev pub Gets : List ℕ → Records → List ℕ → Records → Type 0
-Gets id old reply new = Refuses (shown id (old id)) old reply new ⊎ Refuses text.store_failed old reply new
+-- by the first refusal, if there is one
+abbrev pub Does : Option Refusal → Meanings → ℤ → Request → Machine Records → Answer → Machine Records → Type 0
+Does (Some why) means now r old answer new = (answer ≡ refused why) × Stays old new
+Does None means now r old answer new = Serves means now r old answer new
 
--- what is done at a moment by what the rules mean, where memory lasts
-abbrev pub Does : Meanings → Declarations → ℤ → Request → Records → List ℕ → Records → Type 0
-Does m ds now too_long old reply new = Refuses text.line_too_long old reply new
-Does m ds now not_json old reply new = Refuses text.not_json old reply new
-Does m ds now shape old reply new = Refuses text.shape old reply new
-Does m ds now (put id form bundle) old reply new =
-    Puts m ds now id form (bundle_read ds.types (at_name form ds.forms) bundle) (at_name form ds.forms) old reply new
-Does m ds now (get id) old reply new = Gets id old reply new
+-- Want of memory refuses any request but a line that is too long; the store a get, and a put that would else be taken.
+abbrev pub MayFail : Refusal → Meanings → ℤ → Request → Machine Records → Type 0
+MayFail Memory means now r old = is_too_long r ≡ false
+MayFail Store means now (get id) old = Unit {0}
+MayFail Store means now (put id form bundle) old =
+    (refusal old (put id form bundle) ≡ None) × ((b : Bundled) × (bundle_under old.declared form bundle ≡ Ok b) × IsListing means old.declared now b [])
+MayFail why means now r old = ⊥
 
--- From the old records, the line at the moment has the reply and leaves the new ones. Want of memory is a refusal of its own, but for a line that is too long.
-unfoldable pub Step : Meanings → Declarations → Records → List ℕ → ℤ → List ℕ → Records → Type 0
-Step m ds old line moment reply new = Does m ds moment (asked line) old reply new ⊎ ((length line ≤ 1048576) × Refuses text.out_of_memory old reply new)
+-- what a request does at a moment, or that memory or the store fails
+abbrev pub Answers : Meanings → ℤ → Request → Machine Records → Answer → Machine Records → Type 0
+Answers means now r old answer new =
+    Does (refusal old r) means now r old answer new ⊎ ((why : Refusal) × MayFail why means now r old × (answer ≡ refused why) × Stays old new)
+
+-- the same, told by the text of the answer
+abbrev pub Replies : Meanings → ℤ → Request → Machine Records → List ℕ → Machine Records → Type 0
+Replies means now r old text new = (answer : Answer) × (text ≡ answer_text answer) × Answers means now r old answer new
+
+-- from the old machine, the line at the moment has the answer and leaves the new one
+abbrev pub Step : Meanings → Machine Records → List ℕ → ℤ → Answer → Machine Records → Type 0
+Step means old line moment answer new = Answers means moment (asked line) old answer new
+
+-- a step, told by the text of its answer
+abbrev pub Told : Meanings → Machine Records → List ℕ → ℤ → List ℕ → Machine Records → Type 0
+Told means old line moment text new = (answer : Answer) × (text ≡ answer_text answer) × Step means old line moment answer new

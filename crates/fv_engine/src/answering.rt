@@ -1,44 +1,41 @@
-//! What a command does to the records, and its reply.
-ghost use Rattle.std.specs.Prelude.{◌≡◌, ◌≢◌, ◌⊎◌, [], IfOk};
-ghost use Rattle.sqlite.specs.Held.{state};
-ghost use Rattle.serde_json.specs.View.{view as json_view};
-ghost use Rattle.fv_datum.specs.Lookup.{at_name};
+//! What a command does to the records, and its answer.
+ghost use Rattle.std.specs.Prelude.{◌≡◌, ℤ, IfOk};
 ghost use Rattle.fv_datum.specs.Moments.{IsMoment};
 ghost use Rattle.fv_datum.specs.Parsing.{json_of};
-ghost use Rattle.fv_model.specs.Reading.{bundle_read};
+ghost use Rattle.fv_declare.specs.Declarations.{Declarations};
+ghost use Rattle.fv_engine.specs.Keeping.{Fails, Keeps, Settles, unread};
+ghost use Rattle.fv_engine.specs.Machines.{over, Turns};
+ghost use Rattle.fv_engine.specs.Requests.{put, get, command_of, or_shape, of_json};
+ghost use Rattle.fv_engine.specs.Step.{Answers, Replies};
 ghost use Rattle.fv_model.specs.Types.{Declared};
 ghost use Rattle.fv_model.specs.Views.{types_view, bundle_view};
+ghost use Rattle.fv_registry.specs.Answers.{Meanings};
+ghost use Rattle.fv_reply.specs.AnswerView.{answer_view};
 ghost use Rattle.fv_store.specs.Changes.{after_all, ChangesFit};
 ghost use Rattle.fv_store.specs.Records.{Records, Roots, Fits, with_record};
-ghost use Rattle.fv_declare.specs.Declarations.{Declarations};
-ghost use Rattle.fv_engine.specs.Moves.{Moves, Told};
-ghost use Rattle.fv_engine.specs.Requests.{command_of, or_shape, of_json};
-ghost use Rattle.fv_engine.specs.Replies.{put_taken, store_failed, out_of_memory, unread};
-ghost use Rattle.fv_engine.specs.Step.{Refuses, Decides, Judges, Puts, Gets, Does};
+ghost use Rattle.serde_json.specs.View.{view as json_view};
+ghost use Rattle.sqlite.specs.Held.{state};
 
 use crate::command::{Command, command_of};
-use crate::reply;
-use crate::reply::Reply;
-use crate::rulebook::Rulebook;
-use crate::validate::validate;
 use fv_datum::{JsonFault, read_json};
 use fv_model::{Bundle, BundleFault, Types, read_bundle};
 use fv_registry::RuleSet;
+use fv_reply::{Answer, Refusal, Reply};
 use fv_store::{Change, Store, StoreFault};
+use fv_validate::Rulebook;
 use serde_json::Value;
 use sqlite::Alter;
 use std::alloc::{AllocError, Global};
 
 /// The refusal of a command that the store couldn't do.
-fn refused_by_store(fault: StoreFault) -> Reply
-    ensures store { fault ≡ StoreFault.Store → result ≡ store_failed }
-    ensures memory { fault ≡ StoreFault.Memory → result ≡ out_of_memory }
-    ensures why { (result ≡ store_failed) ⊎ (result ≡ out_of_memory) }
-    ensures refused { result ≢ put_taken }
+fn undone(fault: StoreFault) -> Refusal
+    ensures store { fault ≡ StoreFault.Store → result ≡ Refusal.Store }
+    ensures memory { fault ≡ StoreFault.Memory → result ≡ Refusal.Memory }
+    ensures fails { Fails result (Unit {0}) }
 {
     match fault {
-        StoreFault::Store => Reply::fixed(reply::STORE),
-        StoreFault::Memory => Reply::fixed(reply::MEMORY),
+        StoreFault::Store => Refusal::Store,
+        StoreFault::Memory => Refusal::Memory,
     }
 }
 
@@ -58,104 +55,129 @@ fn changes_of(
 }
 
 /// Stores a bundle that has no violation.
-fn keep<S: Alter>(
+fn keep<'a, S: Alter>(
     store: &mut Store<S>,
     alloc: Global,
-    id: &str,
+    id: &'a str,
     form: &str,
     bundle: Bundle,
-) -> Reply
-    ensures { (ds : Declarations) → Fits ds.types ds.forms (record { form = form.now; bundle = bundle_view bundle }) →
-        Moves ds (state S.Store store.old) (state S.Store store.new) (Told (λ m r n. Decides id.now (record { form = form.now; bundle = bundle_view bundle }) [] m r n ⊎ Refuses out_of_memory m r n) result) }
+) -> Answer<'a>
+    ensures { (ds : Declarations) → Fits ds.types ds.forms (record { form = form.now; bundle = bundle_view bundle })
+        → Turns (state S.Store) (over (state S.Store) ds store.old) (over (state S.Store) ds store.new) (λ x y. Keeps id.now (record { form = form.now; bundle = bundle_view bundle }) x (answer_view result) y) }
 {
     match changes_of(alloc, id, form, bundle) {
-        Err(_) => Reply::fixed(reply::MEMORY),
+        Err(_) => Answer::Refused(Refusal::Memory),
         Ok(changes) => match store.commit(alloc, &changes) {
-            Ok(()) => Reply::fixed(reply::PUT_TAKEN),
-            Err(fault) => refused_by_store(fault),
+            Ok(()) => Answer::Taken,
+            Err(fault) => Answer::Refused(undone(fault)),
         },
     }
 }
 
 /// Stores a bundle of a form under an id, where it has no violation.
-fn judge<R: RuleSet, S: Alter>(
+fn judge<'a, R: RuleSet, S: Alter>(
     store: &mut Store<S>,
     alloc: Global,
     book: &Rulebook<R>,
-    id: &str,
+    id: &'a str,
     form: &str,
     bundle: Bundle,
     now: i64,
-) -> Reply
+) -> Answer<'a>
     requires moment { IsMoment now }
-    requires fits { Fits book.now.schema.types book.now.schema.forms (record { form = form.now; bundle = bundle_view bundle }) }
-    ensures { Moves book.now.schema (state S.Store store.old) (state S.Store store.new) (Told (λ m r n. Judges R.meaning book.now.schema now id.now (record { form = form.now; bundle = bundle_view bundle }) m r n ⊎ Refuses out_of_memory m r n) result) }
+    requires fits { Fits book.now.types book.now.forms (record { form = form.now; bundle = bundle_view bundle }) }
+    ensures { Turns (state S.Store) (over (state S.Store) book.now store.old) (over (state S.Store) book.now store.new)
+        (λ x y. Settles R.meaning now id.now (record { form = form.now; bundle = bundle_view bundle }) x (answer_view result) y) }
 {
-    match validate(alloc, book, &bundle, now) {
-        Err(_) => Reply::fixed(reply::MEMORY),
+    match book.validate(alloc, &bundle, now) {
+        Err(_) => Answer::Refused(Refusal::Memory),
         Ok(violations) => if violations.is_empty() {
             keep(store, alloc, id, form, bundle)
         } else {
-            Reply::violations(alloc, id, &violations)
+            Answer::Violated { id, violations }
         },
     }
 }
 
 /// The refusal of a put whose bundle has a fault, under a form that is declared or not.
-fn unread(alloc: Global, fault: BundleFault, declared: bool) -> Reply
-    ensures why { (result ≡ out_of_memory) ⊎ ((fault ≢ BundleFault.Memory) × (result ≡ unread fault declared)) }
-    ensures refused { result ≢ put_taken }
+fn unread(fault: BundleFault, declared: bool) -> Refusal
+    ensures { result ≡ unread fault declared }
 {
     match fault {
-        BundleFault::Memory => Reply::fixed(reply::MEMORY),
-        BundleFault::Shape => Reply::fixed(reply::SHAPE),
+        BundleFault::Memory => Refusal::Memory,
+        BundleFault::Shape => Refusal::Shape,
         _ => if declared {
-            Reply::bundle_refused(alloc, fault)
+            Refusal::Bundle(fault)
         } else {
-            Reply::fixed(reply::UNKNOWN_FORM)
+            Refusal::UnknownForm
         },
     }
 }
 
 /// Takes a put where its bundle has no violation.
-fn put<R: RuleSet, S: Alter>(
+fn put<'a, R: RuleSet, S: Alter>(
     store: &mut Store<S>,
     alloc: Global,
     book: &Rulebook<R>,
-    id: &str,
+    id: &'a str,
     form: &str,
     bundle: &Value,
     now: i64,
-) -> Reply
+) -> Answer<'a>
     requires { IsMoment now }
-    ensures { Moves book.now.schema (state S.Store store.old) (state S.Store store.new)
-        (Told (λ m r n. Puts R.meaning book.now.schema now id.now form.now (bundle_read book.now.schema.types (at_name form.now book.now.schema.forms) (json_view bundle.now)) (at_name form.now book.now.schema.forms) m r n
-        ⊎ Refuses out_of_memory m r n) result) }
+    ensures { Turns (state S.Store) (over (state S.Store) book.now store.old) (over (state S.Store) book.now store.new)
+        (λ x y. Answers R.meaning now (put id.now form.now (json_view bundle.now)) x (answer_view result) y) }
 {
-    let root = book.schema.root_of(form);
-    match read_bundle(alloc, book.schema.types(), root, bundle) {
-        Err(fault) => unread(alloc, fault, root.is_some()),
+    let schema = book.schema();
+    let root = schema.root_of(form);
+    match read_bundle(alloc, schema.types(), root, bundle) {
+        Err(fault) => Answer::Refused(unread(fault, root.is_some())),
         Ok(bundle) => match root {
-            None => Reply::fixed(reply::UNKNOWN_FORM),
+            None => Answer::Refused(Refusal::UnknownForm),
             Some(_) => judge(store, alloc, book, id, form, bundle, now),
         },
     }
 }
 
 /// Shows a record.
-fn get<S: Alter>(store: &mut Store<S>, alloc: Global, types: &Types, id: &str) -> Reply
-    ensures { (ds : Declarations) → ds.types ≡ types_view types.now →
-        Moves ds (state S.Store store.old) (state S.Store store.new) (Told (λ m r n. Gets id.now m r n ⊎ Refuses out_of_memory m r n) result) }
+fn get<'a, S: Alter>(store: &mut Store<S>, alloc: Global, types: &Types, id: &'a str) -> Answer<'a>
+    ensures { (ds : Declarations) (means : Meanings) (now : ℤ) → ds.types ≡ types_view types.now
+        → Turns (state S.Store) (over (state S.Store) ds store.old) (over (state S.Store) ds store.new) (λ x y. Answers means now (get id.now) x (answer_view result) y) }
 {
     match store.get(alloc, types, id) {
-        Ok(None) => Reply::fixed(reply::NO_RECORD),
-        Ok(Some(stored)) => Reply::record(alloc, id, stored.form.as_str(), &stored.bundle),
-        Err(fault) => refused_by_store(fault),
+        Ok(None) => Answer::Refused(Refusal::NoRecord),
+        Ok(Some(stored)) => Answer::Shown {
+            id,
+            form: stored.form,
+            bundle: stored.bundle,
+        },
+        Err(fault) => Answer::Refused(undone(fault)),
+    }
+}
+
+/// The answer to a line's JSON.
+fn answer<'a, R: RuleSet, S: Alter>(
+    store: &mut Store<S>,
+    alloc: Global,
+    book: &Rulebook<R>,
+    value: &'a Value,
+    now: i64,
+) -> Answer<'a>
+    requires { IsMoment now }
+    ensures { Turns (state S.Store) (over (state S.Store) book.now store.old) (over (state S.Store) book.now store.new)
+        (λ x y. Answers R.meaning now (or_shape (command_of (json_view value.now))) x (answer_view result) y) }
+{
+    match command_of(value) {
+        None => Answer::Refused(Refusal::Shape),
+        Some(Command::Put { id, form, bundle }) => {
+            put(store, alloc, book, id, form, bundle, now)
+        }
+        Some(Command::Get { id }) => get(store, alloc, book.schema().types(), id),
     }
 }
 
 /// The reply to a line's JSON.
-fn answer<R: RuleSet, S: Alter>(
+fn reply_to<R: RuleSet, S: Alter>(
     store: &mut Store<S>,
     alloc: Global,
     book: &Rulebook<R>,
@@ -163,20 +185,15 @@ fn answer<R: RuleSet, S: Alter>(
     now: i64,
 ) -> Reply
     requires { IsMoment now }
-    ensures { Moves book.now.schema (state S.Store store.old) (state S.Store store.new)
-        (Told (λ m r n. Does R.meaning book.now.schema now (or_shape (command_of (json_view value.now))) m r n ⊎ Refuses out_of_memory m r n) result) }
+    ensures { Turns (state S.Store) (over (state S.Store) book.now store.old) (over (state S.Store) book.now store.new)
+        (λ x y. Replies R.meaning now (or_shape (command_of (json_view value.now))) x result y) }
 {
-    match command_of(value) {
-        None => Reply::fixed(reply::SHAPE),
-        Some(Command::Put { id, form, bundle }) => {
-            put(store, alloc, book, id, form, bundle, now)
-        }
-        Some(Command::Get { id }) => get(store, alloc, book.schema.types(), id),
-    }
+    let answer = answer(store, alloc, book, value, now);
+    Reply::of(alloc, &answer)
 }
 
 /// The reply to a line that isn't over the limit.
-pub(crate) fn answer_short<R: RuleSet, S: Alter>(
+pub(crate) fn reply_to_line<R: RuleSet, S: Alter>(
     store: &mut Store<S>,
     alloc: Global,
     book: &Rulebook<R>,
@@ -184,12 +201,12 @@ pub(crate) fn answer_short<R: RuleSet, S: Alter>(
     now: i64,
 ) -> Reply
     requires { IsMoment now }
-    ensures { Moves book.now.schema (state S.Store store.old) (state S.Store store.new)
-        (Told (λ m r n. Does R.meaning book.now.schema now (of_json (json_of line.now)) m r n ⊎ Refuses out_of_memory m r n) result) }
+    ensures { Turns (state S.Store) (over (state S.Store) book.now store.old) (over (state S.Store) book.now store.new)
+        (λ x y. Replies R.meaning now (of_json (json_of line.now)) x result y) }
 {
     match read_json(alloc, line) {
-        Ok(value) => answer(store, alloc, book, &value, now),
-        Err(JsonFault::NotJson) => Reply::fixed(reply::NOT_JSON),
-        Err(JsonFault::Memory) => Reply::fixed(reply::MEMORY),
+        Ok(value) => reply_to(store, alloc, book, &value, now),
+        Err(JsonFault::NotJson) => Reply::refused(alloc, Refusal::NotJson),
+        Err(JsonFault::Memory) => Reply::refused(alloc, Refusal::Memory),
     }
 }

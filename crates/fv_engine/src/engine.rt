@@ -5,18 +5,18 @@ ghost use Rattle.fv_datum.specs.Moments.{IsMoment};
 ghost use Rattle.fv_store.specs.Faults.{about_fault, IsAboutFault};
 ghost use Rattle.fv_store.specs.Stands.{Holds, Opens, IsKnown, Stays, Tells};
 ghost use Rattle.fv_declare.specs.Declares.{Declares};
-ghost use Rattle.fv_engine.specs.Engines.{StepOf};
+ghost use Rattle.fv_engine.specs.Machines.{Turns};
+ghost use Rattle.fv_engine.specs.Step.{Told};
 ghost use Rattle.fv_engine.specs.FaultNames.{open_fault_name};
-ghost use Rattle.fv_engine.specs.Replies.{line_too_long};
+ghost use Rattle.fv_reply.specs.Texts.{refusal_text};
 
-use crate::answering::answer_short;
-use crate::reply;
-use crate::reply::Reply;
-use crate::rulebook::Rulebook;
+use crate::answering::reply_to_line;
 use fv_declare::{DeclFault, read_schema};
 use fv_lines::{LIMIT, Machine};
 use fv_registry::RuleSet;
+use fv_reply::{Refusal, Reply};
 use fv_store::{OpenStoreFault, Store};
+use fv_validate::Rulebook;
 use sqlite::{Alter, Connection};
 use std::alloc::Global;
 use std::marker::Model;
@@ -50,7 +50,7 @@ impl OpenFault {
 }
 
 /// The record machine: declarations with the rules that they use, and the records that a database
-/// keeps. Contracts see it as what is declared and the connection to the database, which is outside a
+/// keeps. Contracts see it as a machine whose records are the connection to the database, which is outside a
 /// transaction.
 pub struct Engine<R: RuleSet, S: Alter> {
     book: Rulebook<R>,
@@ -65,15 +65,15 @@ impl<R: RuleSet + Drop, S: Alter + Drop> Drop for Engine<R, S> {
 
 impl<R: RuleSet, S: Alter> Model for Engine<R, S> {
     ghost use Rattle.std.specs.Coded.{codes};
-    ghost use Rattle.sqlite.specs.Held.{Held, held_code};
+    ghost use Rattle.sqlite.specs.Held.{Held, held_code, state};
     ghost use Rattle.fv_builtin.specs.Codes.{pattern_code};
-    ghost use Rattle.fv_engine.specs.Engines.{Standing};
+    ghost use Rattle.fv_engine.specs.Machines.{Machine, over};
 
-    ghost Value = { Standing (Held S) };
+    ghost Value = { Machine (Held S) };
 
     ghost coded = { Prim.hlevel (codes, pattern_code, held_code S.code) };
 
-    ghost view = { λ e. record { declared = e.book.schema; connection = e.store } };
+    ghost view = { λ e. over (state S.Store) e.book e.store };
 }
 
 /// The fault of an engine whose declarations aren't taken.
@@ -113,12 +113,12 @@ impl<R: RuleSet + Drop, S: Alter + Drop> Engine<R, S> {
     ) -> Result<Engine<R, S>, (OpenFault, Connection<S>)>
         requires { R.means rules }
         ensures declared { IfOk result (λ e. Declares (R.known rules) declarations.now (Ok e.declared)) }
-        ensures clean { IfOk result (λ e. HasCleanDisk (state S.Store e.connection) → HasCleanDisk (state S.Store connection)) }
-        ensures open { IfOk result (λ e. HasCleanDisk (state S.Store e.connection) → IsTrue (state S.Store e.connection).is_open) }
+        ensures clean { IfOk result (λ e. HasCleanDisk (state S.Store e.records) → HasCleanDisk (state S.Store connection)) }
+        ensures open { IfOk result (λ e. HasCleanDisk (state S.Store e.records) → IsTrue (state S.Store e.records).is_open) }
         // The records are those that the database handed over.
-        ensures opened { IfOk result (λ e. (m : _) → Opens (state S.Store connection) declarations.now e.declared.types e.declared.forms m → Holds (state S.Store e.connection) declarations.now e.declared.types e.declared.forms m) }
-        ensures taken { IfOk result (λ e. HasCleanDisk (state S.Store e.connection) → (version : _) (d : _) → Tells (state S.Store connection).now version d → about_fault version d declarations.now ≡ None) }
-        ensures same { IfOk result (λ e. HasCleanDisk (state S.Store e.connection) → (d : _) (types : _) (roots : _) (m : _) → Holds (state S.Store connection) d types roots m → d ≡ declarations.now) }
+        ensures opened { IfOk result (λ e. (m : _) → Opens (state S.Store connection) declarations.now e.declared.types e.declared.forms m → Holds (state S.Store e.records) declarations.now e.declared.types e.declared.forms m) }
+        ensures taken { IfOk result (λ e. HasCleanDisk (state S.Store e.records) → (version : _) (d : _) → Tells (state S.Store connection).now version d → about_fault version d declarations.now ≡ None) }
+        ensures same { IfOk result (λ e. HasCleanDisk (state S.Store e.records) → (d : _) (types : _) (roots : _) (m : _) → Holds (state S.Store connection) d types roots m → d ≡ declarations.now) }
         // The declarations come first, by their first fault.
         ensures refused { IfErr result (λ r. (fault : _) → r.0 ≡ OpenFault.Declarations fault → Declares (R.known rules) declarations.now (Err fault)) }
         ensures after { IfErr result (λ r. (fault : _) → r.0 ≡ OpenFault.Store fault → (ds : _) × (Declares (R.known rules) declarations.now (Ok ds))) }
@@ -151,28 +151,28 @@ impl<R: RuleSet, S: Alter> Engine<R, S> {
     /// the record machine.
     pub fn run(&mut self, alloc: Global, line: &[u8], now: i64) -> Reply
         requires { IsMoment now }
-        ensures { StepOf R.meaning (state S.Store) self.old line.now now result self.new }
+        ensures { Turns (state S.Store) self.old self.new (λ x y. Told R.meaning x line.now now result y) }
     {
         if line.len() > LIMIT {
             return self.refuse_long();
         }
-        answer_short(&mut self.store, alloc, &self.book, line, now)
+        reply_to_line(&mut self.store, alloc, &self.book, line, now)
     }
 
     /// The refusal of a line that is over the limit.
     fn refuse_long(&mut self) -> Reply
-        ensures refused { result ≡ line_too_long }
+        ensures refused { result ≡ refusal_text Refusal.LineTooLong }
         ensures same { self.new ≡ self.old }
     {
-        Reply::fixed(reply::LINE_TOO_LONG)
+        Reply::line_too_long()
     }
 }
 
 impl<R: RuleSet + Drop, S: Alter> Engine<R, S> {
     /// The database, without the engine. It takes no memory.
     pub fn into_connection(self) -> Connection<S>
-        ensures same { result ≡ self.connection }
-        ensures holds { (d : _) (types : _) (roots : _) (m : _) → Holds (state S.Store self.connection) d types roots m → Holds (state S.Store result) d types roots m }
+        ensures same { result ≡ self.records }
+        ensures holds { (d : _) (types : _) (roots : _) (m : _) → Holds (state S.Store self.records) d types roots m → Holds (state S.Store result) d types roots m }
     {
         let Engine { book: _, store } = self;
         store.into_connection()
@@ -182,7 +182,7 @@ impl<R: RuleSet + Drop, S: Alter> Engine<R, S> {
 impl<R: RuleSet, S: Alter> Machine for Engine<R, S> {
     type Reply = Reply;
 
-    ghost step = { StepOf R.meaning (state S.Store) };
+    ghost step = { λ old line moment text new. Turns (state S.Store) old new (λ x y. Told R.meaning x line moment text y) };
 
     fn answer_line(&mut self, alloc: Global, line: &[u8], now: i64) -> Reply {
         self.run(alloc, line, now)

@@ -4,14 +4,10 @@
 
 mod answering;
 mod command;
-mod demands;
 mod engine;
-mod reply;
-mod rulebook;
 mod serving;
-mod validate;
 
 pub use engine::{Engine, OpenFault};
 pub use fv_lines::{Clock, FixedClock, ServeFault};
-pub use reply::Reply;
+pub use fv_reply::Reply;
 pub use serving::serve;

@@ -1,6 +1,7 @@
 ghost use Rattle.std.specs.Prelude.{◌≡◌, List, ℕ, OnOk, IsErrOf};
 ghost use Rattle.sqlite.specs.Held.{state};
-ghost use Rattle.fv_engine.specs.Engines.{Turns, ToldStep};
+ghost use Rattle.fv_engine.specs.Machines.{Turns};
+ghost use Rattle.fv_engine.specs.Step.{Told};
 ghost use Rattle.fv_lines.specs.Runs.{Taken, Stopped, Complete};
 
 use crate::engine::Engine;
@@ -27,11 +28,11 @@ pub fn serve<R: RuleSet, S: Alter, I: Read, W: Write, C: Clock>(
     clock: &mut C,
 ) -> Result<(), ServeFault>
     // What was written is the replies of a run over all lines of the input, each with its end.
-    ensures ok { OnOk result (Turns (state S.Store) engine.old engine.new (λ m n. Complete (ToldStep R.meaning engine.old.declared) C.ticks (I.remaining reader.old) m clock.old (W.contents writer.old) (I.remaining reader.new) n clock.new (W.contents writer.new))) }
+    ensures ok { OnOk result (Turns (state S.Store) engine.old engine.new (λ m n. Complete (Told R.meaning) C.ticks (I.remaining reader.old) m clock.old (W.contents writer.old) (I.remaining reader.new) n clock.new (W.contents writer.new))) }
     // The same for the whole lines before.
-    ensures read { IsErrOf result ServeFault.Read → Turns (state S.Store) engine.old engine.new (λ m n. (rest : List ℕ) × Taken (ToldStep R.meaning engine.old.declared) C.ticks (I.remaining reader.old) m clock.old (W.contents writer.old) rest (I.remaining reader.new) n clock.new (W.contents writer.new)) }
+    ensures read { IsErrOf result ServeFault.Read → Turns (state S.Store) engine.old engine.new (λ m n. (rest : List ℕ) × Taken (Told R.meaning) C.ticks (I.remaining reader.old) m clock.old (W.contents writer.old) rest (I.remaining reader.new) n clock.new (W.contents writer.new)) }
     // The same for some lines, the last reply whole, in part or missing.
-    ensures write { IsErrOf result ServeFault.Write → Turns (state S.Store) engine.old engine.new (λ m n. Stopped (ToldStep R.meaning engine.old.declared) C.ticks (I.remaining reader.old) m clock.old (W.contents writer.old) (I.remaining reader.new) n clock.new (W.contents writer.new)) }
+    ensures write { IsErrOf result ServeFault.Write → Turns (state S.Store) engine.old engine.new (λ m n. Stopped (Told R.meaning) C.ticks (I.remaining reader.old) m clock.old (W.contents writer.old) (I.remaining reader.new) n clock.new (W.contents writer.new)) }
     // Nothing was read.
     ensures memory { IsErrOf result ServeFault.Memory → (reader.new ≡ reader.old) × (writer.new ≡ writer.old) × (engine.new ≡ engine.old) × (clock.new ≡ clock.old) }
 {

@@ -11,5 +11,5 @@ mod serving;
 
 pub use clock::Clock;
 pub use fixed_clock::FixedClock;
-pub use machine::{Answer, LIMIT, Machine};
+pub use machine::{LIMIT, Machine, Text};
 pub use serving::{ServeFault, serve_machine};

@@ -7,7 +7,7 @@ use std::alloc::Global;
 pub const LIMIT: usize = 1048576;
 
 /// What a machine answers a line with.
-pub trait Answer {
+pub trait Text {
     /// The bytes of the line that is written, without its end.
     ghost bytes: { Self → List ℕ };
 
@@ -18,7 +18,7 @@ pub trait Answer {
 
 /// What answers lines.
 pub trait Machine {
-    type Reply: Answer + Drop;
+    type Reply: Text + Drop;
 
     /// From the machine before a line, by the line, the moment and the reply, to the machine after
     /// it.

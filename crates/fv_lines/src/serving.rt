@@ -8,7 +8,7 @@ ghost use Rattle.fv_lines.specs.Runs.{Answered, Served, Broken, Finished, Taken,
 
 use crate::clock::Clock;
 use crate::line::Line;
-use crate::machine::{Answer, LIMIT, Machine};
+use crate::machine::{LIMIT, Machine, Text};
 use crate::output::{WriteFailed, write_line};
 use std::alloc::Global;
 use std::io::{Read, Write};

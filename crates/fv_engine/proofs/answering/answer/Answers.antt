@@ -1,14 +1,21 @@
-use Rattle.std.proofs.Common.{sym}
+use Rattle.std.proofs.Common.{Option, inl, refl, sym, subst, ◌∙◌, ap}
 use Rattle.std.proofs.lemmas.Int.{to_z-of_z}
 use mir.Syntax.{w64}
-use Rattle.fv_engine.proofs.Movings.{no_command, put_asked, get_asked}
+use Rattle.sqlite.specs.Held.{state}
+use Rattle.fv_declare.specs.Declarations.{Declarations}
+use Rattle.fv_engine.specs.Requests.{Request, or_shape}
+use Rattle.fv_engine.specs.Step.{Answers}
+use Rattle.fv_reply.specs.Answers.{refused}
+use Rattle.fv_reply.specs.declared.answer.Refusal.TheVariants.{Shape}
+use Rattle.fv_engine.proofs.Turning.{rests, stays_itself, asked_of}
 use Rattle.fv_engine.proofs.answering.answer.Goals as goal
 
 pub returns-in-None : goal.returns-in-None
-returns-in-None g c = no_command g.R.RuleSet.meaning c.args.book.now.schema c.args.now _ _ _ (sym c.in-None.ensures) c.fixed.ensures
+returns-in-None g c = rests (state g.S.Store) _ _ (λ x. subst (λ (o : Option Request). Answers g.R.RuleSet.meaning c.args.now (or_shape o) x (refused Shape) x) c.in-None.ensures (inl (refl, stays_itself x)))
 
 pub returns-in-Some-Put : goal.returns-in-Some-Put
-returns-in-Some-Put g c = put_asked g.R.RuleSet.meaning c.args.book.now.schema c.args.now _ _ _ _ _ _ _ (sym (rw c.in-Some-Put.field-0-is at c.in-Some-Put.ensures)) (rw (to_z-of_z w64 c.args.now c.ranges.now) at c.put.ensures)
+returns-in-Some-Put g c = asked_of (state g.S.Store) _ _ g.R.RuleSet.meaning c.args.now _ _ _ (rw c.in-Some-Put.field-0-is at c.in-Some-Put.ensures) (rw (to_z-of_z w64 c.args.now c.ranges.now) at c.put.ensures)
 
 pub returns-in-Some-Get : goal.returns-in-Some-Get
-returns-in-Some-Get g c = get_asked g.R.RuleSet.meaning c.args.book.now.schema c.args.now _ _ _ _ _ (sym (rw c.in-Some-Get.field-0-is at c.in-Some-Get.ensures)) (c.get.ensures c.args.book.now.schema (sym c.types.ensures))
+returns-in-Some-Get g c = asked_of (state g.S.Store) _ _ g.R.RuleSet.meaning c.args.now _ _ _ (rw c.in-Some-Get.field-0-is at c.in-Some-Get.ensures)
+    (c.get.ensures c.args.book.now g.R.RuleSet.meaning c.args.now (sym (c.types.ensures ∙ ap (λ (ds : Declarations). ds.types) c.schema.ensures)))

@@ -10,4 +10,4 @@ returns-then-line-gt-LIMIT g c =
 
 pub returns : goal.returns
 returns g c =
-    short_turn g.R.RuleSet.meaning (state g.S.Store) c.args.line.now _ _ c.args.self.now _ c.self.inside.store c.answer_short.new.store c.self.view_is c.if-line-gt-LIMIT.false (rw (to_z-of_z w64 c.args.now c.ranges.now) at c.answer_short.ensures)
+    short_turn g.R.RuleSet.meaning (state g.S.Store) c.args.line.now _ _ c.args.self.now _ c.self.inside.store c.reply_to_line.new.store c.self.view_is c.if-line-gt-LIMIT.false (rw (to_z-of_z w64 c.args.now c.ranges.now) at c.reply_to_line.ensures)

@@ -1,7 +1,0 @@
-use Rattle.std.proofs.Common.{map}
-use Rattle.fv_engine.specs.ViolationView.{violation_view}
-use Rattle.fv_engine.proofs.NoFloats.{refusal_whole}
-use Rattle.fv_engine.proofs.reply.violations_refused.Goals as goal
-
-pub text_of-requires : goal.text_of-requires
-text_of-requires c = rw c.in_ok-value.ensures (refusal_whole c.args.id.now (map violation_view c.args.violations.now))

@@ -1,0 +1,35 @@
+-- What a put does on its way, for private clauses.
+use Rattle.std.specs.Prelude.{◌≡◌, ◌⊎◌, ℕ, ℤ, List, [], Bool, true, false}
+use Rattle.fv_engine.specs.Machines.{Machine}
+use Rattle.fv_engine.specs.Step.{Stays, Takes, Judged}
+use Rattle.fv_model.specs.declared.fault.BundleFault.{BundleFault}
+use Rattle.fv_model.specs.declared.fault.BundleFault.TheVariants as fault
+use Rattle.fv_registry.specs.Answers.{Meanings}
+use Rattle.fv_reply.specs.Answers.{Answer, taken, refused}
+use Rattle.fv_reply.specs.declared.answer.Refusal.{Refusal}
+use Rattle.fv_reply.specs.declared.answer.Refusal.TheVariants.{Shape, UnknownForm, Bundle, Store, Memory}
+use Rattle.fv_store.specs.Records.{Kept, Records}
+use Rattle.fv_validate.specs.Violations.{IsListing}
+
+-- want of memory refuses, or the store, which is needed only then
+abbrev pub Fails : Refusal → Type 0 → Type 0
+Fails Memory needed = Unit {0}
+Fails Store needed = needed
+Fails _ needed = ⊥
+
+-- a record is stored
+abbrev pub Keeps : List ℕ → Kept → Machine Records → Answer → Machine Records → Type 0
+Keeps id kept old answer new =
+    ((answer ≡ taken) × Takes id kept old new) ⊎ ((why : Refusal) × Fails why (Unit {0}) × (answer ≡ refused why) × Stays old new)
+
+-- a record is judged, and stored where it has no violation
+abbrev pub Settles : Meanings → ℤ → List ℕ → Kept → Machine Records → Answer → Machine Records → Type 0
+Settles means now id kept old answer new =
+    Judged means now id kept old answer new ⊎ ((why : Refusal) × Fails why (IsListing means old.declared now kept.bundle []) × (answer ≡ refused why) × Stays old new)
+
+-- the refusal of a put whose bundle has a fault, under a form that is declared or not
+abbrev pub unread : BundleFault → Bool → Refusal
+unread fault.Memory declared = Memory
+unread fault.Shape declared = Shape
+unread fault false = UnknownForm
+unread fault true = Bundle fault

@@ -1,0 +1,33 @@
+-- The record machine, and what a call does to it.
+use Rattle.std.specs.Prelude.{◌≡◌, ℕ, List, Bool}
+use Rattle.sqlite.specs.State.{State, HasCleanDisk}
+use Rattle.fv_declare.specs.Declarations.{Declarations}
+use Rattle.fv_store.specs.Records.{Records}
+use Rattle.fv_store.specs.Stands.{Holds}
+
+-- what is declared, the records (as a map, or as the connection to the database that keeps them), and whether the connection is open:
+-- a failure of the disk may shut it
+pub record Machine (R : Type 0) : Type 0 where
+  pub declared : Declarations
+  pub records : R
+  pub is_open : Bool
+
+-- the machine over a connection
+abbrev pub over : {H : Type 0} → (H → State) → Declarations → H → Machine H
+over held ds connection = record { declared = ds; records = connection; is_open = (held connection).is_open }
+
+-- the machine with these records
+abbrev pub with_map : {H : Type 0} → Machine H → Records → Machine Records
+with_map machine m = record { declared = machine.declared; records = m; is_open = machine.is_open }
+
+-- its database stands for these records, under declarations of these bytes
+abbrev pub StandsFor : {H : Type 0} → (H → State) → List ℕ → Machine H → Records → Type 0
+StandsFor held bytes machine m = Holds (held machine.records) bytes machine.declared.types machine.declared.forms m
+
+-- From the old machine to the new one: what is declared stays, and where the disk is clean, the records that the old one stood for are
+-- turned by the relation into those that the new one stands for.
+pub record Turns {H : Type 0} (held : H → State) (old new : Machine H) (Turn : Machine Records → Machine Records → Type 0) : Type 0 where
+  pub declared : new.declared ≡ old.declared
+  pub clean : HasCleanDisk (held new.records) → HasCleanDisk (held old.records)
+  pub turned : HasCleanDisk (held new.records) → (bytes : List ℕ) (m : Records) → StandsFor held bytes old m
+      → (n : Records) × Turn (with_map old m) (with_map new n) × StandsFor held bytes new n

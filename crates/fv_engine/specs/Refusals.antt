@@ -1,0 +1,82 @@
+-- The refusals of a request, in their order.
+use Rattle.std.specs.Prelude.{ℕ, List, [], ◌∷◌, Bool, true, false, not, if◌then◌else◌, Option, Some, None, is_some, Result, Ok, Err}
+use Rattle.serde_json.specs.Data as json
+use Rattle.fv_datum.specs.Lookup.{at_name}
+use Rattle.fv_declare.specs.Declarations.{Declarations}
+use Rattle.fv_engine.specs.Machines.{Machine}
+use Rattle.fv_engine.specs.Requests.{Request, too_long, not_json, shape, put, get}
+use Rattle.fv_model.specs.Bundles.{Bundled}
+use Rattle.fv_model.specs.Reading.{bundle_read}
+use Rattle.fv_model.specs.declared.fault.BundleFault.{BundleFault}
+use Rattle.fv_model.specs.declared.fault.BundleFault.TheVariants as fault
+use Rattle.fv_reply.specs.declared.answer.Refusal.{Refusal}
+use Rattle.fv_reply.specs.declared.answer.Refusal.TheVariants.{LineTooLong, NotJson, Shape, UnknownForm, Bundle, NoRecord}
+use Rattle.fv_store.specs.Records.{Records}
+
+-- ---- the conditions
+
+abbrev pub is_too_long : Request → Bool
+is_too_long too_long = true
+is_too_long _ = false
+
+abbrev pub is_no_json : Request → Bool
+is_no_json not_json = true
+is_no_json _ = false
+
+-- the bundle that JSON spells under a form, or its first fault
+abbrev pub bundle_under : Declarations → List ℕ → json.Data → Result Bundled BundleFault
+bundle_under ds form bundle = bundle_read ds.types (at_name form ds.forms) bundle
+
+abbrev pub is_misread : Result Bundled BundleFault → Bool
+is_misread (Err fault.Shape) = true
+is_misread _ = false
+
+-- no command, or a put whose bundle isn't of a bundle's form
+abbrev pub is_misshapen : Declarations → Request → Bool
+is_misshapen ds shape = true
+is_misshapen ds (put id form bundle) = is_misread (bundle_under ds form bundle)
+is_misshapen ds _ = false
+
+-- a put whose form isn't declared
+abbrev pub lacks_form : Declarations → Request → Bool
+lacks_form ds (put id form bundle) = not (is_some (at_name form ds.forms))
+lacks_form ds _ = false
+
+abbrev pub fault_of : Result Bundled BundleFault → Option Refusal
+fault_of (Ok b) = None
+fault_of (Err fault) = Some (Bundle fault)
+
+-- the fault of a put's bundle
+abbrev pub bundle_fault : Declarations → Request → Option Refusal
+bundle_fault ds (put id form bundle) = fault_of (bundle_under ds form bundle)
+bundle_fault ds _ = None
+
+-- a get whose id has no record
+abbrev pub lacks_record : Records → Request → Bool
+lacks_record m (get id) = not (is_some (m id))
+lacks_record m _ = false
+
+-- ---- the order
+
+abbrev pub when : Bool → Refusal → Option Refusal
+when condition why = if condition then Some why else None
+
+-- each refusal where its condition holds, in the order in which they are told
+abbrev pub refusals : Machine Records → Request → List (Option Refusal)
+refusals machine r =
+    when (is_too_long r) LineTooLong
+    ∷ when (is_no_json r) NotJson
+    ∷ when (is_misshapen machine.declared r) Shape
+    ∷ when (lacks_form machine.declared r) UnknownForm
+    ∷ bundle_fault machine.declared r
+    ∷ when (lacks_record machine.records r) NoRecord
+    ∷ []
+
+abbrev pub first_of : List (Option Refusal) → Option Refusal
+first_of [] = None
+first_of (Some why ∷ rest) = Some why
+first_of (None ∷ rest) = first_of rest
+
+-- the first of them, if there is one
+abbrev pub refusal : Machine Records → Request → Option Refusal
+refusal machine r = first_of (refusals machine r)

@@ -1,0 +1,4 @@
+pub mod Answers
+pub mod AnswerView
+pub mod Content
+pub mod Texts

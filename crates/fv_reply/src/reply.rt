@@ -1,0 +1,135 @@
+ghost use Rattle.std.specs.Prelude.{◌≡◌, MatchResult, string_bytes};
+ghost use Rattle.fv_reply.specs.Answers.{refused};
+ghost use Rattle.fv_reply.specs.AnswerView.{answer_view};
+ghost use Rattle.fv_reply.specs.Texts.{refusal_text, Tells};
+
+use crate::answer::{Answer, Refusal};
+use crate::texts::{bundle_refused, record_shown, violations_refused};
+use fv_lines::Text;
+use std::alloc::{AllocError, Global};
+use std::marker::Model;
+
+// The texts that are there without memory.
+const LINE_TOO_LONG: &str = r#"{"error":"C1","name":"LineTooLong"}"#;
+
+const NOT_JSON: &str = r#"{"error":"C2","name":"NotJson"}"#;
+
+const SHAPE: &str = r#"{"error":"C3","name":"Shape"}"#;
+
+const UNKNOWN_FORM: &str = r#"{"error":"C4","name":"UnknownForm"}"#;
+
+const NO_RECORD: &str = r#"{"error":"C6","name":"NoRecord"}"#;
+
+const STORE: &str = r#"{"error":"C11","name":"Store"}"#;
+
+const MEMORY: &str = r#"{"error":"C12","name":"Memory"}"#;
+
+const PUT_TAKEN: &str = r#"{"ok":"put"}"#;
+
+/// The line that answers a command, without its end.
+#[derive(Drop)]
+pub struct Reply {
+    content: Content,
+}
+
+/// A text that is there without memory, or one that was made.
+#[derive(Drop)]
+enum Content {
+    Fixed(&'static str),
+    Made(String),
+}
+
+impl Model for Reply {
+    ghost use Rattle.std.specs.Prelude.{ℕ, List};
+    ghost use Rattle.fv_reply.specs.Content.{content_text};
+
+    ghost Value = { List ℕ };
+
+    ghost view = { λ r. content_text r.content };
+}
+
+impl Reply {
+    fn fixed(text: &'static str) -> Reply
+        ensures { result ≡ text.now }
+    {
+        Reply {
+            content: Content::Fixed(text),
+        }
+    }
+
+    fn made(text: String) -> Reply
+        ensures { result ≡ string_bytes text }
+    {
+        Reply {
+            content: Content::Made(text),
+        }
+    }
+
+    /// The reply of a text that was made, or the refusal for want of memory.
+    fn made_or_memory(text: Result<String, AllocError>) -> Reply
+        ensures { MatchResult text (λ s. result ≡ string_bytes s) (λ _. result ≡ refusal_text Refusal.Memory) }
+    {
+        match text {
+            Ok(text) => Reply::made(text),
+            Err(_) => Reply::fixed(MEMORY),
+        }
+    }
+
+    /// The reply that tells an answer; the refusal for want of memory where the text takes memory and
+    /// an allocation was refused.
+    pub fn of(alloc: Global, answer: &Answer) -> Reply
+        ensures { Tells result (answer_view answer.now) }
+    {
+        match answer {
+            Answer::Taken => Reply::fixed(PUT_TAKEN),
+            Answer::Shown { id, form, bundle } => {
+                Reply::made_or_memory(record_shown(alloc, id, form.as_str(), bundle))
+            }
+            Answer::Violated { id, violations } => {
+                Reply::made_or_memory(violations_refused(alloc, id, violations))
+            }
+            Answer::Refused(why) => Reply::refused(alloc, *why),
+        }
+    }
+
+    /// The reply that tells a refusal; only that of a bundle takes memory.
+    pub fn refused(alloc: Global, why: Refusal) -> Reply
+        ensures { Tells result (refused why) }
+    {
+        match why {
+            Refusal::Bundle(fault) => Reply::made_or_memory(bundle_refused(alloc, fault)),
+            Refusal::LineTooLong => Reply::fixed(LINE_TOO_LONG),
+            Refusal::NotJson => Reply::fixed(NOT_JSON),
+            Refusal::Shape => Reply::fixed(SHAPE),
+            Refusal::UnknownForm => Reply::fixed(UNKNOWN_FORM),
+            Refusal::NoRecord => Reply::fixed(NO_RECORD),
+            Refusal::Store => Reply::fixed(STORE),
+            Refusal::Memory => Reply::fixed(MEMORY),
+        }
+    }
+
+    /// The refusal of a line that is over the limit. It takes no memory.
+    pub fn line_too_long() -> Reply
+        ensures { result ≡ refusal_text Refusal.LineTooLong }
+    {
+        Reply::fixed(LINE_TOO_LONG)
+    }
+
+    /// The line. It takes no memory.
+    pub fn text(&self) -> &str
+        ensures { result.now ≡ self.now }
+    {
+        match &self.content {
+            Content::Fixed(text) => text,
+            Content::Made(text) => text.as_str(),
+        }
+    }
+}
+
+impl Text for Reply {
+    ghost bytes = { λ r. r };
+
+    fn text(&self) -> &str {
+        self.text()
+    }
+}

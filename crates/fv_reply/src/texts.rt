@@ -1,0 +1,134 @@
+//! The texts of answers that are made.
+ghost use Rattle.std.specs.Prelude.{◌≡◌, false, IfOk, map, string_bytes};
+ghost use Rattle.fv_datum.specs.View.{view};
+ghost use Rattle.fv_model.specs.Views.{bundle_view};
+ghost use Rattle.fv_model.specs.Writing.{datum_json};
+ghost use Rattle.fv_reply.specs.Texts.{bundle_refused_json, violation_json, judged_json, refusal_json, violations_refused_json, record_json};
+ghost use Rattle.fv_validate.specs.ViolationView.{violation_view};
+ghost use Rattle.serde_json.specs.View.{view as json_view};
+ghost use Rattle.serde_json.specs.Written.{compact_text, has_float};
+
+use fv_datum::{DatumFault, write_datum};
+use fv_model::{Bundle, BundleFault, write_bundle};
+use fv_validate::Violation;
+use serde_json::{Value, json, push};
+use std::alloc::{AllocError, Global};
+
+/// The compact text of JSON without floats.
+fn text_of(alloc: Global, value: &Value) -> Result<String, AllocError>
+    requires { has_float (json_view value.now) ≡ false }
+    ensures { IfOk result (λ s. string_bytes s ≡ compact_text (json_view value.now)) }
+{
+    value.to_string(alloc)
+}
+
+fn bundle_refused_value(alloc: Global, fault: BundleFault) -> Result<Value, AllocError>
+    ensures { IfOk result (λ v. json_view v ≡ bundle_refused_json fault) }
+{
+    let code = fault.code();
+    json!(in alloc; {"error": "C5", "fault": code, "name": "Bundle"})
+}
+
+/// `{"error":"C5","fault":..,"name":"Bundle"}`.
+pub(crate) fn bundle_refused(alloc: Global, fault: BundleFault) -> Result<String, AllocError>
+    ensures { IfOk result (λ s. string_bytes s ≡ compact_text (bundle_refused_json fault)) }
+{
+    let value = bundle_refused_value(alloc, fault)?;
+    text_of(alloc, &value)
+}
+
+/// The JSON of a violation's value; null for a datum that can't be written, which no bundle holds.
+fn value_of(alloc: Global, violation: &Violation) -> Result<Value, AllocError>
+    ensures { IfOk result (λ v. json_view v ≡ datum_json (view violation.now.value)) }
+{
+    match write_datum(alloc, &violation.value) {
+        Ok(value) => Ok(value),
+        Err(DatumFault::WrongKind) => Ok(Value::Null),
+        Err(DatumFault::Memory) => Err(AllocError),
+    }
+}
+
+/// `{"constraint":..,"message":..,"occurrence":..,"path":..,"value":..}`.
+fn violation_value(alloc: Global, violation: &Violation) -> Result<Value, AllocError>
+    ensures { IfOk result (λ v. json_view v ≡ violation_json (violation_view violation.now)) }
+{
+    let value = value_of(alloc, violation)?;
+    let constraint = violation.constraint.as_str();
+    let message = violation.message.as_str();
+    let occurrence = violation.occurrence;
+    let path = violation.path.as_str();
+    json!(in alloc; {
+        "constraint": constraint,
+        "message": message,
+        "occurrence": occurrence,
+        "path": path,
+        "value": value
+    })
+}
+
+fn violation_values(alloc: Global, violations: &[Violation]) -> Result<Vec<Value>, AllocError>
+    ensures { IfOk result (λ v. map json_view v.items ≡ map violation_json (map violation_view violations.now)) }
+{
+    let mut values = Vec::with_capacity(alloc, violations.len())?;
+    for violation in violations {
+        push(&mut values, violation_value(alloc, violation)?)?;
+    }
+    Ok(values)
+}
+
+/// `{"id":..,"violations":[..]}`.
+fn judged_value(alloc: Global, id: &str, violations: Value) -> Result<Value, AllocError>
+    ensures { IfOk result (λ v. json_view v ≡ judged_json id.now (json_view violations)) }
+{
+    json!(in alloc; {"id": id, "violations": violations})
+}
+
+fn refusal_value(alloc: Global, judged: Value) -> Result<Value, AllocError>
+    ensures { IfOk result (λ v. json_view v ≡ refusal_json (json_view judged)) }
+{
+    json!(in alloc; {"error": "C10", "name": "Violations", "records": [judged]})
+}
+
+fn violations_refused_value(
+    alloc: Global,
+    id: &str,
+    violations: &[Violation],
+) -> Result<Value, AllocError>
+    ensures { IfOk result (λ v. json_view v ≡ violations_refused_json id.now (map violation_view violations.now)) }
+{
+    let values = Value::Array(violation_values(alloc, violations)?);
+    let judged = judged_value(alloc, id, values)?;
+    refusal_value(alloc, judged)
+}
+
+/// `{"error":"C10","name":"Violations","records":[..]}`, with the one record that was judged.
+pub(crate) fn violations_refused(
+    alloc: Global,
+    id: &str,
+    violations: &[Violation],
+) -> Result<String, AllocError>
+    ensures { IfOk result (λ s. string_bytes s ≡ compact_text (violations_refused_json id.now (map violation_view violations.now))) }
+{
+    let value = violations_refused_value(alloc, id, violations)?;
+    text_of(alloc, &value)
+}
+
+fn record_value(alloc: Global, id: &str, form: &str, bundle: &Bundle) -> Result<Value, AllocError>
+    ensures { IfOk result (λ v. json_view v ≡ record_json id.now form.now (bundle_view bundle.now)) }
+{
+    let bundle = write_bundle(alloc, bundle)?;
+    json!(in alloc; {"bundle": bundle, "form": form, "id": id, "ok": "get"})
+}
+
+/// `{"bundle":..,"form":..,"id":..,"ok":"get"}`.
+pub(crate) fn record_shown(
+    alloc: Global,
+    id: &str,
+    form: &str,
+    bundle: &Bundle,
+) -> Result<String, AllocError>
+    ensures { IfOk result (λ s. string_bytes s ≡ compact_text (record_json id.now form.now (bundle_view bundle.now))) }
+{
+    let value = record_value(alloc, id, form, bundle)?;
+    text_of(alloc, &value)
+}

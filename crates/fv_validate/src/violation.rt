@@ -1,0 +1,15 @@
+use fv_datum::Datum;
+
+/// A reported constraint (constraint violation).
+#[derive(Drop)]
+pub struct Violation {
+    /// The property path: the field's name, and empty for the whole object.
+    pub path: String,
+    /// The constraint's name.
+    pub constraint: String,
+    /// The number of the use over the whole declarations.
+    pub occurrence: usize,
+    pub message: String,
+    /// The datum that was refused, or the name of the object that was.
+    pub value: Datum,
+}
