@@ -57,11 +57,11 @@ module _ {H : Type 0} (held : H → State) where
   }
 
   -- the same for the machines over one connection, with any records
-  pub unmoved : (ds : Declarations) (h : H) (T : Turn) → ((m : Records) → T (with_map (over held ds h) m) (with_map (over held ds h) m)) → Turns held (over held ds h) (over held ds h) T
+  pub unmoved : (ds : Declarations) (h : H) (T : Turn) → ((m : Records) → T (with_map held (over held ds h) m) (with_map held (over held ds h) m)) → Turns held (over held ds h) (over held ds h) T
   unmoved ds h T same = record { declared = refl; clean = λ c. c; turned = λ c bytes m stands. (m, same m, stands) }
 
   pub turned_so : (ds : Declarations) (old new : H) (T U : Turn)
-      → ((m n : Records) → T (with_map (over held ds old) m) (with_map (over held ds new) n) → U (with_map (over held ds old) m) (with_map (over held ds new) n))
+      → ((m n : Records) → T (with_map held (over held ds old) m) (with_map held (over held ds new) n) → U (with_map held (over held ds old) m) (with_map held (over held ds new) n))
       → Turns held (over held ds old) (over held ds new) T → Turns held (over held ds old) (over held ds new) U
   turned_so ds old new T U w turns = record {
     declared = refl;
@@ -75,7 +75,7 @@ module _ {H : Type 0} (held : H → State) where
     -- it changes no record
     pub unchanged : (T : Turn)
         → (HasCleanDisk (held new) → (bytes : List ℕ) (m : Records) → Holds (held old) bytes ds.types ds.forms m
-        → Stays (with_map (over held ds old) m) (with_map (over held ds new) m) → T (with_map (over held ds old) m) (with_map (over held ds new) m))
+        → Stays (with_map held (over held ds old) m) (with_map held (over held ds new) m) → T (with_map held (over held ds old) m) (with_map held (over held ds new) m))
         → ((bytes : List ℕ) (m : Records) → Holds (held old) bytes ds.types ds.forms m → Holds (held new) bytes ds.types ds.forms m) → Turns held (over held ds old) (over held ds new) T
     unchanged T does undone = record {
       declared = refl;

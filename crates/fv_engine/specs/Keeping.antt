@@ -11,7 +11,7 @@ use Rattle.fv_reply.specs.declared.answer.Refusal.TheVariants.{Shape, UnknownFor
 use Rattle.fv_store.specs.Records.{Kept, Records}
 use Rattle.fv_validate.specs.Violations.{IsListing}
 
--- want of memory refuses, or the store, which is needed only then
+-- want of memory refuses, or the store, where it is needed
 abbrev pub Fails : Refusal → Type 0 → Type 0
 Fails Memory needed = Unit {0}
 Fails Store needed = needed
@@ -25,7 +25,8 @@ Keeps id kept old answer new =
 -- a record is judged, and stored where it has no violation
 abbrev pub Settles : Meanings → ℤ → List ℕ → Kept → Machine Records → Answer → Machine Records → Type 0
 Settles means now id kept old answer new =
-    Judged means now id kept old answer new ⊎ ((why : Refusal) × Fails why (IsListing means old.declared now kept.bundle []) × (answer ≡ refused why) × Stays old new)
+    Judged means now id kept old answer new
+    ⊎ ((why : Refusal) × Fails why (IsListing means old.declared now kept.bundle []) × (answer ≡ refused why) × Stays old new)
 
 -- the refusal of a put whose bundle has a fault, under a form that is declared or not
 abbrev pub unread : BundleFault → Bool → Refusal

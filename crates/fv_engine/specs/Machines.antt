@@ -16,9 +16,9 @@ pub record Machine (R : Type 0) : Type 0 where
 abbrev pub over : {H : Type 0} → (H → State) → Declarations → H → Machine H
 over held ds connection = record { declared = ds; records = connection; is_open = (held connection).is_open }
 
--- the machine with these records
-abbrev pub with_map : {H : Type 0} → Machine H → Records → Machine Records
-with_map machine m = record { declared = machine.declared; records = m; is_open = machine.is_open }
+-- the machine with these records; whether it is open says the connection
+abbrev pub with_map : {H : Type 0} → (H → State) → Machine H → Records → Machine Records
+with_map held machine m = record { declared = machine.declared; records = m; is_open = (held machine.records).is_open }
 
 -- its database stands for these records, under declarations of these bytes
 abbrev pub StandsFor : {H : Type 0} → (H → State) → List ℕ → Machine H → Records → Type 0
@@ -30,4 +30,4 @@ pub record Turns {H : Type 0} (held : H → State) (old new : Machine H) (Turn :
   pub declared : new.declared ≡ old.declared
   pub clean : HasCleanDisk (held new.records) → HasCleanDisk (held old.records)
   pub turned : HasCleanDisk (held new.records) → (bytes : List ℕ) (m : Records) → StandsFor held bytes old m
-      → (n : Records) × Turn (with_map old m) (with_map new n) × StandsFor held bytes new n
+      → (n : Records) × Turn (with_map held old m) (with_map held new n) × StandsFor held bytes new n

@@ -61,7 +61,8 @@ lacks_record m _ = false
 abbrev pub when : Bool → Refusal → Option Refusal
 when condition why = if condition then Some why else None
 
--- each refusal where its condition holds, in the order in which they are told
+-- each refusal that needs no judging, where its condition holds, in the order in which they are told: a fault of the form stands before the
+-- bundle's other faults, as it is told as Shape
 abbrev pub refusals : Machine Records → Request → List (Option Refusal)
 refusals machine r =
     when (is_too_long r) LineTooLong

@@ -18,7 +18,7 @@ pub record Stays (old new : Machine Records) : Type 0 where
   pub records : new.records ≡ old.records
   pub was_open : IsTrue new.is_open → IsTrue old.is_open
 
--- the id has this record now, and nothing else has changed; the connection was open and is
+-- the id has this record now, and nothing else has changed; the connection was open and still is
 pub record Takes (id : List ℕ) (kept : Kept) (old new : Machine Records) : Type 0 where
   pub declared : new.declared ≡ old.declared
   pub records : new.records ≡ with_record id kept old.records
@@ -34,7 +34,7 @@ Decided id kept (v ∷ vs) old answer new = (answer ≡ violated id (v ∷ vs)) 
 abbrev pub Judged : Meanings → ℤ → List ℕ → Kept → Machine Records → Answer → Machine Records → Type 0
 Judged means now id kept old answer new = (vs : List Reported) × IsListing means old.declared now kept.bundle vs × Decided id kept vs old answer new
 
--- what a request does at a moment that nothing refuses
+-- what a request that nothing refuses does at a moment
 abbrev pub Serves : Meanings → ℤ → Request → Machine Records → Answer → Machine Records → Type 0
 Serves means now (put id form bundle) old answer new =
     (b : Bundled) × (bundle_under old.declared form bundle ≡ Ok b) × Judged means now id (record { form = form; bundle = b }) old answer new
