@@ -16,7 +16,7 @@ pub record Machine (R : Type 0) : Type 0 where
 abbrev pub over : {H : Type 0} → (H → State) → Declarations → H → Machine H
 over held ds connection = record { declared = ds; records = connection; is_open = (held connection).is_open }
 
--- the machine with these records; whether it is open says the connection
+-- the machine with these records; the connection says whether it is open
 abbrev pub with_map : {H : Type 0} → (H → State) → Machine H → Records → Machine Records
 with_map held machine m = record { declared = machine.declared; records = m; is_open = (held machine.records).is_open }
 
