@@ -63,7 +63,8 @@ impl Builtin {
         kind: Kind,
     ) -> Result<Builtin, BuiltinFault>
         requires { is_builtin name.now ≡ true }
-        ensures { (which : BuiltinName) → builtin_named name.now ≡ Some which → IsRead (drafted which attrs.now) (takes which kind) (answer_view result) }
+        ensures { (which : BuiltinName) → builtin_named name.now ≡ Some which
+            → IsRead (drafted which attrs.now) (takes which kind) (answer_view result) }
     {
         match builtin_named(name) {
             Some(which) => read_named(alloc, which, attrs, kind),

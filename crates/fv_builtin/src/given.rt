@@ -13,7 +13,8 @@ const GREATEST_COUNT: i64 = 2147483647;
 
 /// A whole number as it is given, else the default.
 pub(crate) fn integer_or(given: Option<&Attribute>, default: Option<i64>) -> Option<i64>
-    ensures { result ≡ option_and_then integer_in (given_or (option_map (λ a. attribute_view a.now) given.entry) (option_map (λ n. integer n) default)) }
+    ensures { result ≡ option_and_then integer_in (given_or (option_map (λ a. attribute_view a.now) given.entry)
+        (option_map (λ n. integer n) default)) }
 {
     match given {
         None => default,
@@ -24,7 +25,8 @@ pub(crate) fn integer_or(given: Option<&Attribute>, default: Option<i64>) -> Opt
 
 /// A boolean as it is given, else the default.
 pub(crate) fn boolean_or(given: Option<&Attribute>, default: Option<bool>) -> Option<bool>
-    ensures { result ≡ option_and_then boolean_in (given_or (option_map (λ a. attribute_view a.now) given.entry) (option_map (λ b. boolean b) default)) }
+    ensures { result ≡ option_and_then boolean_in (given_or (option_map (λ a. attribute_view a.now) given.entry)
+        (option_map (λ b. boolean b) default)) }
 {
     match given {
         None => default,
@@ -35,7 +37,8 @@ pub(crate) fn boolean_or(given: Option<&Attribute>, default: Option<bool>) -> Op
 
 /// A text, if one is given.
 pub(crate) fn text_of(given: Option<&Attribute>) -> Option<&str>
-    ensures { option_map (λ s. s.now) result ≡ option_and_then text_in (option_map (λ a. attribute_view a.now) given.entry) }
+    ensures { option_map (λ s. s.now) result
+        ≡ option_and_then text_in (option_map (λ a. attribute_view a.now) given.entry) }
 {
     match given {
         Some(Attribute::Text(text)) => Some(text.as_str()),

@@ -6,7 +6,7 @@ use Rattle.std.specs.Int.{w64}
 use Rattle.std.specs.Option.{ok_or}
 use Rattle.serde_json.specs.Data as json
 use Rattle.serde_json.specs.Find.{as_str, as_bool, as_number, as_integer, of_integer}
-use Rattle.fv_datum.specs.Answers.{Gives}
+use Rattle.fv_datum.specs.Outcomes.{Gives}
 use Rattle.fv_datum.specs.Data.{Data, null, text, integer, decimal, boolean, date, instant, reference}
 use Rattle.fv_datum.specs.Days.{is_date}
 use Rattle.fv_datum.specs.Decimals.{is_decimal}

@@ -17,7 +17,8 @@ pub fn has_only(value: &Value, names: &[&str]) -> bool
 }
 
 fn only_these(members: &Map<String, Value>, names: &[&str]) -> bool
-    ensures { result ≡ list_all (λ m. list_any (λ n. bytes_eq n m.0) (map (λ n. n.now) names.now)) (pairs (members_view members.now.entries)) }
+    ensures { result ≡ list_all (λ m. list_any (λ n. bytes_eq n m.0) (map (λ n. n.now) names.now))
+        (pairs (members_view members.now.entries)) }
 {
     for (name, _) in members.iter() {
         if !is_among(name.as_str(), names) {

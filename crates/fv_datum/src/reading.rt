@@ -1,6 +1,6 @@
 ghost use Rattle.std.specs.Prelude.{◌≡◌, true, false, is_some, IfOk, Ok, IfSome, option_map};
 ghost use Rattle.serde_json.specs.View.{view as json_view};
-ghost use Rattle.fv_datum.specs.Answers.{Gives};
+ghost use Rattle.fv_datum.specs.Outcomes.{Gives};
 ghost use Rattle.fv_datum.specs.Json.{spelled, plain, datum_read, string_of, integer_of, passing};
 ghost use Rattle.fv_datum.specs.Data.{Data};
 ghost use Rattle.fv_datum.specs.Days.{is_date};
@@ -31,7 +31,8 @@ pub fn read_datum(alloc: Global, kind: Kind, value: &Value) -> Result<Datum, Dat
     requires { is_container kind ≡ false }
     ensures exact { Gives DatumFault.Memory view result (datum_read kind (json_view value.now)) }
     ensures fits { IfOk result (λ d. FitsKind kind (view d)) }
-    ensures read_back { (d : Data) → FitsKind kind d → datum_written d ≡ Ok (json_view value.now) → Gives DatumFault.Memory view result (Ok d) }
+    ensures read_back { (d : Data) → FitsKind kind d → datum_written d ≡ Ok (json_view value.now)
+        → Gives DatumFault.Memory view result (Ok d) }
 {
     spelled_datum(alloc, kind, value)
 }

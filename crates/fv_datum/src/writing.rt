@@ -2,7 +2,7 @@ ghost use Rattle.std.specs.Prelude.{◌≡◌, []};
 ghost use Rattle.std.specs.Option.{ok_or};
 ghost use Rattle.serde_json.specs.Data as json;
 ghost use Rattle.serde_json.specs.View.{view as json_view, items_view as json_items, members_view};
-ghost use Rattle.fv_datum.specs.Answers.{Gives};
+ghost use Rattle.fv_datum.specs.Outcomes.{Gives};
 ghost use Rattle.fv_datum.specs.View.{view, items_view, entries_view};
 ghost use Rattle.fv_datum.specs.Written.{datum_written, items_written, entries_written, keys_fit, is_null, is_text, key_of};
 
@@ -48,7 +48,8 @@ pub fn write_datum(alloc: Global, datum: &Datum) -> Result<Value, DatumFault>
 
 #[cycle(write)]
 fn write_items(alloc: Global, items: &Vec<Datum>) -> Result<Vec<Value>, DatumFault>
-    ensures { Gives DatumFault.Memory (λ v. json_items v.items) result (ok_or (items_written [] (items_view items.now.items)) DatumFault.WrongKind) }
+    ensures { Gives DatumFault.Memory (λ v. json_items v.items) result
+        (ok_or (items_written [] (items_view items.now.items)) DatumFault.WrongKind) }
 {
     let mut out = Vec::with_capacity(alloc, items.len())?;
     for item in items {
@@ -62,7 +63,8 @@ fn write_entries(
     alloc: Global,
     entries: &Vec<(Datum, Datum)>,
 ) -> Result<Map<String, Value>, DatumFault>
-    ensures { Gives DatumFault.Memory (λ m. members_view m.entries) result (ok_or (entries_written json.no_members (entries_view entries.now.items)) DatumFault.WrongKind) }
+    ensures { Gives DatumFault.Memory (λ m. members_view m.entries) result
+        (ok_or (entries_written json.no_members (entries_view entries.now.items)) DatumFault.WrongKind) }
 {
     let mut out = Map::new(alloc);
     for entry in entries {

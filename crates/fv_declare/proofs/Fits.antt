@@ -8,11 +8,11 @@ use Rattle.fv_datum.specs.declared.kind.Kind.{Kind}
 use Rattle.fv_builtin.specs.Names.{builtin_named}
 use Rattle.fv_builtin.specs.declared.name.BuiltinName.{BuiltinName}
 use Rattle.fv_registry.specs.Rules.{Known, has_rule, lists_kind, takes}
-use Rattle.fv_declare.specs.Declarations.{Demand, of_field, of_object, by_rule, Use, Declarations}
-use Rattle.fv_declare.specs.Declares.{plans_of, is_unknown_rule, draft_fault, IsDeclared, Answers, Judged}
+use Rattle.fv_declare.specs.Declarations.{Demand, of_field, of_object, by_rule, Occurrence, Declarations}
+use Rattle.fv_declare.specs.Declares.{plans_of, is_unknown_rule, draft_fault, IsDeclared, IsDecided, Judged}
 use Rattle.fv_draft.specs.Drafts as spec
 use Rattle.fv_declare.specs.Fits.{demand_fits, fits}
-use Rattle.fv_declare.specs.Planned.{Place, whole, field, Meant, builtin, declared, either_meant, Planned, planned_at, field_plan, type_plan, refuses_place, is_misplaced, refuses_kind, demanded, Demands, IsUse}
+use Rattle.fv_declare.specs.Planned.{Place, whole, field, Meant, builtin, declared, either_meant, Planned, planned_at, field_plan, type_plan, refuses_place, is_misplaced, refuses_kind, demanded, Demands, IsOccurrence}
 use Rattle.fv_declare.specs.declared.fault.DeclFault.{DeclFault}
 use Rattle.fv_declare.proofs.Found.{or_left, or_right, is_good, good_kinds}
 
@@ -93,7 +93,7 @@ use_fits k (Some (builtin which)) whole given d takes known h = absurd h
 use_fits k (Some (declared c)) place given d takes known h = rule_fits k c.rule place h.0 d takes known h.2
 use_fits k None place given d takes known h = absurd h
 
-all_fit : (k : Known) (ps : List Planned) (us : List Use) → AllZip IsUse ps us → AllByRecursion (λ p. lacks_rule k p.meant ≡ false) ps → list_any (refuses_kind k) ps ≡ false → list_all (λ u. demand_fits k u.demand) us ≡ true
+all_fit : (k : Known) (ps : List Planned) (us : List Occurrence) → AllZip IsOccurrence ps us → AllByRecursion (λ p. lacks_rule k p.meant ≡ false) ps → list_any (refuses_kind k) ps ≡ false → list_all (λ u. demand_fits k u.demand) us ≡ true
 all_fit k [] [] z ruled kinds = refl
 all_fit k [] (u ∷ us) z ruled kinds = absurd z
 all_fit k (p ∷ ps) [] z ruled kinds = absurd z
@@ -101,9 +101,9 @@ all_fit k (p ∷ ps) (u ∷ us) z ruled kinds =
     and_true _ _ (use_fits k p.meant p.place p.given u.demand (or_left _ _ kinds) ruled.0 z.0.demands) (all_fit k ps us z.1 ruled.1 (or_right (refuses_kind k p) _ kinds))
 
 declared_fit : (k : Known) (d : spec.Drafted) (ds : Declarations) → draft_fault k d ≡ None → IsDeclared d ds → fits k ds ≡ true
-declared_fit k d ds good is = all_fit k (plans_of d) ds.uses is.uses (types_ruled k d.definitions (is_good k d good).rules 0 d.types) (good_kinds k d good)
+declared_fit k d ds good is = all_fit k (plans_of d) ds.occurrences is.uses (types_ruled k d.definitions (is_good k d good).rules 0 d.types) (good_kinds k d good)
 
-answered_fit : (k : Known) (d : spec.Drafted) (ds : Declarations) (o : Option DeclFault) → draft_fault k d ≡ o → Answers o d (Ok ds) → fits k ds ≡ true
+answered_fit : (k : Known) (d : spec.Drafted) (ds : Declarations) (o : Option DeclFault) → draft_fault k d ≡ o → IsDecided o d (Ok ds) → fits k ds ≡ true
 answered_fit k d ds None good is = declared_fit k d ds good is
 answered_fit k d ds (Some fault) good is = cc
 

@@ -3,7 +3,6 @@ pub mod Fits
 pub mod Found
 pub mod Inserted
 pub mod Lookups
-pub mod Named
 pub mod Ordered
 pub mod Readings
 pub mod Steps

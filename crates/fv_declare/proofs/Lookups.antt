@@ -1,5 +1,5 @@
--- The look-up of a form.
-use Rattle.std.proofs.Common.{◌≡◌, ℕ, List, [], ◌∷◌, map, Bool, true, false, cond, Option, Some, None, option_map, String, string_bytes, nat_cmp, bytes_eq, Bor, refl, ap, ◌∙◌}
+-- Look-ups by name.
+use Rattle.std.proofs.Common.{◌≡◌, ℕ, List, [], ◌∷◌, map, Bool, true, false, cond, Option, Some, None, option_map, is_some, String, string_bytes, nat_cmp, bytes_eq, Bor, refl, sym, ap, ◌∙◌}
 use Rattle.std.specs.declared.alloc.Global.{Global}
 use Rattle.std.specs.BTreeMap.{is_at}
 use Rattle.std.specs.Cmp.Lexicographic.{slice_cmp}
@@ -18,7 +18,16 @@ pub lookup-at_name : {X Y : Type 0} (f : X → Y) (name : List ℕ) (es : List (
 lookup-at_name f name [] = refl
 lookup-at_name f name (e ∷ es) = step f (bytes_eq name (string_bytes e.0)) e.1 _ _ (lookup-at_name f name es)
 
--- the same of a map that is ordered
+is_some-map : {X Y : Type 0} (f : X → Y) (o : Option X) → is_some (option_map f o) ≡ is_some o
+is_some-map f None = refl
+is_some-map f (Some x) = refl
+
+-- a map has a text where its list has the name
+pub has_name : {X Y : Type 0} (f : X → Y) (name : List ℕ) (es : List (String Global × X))
+    → is_some (lookup (λ k. bytes_eq name (string_bytes k)) es) ≡ is_some (at_name name (map (λ e. (string_bytes e.0, f e.1)) es))
+has_name f name es = sym (is_some-map f _) ∙ ap is_some (lookup-at_name f name es)
+
+-- what a map that is ordered has at a text
 pub tree-at_name : {X Y : Type 0} (f : X → Y) (name : List ℕ) (es : List (String Global × X))
     → option_map f (lookup (is_at (λ k. slice_cmp nat_cmp name (string_bytes k))) es) ≡ at_name name (map (λ e. (string_bytes e.0, f e.1)) es)
 tree-at_name f name [] = refl

@@ -2,14 +2,14 @@
 use Rattle.std.proofs.Common.{◌≡◌, ℕ, suc, ◌+◌, ◌<◌, ◌≤◌, ◌⊎◌, inl, inr, List, [], ◌∷◌, ◌++◌, length, map, slice_get, Option, Some, None, refl, sym, ap, ◌∙◌, arith}
 use Rattle.std.specs.List.{AllByRecursion, AllZip, flat_map, enumerate_from}
 use Rattle.fv_datum.specs.Attributes.{Attributes}
-use Rattle.fv_model.specs.Types.{Held, DeclaredFields, Declared, kind_of}
-use Rattle.fv_declare.specs.Declarations.{by_rule, Demand, of_field, of_object, Use, Declarations}
+use Rattle.fv_model.specs.Types.{TypeUse, DeclaredFields, Declared, kind_of}
+use Rattle.fv_declare.specs.Declarations.{by_rule, Demand, of_field, of_object, Occurrence, Declarations}
 use Rattle.fv_draft.specs.Drafts as spec
 use Rattle.fv_declare.specs.Declares.{field_declared, type_declared, form_declared}
 use Rattle.fv_draft.specs.DraftViews.{field_view, type_view, form_view, definition_entry}
 use Rattle.fv_model.specs.Bundles.{IsAscending}
 use Rattle.fv_declare.specs.Ordered.{place_of, Precedes, IsRising, IsAmong, IsPlaced, AreOrdered}
-use Rattle.fv_declare.specs.Planned.{Place, whole, field, Meant, builtin, declared, Planned, planned_at, field_plan, type_plan, planned, demanded, Demands, IsUse}
+use Rattle.fv_declare.specs.Planned.{Place, whole, field, Meant, builtin, declared, Planned, planned_at, field_plan, type_plan, planned, demanded, Demands, IsOccurrence}
 use Rattle.fv_draft.specs.declared.draft.FieldDraft.{FieldDraft}
 use Rattle.fv_draft.specs.declared.draft.TypeDraft.{TypeDraft}
 use Rattle.fv_draft.specs.declared.draft.FormDraft.{FormDraft}
@@ -54,7 +54,7 @@ IsAt type place p = (p.type ≡ type) × (p.place ≡ place)
 -- among a type's fields, the one of that number is there, with data of the kind
 abbrev PlacedIn : DeclaredFields → Place → Type 0
 PlacedIn fs whole = Unit {0}
-PlacedIn fs (field f kind) = (h : List ℕ × Held) × (slice_get fs f ≡ Some h) × (kind_of h.1 ≡ kind)
+PlacedIn fs (field f kind) = (h : List ℕ × TypeUse) × (slice_get fs f ≡ Some h) × (kind_of h.1 ≡ kind)
 
 abbrev IsThere : Declared → Planned → Type 0
 IsThere ts p = (t : List ℕ × DeclaredFields) × (slice_get ts p.type ≡ Some t) × PlacedIn t.1 p.place
@@ -181,27 +181,27 @@ demand_at None place given d h = absurd h
 
 -- ---- the uses that are declared by plans stand where these do
 
-zip_all : (P : Planned → Type 0) (Q : Use → Type 0) (ps : List Planned) (us : List Use) → ((p : Planned) (u : Use) → IsUse p u → P p → Q u) → AllZip IsUse ps us → AllByRecursion P ps → AllByRecursion Q us
+zip_all : (P : Planned → Type 0) (Q : Occurrence → Type 0) (ps : List Planned) (us : List Occurrence) → ((p : Planned) (u : Occurrence) → IsOccurrence p u → P p → Q u) → AllZip IsOccurrence ps us → AllByRecursion P ps → AllByRecursion Q us
 zip_all P Q [] [] f z h = tt
 zip_all P Q [] (u ∷ us) f z h = absurd z
 zip_all P Q (p ∷ ps) [] f z h = absurd z
 zip_all P Q (p ∷ ps) (u ∷ us) f z h = (f p u z.0 h.0, zip_all P Q ps us f z.1 h.1)
 
-stands : (p : Planned) (u : Use) → IsUse p u → place_of u.demand ≡ place_number p.place
+stands : (p : Planned) (u : Occurrence) → IsOccurrence p u → place_of u.demand ≡ place_number p.place
 stands p u h = (demand_at p.meant p.place p.given u.demand h.demands).0
 
 -- positions that are the same come in the same order
-moved : (p q : Planned) (u v : Use) → IsUse p u → IsUse q v → Before p q → Precedes u v
+moved : (p q : Planned) (u v : Occurrence) → IsOccurrence p u → IsOccurrence q v → Before p q → Precedes u v
 moved p q u v hu hv (inl k) = inl (rw (hu.type, hv.type) k)
 moved p q u v hu hv (inr k) = inr (hu.type ∙ k.0 ∙ sym hv.type, rw (stands p u hu, stands q v hv) k.1)
 
-rising : (ps : List Planned) (us : List Use) → AllZip IsUse ps us → Rises ps → IsRising us
+rising : (ps : List Planned) (us : List Occurrence) → AllZip IsOccurrence ps us → Rises ps → IsRising us
 rising [] [] z h = tt
 rising [] (u ∷ us) z h = absurd z
 rising (p ∷ ps) [] z h = absurd z
 rising (p ∷ ps) (u ∷ us) z h = (zip_all (Before p) (Precedes u) ps us (λ q v k b. moved p q u v z.0 k b) z.1 h.0, rising ps us z.1 h.1)
 
-placed : (all : Declared) (p : Planned) (u : Use) → IsUse p u → IsThere all p → IsPlaced all u
+placed : (all : Declared) (p : Planned) (u : Occurrence) → IsOccurrence p u → IsThere all p → IsPlaced all u
 placed all p u h k = (k.0, ap (slice_get all) h.type ∙ k.1, (demand_at p.meant p.place p.given u.demand h.demands).1 k.0.1 k.2)
 
 -- ---- names
@@ -222,7 +222,7 @@ form_names : (fs : List FormDraft) → map (λ f. f.name.now) fs ≡ map (λ f. 
 form_names [] = refl
 form_names (f ∷ fs) = ap (λ ns. f.name.now ∷ ns) (form_names fs)
 
-pub ordered : (d : Draft) (ds : Declarations) → ds.types ≡ map type_declared (map type_view d.types.items) → AllZip IsUse (planned (map definition_entry d.definitions.entries) (map type_view d.types.items)) ds.uses
+pub ordered : (d : Draft) (ds : Declarations) → ds.types ≡ map type_declared (map type_view d.types.items) → AllZip IsOccurrence (planned (map definition_entry d.definitions.entries) (map type_view d.types.items)) ds.occurrences
     → ds.forms ≡ map form_declared (map form_view d.forms.items) → AreOrdered ds
 ordered d ds types uses forms =
     let ts = map type_view d.types.items in
@@ -232,6 +232,6 @@ ordered d ds types uses forms =
       types = rw (types, ← type_names d.types.items) d.types_ascend;
       forms = rw (forms, ← form_names d.forms.items) d.forms_ascend;
       fields = rw types (fields_ascend d.types.items);
-      uses = rising (planned cs ts) ds.uses uses (types_rise cs 0 ts);
-      there = rw types (zip_all (IsThere all) (IsPlaced all) (planned cs ts) ds.uses (placed all) uses (types_there cs all 0 ts (λ j. let same : 0 + j ≡ j = omega arith in ap (slice_get all) same)));
+      uses = rising (planned cs ts) ds.occurrences uses (types_rise cs 0 ts);
+      there = rw types (zip_all (IsThere all) (IsPlaced all) (planned cs ts) ds.occurrences (placed all) uses (types_there cs all 0 ts (λ j. let same : 0 + j ≡ j = omega arith in ap (slice_get all) same)));
     }

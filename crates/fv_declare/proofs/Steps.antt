@@ -1,5 +1,6 @@
 -- Steps of the loops that build a schema: what is built, and what is still to come.
-use Rattle.std.proofs.Common.{◌≡◌, ℕ, zero, suc, ◌+◌, ◌<◌, List, [], ◌∷◌, ◌++◌, length, get_or, drop, map, String, string_bytes, Option, Some, None, Result, Ok, refl, sym, ap, ◌∙◌, append_assoc, add-one, drop-cons, arith}
+use Rattle.std.proofs.Common.{◌≡◌, ℕ, zero, suc, ◌+◌, ◌<◌, ◌≤◌, List, [], ◌∷◌, ◌++◌, length, get_or, drop, map, String, string_bytes, Option, Some, None, Result, Ok, refl, sym, ap, ◌∙◌, append_assoc, append-nil, add-one, drop-cons, arith}
+use Rattle.std.proofs.lemmas.List.{at_drop_all}
 use Rattle.std.specs.declared.alloc.Global.{Global}
 use Rattle.std.specs.Option.{ok_or}
 use Rattle.std.specs.String.{string_eq}
@@ -16,6 +17,10 @@ map_turn f xs i x h is = rw (add-one, drop-cons xs i x h, ← is) refl
 pub map_twice : {X Y Z : Type 0} (f : X → Y) (g : Y → Z) (xs : List X) → map (λ x. g (f x)) xs ≡ map g (map f xs)
 map_twice f g [] = refl
 map_twice f g (x ∷ xs) = ap (λ ys. g (f x) ∷ ys) (map_twice f g xs)
+
+-- what is made of all, where none is to come
+pub all_made : {X Y Z : Type 0} (f : X → Y) (g : Y → Z) (xs : List X) (i : ℕ) (made : List Z) → length xs ≤ i → made ++ map (λ x. g (f x)) (drop i xs) ≡ map (λ x. g (f x)) xs → made ≡ map g (map f xs)
+all_made f g xs i made h e = sym (append-nil made) ∙ ap (λ more. made ++ more) (sym (at_drop_all (map (λ x. g (f x))) xs i h)) ∙ e ∙ map_twice f g xs
 
 module _ {X V : Type 0} (name : X → List ℕ) (xs : List X) (i : ℕ) (x : X) (es new : List (String Global × V)) (k : String Global) (v : V) where
   next : i < length xs → x ≡ get_or xs i x → IsAscending (map name xs) → names_of es ++ map name (drop i xs) ≡ map name xs → IsAscending (names_of es ++ name x ∷ map name (drop (i + 1) xs))

@@ -17,7 +17,7 @@ pub data Demand : Type 0 where
   of_object : ℕ → Attributes → Demand
 
 -- a use of a constraint: the number of its type, the constraint's name, its message and what it demands
-pub record Use : Type 0 where
+pub record Occurrence : Type 0 where
   pub type : ℕ
   pub constraint : List ℕ
   pub message : List ℕ
@@ -26,5 +26,5 @@ pub record Use : Type 0 where
 -- the types, the uses of constraints by their numbers, and the forms by their names, each with its root's type
 pub record Declarations : Type 0 where
   pub types : Declared
-  pub uses : List Use
+  pub occurrences : List Occurrence
   pub forms : List (List ℕ × List ℕ)

@@ -3,7 +3,7 @@ use Rattle.std.specs.Prelude.{◌≡◌, ℕ, ◌||◌, List, [], ◌∷◌, len
 use Rattle.std.specs.List.{list_any, AllZip}
 use Rattle.std.specs.Str.{bytes_eq}
 use Rattle.serde_json.specs.Data as json
-use Rattle.fv_datum.specs.Answers.{first}
+use Rattle.fv_datum.specs.Outcomes.{first}
 use Rattle.fv_datum.specs.Name.{names}
 use Rattle.fv_datum.specs.Parsing.{json_of}
 use Rattle.fv_builtin.specs.Given.{is_same}
@@ -12,15 +12,30 @@ use Rattle.fv_builtin.specs.declared.fault.BuiltinFault.TheVariants as builtin
 use Rattle.fv_datum.specs.AttributeKinds.{attribute_kind}
 use Rattle.fv_datum.specs.Attributes.{AttributeValue}
 use Rattle.fv_datum.specs.declared.attribute_kind.AttributeKind.{AttributeKind}
-use Rattle.fv_model.specs.Types.{Held, references, DeclaredFields}
+use Rattle.fv_datum.specs.Lookup.{at_name}
+use Rattle.fv_model.specs.Types.{TypeUse, DeclaredFields, Declared, has_unknown, too_many}
 use Rattle.fv_registry.specs.Rules.{Known, knows_field, knows_object}
 use Rattle.fv_declare.specs.Declarations.{Declarations}
-use Rattle.fv_draft.specs.Drafts.{FieldDraft, TypeDraft, FormDraft, AttributeDraft, RuleDraft, DefinitionDraft, Drafted, draft_of}
+use Rattle.fv_draft.specs.Drafts.{FieldDraft, TypeDraft, FormDraft, RuleDraft, DefinitionDraft, Drafted, draft_of}
 use Rattle.fv_draft.specs.Drafts as draft
 use Rattle.fv_declare.specs.Ordered.{AreOrdered}
-use Rattle.fv_declare.specs.Planned.{Planned, planned, is_unknown_constraint, refuses_attributes, refuses_kind, IsReadAs, IsUse}
+use Rattle.fv_declare.specs.Planned.{Planned, planned, is_unknown_constraint, refuses_attributes, refuses_kind, IsReadAs, IsOccurrence}
 use Rattle.fv_declare.specs.declared.fault.DeclFault.{DeclFault}
 use Rattle.fv_declare.specs.declared.fault.DeclFault.TheVariants.{NotJson, Shape, BadName, UnknownName, EmptyConstraint, TooLarge, UnknownRule, Attribute, UnexpectedType, BadPattern}
+
+-- ---- the types
+
+-- a field with what it holds
+abbrev pub field_declared : FieldDraft → List ℕ × TypeUse
+field_declared f = (f.name, f.type)
+
+-- a type with its fields
+abbrev pub type_declared : TypeDraft → List ℕ × DeclaredFields
+type_declared t = (t.name, map field_declared t.fields)
+
+-- the types of a draft
+abbrev pub types_declared : Drafted → Declared
+types_declared d = map type_declared d.types
 
 -- ---- what can be wrong
 
@@ -36,26 +51,9 @@ is_bad_definition c = not (names c.0) || is_builtin c.0 || list_any (λ a. not (
 unfoldable pub bad_name : Drafted → Bool
 bad_name d = list_any is_bad_type d.types || list_any (λ f. not (names f.name)) d.forms || list_any is_bad_definition d.definitions
 
--- a type has the name
-abbrev pub is_declared : List ℕ → List TypeDraft → Bool
-is_declared name = list_any (λ t. bytes_eq name t.name)
-
--- references to objects of a type that isn't declared
-abbrev pub is_lost : List TypeDraft → Held → Bool
-is_lost ts (references type) = not (is_declared type ts)
-is_lost ts _ = false
-
--- a field holds references to objects of a type that isn't declared
-abbrev pub lost_field : List TypeDraft → FieldDraft → Bool
-lost_field ts f = is_lost ts f.type
-
--- a field of one of the types holds references to objects of a type that isn't declared
-abbrev pub unknown_target : Drafted → Bool
-unknown_target d = list_any (λ t. list_any (lost_field d.types) t.fields) d.types
-
--- a form's root is no declared type
-abbrev pub unknown_root : Drafted → Bool
-unknown_root d = list_any (λ f. not (is_declared f.root d.types)) d.forms
+-- a form's root is none of the types
+abbrev pub unknown_root : Declared → List FormDraft → Bool
+unknown_root ts = list_any (λ f. not (is_some (at_name f.root ts)))
 
 -- the uses of a draft at their places
 abbrev pub plans_of : Drafted → List Planned
@@ -63,7 +61,7 @@ plans_of d = planned d.definitions d.types
 
 -- a constraint that is neither built in nor declared, or a type that isn't declared
 unfoldable pub unknown_name : Drafted → Bool
-unknown_name d = list_any is_unknown_constraint (plans_of d) || unknown_target d || unknown_root d
+unknown_name d = list_any is_unknown_constraint (plans_of d) || has_unknown (types_declared d) || unknown_root (types_declared d) d.forms
 
 -- a declared constraint without a rule
 abbrev pub empty_constraint : Drafted → Bool
@@ -71,8 +69,7 @@ empty_constraint d = list_any (λ c. not (is_some c.1.rule)) d.definitions
 
 -- more than 256 types, forms, declared constraints or fields of a type, or more than 1,024 uses
 unfoldable pub too_large : Drafted → Bool
-too_large d = nat_lt 256 (length d.types) || nat_lt 256 (length d.forms) || nat_lt 256 (length d.definitions)
-    || list_any (λ t. nat_lt 256 (length t.fields)) d.types || nat_lt 1024 (length (plans_of d))
+too_large d = too_many (types_declared d) || nat_lt 256 (length d.forms) || nat_lt 256 (length d.definitions) || nat_lt 1024 (length (plans_of d))
 
 -- a rule isn't there for its sort
 abbrev pub is_unknown_rule : Known → Option RuleDraft → Bool
@@ -126,40 +123,32 @@ pub record HasBadPattern (d : Drafted) : Type 0 where
 
 -- ---- what is declared where nothing is wrong
 
--- a field with what it holds
-abbrev pub field_declared : FieldDraft → List ℕ × Held
-field_declared f = (f.name, f.type)
-
--- a type with its fields
-abbrev pub type_declared : TypeDraft → List ℕ × DeclaredFields
-type_declared t = (t.name, map field_declared t.fields)
-
 -- a form with its root's type
 abbrev pub form_declared : FormDraft → List ℕ × List ℕ
 form_declared f = (f.name, f.root)
 
 -- types, forms and fields stand, and uses are numbered, in the order of the names' bytes
 pub record IsDeclared (d : Drafted) (ds : Declarations) : Type 0 where
-  pub types : ds.types ≡ map type_declared d.types
-  pub uses : AllZip IsUse (plans_of d) ds.uses
+  pub types : ds.types ≡ types_declared d
+  pub uses : AllZip IsOccurrence (plans_of d) ds.occurrences
   pub forms : ds.forms ≡ map form_declared d.forms
   pub ordered : AreOrdered ds
 
 -- the answer where nothing is wrong but perhaps a pattern
-abbrev pub IsAnswered : Drafted → Result Declarations DeclFault → Type 0
-IsAnswered d (Ok ds) = IsDeclared d ds
-IsAnswered d (Err BadPattern) = HasBadPattern d
-IsAnswered d (Err _) = ⊥
+abbrev pub IsBuilt : Drafted → Result Declarations DeclFault → Type 0
+IsBuilt d (Ok ds) = IsDeclared d ds
+IsBuilt d (Err BadPattern) = HasBadPattern d
+IsBuilt d (Err _) = ⊥
 
 -- the answer by the first fault, if there is one
-abbrev pub Answers : Option DeclFault → Drafted → Result Declarations DeclFault → Type 0
-Answers (Some fault) d answer = answer ≡ Err fault
-Answers None d answer = IsAnswered d answer
+abbrev pub IsDecided : Option DeclFault → Drafted → Result Declarations DeclFault → Type 0
+IsDecided (Some fault) d answer = answer ≡ Err fault
+IsDecided None d answer = IsBuilt d answer
 
 -- the answer to a draft, `Shape` where the JSON has another form
 abbrev pub Judged : Known → Option Drafted → Result Declarations DeclFault → Type 0
 Judged k None answer = answer ≡ Err Shape
-Judged k (Some d) answer = Answers (draft_fault k d) d answer
+Judged k (Some d) answer = IsDecided (draft_fault k d) d answer
 
 -- the answer to a JSON value, `NotJson` where the text is none
 abbrev pub DeclaresIn : Known → Option json.Data → Result Declarations DeclFault → Type 0

@@ -17,4 +17,4 @@ demand_fits k (of_object rule attributes) = knows_object rule k
 
 -- each rule that is used is there for its sort, and takes the kinds of its places
 abbrev pub fits : Known → Declarations → Bool
-fits k ds = list_all (λ u. demand_fits k u.demand) ds.uses
+fits k ds = list_all (λ u. demand_fits k u.demand) ds.occurrences

@@ -2,9 +2,9 @@ pub mod Declarations
 pub mod Declares
 pub mod FaultNames
 pub mod Fits
+pub mod Judging
 pub mod OccurrenceView
 pub mod Ordered
 pub mod PlanViews
 pub mod Planned
-pub mod Rooting
 pub mod SchemaView

@@ -19,7 +19,7 @@ demand_view (demand.OfField field kind t) = spec.of_field field kind (test_view 
 demand_view (demand.OfObject rule attributes) = spec.of_object rule attributes
 
 -- the use that an occurrence is
-abbrev pub occurrence_view : Occurrence → spec.Use
+abbrev pub occurrence_view : Occurrence → spec.Occurrence
 occurrence_view o = record {
   type = o.type_id.index;
   constraint = string_bytes o.constraint;

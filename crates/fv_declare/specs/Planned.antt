@@ -15,7 +15,7 @@ use Rattle.fv_builtin.specs.declared.name.BuiltinName.{BuiltinName}
 use Rattle.fv_datum.specs.Members.{each_some}
 use Rattle.fv_model.specs.Types.{kind_of}
 use Rattle.fv_registry.specs.Rules.{Known, takes as rule_takes}
-use Rattle.fv_declare.specs.Declarations.{built_in, by_rule, Demand, of_field, of_object, Use}
+use Rattle.fv_declare.specs.Declarations.{built_in, by_rule, Demand, of_field, of_object, Occurrence}
 use Rattle.fv_draft.specs.Drafts.{UseDraft, FieldDraft, TypeDraft, AttributeDraft, RuleDraft, DefinitionDraft, Definitions}
 use Rattle.fv_draft.specs.Drafts as draft
 
@@ -139,7 +139,7 @@ worded (Some (builtin which)) name given = message_with which given
 worded _ name given = codes "{" ++ (name ++ codes ".message}")
 
 -- a use is declared by a plan: it stands at its place, demands what its constraint does with the attributes, and has its message
-pub record IsUse (p : Planned) (u : Use) : Type 0 where
+pub record IsOccurrence (p : Planned) (u : Occurrence) : Type 0 where
   pub type : u.type ≡ p.type
   pub constraint : u.constraint ≡ p.constraint
   pub demands : Demands p.meant p.place p.given u.demand

@@ -1,23 +1,21 @@
 //! The schema that declarations without fault declare.
 ghost use Rattle.std.specs.Prelude.{◌≡◌, ◌≢◌, true, false, None, Some, Ok, Err, IfOk, IfErr, map, is_some, slice_get, string_bytes};
 ghost use Rattle.std.specs.List.{AllZip, list_any};
-ghost use Rattle.fv_datum.specs.Answers.{Gives};
+ghost use Rattle.fv_datum.specs.Outcomes.{Gives};
 ghost use Rattle.fv_builtin.specs.Given.{drafted, IsRead};
 ghost use Rattle.fv_builtin.specs.Names.{builtin_named};
 ghost use Rattle.fv_builtin.specs.Table.{takes};
 ghost use Rattle.fv_builtin.specs.Views.{builtin_view};
 ghost use Rattle.fv_builtin.specs.declared.fault.BuiltinFault.TheVariants as fault;
-ghost use Rattle.fv_model.specs.Types.{fields_view, declared_view};
 ghost use Rattle.fv_model.specs.Views.{types_view};
 ghost use Rattle.fv_registry.specs.Rules.{Known};
-ghost use Rattle.fv_declare.specs.Declares.{field_declared, type_declared, form_declared, plans_of, IsAnswered, draft_fault};
-ghost use Rattle.fv_draft.specs.DraftViews.{field_view, type_view, form_view, definition_view, draft_view};
+ghost use Rattle.fv_declare.specs.Declares.{types_declared, unknown_root, form_declared, plans_of, IsBuilt, draft_fault};
+ghost use Rattle.fv_draft.specs.DraftViews.{form_view, definition_view, draft_view};
 ghost use Rattle.fv_declare.specs.PlanViews.{place_view, plan_view};
 ghost use Rattle.fv_model.specs.Bundles.{IsAscending};
-ghost use Rattle.fv_declare.specs.Planned.{Planned, builtin, declared, in_effect, is_misplaced, refuses_attributes, refuses_place, refuses_kind, IsReadAs, Demands, worded, IsUse};
+ghost use Rattle.fv_declare.specs.Planned.{Planned, builtin, declared, in_effect, is_misplaced, refuses_attributes, refuses_place, refuses_kind, IsReadAs, Demands, worded, IsOccurrence};
 ghost use Rattle.fv_declare.specs.OccurrenceView.{demand_view, occurrence_view};
 ghost use Rattle.fv_declare.specs.SchemaView.{forms_view};
-ghost use Rattle.fv_declare.specs.Rooting.{lacks_root};
 
 use crate::effect::in_effect;
 use crate::fault::DeclFault;
@@ -27,34 +25,10 @@ use crate::plan::{Place, Plan};
 use crate::schema::Schema;
 use fv_builtin::{Builtin, BuiltinFault, BuiltinName, message};
 use fv_datum::{Attrs, Kind};
-use fv_draft::{DefinitionDraft, Draft, FieldDraft, FormDraft, RuleDraft, TypeDraft};
-use fv_model::{Fields, TypeId, Types};
+use fv_draft::{DefinitionDraft, Draft, FormDraft, RuleDraft};
+use fv_model::{TypeId, Types};
 use indexmap::IndexMap;
 use std::alloc::{AllocError, Global};
-
-fn fields_for(alloc: Global, fields: &[FieldDraft]) -> Result<Fields, AllocError>
-    requires { IsAscending (map (λ f. f.name.now) fields.now) }
-    ensures { IfOk result (λ m. fields_view m ≡ map (λ f. field_declared (field_view f)) fields.now) }
-{
-    let mut uses = IndexMap::new(alloc);
-    for field in fields {
-        let type_use = field.type_use.copy()?;
-        let _ = uses.insert(String::from_str(alloc, field.name)?, type_use)?;
-    }
-    Ok(uses)
-}
-
-fn types_for(alloc: Global, types: &[TypeDraft]) -> Result<IndexMap<String, Fields>, AllocError>
-    requires { IsAscending (map (λ t. t.name.now) types.now) }
-    ensures { IfOk result (λ m. declared_view m ≡ map (λ t. type_declared (type_view t)) types.now) }
-{
-    let mut declared = IndexMap::new(alloc);
-    for given in types {
-        let fields = fields_for(alloc, &given.fields)?;
-        let _ = declared.insert(String::from_str(alloc, given.name)?, fields)?;
-    }
-    Ok(declared)
-}
 
 /// The built-in constraint of a use, its pattern built.
 fn builtin_of(
@@ -66,8 +40,10 @@ fn builtin_of(
     requires named { builtin_named plan.now.constraint.now ≡ Some which }
     requires attributes { is_some (drafted which plan.now.with.now) ≡ true }
     requires kind { takes which kind ≡ true }
-    ensures taken { IfOk result (λ b. IsRead (drafted which plan.now.with.now) (takes which kind) (Ok (builtin_view b))) }
-    ensures refused { IfErr result (λ f. f ≢ DeclFault.Memory → (f ≡ DeclFault.BadPattern) × IsRead (drafted which plan.now.with.now) (takes which kind) (Err fault.BadPattern)) }
+    ensures taken { IfOk result (λ b. IsRead (drafted which plan.now.with.now) (takes which kind)
+        (Ok (builtin_view b))) }
+    ensures refused { IfErr result (λ f. f ≢ DeclFault.Memory → (f ≡ DeclFault.BadPattern)
+        × IsRead (drafted which plan.now.with.now) (takes which kind) (Err fault.BadPattern)) }
 {
     match Builtin::read(alloc, plan.constraint, plan.with, kind) {
         Ok(builtin) => Ok(builtin),
@@ -87,7 +63,8 @@ fn declared_demand(
 ) -> Result<Demand, AllocError>
     requires effect { is_some (in_effect (definition_view definition.now).attributes given.now) ≡ true }
     requires place { (k : Known) × (refuses_place k (definition_view definition.now).rule (place_view place) ≡ false) }
-    ensures { IfOk result (λ d. Demands (Some (declared (definition_view definition.now))) (place_view place) given.now (demand_view d)) }
+    ensures { IfOk result (λ d. Demands (Some (declared (definition_view definition.now))) (place_view place) given.now
+        (demand_view d)) }
 {
     let Some(attributes) = in_effect(alloc, &definition.attributes, given)? else {
         unreachable!()
@@ -108,8 +85,10 @@ fn builtin_demand(alloc: Global, which: BuiltinName, plan: &Plan) -> Result<Dema
     requires named { (plan_view plan.now).meant ≡ Some (builtin which) }
     requires attributes { is_some (drafted which plan.now.with.now) ≡ true }
     requires place { (k : Known) × (is_misplaced k (Some (builtin which)) (place_view plan.now.place) ≡ false) }
-    ensures taken { IfOk result (λ d. Demands (Some (builtin which)) (place_view plan.now.place) plan.now.with.now (demand_view d)) }
-    ensures refused { IfErr result (λ f. f ≢ DeclFault.Memory → (f ≡ DeclFault.BadPattern) × IsReadAs (plan_view plan.now) (Err fault.BadPattern)) }
+    ensures taken { IfOk result (λ d. Demands (Some (builtin which)) (place_view plan.now.place) plan.now.with.now
+        (demand_view d)) }
+    ensures refused { IfErr result (λ f. f ≢ DeclFault.Memory → (f ≡ DeclFault.BadPattern)
+        × IsReadAs (plan_view plan.now) (Err fault.BadPattern)) }
 {
     match plan.place {
         Place::Whole => unreachable!(),
@@ -124,8 +103,10 @@ fn builtin_demand(alloc: Global, which: BuiltinName, plan: &Plan) -> Result<Dema
 fn demand_of(alloc: Global, plan: &Plan) -> Result<Demand, DeclFault>
     requires attributes { refuses_attributes (plan_view plan.now) ≡ false }
     requires place { (k : Known) × (refuses_kind k (plan_view plan.now) ≡ false) }
-    ensures taken { IfOk result (λ d. Demands (plan_view plan.now).meant (place_view plan.now.place) plan.now.with.now (demand_view d)) }
-    ensures refused { IfErr result (λ f. f ≢ DeclFault.Memory → (f ≡ DeclFault.BadPattern) × IsReadAs (plan_view plan.now) (Err fault.BadPattern)) }
+    ensures taken { IfOk result (λ d. Demands (plan_view plan.now).meant (place_view plan.now.place) plan.now.with.now
+        (demand_view d)) }
+    ensures refused { IfErr result (λ f. f ≢ DeclFault.Memory → (f ≡ DeclFault.BadPattern)
+        × IsReadAs (plan_view plan.now) (Err fault.BadPattern)) }
 {
     match &plan.meant {
         None => unreachable!(),
@@ -138,7 +119,8 @@ fn demand_of(alloc: Global, plan: &Plan) -> Result<Demand, DeclFault>
 
 /// The message of a use.
 fn message_of(alloc: Global, plan: &Plan) -> Result<String, AllocError>
-    ensures { IfOk result (λ s. string_bytes s ≡ worded (plan_view plan.now).meant plan.now.constraint.now plan.now.with.now) }
+    ensures { IfOk result (λ s. string_bytes s
+        ≡ worded (plan_view plan.now).meant plan.now.constraint.now plan.now.with.now) }
 {
     match &plan.meant {
         Some(Meant::BuiltIn(which)) => message(alloc, *which, plan.with),
@@ -150,8 +132,9 @@ fn message_of(alloc: Global, plan: &Plan) -> Result<String, AllocError>
 fn occurrence_of(alloc: Global, plan: &Plan) -> Result<Occurrence, DeclFault>
     requires attributes { refuses_attributes (plan_view plan.now) ≡ false }
     requires place { (k : Known) × (refuses_kind k (plan_view plan.now) ≡ false) }
-    ensures taken { IfOk result (λ o. IsUse (plan_view plan.now) (occurrence_view o)) }
-    ensures refused { IfErr result (λ f. f ≢ DeclFault.Memory → (f ≡ DeclFault.BadPattern) × IsReadAs (plan_view plan.now) (Err fault.BadPattern)) }
+    ensures taken { IfOk result (λ o. IsOccurrence (plan_view plan.now) (occurrence_view o)) }
+    ensures refused { IfErr result (λ f. f ≢ DeclFault.Memory → (f ≡ DeclFault.BadPattern)
+        × IsReadAs (plan_view plan.now) (Err fault.BadPattern)) }
 {
     let demand = demand_of(alloc, plan)?;
     Ok(Occurrence {
@@ -168,8 +151,10 @@ fn occurrence_of(alloc: Global, plan: &Plan) -> Result<Occurrence, DeclFault>
 fn occurrences_for(alloc: Global, plans: &[Plan]) -> Result<Vec<Occurrence>, DeclFault>
     requires attributes { list_any refuses_attributes (map plan_view plans.now) ≡ false }
     requires places { (k : Known) × (list_any (refuses_kind k) (map plan_view plans.now) ≡ false) }
-    ensures taken { IfOk result (λ v. AllZip IsUse (map plan_view plans.now) (map occurrence_view v.items)) }
-    ensures refused { IfErr result (λ f. f ≢ DeclFault.Memory → (f ≡ DeclFault.BadPattern) × ((n : _) × (p : Planned) × (slice_get (map plan_view plans.now) n ≡ Some p) × IsReadAs p (Err fault.BadPattern))) }
+    ensures taken { IfOk result (λ v. AllZip IsOccurrence (map plan_view plans.now) (map occurrence_view v.items)) }
+    ensures refused { IfErr result (λ f. f ≢ DeclFault.Memory → (f ≡ DeclFault.BadPattern)
+        × ((n : _) × (p : Planned) × (slice_get (map plan_view plans.now) n ≡ Some p)
+        × IsReadAs p (Err fault.BadPattern))) }
 {
     let mut occurrences = Vec::with_capacity(alloc, plans.len())?;
     for plan in plans {
@@ -184,8 +169,9 @@ fn forms_for(
     forms: &[FormDraft],
 ) -> Result<IndexMap<String, TypeId>, DeclFault>
     requires ascend { IsAscending (map (λ f. f.name.now) forms.now) }
-    requires known { lacks_root (types_view types.now) (map form_view forms.now) ≡ false }
-    ensures { Gives DeclFault.Memory (forms_view (types_view types.now)) result (Ok (map (λ f. form_declared (form_view f)) forms.now)) }
+    requires known { unknown_root (types_view types.now) (map form_view forms.now) ≡ false }
+    ensures { Gives DeclFault.Memory (forms_view (types_view types.now)) result
+        (Ok (map (λ f. form_declared (form_view f)) forms.now)) }
 {
     let mut declared = IndexMap::new(alloc);
     for form in forms {
@@ -197,16 +183,20 @@ fn forms_for(
     Ok(declared)
 }
 
-/// The schema that a draft without fault declares, where its patterns are built.
-pub(crate) fn build(alloc: Global, draft: &Draft, plans: &[Plan]) -> Result<Schema, DeclFault>
+/// The schema that a draft without fault declares, where its patterns are built. The types are the
+/// draft's.
+pub(crate) fn build(
+    alloc: Global,
+    draft: &Draft,
+    types: Types,
+    plans: &[Plan],
+) -> Result<Schema, DeclFault>
+    requires types { types_view types ≡ types_declared (draft_view draft.now) }
     requires plans { map plan_view plans.now ≡ plans_of (draft_view draft.now) }
     requires good { (k : Known) × (draft_fault k (draft_view draft.now) ≡ None) }
-    ensures taken { IfOk result (λ s. IsAnswered (draft_view draft.now) (Ok s)) }
-    ensures refused { IfErr result (λ f. f ≢ DeclFault.Memory → IsAnswered (draft_view draft.now) (Err f)) }
+    ensures taken { IfOk result (λ s. IsBuilt (draft_view draft.now) (Ok s)) }
+    ensures refused { IfErr result (λ f. f ≢ DeclFault.Memory → IsBuilt (draft_view draft.now) (Err f)) }
 {
-    let Ok(types) = Types::build(types_for(alloc, &draft.types)?) else {
-        unreachable!()
-    };
     let forms = forms_for(alloc, &types, &draft.forms)?;
     let occurrences = occurrences_for(alloc, plans)?;
     Ok(Schema {

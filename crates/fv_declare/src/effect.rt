@@ -21,7 +21,8 @@ pub(crate) fn is_same(one: AttributeKind, other: AttributeKind) -> bool
 
 /// Whether an attribute of this kind is declared under the name.
 fn has_kind(attributes: &BTreeMap<String, AttributeDraft>, name: &str, kind: AttributeKind) -> bool
-    ensures { result ≡ has_kind (option_map (λ a. a.kind) (at_name name.now (map attribute_entry attributes.now.entries))) kind }
+    ensures { result ≡ has_kind (option_map (λ a. a.kind) (at_name name.now
+        (map attribute_entry attributes.now.entries))) kind }
 {
     match attributes.get(name) {
         None => false,
@@ -47,7 +48,8 @@ fn value_of<'a>(
     given: &'a Attrs,
     name: &str,
 ) -> Option<&'a Attribute>
-    ensures { option_map (λ v. attribute_view v.now) result ≡ given_or (at_name name.now given.now) (attribute_draft_view attribute.now).default }
+    ensures { option_map (λ v. attribute_view v.now) result
+        ≡ given_or (at_name name.now given.now) (attribute_draft_view attribute.now).default }
 {
     match given.find(name) {
         Some(value) => Some(value),

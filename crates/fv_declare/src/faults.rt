@@ -1,12 +1,16 @@
 //! What can be wrong with declarations of the right form: a function for each condition, and the
-//! first that holds. Patterns are built last, with the schema.
-ghost use Rattle.std.specs.Prelude.{◌≡◌, ◌<◌, map, not, nat_lt, length, option_map};
+//! first that holds. The types are built on the way; patterns are built last, with the schema.
+ghost use Rattle.std.specs.Prelude.{◌≡◌, ◌||◌, map, not, nat_lt, length, option_map, is_some};
 ghost use Rattle.std.specs.List.{list_any};
+ghost use Rattle.fv_datum.specs.Outcomes.{Gives, first, unless_fault};
 ghost use Rattle.fv_datum.specs.Attributes.{attribute_view};
+ghost use Rattle.fv_datum.specs.Lookup.{at_name};
 ghost use Rattle.fv_datum.specs.Name.{names};
-ghost use Rattle.fv_model.specs.Types.{held_view};
-ghost use Rattle.fv_declare.specs.Declares.{is_bad_type, is_bad_definition, bad_name, unknown_name, is_declared, is_lost, lost_field, unknown_target, unknown_root, empty_constraint, too_large, is_unknown_rule, unknown_rule, is_other_kind, bad_default, bad_attribute, plans_of, draft_fault as spec_fault};
+ghost use Rattle.fv_model.specs.Types.{declared_view};
+ghost use Rattle.fv_model.specs.Views.{types_view};
+ghost use Rattle.fv_declare.specs.Declares.{types_declared, is_bad_type, is_bad_definition, bad_name, unknown_root, empty_constraint, is_unknown_rule, unknown_rule, is_other_kind, bad_default, bad_attribute, plans_of, draft_fault};
 ghost use Rattle.fv_draft.specs.DraftViews.{field_view, type_view, form_view, attribute_entry, rule_view, definition_view, definition_entry, draft_view};
+ghost use Rattle.fv_declare.specs.Judging.{type_conditions};
 ghost use Rattle.fv_declare.specs.PlanViews.{place_view, plan_view};
 ghost use Rattle.fv_declare.specs.Planned.{is_unknown_constraint, refuses_attributes, refuses_place, refuses_kind};
 
@@ -14,20 +18,20 @@ use crate::effect::{has_foreign, is_same, lacks_value};
 use crate::fault::DeclFault;
 use crate::meant::Meant;
 use crate::plan::{Place, Plan};
+use crate::types::types_for;
 use fv_builtin::{is_builtin, takes_attributes, takes_kind};
 use fv_datum::{Attribute, AttributeKind, is_name};
 use fv_draft::{
     AttributeDraft, DefinitionDraft, Draft, FieldDraft, FormDraft, RuleDraft, TypeDraft,
 };
-use fv_model::TypeUse;
+use fv_model::{Fields, Types, TypesFault};
 use fv_registry::RuleSet;
+use indexmap::IndexMap;
+use std::alloc::Global;
 use std::collections::BTreeMap;
 
-/// The most types, forms and declared constraints, of each.
+/// The most forms and declared constraints, of each.
 const MOST_DECLARED: usize = 256;
-
-/// The most fields of a type.
-const MOST_FIELDS: usize = 256;
 
 /// The most uses of constraints.
 const MOST_USES: usize = 1024;
@@ -125,66 +129,23 @@ fn has_unknown_constraint(plans: &[Plan]) -> bool
 }
 
 /// Whether a type has the name.
-fn is_declared(name: &str, draft: &Draft) -> bool
-    ensures { result ≡ is_declared name.now (draft_view draft.now).types }
+fn is_declared(declared: &IndexMap<String, Fields>, name: &str) -> bool
+    ensures { result ≡ is_some (at_name name.now (declared_view declared.now)) }
 {
-    draft.named.contains_key(name)
+    declared.contains_key(name)
 }
 
-/// A field holds references to objects of a type that isn't declared.
-fn is_lost(draft: &Draft, type_use: &TypeUse) -> bool
-    ensures { result ≡ is_lost (draft_view draft.now).types (held_view type_use.now) }
-{
-    match type_use {
-        TypeUse::Ref(target) => !is_declared(target.as_str(), draft),
-        _ => false,
-    }
-}
-
-#[tactic(auto, using(crate::proofs::Anys::field_turn))]
-fn has_lost_field(draft: &Draft, fields: &[FieldDraft]) -> bool
-    ensures { result ≡ list_any (lost_field (draft_view draft.now).types) (map field_view fields.now) }
-{
-    for field in fields {
-        if is_lost(draft, &field.type_use) {
-            return true;
-        }
-    }
-    false
-}
-
-#[tactic(auto, using(crate::proofs::Anys::type_turn))]
-fn has_unknown_target(draft: &Draft) -> bool
-    ensures { result ≡ unknown_target (draft_view draft.now) }
-{
-    for declared in &draft.types {
-        if has_lost_field(draft, &declared.fields) {
-            return true;
-        }
-    }
-    false
-}
-
-/// A form's root is no declared type.
+/// A form's root is none of the types.
 #[tactic(auto, using(crate::proofs::Anys::form_turn))]
-fn has_unknown_root(draft: &Draft) -> bool
-    ensures { result ≡ unknown_root (draft_view draft.now) }
+fn has_unknown_root(declared: &IndexMap<String, Fields>, forms: &[FormDraft]) -> bool
+    ensures { result ≡ unknown_root (declared_view declared.now) (map form_view forms.now) }
 {
-    for form in &draft.forms {
-        if !is_declared(form.root, draft) {
+    for form in forms {
+        if !is_declared(declared, form.root) {
             return true;
         }
     }
     false
-}
-
-/// A constraint is neither built in nor declared, or a type isn't declared.
-#[tactic(auto, unfolding(crate::specs::Declares::unknown_name))]
-fn unknown_name(draft: &Draft, plans: &[Plan]) -> bool
-    requires { map plan_view plans.now ≡ plans_of (draft_view draft.now) }
-    ensures { result ≡ unknown_name (draft_view draft.now) }
-{
-    has_unknown_constraint(plans) || has_unknown_target(draft) || has_unknown_root(draft)
 }
 
 /// Whether a declared constraint has no rule.
@@ -199,30 +160,34 @@ fn empty_constraint(draft: &Draft) -> bool
     false
 }
 
-/// Whether a type has too many fields.
-#[tactic(auto, using(crate::proofs::Anys::type_turn))]
-fn has_large_type(types: &[TypeDraft]) -> bool
-    ensures { result ≡ list_any (λ t. nat_lt 256 (length t.fields)) (map type_view types.now) }
+/// Too many forms, declared constraints or uses.
+fn has_many(draft: &Draft, plans: &[Plan]) -> bool
+    ensures { result ≡ (nat_lt 256 (length draft.now.forms.items) || nat_lt 256 (length draft.now.definitions.entries)
+        || nat_lt 1024 (length plans.now)) }
 {
-    for declared in types {
-        if declared.fields.len() > MOST_FIELDS {
-            return true;
-        }
-    }
-    false
+    draft.forms.len() > MOST_DECLARED
+        || draft.definitions.len() > MOST_DECLARED
+        || plans.len() > MOST_USES
 }
 
-/// A limit is passed.
-#[tactic(auto, unfolding(crate::specs::Declares::too_large))]
-fn too_large(draft: &Draft, plans: &[Plan]) -> bool
+/// The types, built, unless a name is unknown, a constraint is empty or a limit is passed.
+#[tactic(auto, unfolding(crate::specs::Declares::unknown_name, crate::specs::Declares::too_large))]
+fn built(alloc: Global, draft: &Draft, plans: &[Plan]) -> Result<Types, DeclFault>
     requires { map plan_view plans.now ≡ plans_of (draft_view draft.now) }
-    ensures { result ≡ too_large (draft_view draft.now) }
+    ensures { Gives DeclFault.Memory types_view result (unless_fault (first (type_conditions (draft_view draft.now)))
+        (types_declared (draft_view draft.now))) }
 {
-    draft.types.len() > MOST_DECLARED
-        || draft.forms.len() > MOST_DECLARED
-        || draft.definitions.len() > MOST_DECLARED
-        || has_large_type(&draft.types)
-        || plans.len() > MOST_USES
+    let declared = types_for(alloc, &draft.types)?;
+    if has_unknown_constraint(plans) || has_unknown_root(&declared, &draft.forms) {
+        return Err(DeclFault::UnknownName);
+    }
+    match Types::build(declared) {
+        Err(TypesFault::UnknownType) => Err(DeclFault::UnknownName),
+        _ if empty_constraint(draft) => Err(DeclFault::EmptyConstraint),
+        Err(TypesFault::TooLarge) => Err(DeclFault::TooLarge),
+        Ok(_) if has_many(draft, plans) => Err(DeclFault::TooLarge),
+        Ok(types) => Ok(types),
+    }
 }
 
 /// Whether a rule isn't there for its sort.
@@ -353,31 +318,29 @@ fn has_unexpected_type<R: RuleSet>(rules: &R, plans: &[Plan]) -> bool
     false
 }
 
-/// The first fault of declarations of the right form, apart from patterns and want of memory.
-pub(crate) fn draft_fault<R: RuleSet>(rules: &R, draft: &Draft, plans: &[Plan]) -> Option<DeclFault>
+/// The types of declarations of the right form, or their first fault, apart from patterns.
+pub(crate) fn judge<R: RuleSet>(
+    alloc: Global,
+    rules: &R,
+    draft: &Draft,
+    plans: &[Plan],
+) -> Result<Types, DeclFault>
     requires { map plan_view plans.now ≡ plans_of (draft_view draft.now) }
-    ensures { result ≡ spec_fault (R.known rules.now) (draft_view draft.now) }
+    ensures { Gives DeclFault.Memory types_view result (unless_fault
+        (draft_fault (R.known rules.now) (draft_view draft.now)) (types_declared (draft_view draft.now))) }
 {
     if bad_name(draft) {
-        return Some(DeclFault::BadName);
+        return Err(DeclFault::BadName);
     }
-    if unknown_name(draft, plans) {
-        return Some(DeclFault::UnknownName);
-    }
-    if empty_constraint(draft) {
-        return Some(DeclFault::EmptyConstraint);
-    }
-    if too_large(draft, plans) {
-        return Some(DeclFault::TooLarge);
-    }
+    let types = built(alloc, draft, plans)?;
     if unknown_rule(rules, draft) {
-        return Some(DeclFault::UnknownRule);
+        return Err(DeclFault::UnknownRule);
     }
     if bad_attribute(draft, plans) {
-        return Some(DeclFault::Attribute);
+        return Err(DeclFault::Attribute);
     }
     if has_unexpected_type(rules, plans) {
-        return Some(DeclFault::UnexpectedType);
+        return Err(DeclFault::UnexpectedType);
     }
-    None
+    Ok(types)
 }

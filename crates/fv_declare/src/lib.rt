@@ -11,6 +11,7 @@ mod plan;
 mod planning;
 mod reading;
 mod schema;
+mod types;
 
 pub use fault::DeclFault;
 pub use occurrence::{Demand, FieldTest, Occurrence};

@@ -25,5 +25,6 @@ pub(crate) struct Plan<'a> {
     /// What the constraint's name stands for, if it is built in or declared.
     pub(crate) meant: Option<Meant<'a>>,
     pub(crate) with: &'a Attrs,
-    ghost named: { (which : _) → meant ≡ Some (BuiltIn which) → builtin_named constraint.now ≡ Some which } by { Prim.hlevel props },
+    ghost named: { (which : _) → meant ≡ Some (BuiltIn which) → builtin_named constraint.now
+        ≡ Some which } by { Prim.hlevel props },
 }

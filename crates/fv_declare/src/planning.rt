@@ -19,7 +19,9 @@ fn add_uses<'a>(
     place: Place,
     uses: &'a [UseDraft<'a>],
 ) -> Result<(), AllocError>
-    ensures { OnOk result (map plan_view plans.new.items ≡ map plan_view plans.old.items ++ map (planned_at (map definition_entry definitions.now.entries) type_index (place_view place)) (map use_view uses.now)) }
+    ensures { OnOk result (map plan_view plans.new.items ≡ map plan_view plans.old.items
+        ++ map (planned_at (map definition_entry definitions.now.entries) type_index (place_view place))
+        (map use_view uses.now)) }
 {
     for given in uses {
         plans.push(Plan {
@@ -40,7 +42,9 @@ fn add_fields<'a>(
     type_index: usize,
     fields: &'a [FieldDraft<'a>],
 ) -> Result<(), AllocError>
-    ensures { OnOk result (map plan_view plans.new.items ≡ map plan_view plans.old.items ++ flat_map (field_plan (map definition_entry definitions.now.entries) type_index) (enumerate_from 0 (map field_view fields.now))) }
+    ensures { OnOk result (map plan_view plans.new.items ≡ map plan_view plans.old.items
+        ++ flat_map (field_plan (map definition_entry definitions.now.entries) type_index)
+        (enumerate_from 0 (map field_view fields.now))) }
 {
     for (number, field) in fields.iter().enumerate() {
         let place = Place::Field(number, field.type_use.kind());
@@ -56,7 +60,8 @@ fn add_type<'a>(
     type_index: usize,
     declared: &'a TypeDraft<'a>,
 ) -> Result<(), AllocError>
-    ensures { OnOk result (map plan_view plans.new.items ≡ map plan_view plans.old.items ++ type_plan (map definition_entry definitions.now.entries) (type_index, type_view declared.now)) }
+    ensures { OnOk result (map plan_view plans.new.items ≡ map plan_view plans.old.items
+        ++ type_plan (map definition_entry definitions.now.entries) (type_index, type_view declared.now)) }
 {
     add_uses(plans, definitions, type_index, Place::Whole, &declared.uses)?;
     add_fields(plans, definitions, type_index, &declared.fields)
@@ -68,7 +73,8 @@ pub(crate) fn planned<'a>(
     definitions: &'a BTreeMap<String, DefinitionDraft>,
     types: &'a [TypeDraft<'a>],
 ) -> Result<Vec<Plan<'a>>, AllocError>
-    ensures { IfOk result (λ v. map plan_view v.items ≡ planned (map definition_entry definitions.now.entries) (map type_view types.now)) }
+    ensures { IfOk result (λ v. map plan_view v.items
+        ≡ planned (map definition_entry definitions.now.entries) (map type_view types.now)) }
 {
     let mut plans = Vec::new(alloc);
     for (index, declared) in types.iter().enumerate() {

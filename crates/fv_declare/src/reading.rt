@@ -1,16 +1,16 @@
 ghost use Rattle.std.specs.Prelude.{◌≡◌, ◌≢◌, true, Ok, Err, IfOk, IfErr};
 ghost use Rattle.std.specs.Option.{ok_or};
 ghost use Rattle.serde_json.specs.View.{view as json_view};
-ghost use Rattle.fv_datum.specs.Answers.{Gives};
+ghost use Rattle.fv_datum.specs.Outcomes.{Gives};
 ghost use Rattle.fv_datum.specs.Parsing.{json_of};
-ghost use Rattle.fv_declare.specs.Declares.{Answers, Declares, Judged, draft_fault as spec_fault};
+ghost use Rattle.fv_declare.specs.Declares.{IsDecided, Declares, Judged, draft_fault};
 ghost use Rattle.fv_draft.specs.Drafts.{draft_of as spec_draft};
 ghost use Rattle.fv_draft.specs.DraftViews.{draft_view};
 ghost use Rattle.fv_declare.specs.Fits.{fits};
 
 use crate::build::build;
 use crate::fault::DeclFault;
-use crate::faults::draft_fault;
+use crate::faults::judge;
 use crate::planning::planned;
 use crate::schema::Schema;
 use fv_datum::{JsonFault, read_json};
@@ -32,20 +32,21 @@ fn value_of(alloc: Global, bytes: &[u8]) -> Result<Value, DeclFault>
 
 /// The schema that a draft declares.
 fn schema_of_draft<R: RuleSet>(alloc: Global, rules: &R, draft: &Draft) -> Result<Schema, DeclFault>
-    ensures taken { IfOk result (λ s. Answers (spec_fault (R.known rules.now) (draft_view draft.now)) (draft_view draft.now) (Ok s)) }
-    ensures refused { IfErr result (λ f. f ≢ DeclFault.Memory → Answers (spec_fault (R.known rules.now) (draft_view draft.now)) (draft_view draft.now) (Err f)) }
+    ensures taken { IfOk result (λ s. IsDecided (draft_fault (R.known rules.now) (draft_view draft.now))
+        (draft_view draft.now) (Ok s)) }
+    ensures refused { IfErr result (λ f. f ≢ DeclFault.Memory
+        → IsDecided (draft_fault (R.known rules.now) (draft_view draft.now)) (draft_view draft.now) (Err f)) }
 {
     let plans = planned(alloc, &draft.definitions, &draft.types)?;
-    match draft_fault(rules, draft, &plans) {
-        Some(fault) => Err(fault),
-        None => build(alloc, draft, &plans),
-    }
+    let types = judge(alloc, rules, draft, &plans)?;
+    build(alloc, draft, types, &plans)
 }
 
 /// The schema that a JSON value declares.
 fn schema_of<R: RuleSet>(alloc: Global, rules: &R, value: &Value) -> Result<Schema, DeclFault>
     ensures taken { IfOk result (λ s. Judged (R.known rules.now) (spec_draft (json_view value.now)) (Ok s)) }
-    ensures refused { IfErr result (λ f. f ≢ DeclFault.Memory → Judged (R.known rules.now) (spec_draft (json_view value.now)) (Err f)) }
+    ensures refused { IfErr result (λ f. f ≢ DeclFault.Memory
+        → Judged (R.known rules.now) (spec_draft (json_view value.now)) (Err f)) }
 {
     match draft_of(alloc, value)? {
         None => Err(DeclFault::Shape),

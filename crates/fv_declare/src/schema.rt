@@ -51,7 +51,7 @@ impl Schema {
 
     /// The uses of constraints, each at its number.
     pub fn occurrences(&self) -> &[Occurrence]
-        ensures uses { map occurrence_view result.now ≡ self.now.uses }
+        ensures uses { map occurrence_view result.now ≡ self.now.occurrences }
         ensures ordered { AreOrdered self.now }
     {
         &self.occurrences

@@ -3,8 +3,7 @@ use Rattle.std.proofs.Common.{◌≡◌, ℕ, ◌+◌, ◌<◌, List, [], ◌∷
 use Rattle.serde_json.specs.Data as json
 use Rattle.serde_json.specs.View.{view as json_view, items_view}
 use Rattle.serde_json.specs.declared.value.Value.{Value}
-use Rattle.fv_datum.specs.Members.{each_some}
-use Rattle.fv_draft.specs.Drafts.{listed}
+use Rattle.fv_datum.specs.Members.{listed, each_some}
 
 abbrev pub with_front : {X : Type 0} → List X → Option (List X) → Option (List X)
 with_front front o = option_map (λ more. front ++ more) o

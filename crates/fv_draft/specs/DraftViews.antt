@@ -2,7 +2,7 @@
 use Rattle.std.specs.Prelude.{ℕ, List, map, option_map, String, string_bytes}
 use Rattle.std.specs.declared.alloc.Global.{Global}
 use Rattle.fv_datum.specs.Attributes.{attribute_view}
-use Rattle.fv_model.specs.Types.{held_view}
+use Rattle.fv_model.specs.Types.{type_use_view}
 use Rattle.fv_draft.specs.Drafts as spec
 use Rattle.fv_draft.specs.declared.draft.UseDraft.{UseDraft}
 use Rattle.fv_draft.specs.declared.draft.FieldDraft.{FieldDraft}
@@ -20,7 +20,7 @@ use_view u = record { constraint = u.constraint.now; given = u.with }
 
 -- a field, with the uses at it
 abbrev pub field_view : FieldDraft → spec.FieldDraft
-field_view f = record { name = f.name.now; type = held_view f.type_use; uses = map use_view f.uses.items }
+field_view f = record { name = f.name.now; type = type_use_view f.type_use; uses = map use_view f.uses.items }
 
 -- a type, with the uses at the type itself
 abbrev pub type_view : TypeDraft → spec.TypeDraft

@@ -1,14 +1,16 @@
 -- Declarations by their names, before any of them is judged.
 use Rattle.std.specs.Prelude.{ℕ, ℤ, pos, List, [], ◌∷◌, Option, Some, None, option_map, option_and_then, if◌then◌else◌, nat_le, codes}
+use Rattle.std.specs.Option.{option_or}
 use Rattle.serde_json.specs.Data as json
-use Rattle.serde_json.specs.Find.{as_str, as_array, as_object, get}
+use Rattle.serde_json.specs.Find.{as_str}
 use Rattle.fv_datum.specs.Attributes.{AttributeValue, integer, text, boolean, texts, Attributes}
+use Rattle.fv_datum.specs.Forms.{only, required, optional, maybe, each_member, each_item, map2, map3}
 use Rattle.fv_datum.specs.Json.{whole_of}
 use Rattle.fv_datum.specs.Lookup.{at_name}
 use Rattle.fv_datum.specs.declared.attribute_kind.AttributeKind.{AttributeKind}
 use Rattle.fv_datum.specs.declared.attribute_kind.AttributeKind.TheVariants as attribute
-use Rattle.fv_datum.specs.Members.{pairs, has_only, each_some, text_at}
-use Rattle.fv_model.specs.Types.{Held, texts as text_field, integers as integer_field, decimals as decimal_field, booleans as boolean_field, dates as date_field, instants as instant_field, references}
+use Rattle.fv_datum.specs.Members.{listed, each_some}
+use Rattle.fv_model.specs.Types.{TypeUse, texts as text_field, integers as integer_field, decimals as decimal_field, booleans as boolean_field, dates as date_field, instants as instant_field, references}
 
 -- a use of a constraint, with the attributes that it gives
 pub record UseDraft : Type 0 where
@@ -18,7 +20,7 @@ pub record UseDraft : Type 0 where
 -- a field: its name, what it holds and the uses at it
 pub record FieldDraft : Type 0 where
   pub name : List ℕ
-  pub type : Held
+  pub type : TypeUse
   pub uses : List UseDraft
 
 -- a type, with the uses at the type itself
@@ -57,15 +59,6 @@ pub record Drafted : Type 0 where
   pub forms : List FormDraft
   pub definitions : Definitions
 
--- the items as a list
-abbrev pub listed : json.Items → List json.Data
-listed json.no_items = []
-listed (json.item j js) = j ∷ listed js
-
--- each member of an object, or none where it isn't an object or one of them is none
-abbrev pub each_member : {X : Type 0} → (List ℕ × json.Data → Option X) → json.Data → Option (List X)
-each_member f j = option_and_then (λ ms. each_some f (pairs ms)) (as_object j)
-
 -- an attribute's value: a 64-bit whole number, a text, a boolean or a list of texts
 abbrev pub attribute_of : json.Data → Option AttributeValue
 attribute_of (json.number n) = option_map integer (whole_of n)
@@ -78,25 +71,14 @@ attribute_of _ = None
 abbrev pub attr_of : List ℕ × json.Data → Option (List ℕ × AttributeValue)
 attr_of m = option_map (λ a. (m.0, a)) (attribute_of m.1)
 
--- the attributes that a use gives: empty where there is no such member
-abbrev pub attrs_of : Option json.Data → Option Attributes
-attrs_of None = Some []
-attrs_of (Some j) = each_member attr_of j
-
 -- `{"constraint":NAME,"with":{..}}`, `with` may be missing
 abbrev pub use_of : json.Data → Option UseDraft
-use_of j = if has_only (codes "constraint" ∷ codes "with" ∷ []) j
-    then option_and_then (λ name. option_map (λ given. record { constraint = name; given = given }) (attrs_of (get (codes "with") j)))
-    (text_at (codes "constraint") j)
-    else None
-
--- the uses at a place, a field or a type: empty where there is no such member
-abbrev pub uses_of : Option json.Data → Option (List UseDraft)
-uses_of None = Some []
-uses_of (Some j) = option_and_then (λ js. each_some use_of (listed js)) (as_array j)
+use_of = only (codes "constraint" ∷ codes "with" ∷ []) (λ j.
+    map2 (λ name given. record { constraint = name; given = given })
+    (required as_str (codes "constraint") j) (optional [] (each_member attr_of) (codes "with") j))
 
 -- the plain kinds by their names
-abbrev pub plain_kinds : List (List ℕ × Held)
+abbrev pub plain_kinds : List (List ℕ × TypeUse)
 plain_kinds =
     (codes "text", text_field)
     ∷ (codes "integer", integer_field)
@@ -107,33 +89,30 @@ plain_kinds =
     ∷ []
 
 -- `{"ref":TYPE}`
-abbrev pub reference_of : json.Data → Option Held
-reference_of j = if has_only (codes "ref" ∷ []) j then option_map references (text_at (codes "ref") j) else None
+abbrev pub reference_of : json.Data → Option TypeUse
+reference_of = only (codes "ref" ∷ []) (λ j. option_map references (required as_str (codes "ref") j))
 
 -- what a field holds: a plain kind by its name, or references
-abbrev pub type_use_of : json.Data → Option Held
+abbrev pub type_use_of : json.Data → Option TypeUse
 type_use_of (json.string name) = at_name name plain_kinds
 type_use_of j = reference_of j
 
 -- `{"type":T,"constraints":[..]}`, `constraints` may be missing
 abbrev pub field_of : List ℕ × json.Data → Option FieldDraft
-field_of m = if has_only (codes "type" ∷ codes "constraints" ∷ []) m.1
-    then option_and_then (λ type. option_map (λ uses. record { name = m.0; type = type; uses = uses }) (uses_of (get (codes "constraints") m.1)))
-    (option_and_then type_use_of (get (codes "type") m.1))
-    else None
+field_of m = only (codes "type" ∷ codes "constraints" ∷ []) (λ j.
+    map2 (λ type uses. record { name = m.0; type = type; uses = uses })
+    (required type_use_of (codes "type") j) (optional [] (each_item use_of) (codes "constraints") j)) m.1
 
 -- `{"fields":{..},"constraints":[..]}`, `constraints` may be missing
 abbrev pub type_of : List ℕ × json.Data → Option TypeDraft
-type_of m = if has_only (codes "fields" ∷ codes "constraints" ∷ []) m.1
-    then option_and_then (λ fields. option_map (λ uses. record { name = m.0; fields = fields; uses = uses }) (uses_of (get (codes "constraints") m.1)))
-    (option_and_then (each_member field_of) (get (codes "fields") m.1))
-    else None
+type_of m = only (codes "fields" ∷ codes "constraints" ∷ []) (λ j.
+    map2 (λ fields uses. record { name = m.0; fields = fields; uses = uses })
+    (required (each_member field_of) (codes "fields") j) (optional [] (each_item use_of) (codes "constraints") j)) m.1
 
 -- `{"root":TYPE}`
 abbrev pub form_of : List ℕ × json.Data → Option FormDraft
-form_of m = if has_only (codes "root" ∷ []) m.1
-    then option_map (λ root. record { name = m.0; root = root }) (text_at (codes "root") m.1)
-    else None
+form_of m = only (codes "root" ∷ []) (λ j.
+    option_map (λ root. record { name = m.0; root = root }) (required as_str (codes "root") j)) m.1
 
 -- the kinds of attributes by their names
 abbrev pub attribute_kinds : List (List ℕ × AttributeKind)
@@ -144,22 +123,15 @@ attribute_kinds =
     ∷ (codes "texts", attribute.Texts)
     ∷ []
 
--- an attribute's default: no default where there is no such member
-abbrev pub default_of : Option json.Data → Option (Option AttributeValue)
-default_of None = Some None
-default_of (Some j) = option_map (λ a. Some a) (attribute_of j)
+-- the kind of an attribute by its name
+abbrev pub attribute_kind_of : json.Data → Option AttributeKind
+attribute_kind_of j = option_and_then (λ name. at_name name attribute_kinds) (as_str j)
 
 -- `{"kind":KIND,"default":VALUE}`, `default` may be missing
 abbrev pub attribute_draft_of : List ℕ × json.Data → Option (List ℕ × AttributeDraft)
-attribute_draft_of m = if has_only (codes "kind" ∷ codes "default" ∷ []) m.1
-    then option_and_then (λ kind. option_map (λ default. (m.0, record { kind = kind; default = default })) (default_of (get (codes "default") m.1)))
-    (option_and_then (λ name. at_name name attribute_kinds) (text_at (codes "kind") m.1))
-    else None
-
--- the attributes of a declared constraint: empty where there is no such member
-abbrev pub attribute_drafts_of : Option json.Data → Option (List (List ℕ × AttributeDraft))
-attribute_drafts_of None = Some []
-attribute_drafts_of (Some j) = each_member attribute_draft_of j
+attribute_draft_of m = only (codes "kind" ∷ codes "default" ∷ []) (λ j.
+    map2 (λ kind default. (m.0, record { kind = kind; default = default }))
+    (required attribute_kind_of (codes "kind") j) (maybe attribute_of (codes "default") j)) m.1
 
 -- a rule's number, from 0 to 4294967295
 abbrev pub number_in : ℤ → Option ℕ
@@ -173,42 +145,22 @@ rule_number_of _ = None
 
 -- the rule's number at a member that is the only one
 abbrev pub rule_number_at : List ℕ → json.Data → Option ℕ
-rule_number_at name j = if has_only (name ∷ []) j then option_and_then rule_number_of (get name j) else None
-
--- one or the other
-abbrev pub either : {X : Type 0} → Option X → Option X → Option X
-either (Some x) o = Some x
-either None o = o
+rule_number_at name = only (name ∷ []) (required rule_number_of name)
 
 -- `{"field":N}` or `{"object":N}`
 abbrev pub rule_of : json.Data → Option RuleDraft
-rule_of j = either (option_map field (rule_number_at (codes "field") j)) (option_map object (rule_number_at (codes "object") j))
-
--- the rule of a declared constraint: no rule where there is no such member
-abbrev pub rule_draft_of : Option json.Data → Option (Option RuleDraft)
-rule_draft_of None = Some None
-rule_draft_of (Some j) = option_map (λ r. Some r) (rule_of j)
+rule_of j = option_or (option_map field (rule_number_at (codes "field") j))
+    (option_map object (rule_number_at (codes "object") j))
 
 -- `{"attributes":{..},"rule":RULE}`, both may be missing
 abbrev pub definition_of : List ℕ × json.Data → Option (List ℕ × DefinitionDraft)
-definition_of m = if has_only (codes "attributes" ∷ codes "rule" ∷ []) m.1
-    then option_and_then (λ attributes. option_map (λ rule. (m.0, record { attributes = attributes; rule = rule })) (rule_draft_of (get (codes "rule") m.1)))
-    (attribute_drafts_of (get (codes "attributes") m.1))
-    else None
-
--- the declared constraints: empty where there is no such member
-abbrev pub definitions_of : Option json.Data → Option Definitions
-definitions_of None = Some []
-definitions_of (Some j) = each_member definition_of j
-
--- what is declared of types, forms and constraints, if each is of its form
-abbrev pub drafted_of : Option (List TypeDraft) → Option (List FormDraft) → Option Definitions → Option Drafted
-drafted_of (Some types) (Some forms) (Some definitions) = Some (record { types = types; forms = forms; definitions = definitions })
-drafted_of _ _ _ = None
+definition_of m = only (codes "attributes" ∷ codes "rule" ∷ []) (λ j.
+    map2 (λ attributes rule. (m.0, record { attributes = attributes; rule = rule }))
+    (optional [] (each_member attribute_draft_of) (codes "attributes") j) (maybe rule_of (codes "rule") j)) m.1
 
 -- `{"types":{..},"forms":{..},"constraints":{..}}`, `constraints` may be missing
 abbrev pub draft_of : json.Data → Option Drafted
-draft_of j = if has_only (codes "types" ∷ codes "forms" ∷ codes "constraints" ∷ []) j
-    then drafted_of (option_and_then (each_member type_of) (get (codes "types") j)) (option_and_then (each_member form_of) (get (codes "forms") j))
-    (definitions_of (get (codes "constraints") j))
-    else None
+draft_of = only (codes "types" ∷ codes "forms" ∷ codes "constraints" ∷ []) (λ j.
+    map3 (λ types forms definitions. record { types = types; forms = forms; definitions = definitions })
+    (required (each_member type_of) (codes "types") j) (required (each_member form_of) (codes "forms") j)
+    (optional [] (each_member definition_of) (codes "constraints") j))

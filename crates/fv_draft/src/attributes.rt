@@ -1,11 +1,13 @@
 //! The attributes that a use gives. Where a value is not of the form, a function here answers
 //! `None`.
-ghost use Rattle.std.specs.Prelude.{◌≡◌, IfOk, map, option_map, string_bytes};
+ghost use Rattle.std.specs.Prelude.{◌≡◌, IfOk, [], Some, map, option_map, string_bytes};
+ghost use Rattle.std.specs.Option.{option_map_or};
 ghost use Rattle.serde_json.specs.Find.{as_str};
 ghost use Rattle.serde_json.specs.View.{view as json_view, items_view, members_view};
 ghost use Rattle.fv_datum.specs.Attributes.{attribute_view};
-ghost use Rattle.fv_datum.specs.Members.{pairs, each_some};
-ghost use Rattle.fv_draft.specs.Drafts.{listed, attribute_of, attr_of, attrs_of as spec_attrs};
+ghost use Rattle.fv_datum.specs.Forms.{each_member};
+ghost use Rattle.fv_datum.specs.Members.{pairs, listed, each_some};
+ghost use Rattle.fv_draft.specs.Drafts.{attribute_of, attr_of};
 
 use crate::members::add_last;
 use fv_datum::{Attribute, Attrs};
@@ -15,7 +17,8 @@ use std::collections::BTreeMap;
 
 /// A list of texts.
 fn texts_of(alloc: Global, values: &[Value]) -> Result<Option<Vec<String>>, AllocError>
-    ensures { IfOk result (λ o. option_map (λ v. map string_bytes v.items) o ≡ each_some as_str (listed (items_view values.now))) }
+    ensures { IfOk result (λ o. option_map (λ v. map string_bytes v.items) o
+        ≡ each_some as_str (listed (items_view values.now))) }
 {
     let mut texts = Vec::with_capacity(alloc, values.len())?;
     for value in values {
@@ -80,7 +83,8 @@ fn attrs_in(alloc: Global, members: &Map<String, Value>) -> Result<Option<Attrs>
 
 /// The attributes that a use gives: none where it has no such member.
 pub(crate) fn attrs_of(alloc: Global, with: Option<&Value>) -> Result<Option<Attrs>, AllocError>
-    ensures { IfOk result (λ o. o ≡ spec_attrs (option_map (λ v. json_view v.now) with.entry)) }
+    ensures { IfOk result (λ o. o ≡ option_map_or (each_member attr_of) (option_map (λ v. json_view v.now) with.entry)
+        (Some [])) }
 {
     let Some(value) = with else {
         return Ok(Some(Attrs::new(BTreeMap::new(alloc))));

@@ -1,11 +1,13 @@
 //! The declared constraints of a draft. Where a value is not of the form, a function here answers
 //! `None`.
-ghost use Rattle.std.specs.Prelude.{◌≡◌, IfOk, map, option_map};
+ghost use Rattle.std.specs.Prelude.{◌≡◌, IfOk, [], Some, None, map, option_map};
+ghost use Rattle.std.specs.Option.{option_map_or};
 ghost use Rattle.serde_json.specs.View.{view as json_view, members_view};
 ghost use Rattle.fv_datum.specs.Attributes.{attribute_view};
+ghost use Rattle.fv_datum.specs.Forms.{each_member};
 ghost use Rattle.fv_datum.specs.Lookup.{at_name};
 ghost use Rattle.fv_datum.specs.Members.{pairs, each_some};
-ghost use Rattle.fv_draft.specs.Drafts.{attribute_kinds, default_of, attribute_draft_of, attribute_drafts_of, number_in, rule_number_of, rule_number_at, rule_of as spec_rule, rule_draft_of, definition_of as spec_definition, definitions_of as spec_definitions};
+ghost use Rattle.fv_draft.specs.Drafts.{attribute_of as spec_attribute, attribute_kinds, attribute_draft_of, number_in, rule_number_of, rule_number_at, rule_of as spec_rule, definition_of as spec_definition};
 ghost use Rattle.fv_draft.specs.DraftViews.{attribute_draft_view, attribute_entry, rule_view, definition_view, definition_entry};
 
 use crate::attributes::attribute_of;
@@ -31,7 +33,9 @@ fn kind_named(name: &str) -> Option<AttributeKind>
 
 /// An attribute's default: none where it has no such member.
 fn default_of(alloc: Global, told: Option<&Value>) -> Result<Option<Option<Attribute>>, AllocError>
-    ensures { IfOk result (λ o. option_map (λ d. option_map attribute_view d) o ≡ default_of (option_map (λ v. json_view v.now) told.entry)) }
+    ensures { IfOk result (λ o. option_map (λ d. option_map attribute_view d) o
+        ≡ option_map_or (λ j. option_map (λ a. Some a) (spec_attribute j))
+        (option_map (λ v. json_view v.now) told.entry) (Some None)) }
 {
     match told {
         None => Ok(Some(None)),
@@ -44,7 +48,8 @@ fn default_of(alloc: Global, told: Option<&Value>) -> Result<Option<Option<Attri
 
 /// `{"kind":KIND,"default":VALUE}`, `default` may be missing.
 fn attribute_draft_of(alloc: Global, value: &Value) -> Result<Option<AttributeDraft>, AllocError>
-    ensures { (name : _) → IfOk result (λ o. option_map (λ a. (name, attribute_draft_view a)) o ≡ attribute_draft_of (name, json_view value.now)) }
+    ensures { (name : _) → IfOk result (λ o. option_map (λ a. (name, attribute_draft_view a)) o
+        ≡ attribute_draft_of (name, json_view value.now)) }
 {
     if !has_only(value, &["kind", "default"]) {
         return Ok(None);
@@ -66,7 +71,8 @@ fn attribute_drafts_in(
     alloc: Global,
     members: &Map<String, Value>,
 ) -> Result<Option<BTreeMap<String, AttributeDraft>>, AllocError>
-    ensures { IfOk result (λ o. option_map (λ m. map attribute_entry m.entries) o ≡ each_some attribute_draft_of (pairs (members_view members.now.entries))) }
+    ensures { IfOk result (λ o. option_map (λ m. map attribute_entry m.entries) o
+        ≡ each_some attribute_draft_of (pairs (members_view members.now.entries))) }
 {
     let mut attributes = BTreeMap::new(alloc);
     for (name, value) in members.iter() {
@@ -83,7 +89,8 @@ fn attribute_drafts_of(
     alloc: Global,
     told: Option<&Value>,
 ) -> Result<Option<BTreeMap<String, AttributeDraft>>, AllocError>
-    ensures { IfOk result (λ o. option_map (λ m. map attribute_entry m.entries) o ≡ attribute_drafts_of (option_map (λ v. json_view v.now) told.entry)) }
+    ensures { IfOk result (λ o. option_map (λ m. map attribute_entry m.entries) o
+        ≡ option_map_or (each_member attribute_draft_of) (option_map (λ v. json_view v.now) told.entry) (Some [])) }
 {
     let Some(value) = told else {
         return Ok(Some(BTreeMap::new(alloc)));
@@ -138,7 +145,9 @@ fn rule_of(value: &Value) -> Option<RuleDraft>
 
 /// The rule of a declared constraint: none where it has no such member.
 fn rule_draft_of(told: Option<&Value>) -> Option<Option<RuleDraft>>
-    ensures { option_map (λ r. option_map rule_view r) result ≡ rule_draft_of (option_map (λ v. json_view v.now) told.entry) }
+    ensures { option_map (λ r. option_map rule_view r) result
+        ≡ option_map_or (λ j. option_map (λ r. Some r) (spec_rule j)) (option_map (λ v. json_view v.now) told.entry)
+        (Some None) }
 {
     match told {
         None => Some(None),
@@ -151,7 +160,8 @@ fn rule_draft_of(told: Option<&Value>) -> Option<Option<RuleDraft>>
 
 /// `{"attributes":{..},"rule":RULE}`, both may be missing.
 fn definition_of(alloc: Global, value: &Value) -> Result<Option<DefinitionDraft>, AllocError>
-    ensures { (name : _) → IfOk result (λ o. option_map (λ d. (name, definition_view d)) o ≡ spec_definition (name, json_view value.now)) }
+    ensures { (name : _) → IfOk result (λ o. option_map (λ d. (name, definition_view d)) o
+        ≡ spec_definition (name, json_view value.now)) }
 {
     if !has_only(value, &["attributes", "rule"]) {
         return Ok(None);
@@ -169,7 +179,8 @@ fn definitions_in(
     alloc: Global,
     members: &Map<String, Value>,
 ) -> Result<Option<BTreeMap<String, DefinitionDraft>>, AllocError>
-    ensures { IfOk result (λ o. option_map (λ m. map definition_entry m.entries) o ≡ each_some spec_definition (pairs (members_view members.now.entries))) }
+    ensures { IfOk result (λ o. option_map (λ m. map definition_entry m.entries) o
+        ≡ each_some spec_definition (pairs (members_view members.now.entries))) }
 {
     let mut definitions = BTreeMap::new(alloc);
     for (name, value) in members.iter() {
@@ -186,7 +197,8 @@ pub(crate) fn definitions_of(
     alloc: Global,
     told: Option<&Value>,
 ) -> Result<Option<BTreeMap<String, DefinitionDraft>>, AllocError>
-    ensures { IfOk result (λ o. option_map (λ m. map definition_entry m.entries) o ≡ spec_definitions (option_map (λ v. json_view v.now) told.entry)) }
+    ensures { IfOk result (λ o. option_map (λ m. map definition_entry m.entries) o
+        ≡ option_map_or (each_member spec_definition) (option_map (λ v. json_view v.now) told.entry) (Some [])) }
 {
     let Some(value) = told else {
         return Ok(Some(BTreeMap::new(alloc)));

@@ -13,7 +13,8 @@ pub fn add_last<V: Drop>(
     value: V,
 ) -> Result<(), AllocError>
     requires { (more : List (List ℕ)) × IsAscending (names_of entries.old.entries ++ string_bytes name.now ∷ more) }
-    ensures { OnOk result ((key : _) × (string_bytes key ≡ string_bytes name.now) × (entries.new.entries ≡ entries.old.entries ++ (key, value) ∷ [])) }
+    ensures { OnOk result ((key : _) × (string_bytes key ≡ string_bytes name.now)
+        × (entries.new.entries ≡ entries.old.entries ++ (key, value) ∷ [])) }
 {
     let _ = entries.insert(name.clone()?, value)?;
     Ok(())

@@ -1,12 +1,13 @@
 //! The draft that a JSON value is. Where a value is not of the form, a function here answers
 //! `None`.
-ghost use Rattle.std.specs.Prelude.{◌≡◌, IfOk, IfSome, map, option_map};
-ghost use Rattle.std.specs.Option.{option_and_then};
+ghost use Rattle.std.specs.Prelude.{◌≡◌, IfOk, IfSome, [], Some, map, option_map};
+ghost use Rattle.std.specs.Option.{option_and_then, option_map_or};
 ghost use Rattle.serde_json.specs.View.{view as json_view, items_view, members_view};
+ghost use Rattle.fv_datum.specs.Forms.{each_item};
 ghost use Rattle.fv_datum.specs.Lookup.{at_name};
-ghost use Rattle.fv_datum.specs.Members.{pairs, has_only, each_some};
-ghost use Rattle.fv_model.specs.Types.{held_view};
-ghost use Rattle.fv_draft.specs.Drafts.{listed, use_of as spec_use, uses_of as spec_uses, plain_kinds, reference_of as spec_reference, type_use_of as spec_type_use, field_of as spec_field, type_of as spec_type, form_of as spec_form, draft_of as spec_draft};
+ghost use Rattle.fv_datum.specs.Members.{pairs, listed, has_only, each_some};
+ghost use Rattle.fv_model.specs.Types.{type_use_view};
+ghost use Rattle.fv_draft.specs.Drafts.{use_of as spec_use, plain_kinds, reference_of as spec_reference, type_use_of as spec_type_use, field_of as spec_field, type_of as spec_type, form_of as spec_form, draft_of as spec_draft};
 ghost use Rattle.fv_draft.specs.DraftViews.{use_view, field_view, type_view, form_view, draft_view};
 ghost use Rattle.fv_model.specs.Bundles.{IsAscending};
 ghost use Rattle.fv_draft.specs.EntryNames.{names_of};
@@ -36,7 +37,8 @@ fn use_of<'a>(alloc: Global, value: &'a Value) -> Result<Option<UseDraft<'a>>, A
 }
 
 fn uses_in<'a>(alloc: Global, values: &'a [Value]) -> Result<Option<Vec<UseDraft<'a>>>, AllocError>
-    ensures { IfOk result (λ o. option_map (λ v. map use_view v.items) o ≡ each_some spec_use (listed (items_view values.now))) }
+    ensures { IfOk result (λ o. option_map (λ v. map use_view v.items) o
+        ≡ each_some spec_use (listed (items_view values.now))) }
 {
     let mut uses = Vec::with_capacity(alloc, values.len())?;
     for value in values {
@@ -53,7 +55,8 @@ fn uses_of<'a>(
     alloc: Global,
     constraints: Option<&'a Value>,
 ) -> Result<Option<Vec<UseDraft<'a>>>, AllocError>
-    ensures { IfOk result (λ o. option_map (λ v. map use_view v.items) o ≡ spec_uses (option_map (λ v. json_view v.now) constraints.entry)) }
+    ensures { IfOk result (λ o. option_map (λ v. map use_view v.items) o
+        ≡ option_map_or (each_item spec_use) (option_map (λ v. json_view v.now) constraints.entry) (Some [])) }
 {
     let Some(value) = constraints else {
         return Ok(Some(Vec::new(alloc)));
@@ -66,7 +69,7 @@ fn uses_of<'a>(
 
 /// What a field of plain data holds.
 fn plain_use(name: &str) -> Option<TypeUse>
-    ensures { option_map held_view result ≡ at_name name.now plain_kinds }
+    ensures { option_map type_use_view result ≡ at_name name.now plain_kinds }
 {
     match name {
         "text" => Some(TypeUse::Text),
@@ -81,7 +84,7 @@ fn plain_use(name: &str) -> Option<TypeUse>
 
 /// `{"ref":TYPE}`.
 fn reference_of(alloc: Global, value: &Value) -> Result<Option<TypeUse>, AllocError>
-    ensures { IfOk result (λ o. option_map held_view o ≡ spec_reference (json_view value.now)) }
+    ensures { IfOk result (λ o. option_map type_use_view o ≡ spec_reference (json_view value.now)) }
 {
     if !has_only(value, &["ref"]) {
         return Ok(None);
@@ -94,7 +97,7 @@ fn reference_of(alloc: Global, value: &Value) -> Result<Option<TypeUse>, AllocEr
 
 /// What a field holds: a plain kind by its name, or references.
 fn type_use_of(alloc: Global, value: &Value) -> Result<Option<TypeUse>, AllocError>
-    ensures { IfOk result (λ o. option_map held_view o ≡ spec_type_use (json_view value.now)) }
+    ensures { IfOk result (λ o. option_map type_use_view o ≡ spec_type_use (json_view value.now)) }
 {
     match value {
         Value::String(name) => Ok(plain_use(name.as_str())),
@@ -104,7 +107,8 @@ fn type_use_of(alloc: Global, value: &Value) -> Result<Option<TypeUse>, AllocErr
 
 /// What a field holds, if it is told.
 fn type_use_in(alloc: Global, told: Option<&Value>) -> Result<Option<TypeUse>, AllocError>
-    ensures { IfOk result (λ o. option_map held_view o ≡ option_and_then spec_type_use (option_map (λ v. json_view v.now) told.entry)) }
+    ensures { IfOk result (λ o. option_map type_use_view o
+        ≡ option_and_then spec_type_use (option_map (λ v. json_view v.now) told.entry)) }
 {
     match told {
         None => Ok(None),
@@ -141,7 +145,8 @@ fn fields_of<'a>(
     alloc: Global,
     members: &'a Map<String, Value>,
 ) -> Result<Option<Vec<FieldDraft<'a>>>, AllocError>
-    ensures exact { IfOk result (λ o. option_map (λ v. map field_view v.items) o ≡ each_some spec_field (pairs (members_view members.now.entries))) }
+    ensures exact { IfOk result (λ o. option_map (λ v. map field_view v.items) o
+        ≡ each_some spec_field (pairs (members_view members.now.entries))) }
     ensures names { IfOk result (λ o. IfSome o (λ v. map (λ x. x.name.now) v.items ≡ names_of members.now.entries)) }
     ensures ascend { IfOk result (λ o. IfSome o (λ v. IsAscending (map (λ x. x.name.now) v.items))) }
 {
@@ -183,7 +188,8 @@ fn types_of<'a>(
     alloc: Global,
     members: &'a Map<String, Value>,
 ) -> Result<Option<Vec<TypeDraft<'a>>>, AllocError>
-    ensures exact { IfOk result (λ o. option_map (λ v. map type_view v.items) o ≡ each_some spec_type (pairs (members_view members.now.entries))) }
+    ensures exact { IfOk result (λ o. option_map (λ v. map type_view v.items) o
+        ≡ each_some spec_type (pairs (members_view members.now.entries))) }
     ensures names { IfOk result (λ o. IfSome o (λ v. map (λ x. x.name.now) v.items ≡ names_of members.now.entries)) }
     ensures ascend { IfOk result (λ o. IfSome o (λ v. IsAscending (map (λ x. x.name.now) v.items))) }
 {
@@ -213,7 +219,8 @@ fn forms_of<'a>(
     alloc: Global,
     members: &'a Map<String, Value>,
 ) -> Result<Option<Vec<FormDraft<'a>>>, AllocError>
-    ensures exact { IfOk result (λ o. option_map (λ v. map form_view v.items) o ≡ each_some spec_form (pairs (members_view members.now.entries))) }
+    ensures exact { IfOk result (λ o. option_map (λ v. map form_view v.items) o
+        ≡ each_some spec_form (pairs (members_view members.now.entries))) }
     ensures names { IfOk result (λ o. IfSome o (λ v. map (λ x. x.name.now) v.items ≡ names_of members.now.entries)) }
     ensures ascend { IfOk result (λ o. IfSome o (λ v. IsAscending (map (λ x. x.name.now) v.items))) }
 {

@@ -1,4 +1,4 @@
+pub mod Becoming
+pub mod Laws
 pub mod Lifts
-pub mod Members
 pub mod Openings
-pub mod Turning

@@ -1,15 +1,21 @@
--- What a put does on its way, for private clauses.
+-- For private clauses: what a request is replied, and what a put does on its way.
 use Rattle.std.specs.Prelude.{◌≡◌, ◌⊎◌, ℕ, ℤ, List, [], Bool, true, false}
 use Rattle.fv_engine.specs.Machines.{Machine}
-use Rattle.fv_engine.specs.Step.{Stays, Takes, Judged}
+use Rattle.fv_engine.specs.Requests.{Request}
+use Rattle.fv_engine.specs.Step.{Unchanged, Takes, Judged, Handles}
 use Rattle.fv_model.specs.declared.fault.BundleFault.{BundleFault}
 use Rattle.fv_model.specs.declared.fault.BundleFault.TheVariants as fault
-use Rattle.fv_registry.specs.Answers.{Meanings}
+use Rattle.fv_registry.specs.Meanings.{Meanings}
 use Rattle.fv_reply.specs.Answers.{Answer, taken, refused}
+use Rattle.fv_reply.specs.Texts.{answer_text}
 use Rattle.fv_reply.specs.declared.answer.Refusal.{Refusal}
 use Rattle.fv_reply.specs.declared.answer.Refusal.TheVariants.{Shape, UnknownForm, Bundle, Store, Memory}
 use Rattle.fv_store.specs.Records.{Kept, Records}
 use Rattle.fv_validate.specs.Violations.{IsListing}
+
+-- what a request does, told by the text of its answer
+abbrev pub Replies : Meanings → ℤ → Request → Machine Records → List ℕ → Machine Records → Type 0
+Replies means now r old text new = (answer : Answer) × (text ≡ answer_text answer) × Handles means now r old answer new
 
 -- want of memory refuses, or the store, where it is needed
 abbrev pub Fails : Refusal → Type 0 → Type 0
@@ -20,13 +26,13 @@ Fails _ needed = ⊥
 -- a record is stored
 abbrev pub Keeps : List ℕ → Kept → Machine Records → Answer → Machine Records → Type 0
 Keeps id kept old answer new =
-    ((answer ≡ taken) × Takes id kept old new) ⊎ ((why : Refusal) × Fails why (Unit {0}) × (answer ≡ refused why) × Stays old new)
+    ((answer ≡ taken) × Takes id kept old new) ⊎ ((why : Refusal) × Fails why (Unit {0}) × (answer ≡ refused why) × Unchanged old new)
 
 -- a record is judged, and stored where it has no violation
 abbrev pub Settles : Meanings → ℤ → List ℕ → Kept → Machine Records → Answer → Machine Records → Type 0
 Settles means now id kept old answer new =
     Judged means now id kept old answer new
-    ⊎ ((why : Refusal) × Fails why (IsListing means old.declared now kept.bundle []) × (answer ≡ refused why) × Stays old new)
+    ⊎ ((why : Refusal) × Fails why (IsListing means old.declared now kept.bundle []) × (answer ≡ refused why) × Unchanged old new)
 
 -- the refusal of a put whose bundle has a fault, under a form that is declared or not
 abbrev pub unread : BundleFault → Bool → Refusal

@@ -2,7 +2,7 @@
 use Rattle.std.specs.Prelude.{◌≡◌, ℕ, List, Bool}
 use Rattle.sqlite.specs.State.{State, HasCleanDisk}
 use Rattle.fv_declare.specs.Declarations.{Declarations}
-use Rattle.fv_store.specs.Records.{Records}
+use Rattle.fv_store.specs.Records.{Records, Contents}
 use Rattle.fv_store.specs.Stands.{Holds}
 
 -- what is declared, the records (as a map, or as the connection to the database that keeps them), and whether the connection is open:
@@ -20,14 +20,18 @@ over held ds connection = record { declared = ds; records = connection; is_open 
 abbrev pub with_map : {H : Type 0} → (H → State) → Machine H → Records → Machine Records
 with_map held machine m = record { declared = machine.declared; records = m; is_open = (held machine.records).is_open }
 
+-- what a store keeps of declarations of these bytes, and these records
+abbrev pub contents : List ℕ → Declarations → Records → Contents
+contents bytes ds m = record { bytes = bytes; types = ds.types; roots = ds.forms; records = m }
+
 -- its database stands for these records, under declarations of these bytes
 abbrev pub StandsFor : {H : Type 0} → (H → State) → List ℕ → Machine H → Records → Type 0
-StandsFor held bytes machine m = Holds (held machine.records) bytes machine.declared.types machine.declared.forms m
+StandsFor held bytes machine m = Holds (held machine.records) (contents bytes machine.declared m)
 
--- From the old machine to the new one: what is declared stays, and where the disk is clean, the records that the old one stood for are
--- turned by the relation into those that the new one stands for.
-pub record Turns {H : Type 0} (held : H → State) (old new : Machine H) (Turn : Machine Records → Machine Records → Type 0) : Type 0 where
+-- The old machine becomes the new one: what is declared stays, and where the disk is clean, the records that the old one stood for are in
+-- the relation with those that the new one stands for.
+pub record Becomes {H : Type 0} (held : H → State) (old new : Machine H) (relation : Machine Records → Machine Records → Type 0) : Type 0 where
   pub declared : new.declared ≡ old.declared
   pub clean : HasCleanDisk (held new.records) → HasCleanDisk (held old.records)
-  pub turned : HasCleanDisk (held new.records) → (bytes : List ℕ) (m : Records) → StandsFor held bytes old m
-      → (n : Records) × Turn (with_map held old m) (with_map held new n) × StandsFor held bytes new n
+  pub related : HasCleanDisk (held new.records) → (bytes : List ℕ) (m : Records) → StandsFor held bytes old m
+      → (n : Records) × relation (with_map held old m) (with_map held new n) × StandsFor held bytes new n

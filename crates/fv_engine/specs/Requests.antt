@@ -1,12 +1,11 @@
 -- What a line asks for.
-use Rattle.std.specs.Prelude.{ℕ, ◌&&◌, ◌||◌, ◌==◌, List, length, Bool, nat_lt, nat_le, Option, Some, None, option_map, option_and_then, if◌then◌else◌, codes}
+use Rattle.std.specs.Prelude.{ℕ, ◌&&◌, ◌||◌, ◌==◌, List, [], ◌∷◌, length, Bool, nat_lt, nat_le, Option, Some, None, option_map, option_and_then, if◌then◌else◌, codes}
 use Rattle.std.specs.Char.{is_ascii_alphanumeric}
 use Rattle.std.specs.List.{list_all}
 use Rattle.std.specs.Str.{bytes_eq}
 use Rattle.serde_json.specs.Data as json
-use Rattle.serde_json.specs.Events.{members_len}
-use Rattle.serde_json.specs.Find.{get as get_at}
-use Rattle.fv_datum.specs.Members.{text_at}
+use Rattle.serde_json.specs.Find.{as_str, get as get_at}
+use Rattle.fv_datum.specs.Forms.{only, required, map3}
 use Rattle.fv_datum.specs.Parsing.{json_of}
 
 -- a command, or why a line is none
@@ -27,37 +26,31 @@ is_id_byte b = is_ascii_alphanumeric b || b == 95 || b == 45
 abbrev pub is_id : List ℕ → Bool
 is_id s = nat_lt 0 (length s) && nat_le (length s) 64 && list_all is_id_byte s
 
--- how many members a JSON object has
-abbrev pub member_count : json.Data → ℕ
-member_count (json.object ms) = members_len ms
-member_count _ = 0
-
 -- the text, if it is an id
 abbrev pub checked_id : List ℕ → Option (List ℕ)
 checked_id s = if is_id s then Some s else None
 
 -- the id at the member `id`
 abbrev pub id_at : json.Data → Option (List ℕ)
-id_at j = option_and_then checked_id (text_at (codes "id") j)
+id_at j = option_and_then checked_id (required as_str (codes "id") j)
 
--- `id`, `form` and `bundle` beside `do`, and no other member
+-- `{"do":"put","id":ID,"form":NAME,"bundle":..}`, its bundle any value
 abbrev pub put_of : json.Data → Option Request
-put_of j = if member_count j == 4
-    then option_and_then (λ id. option_and_then (λ form. option_map (λ bundle. put id form bundle) (get_at (codes "bundle") j)) (text_at
-    (codes "form") j)) (id_at j)
-    else None
+put_of = only (codes "do" ∷ codes "id" ∷ codes "form" ∷ codes "bundle" ∷ []) (λ j.
+    map3 put (id_at j) (required as_str (codes "form") j) (get_at (codes "bundle") j))
 
--- `id` beside `do`, and no other member
+-- `{"do":"get","id":ID}`
 abbrev pub get_of : json.Data → Option Request
-get_of j = if member_count j == 2 then option_map (λ id. get id) (id_at j) else None
+get_of = only (codes "do" ∷ codes "id" ∷ []) (λ j. option_map get (id_at j))
 
 -- the command that a JSON value is, by the name of what is to be done
 abbrev pub done_by : List ℕ → json.Data → Option Request
-done_by name j = if bytes_eq name (codes "put") then put_of j else (if bytes_eq name (codes "get") then get_of j else None)
+done_by name j =
+    if bytes_eq name (codes "put") then put_of j else (if bytes_eq name (codes "get") then get_of j else None)
 
 -- the command that a JSON value is
 abbrev pub command_of : json.Data → Option Request
-command_of j = option_and_then (λ name. done_by name j) (text_at (codes "do") j)
+command_of j = option_and_then (λ name. done_by name j) (required as_str (codes "do") j)
 
 -- the command, or that the JSON is none
 abbrev pub or_shape : Option Request → Request

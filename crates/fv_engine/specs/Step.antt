@@ -4,7 +4,7 @@ use Rattle.fv_engine.specs.Machines.{Machine}
 use Rattle.fv_engine.specs.Refusals.{is_too_long, bundle_under, refusal}
 use Rattle.fv_engine.specs.Requests.{Request, put, get, asked}
 use Rattle.fv_model.specs.Bundles.{Bundled}
-use Rattle.fv_registry.specs.Answers.{Meanings}
+use Rattle.fv_registry.specs.Meanings.{Meanings}
 use Rattle.fv_reply.specs.Answers.{Answer, taken, shown, violated, refused}
 use Rattle.fv_reply.specs.Texts.{answer_text}
 use Rattle.fv_reply.specs.declared.answer.Refusal.{Refusal}
@@ -13,7 +13,7 @@ use Rattle.fv_store.specs.Records.{Kept, Records, with_record}
 use Rattle.fv_validate.specs.Violations.{Reported, IsListing}
 
 -- nothing has changed, but that a failure may have shut the connection
-pub record Stays (old new : Machine Records) : Type 0 where
+pub record Unchanged (old new : Machine Records) : Type 0 where
   pub declared : new.declared ≡ old.declared
   pub records : new.records ≡ old.records
   pub was_open : IsTrue new.is_open → IsTrue old.is_open
@@ -28,7 +28,7 @@ pub record Takes (id : List ℕ) (kept : Kept) (old new : Machine Records) : Typ
 -- what the violations of a record decide: it is taken where there are none, and else refused by all of them
 abbrev pub Decided : List ℕ → Kept → List Reported → Machine Records → Answer → Machine Records → Type 0
 Decided id kept [] old answer new = (answer ≡ taken) × Takes id kept old new
-Decided id kept (v ∷ vs) old answer new = (answer ≡ violated id (v ∷ vs)) × Stays old new
+Decided id kept (v ∷ vs) old answer new = (answer ≡ violated id (v ∷ vs)) × Unchanged old new
 
 -- a record is judged at a moment
 abbrev pub Judged : Meanings → ℤ → List ℕ → Kept → Machine Records → Answer → Machine Records → Type 0
@@ -38,12 +38,12 @@ Judged means now id kept old answer new = (vs : List Reported) × IsListing mean
 abbrev pub Serves : Meanings → ℤ → Request → Machine Records → Answer → Machine Records → Type 0
 Serves means now (put id form bundle) old answer new =
     (b : Bundled) × (bundle_under old.declared form bundle ≡ Ok b) × Judged means now id (record { form = form; bundle = b }) old answer new
-Serves means now (get id) old answer new = (kept : Kept) × (old.records id ≡ Some kept) × (answer ≡ shown id kept.form kept.bundle) × Stays old new
+Serves means now (get id) old answer new = (kept : Kept) × (old.records id ≡ Some kept) × (answer ≡ shown id kept.form kept.bundle) × Unchanged old new
 Serves means now _ old answer new = ⊥
 
 -- by the first refusal, if there is one
 abbrev pub Does : Option Refusal → Meanings → ℤ → Request → Machine Records → Answer → Machine Records → Type 0
-Does (Some why) means now r old answer new = (answer ≡ refused why) × Stays old new
+Does (Some why) means now r old answer new = (answer ≡ refused why) × Unchanged old new
 Does None means now r old answer new = Serves means now r old answer new
 
 -- Want of memory refuses any request but a line that is too long; the store a get, and a put that would else be taken.
@@ -55,17 +55,13 @@ MayFail Store means now (put id form bundle) old =
 MayFail why means now r old = ⊥
 
 -- what a request does at a moment, or that memory or the store fails
-abbrev pub Answers : Meanings → ℤ → Request → Machine Records → Answer → Machine Records → Type 0
-Answers means now r old answer new =
-    Does (refusal old r) means now r old answer new ⊎ ((why : Refusal) × MayFail why means now r old × (answer ≡ refused why) × Stays old new)
-
--- the same, told by the text of the answer
-abbrev pub Replies : Meanings → ℤ → Request → Machine Records → List ℕ → Machine Records → Type 0
-Replies means now r old text new = (answer : Answer) × (text ≡ answer_text answer) × Answers means now r old answer new
+abbrev pub Handles : Meanings → ℤ → Request → Machine Records → Answer → Machine Records → Type 0
+Handles means now r old answer new =
+    Does (refusal old r) means now r old answer new ⊎ ((why : Refusal) × MayFail why means now r old × (answer ≡ refused why) × Unchanged old new)
 
 -- from the old machine, the line at the moment has the answer and leaves the new one
 abbrev pub Step : Meanings → Machine Records → List ℕ → ℤ → Answer → Machine Records → Type 0
-Step means old line moment answer new = Answers means moment (asked line) old answer new
+Step means old line moment answer new = Handles means moment (asked line) old answer new
 
 -- a step, told by the text of its answer
 abbrev pub Told : Meanings → Machine Records → List ℕ → ℤ → List ℕ → Machine Records → Type 0

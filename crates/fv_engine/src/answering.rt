@@ -3,13 +3,13 @@ ghost use Rattle.std.specs.Prelude.{◌≡◌, ℤ, IfOk};
 ghost use Rattle.fv_datum.specs.Moments.{IsMoment};
 ghost use Rattle.fv_datum.specs.Parsing.{json_of};
 ghost use Rattle.fv_declare.specs.Declarations.{Declarations};
-ghost use Rattle.fv_engine.specs.Keeping.{Fails, Keeps, Settles, unread};
-ghost use Rattle.fv_engine.specs.Machines.{over, Turns};
+ghost use Rattle.fv_engine.specs.Keeping.{Replies, Fails, Keeps, Settles, unread};
+ghost use Rattle.fv_engine.specs.Machines.{over, Becomes};
 ghost use Rattle.fv_engine.specs.Requests.{put, get, command_of, or_shape, of_json};
-ghost use Rattle.fv_engine.specs.Step.{Answers, Replies};
+ghost use Rattle.fv_engine.specs.Step.{Handles};
 ghost use Rattle.fv_model.specs.Types.{Declared};
 ghost use Rattle.fv_model.specs.Views.{types_view, bundle_view};
-ghost use Rattle.fv_registry.specs.Answers.{Meanings};
+ghost use Rattle.fv_registry.specs.Meanings.{Meanings};
 ghost use Rattle.fv_reply.specs.AnswerView.{answer_view};
 ghost use Rattle.fv_store.specs.Changes.{after_all, ChangesFit};
 ghost use Rattle.fv_store.specs.Records.{Records, Roots, Fits, with_record};
@@ -46,8 +46,10 @@ fn changes_of(
     form: &str,
     bundle: Bundle,
 ) -> Result<Vec<Change>, AllocError>
-    ensures after { IfOk result (λ v. (m : Records) → after_all v.items m ≡ with_record id.now (record { form = form.now; bundle = bundle_view bundle }) m) }
-    ensures fit { IfOk result (λ v. (types : Declared) (roots : Roots) → Fits types roots (record { form = form.now; bundle = bundle_view bundle }) → ChangesFit types roots v.items) }
+    ensures after { IfOk result (λ v. (m : Records) → after_all v.items m
+        ≡ with_record id.now (record { form = form.now; bundle = bundle_view bundle }) m) }
+    ensures fit { IfOk result (λ v. (types : Declared) (roots : Roots)
+        → Fits types roots (record { form = form.now; bundle = bundle_view bundle }) → ChangesFit types roots v.items) }
 {
     let id = String::from_str(alloc, id)?;
     let form = String::from_str(alloc, form)?;
@@ -63,7 +65,8 @@ fn keep<'a, S: Alter>(
     bundle: Bundle,
 ) -> Answer<'a>
     ensures { (ds : Declarations) → Fits ds.types ds.forms (record { form = form.now; bundle = bundle_view bundle })
-        → Turns (state S.Store) (over (state S.Store) ds store.old) (over (state S.Store) ds store.new) (λ x y. Keeps id.now (record { form = form.now; bundle = bundle_view bundle }) x (answer_view result) y) }
+        → Becomes (state S.Store) (over (state S.Store) ds store.old) (over (state S.Store) ds store.new)
+        (λ x y. Keeps id.now (record { form = form.now; bundle = bundle_view bundle }) x (answer_view result) y) }
 {
     match changes_of(alloc, id, form, bundle) {
         Err(_) => Answer::Refused(Refusal::Memory),
@@ -86,8 +89,10 @@ fn judge<'a, R: RuleSet, S: Alter>(
 ) -> Answer<'a>
     requires moment { IsMoment now }
     requires fits { Fits book.now.types book.now.forms (record { form = form.now; bundle = bundle_view bundle }) }
-    ensures { Turns (state S.Store) (over (state S.Store) book.now store.old) (over (state S.Store) book.now store.new)
-        (λ x y. Settles R.meaning now id.now (record { form = form.now; bundle = bundle_view bundle }) x (answer_view result) y) }
+    ensures { Becomes (state S.Store) (over (state S.Store) book.now store.old)
+        (over (state S.Store) book.now store.new)
+        (λ x y. Settles R.meaning now id.now (record { form = form.now; bundle = bundle_view bundle }) x
+        (answer_view result) y) }
 {
     match book.validate(alloc, &bundle, now) {
         Err(_) => Answer::Refused(Refusal::Memory),
@@ -125,8 +130,9 @@ fn put<'a, R: RuleSet, S: Alter>(
     now: i64,
 ) -> Answer<'a>
     requires { IsMoment now }
-    ensures { Turns (state S.Store) (over (state S.Store) book.now store.old) (over (state S.Store) book.now store.new)
-        (λ x y. Answers R.meaning now (put id.now form.now (json_view bundle.now)) x (answer_view result) y) }
+    ensures { Becomes (state S.Store) (over (state S.Store) book.now store.old)
+        (over (state S.Store) book.now store.new)
+        (λ x y. Handles R.meaning now (put id.now form.now (json_view bundle.now)) x (answer_view result) y) }
 {
     let schema = book.schema();
     let root = schema.root_of(form);
@@ -142,7 +148,8 @@ fn put<'a, R: RuleSet, S: Alter>(
 /// Shows a record.
 fn get<'a, S: Alter>(store: &mut Store<S>, alloc: Global, types: &Types, id: &'a str) -> Answer<'a>
     ensures { (ds : Declarations) (means : Meanings) (now : ℤ) → ds.types ≡ types_view types.now
-        → Turns (state S.Store) (over (state S.Store) ds store.old) (over (state S.Store) ds store.new) (λ x y. Answers means now (get id.now) x (answer_view result) y) }
+        → Becomes (state S.Store) (over (state S.Store) ds store.old) (over (state S.Store) ds store.new)
+        (λ x y. Handles means now (get id.now) x (answer_view result) y) }
 {
     match store.get(alloc, types, id) {
         Ok(None) => Answer::Refused(Refusal::NoRecord),
@@ -164,8 +171,9 @@ fn answer<'a, R: RuleSet, S: Alter>(
     now: i64,
 ) -> Answer<'a>
     requires { IsMoment now }
-    ensures { Turns (state S.Store) (over (state S.Store) book.now store.old) (over (state S.Store) book.now store.new)
-        (λ x y. Answers R.meaning now (or_shape (command_of (json_view value.now))) x (answer_view result) y) }
+    ensures { Becomes (state S.Store) (over (state S.Store) book.now store.old)
+        (over (state S.Store) book.now store.new)
+        (λ x y. Handles R.meaning now (or_shape (command_of (json_view value.now))) x (answer_view result) y) }
 {
     match command_of(value) {
         None => Answer::Refused(Refusal::Shape),
@@ -185,7 +193,8 @@ fn reply_to<R: RuleSet, S: Alter>(
     now: i64,
 ) -> Reply
     requires { IsMoment now }
-    ensures { Turns (state S.Store) (over (state S.Store) book.now store.old) (over (state S.Store) book.now store.new)
+    ensures { Becomes (state S.Store) (over (state S.Store) book.now store.old)
+        (over (state S.Store) book.now store.new)
         (λ x y. Replies R.meaning now (or_shape (command_of (json_view value.now))) x result y) }
 {
     let answer = answer(store, alloc, book, value, now);
@@ -201,7 +210,8 @@ pub(crate) fn reply_to_line<R: RuleSet, S: Alter>(
     now: i64,
 ) -> Reply
     requires { IsMoment now }
-    ensures { Turns (state S.Store) (over (state S.Store) book.now store.old) (over (state S.Store) book.now store.new)
+    ensures { Becomes (state S.Store) (over (state S.Store) book.now store.old)
+        (over (state S.Store) book.now store.new)
         (λ x y. Replies R.meaning now (of_json (json_of line.now)) x result y) }
 {
     match read_json(alloc, line) {

@@ -1,10 +1,11 @@
 //! What a line asks for.
-ghost use Rattle.std.specs.Prelude.{◌≡◌, ◌<◌, ◌==◌, option_map};
+ghost use Rattle.std.specs.Prelude.{◌≡◌, option_map};
 ghost use Rattle.std.specs.List.{list_all};
 ghost use Rattle.serde_json.specs.View.{view as json_view};
 ghost use Rattle.fv_engine.specs.CommandView.{command_view};
-ghost use Rattle.fv_engine.specs.Requests.{is_id_byte, is_id, member_count, id_at, put_of, get_of, command_of};
+ghost use Rattle.fv_engine.specs.Requests.{is_id_byte, is_id, id_at, put_of, get_of, command_of};
 
+use fv_datum::has_only;
 use serde_json::Value;
 
 /// The most bytes of an id.
@@ -48,16 +49,6 @@ fn is_id(text: &str) -> bool
     all_id_bytes(bytes)
 }
 
-/// Whether a value is an object with so many members.
-fn has_members(value: &Value, count: usize) -> bool
-    ensures { 0 < count → result ≡ (member_count (json_view value.now) == count) }
-{
-    match value.as_object() {
-        None => false,
-        Some(members) => members.len() == count,
-    }
-}
-
 /// The id at the member `id`.
 fn id_of<'a>(value: &'a Value) -> Option<&'a str>
     ensures { option_map (λ s. s.now) result ≡ id_at (json_view value.now) }
@@ -69,7 +60,7 @@ fn id_of<'a>(value: &'a Value) -> Option<&'a str>
 fn put_of<'a>(value: &'a Value) -> Option<Command<'a>>
     ensures { option_map command_view result ≡ put_of (json_view value.now) }
 {
-    if !has_members(value, 4) {
+    if !has_only(value, &["do", "id", "form", "bundle"]) {
         return None;
     }
     let id = id_of(value)?;
@@ -81,15 +72,15 @@ fn put_of<'a>(value: &'a Value) -> Option<Command<'a>>
 fn get_of<'a>(value: &'a Value) -> Option<Command<'a>>
     ensures { option_map command_view result ≡ get_of (json_view value.now) }
 {
-    if !has_members(value, 2) {
+    if !has_only(value, &["do", "id"]) {
         return None;
     }
     let id = id_of(value)?;
     Some(Command::Get { id })
 }
 
-/// The command that a JSON value is: an object with the member `do` and exactly those of the
-/// command. A put's bundle is any value here.
+/// The command that a JSON value is: an object with the members of the command that `do` names, and
+/// no others. A put's bundle is any value here.
 pub(crate) fn command_of<'a>(value: &'a Value) -> Option<Command<'a>>
     ensures { option_map command_view result ≡ command_of (json_view value.now) }
 {

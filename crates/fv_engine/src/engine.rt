@@ -1,18 +1,19 @@
-ghost use Rattle.std.specs.Prelude.{◌≡◌, ◌≢◌, IsTrue, IfOk, IfErr, Ok, Err, Some, None};
+ghost use Rattle.std.specs.Prelude.{◌≡◌, ◌≢◌, IfOk, IfErr, MatchResult, Ok, Err, Some, None};
 ghost use Rattle.sqlite.specs.State.{HasCleanDisk};
 ghost use Rattle.sqlite.specs.Held.{state};
 ghost use Rattle.fv_datum.specs.Moments.{IsMoment};
 ghost use Rattle.fv_store.specs.Faults.{about_fault, IsAboutFault};
-ghost use Rattle.fv_store.specs.Stands.{Holds, Opens, IsKnown, Stays, Tells};
+ghost use Rattle.fv_store.specs.Stands.{Frame, Holds, HasTables, IsKnown, IsLive, Opens, Stays};
 ghost use Rattle.fv_declare.specs.Declares.{Declares};
-ghost use Rattle.fv_engine.specs.Machines.{Turns};
+ghost use Rattle.fv_engine.specs.Laws.{ShowsWhatWasPut, ChangesNoGet, ListsSome, MayChangePlaces};
+ghost use Rattle.fv_engine.specs.Machines.{contents, StandsFor, Becomes};
 ghost use Rattle.fv_engine.specs.Step.{Told};
 ghost use Rattle.fv_engine.specs.FaultNames.{open_fault_name};
 ghost use Rattle.fv_reply.specs.Texts.{refusal_text};
 
 use crate::answering::reply_to_line;
 use fv_declare::{DeclFault, read_schema};
-use fv_lines::{LIMIT, Machine};
+use fv_lines::{LIMIT, Responder};
 use fv_registry::RuleSet;
 use fv_reply::{Refusal, Reply};
 use fv_store::{OpenStoreFault, Store};
@@ -113,24 +114,37 @@ impl<R: RuleSet + Drop, S: Alter + Drop> Engine<R, S> {
     ) -> Result<Engine<R, S>, (OpenFault, Connection<S>)>
         requires { R.means rules }
         ensures declared { IfOk result (λ e. Declares (R.known rules) declarations.now (Ok e.declared)) }
-        ensures clean { IfOk result (λ e. HasCleanDisk (state S.Store e.records) → HasCleanDisk (state S.Store connection)) }
-        ensures open { IfOk result (λ e. HasCleanDisk (state S.Store e.records) → IsTrue (state S.Store e.records).is_open) }
+        ensures frame { MatchResult result (λ e. Frame (state S.Store connection) (state S.Store e.records))
+            (λ r. Frame (state S.Store connection) (state S.Store r.1)) }
+        ensures open { IfOk result (λ e. IsLive (state S.Store e.records)) }
         // The records are those that the database handed over.
-        ensures opened { IfOk result (λ e. (m : _) → Opens (state S.Store connection) declarations.now e.declared.types e.declared.forms m → Holds (state S.Store e.records) declarations.now e.declared.types e.declared.forms m) }
-        ensures taken { IfOk result (λ e. HasCleanDisk (state S.Store e.records) → (version : _) (d : _) → Tells (state S.Store connection).now version d → about_fault version d declarations.now ≡ None) }
-        ensures same { IfOk result (λ e. HasCleanDisk (state S.Store e.records) → (d : _) (types : _) (roots : _) (m : _) → Holds (state S.Store connection) d types roots m → d ≡ declarations.now) }
+        ensures opened { IfOk result (λ e. (m : _)
+            → Opens (state S.Store connection) (contents declarations.now e.declared m)
+            → StandsFor (state S.Store) declarations.now e m) }
+        ensures taken { IfOk result (λ e. HasCleanDisk (state S.Store e.records) → (version : _) (d : _)
+            → HasTables (state S.Store connection).now version d → about_fault version d declarations.now ≡ None) }
+        ensures same { IfOk result (λ e. HasCleanDisk (state S.Store e.records) → (c : _)
+            → Holds (state S.Store connection) c → c.bytes ≡ declarations.now) }
         // The declarations come first, by their first fault.
-        ensures refused { IfErr result (λ r. (fault : _) → r.0 ≡ OpenFault.Declarations fault → Declares (R.known rules) declarations.now (Err fault)) }
-        ensures after { IfErr result (λ r. (fault : _) → r.0 ≡ OpenFault.Store fault → (ds : _) × (Declares (R.known rules) declarations.now (Ok ds))) }
-        ensures cause { IfErr result (λ r. (fault : _) → r.0 ≡ OpenFault.Store fault → IsAboutFault fault → HasCleanDisk (state S.Store r.1) → (version : _) (d : _) → Tells (state S.Store connection).now version d → about_fault version d declarations.now ≡ Some fault) }
-        ensures other_version { IfErr result (λ r. r.0 ≡ OpenFault.Store OpenStoreFault.OtherVersion → HasCleanDisk (state S.Store r.1) → (d : _) (types : _) (roots : _) (m : _) → Opens (state S.Store connection) d types roots m → ⊥) }
-        ensures other_declarations { IfErr result (λ r. r.0 ≡ OpenFault.Store OpenStoreFault.OtherDeclarations → HasCleanDisk (state S.Store r.1) → (d : _) (types : _) (roots : _) (m : _) → Opens (state S.Store connection) d types roots m → d ≢ declarations.now) }
+        ensures refused { IfErr result (λ r. (fault : _) → r.0 ≡ OpenFault.Declarations fault
+            → Declares (R.known rules) declarations.now (Err fault)) }
+        ensures after { IfErr result (λ r. (fault : _) → r.0 ≡ OpenFault.Store fault → (ds : _)
+            × (Declares (R.known rules) declarations.now (Ok ds))) }
+        ensures cause { IfErr result (λ r. (fault : _) → r.0 ≡ OpenFault.Store fault → IsAboutFault fault
+            → HasCleanDisk (state S.Store r.1) → (version : _) (d : _)
+            → HasTables (state S.Store connection).now version d → about_fault version d declarations.now
+            ≡ Some fault) }
+        ensures other_version { IfErr result (λ r. r.0 ≡ OpenFault.Store OpenStoreFault.OtherVersion
+            → HasCleanDisk (state S.Store r.1) → (c : _) → Opens (state S.Store connection) c → ⊥) }
+        ensures other_declarations { IfErr result (λ r. r.0 ≡ OpenFault.Store OpenStoreFault.OtherDeclarations
+            → HasCleanDisk (state S.Store r.1) → (c : _) → Opens (state S.Store connection) c
+            → c.bytes ≢ declarations.now) }
         // Want of memory below is told as such.
         ensures memory { IfErr result (λ r. r.0 ≢ OpenFault.Store OpenStoreFault.Memory) }
         // A refusal hands the database back as it was.
-        ensures back { IfErr result (λ r. HasCleanDisk (state S.Store r.1) → HasCleanDisk (state S.Store connection)) }
-        ensures untouched { IfErr result (λ r. IsKnown (state S.Store connection).now → Stays (state S.Store connection) (state S.Store r.1)) }
-        ensures stays { IfErr result (λ r. (d : _) (types : _) (roots : _) (m : _) → Opens (state S.Store connection) d types roots m → Opens (state S.Store r.1) d types roots m) }
+        ensures untouched { IfErr result (λ r. IsKnown (state S.Store connection).now
+            → Stays (state S.Store connection) (state S.Store r.1)) }
+        ensures stays { IfErr result (λ r. (c : _) → Opens (state S.Store connection) c → Opens (state S.Store r.1) c) }
     {
         let schema = match read_schema(alloc, &rules, declarations) {
             Ok(schema) => schema,
@@ -151,7 +165,15 @@ impl<R: RuleSet, S: Alter> Engine<R, S> {
     /// the record machine.
     pub fn run(&mut self, alloc: Global, line: &[u8], now: i64) -> Reply
         requires { IsMoment now }
-        ensures { Turns (state S.Store) self.old self.new (λ x y. Told R.meaning x line.now now result y) }
+        ensures step { Becomes (state S.Store) self.old self.new (λ x y. Told R.meaning x line.now now result y) }
+        // What a taken put stored is what the next get shows.
+        ensures shows { Becomes (state S.Store) self.old self.new (ShowsWhatWasPut R.meaning line.now result) }
+        // A refusal changes no get.
+        ensures unchanged { Becomes (state S.Store) self.old self.new (ChangesNoGet result) }
+        // A refusal for violations lists at least one.
+        ensures lists { Becomes (state S.Store) self.old self.new (λ x y. ListsSome result) }
+        // Two taken puts of different ids may change places.
+        ensures places { Becomes (state S.Store) self.old self.new (MayChangePlaces R.meaning line.now now result) }
     {
         if line.len() > LIMIT {
             return self.refuse_long();
@@ -172,17 +194,18 @@ impl<R: RuleSet + Drop, S: Alter> Engine<R, S> {
     /// The database, without the engine. It takes no memory.
     pub fn into_connection(self) -> Connection<S>
         ensures same { result ≡ self.records }
-        ensures holds { (d : _) (types : _) (roots : _) (m : _) → Holds (state S.Store self.records) d types roots m → Holds (state S.Store result) d types roots m }
+        ensures holds { (c : _) → Holds (state S.Store self.records) c → Holds (state S.Store result) c }
     {
         let Engine { book: _, store } = self;
         store.into_connection()
     }
 }
 
-impl<R: RuleSet, S: Alter> Machine for Engine<R, S> {
+impl<R: RuleSet, S: Alter> Responder for Engine<R, S> {
     type Reply = Reply;
 
-    ghost step = { λ old line moment text new. Turns (state S.Store) old new (λ x y. Told R.meaning x line moment text y) };
+    ghost step = { λ old line moment text new. Becomes (state S.Store) old new
+        (λ x y. Told R.meaning x line moment text y) };
 
     fn answer_line(&mut self, alloc: Global, line: &[u8], now: i64) -> Reply {
         self.run(alloc, line, now)

@@ -1,11 +1,12 @@
-ghost use Rattle.std.specs.Prelude.{◌≡◌, List, ℕ, OnOk, IsErrOf};
+ghost use Rattle.std.specs.Prelude.{◌≡◌, OnOk, IsErrOf};
 ghost use Rattle.sqlite.specs.Held.{state};
-ghost use Rattle.fv_engine.specs.Machines.{Turns};
+ghost use Rattle.fv_engine.specs.Machines.{Becomes};
 ghost use Rattle.fv_engine.specs.Step.{Told};
-ghost use Rattle.fv_lines.specs.Runs.{Taken, Stopped, Complete};
+ghost use Rattle.fv_lines.specs.Lines.{WholeLines, AllLines};
+ghost use Rattle.fv_lines.specs.Runs.{Served, Stopped};
 
 use crate::engine::Engine;
-use fv_lines::{Clock, ServeFault, serve_machine};
+use fv_lines::{Clock, ServeFault, answer_lines};
 use fv_registry::RuleSet;
 use sqlite::Alter;
 use std::alloc::Global;
@@ -27,14 +28,23 @@ pub fn serve<R: RuleSet, S: Alter, I: Read, W: Write, C: Clock>(
     writer: &mut W,
     clock: &mut C,
 ) -> Result<(), ServeFault>
-    // What was written is the replies of a run over all lines of the input, each with its end.
-    ensures ok { OnOk result (Turns (state S.Store) engine.old engine.new (λ m n. Complete (Told R.meaning) C.ticks (I.remaining reader.old) m clock.old (W.contents writer.old) (I.remaining reader.new) n clock.new (W.contents writer.new))) }
-    // The same for the whole lines before.
-    ensures read { IsErrOf result ServeFault.Read → Turns (state S.Store) engine.old engine.new (λ m n. (rest : List ℕ) × Taken (Told R.meaning) C.ticks (I.remaining reader.old) m clock.old (W.contents writer.old) rest (I.remaining reader.new) n clock.new (W.contents writer.new)) }
-    // The same for some lines, the last reply whole, in part or missing.
-    ensures write { IsErrOf result ServeFault.Write → Turns (state S.Store) engine.old engine.new (λ m n. Stopped (Told R.meaning) C.ticks (I.remaining reader.old) m clock.old (W.contents writer.old) (I.remaining reader.new) n clock.new (W.contents writer.new)) }
+    // All lines of the input were answered, each reply written with its end.
+    ensures ok { OnOk result (Becomes (state S.Store) engine.old engine.new
+        (λ m n. Served (Told R.meaning) C.ticks (AllLines (I.remaining reader.old) (I.remaining reader.new))
+        (m, clock.old, W.contents writer.old) (n, clock.new, W.contents writer.new))) }
+    // The same for the whole lines that were read.
+    ensures read { IsErrOf result ServeFault.Read
+        → Becomes (state S.Store) engine.old engine.new (λ m n. Served (Told R.meaning) C.ticks
+        (WholeLines (I.remaining reader.old) (I.remaining reader.new)) (m, clock.old, W.contents writer.old)
+        (n, clock.new, W.contents writer.new)) }
+    // The same for some lines of these, the last reply whole, in part or missing.
+    ensures write { IsErrOf result ServeFault.Write
+        → Becomes (state S.Store) engine.old engine.new (λ m n. Stopped (Told R.meaning) C.ticks
+        (I.remaining reader.old) (I.remaining reader.new) (m, clock.old, W.contents writer.old)
+        (n, clock.new, W.contents writer.new)) }
     // Nothing was read.
-    ensures memory { IsErrOf result ServeFault.Memory → (reader.new ≡ reader.old) × (writer.new ≡ writer.old) × (engine.new ≡ engine.old) × (clock.new ≡ clock.old) }
+    ensures memory { IsErrOf result ServeFault.Memory → (reader.new ≡ reader.old) × (writer.new ≡ writer.old)
+        × (engine.new ≡ engine.old) × (clock.new ≡ clock.old) }
 {
-    serve_machine(alloc, engine, reader, writer, clock)
+    answer_lines(alloc, engine, reader, writer, clock)
 }

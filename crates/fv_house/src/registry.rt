@@ -1,5 +1,5 @@
 ghost use Rattle.std.specs.Prelude.{◌≡◌, [], ◌∷◌, map, IfOk, IfErr};
-ghost use Rattle.fv_registry.specs.Answers.{FieldAnswers, FieldsMean, ObjectAnswers, ObjectsMean};
+ghost use Rattle.fv_registry.specs.Meanings.{FieldAnswers, FieldsMean, ObjectAnswers, ObjectsMean};
 ghost use Rattle.fv_house.specs.House.{decides, decides_object, house_rules};
 
 use crate::house::House;

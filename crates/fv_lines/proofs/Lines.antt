@@ -1,14 +1,15 @@
 -- Serving line after line.
-use Rattle.std.proofs.Common.{◌≡◌, ◌≢◌, ℕ, ℤ, ◌+◌, ◌<◌, ◌≤◌, List, [], ◌∷◌, ◌++◌, length, get_or, take, drop, Option, Some, None, refl, sym, ap, ◌∙◌, append_assoc, add-one, arith, inl, inr, lit<}
+use Rattle.std.proofs.Common.{◌≡◌, ◌≢◌, ℕ, ℤ, ◌+◌, ◌<◌, ◌≤◌, List, [], ◌∷◌, ◌++◌, length, get_or, take, drop, Option, Some, None, refl, sym, ap, ◌∙◌, append_assoc, add-one, arith, inl, inr, lit<, subst, suc}
 use Rattle.std.proofs.Math.Seq.{take-suc}
 use Rattle.std.proofs.lemmas.List.{append-nil, take_all, length-take, take-append-drop, take-append-le}
 use Rattle.std.proofs.lemmas.List.Concat.{flat_map-append}
-use Rattle.std.proofs.lemmas.Bool.{cases_lt}
+use Rattle.std.proofs.lemmas.Bool.{cases_lt, cases_eq}
 use Rattle.std.specs.List.{flat_map, AllByRecursion}
-use Rattle.std.specs.Io.KnownBytes.{Appends, Consumes, Keeps, IsAtEnd}
-use Rattle.fv_lines.specs.Lines.{IsOpen, kept, ended}
+use Rattle.std.specs.Io.KnownBytes.{Appends, Consumes, IsAtEnd}
+use Rattle.fv_lines.specs.Buffering.{kept, Buffered, Broken, Taken}
+use Rattle.fv_lines.specs.Lines.{IsOpen, ended, last_line, WholeLines, AllLines}
 use Rattle.fv_lines.specs.Writes.{AppendsFront}
-use Rattle.fv_lines.specs.Runs.{Steps, Ticks, Run, Answered, Served, IsWhole, Broken, Finished, last_line, Taken, Stopped, Complete}
+use Rattle.fv_lines.specs.Runs.{Steps, Ticks, Session, Run, Answered, Served, Stopped}
 use Rattle.fv_lines.proofs.Writes.{appends_then, appends_none}
 
 -- ---- one line
@@ -19,16 +20,10 @@ is_long buffer whole k long = omega (arith, ap length k, length-take 1048577 who
 pub is_whole : (buffer whole : List ℕ) → buffer ≡ kept whole → length buffer ≤ 1048576 → buffer ≡ whole
 is_whole buffer whole k short = k ∙ take_all 1048577 whole (omega (arith, ap length k, length-take 1048577 whole))
 
-pub answered : {M C : Type 0} (grows : Option (List ℕ) → Option (List ℕ) → List ℕ → Type 0) (step : Steps M) (ticks : Ticks C) (m : M) (c : C) (w : Option (List ℕ)) (buffer : List ℕ) (n : M) (d : C) (v : Option (List ℕ)) (moment told : ℤ) (reply text : List ℕ)
-    → told ≡ moment → ticks c moment d → ((whole : List ℕ) → buffer ≡ kept whole → step m whole told reply n) → text ≡ reply → grows w v (text ++ 10 ∷ [])
-    → (whole : List ℕ) → buffer ≡ kept whole → Answered grows step ticks m c w whole n d v
-answered grows step ticks m c w buffer n d v moment told reply text same_moment t s same g whole k = record {
-  reply = text;
-  moment = moment;
-  ticked = t;
-  stepped = rw (same, ← same_moment) (s whole k);
-  wrote = g;
-}
+pub answered : {P C : Type 0} (grows : Option (List ℕ) → Option (List ℕ) → List ℕ → Type 0) (step : Steps P) (ticks : Ticks C) (old new : Session P C) (buffer : List ℕ) (moment told : ℤ) (reply text : List ℕ)
+    → told ≡ moment → ticks old.1 moment new.1 → ((whole : List ℕ) → buffer ≡ kept whole → step old.0 whole told reply new.0) → text ≡ reply → grows old.2 new.2 (text ++ 10 ∷ [])
+    → (whole : List ℕ) → buffer ≡ kept whole → Answered grows step ticks old whole new
+answered grows step ticks old new buffer moment told reply text same_moment t s same g whole k = (text, moment, t, rw (same, ← same_moment) (s whole k), g)
 
 -- what is kept of a line grows by what is kept of the longer line
 push_kept : (rest : List ℕ) (b : ℕ) → take 1048577 (take 1048577 rest ++ b ∷ []) ≡ take 1048577 (rest ++ b ∷ [])
@@ -38,120 +33,60 @@ push_kept rest b =
       | inl lt ↦ take-append-le 1048577 (take 1048577 rest) (b ∷ []) (omega (arith, length-take 1048577 rest)) ∙ take_all 1048577 (take 1048577 rest) (omega (arith, length-take 1048577 rest)) ∙ sym (take-append-le 1048577 rest (b ∷ []) (omega arith))
     ]
 
--- ---- runs and pieces
-
-run_push : {M C : Type 0} (step : Steps M) (ticks : Ticks C) (m : M) (c : C) (lines replies : List (List ℕ)) (n : M) (d : C) (line reply : List ℕ) (moment : ℤ) (o : M) (e : C)
-    → Run step ticks m c lines replies n d → ticks d moment e → step n line moment reply o → Run step ticks m c (lines ++ line ∷ []) (replies ++ reply ∷ []) o e
-run_push step ticks m c [] [] n d line reply moment o e (is, at) t s = (o, e, moment, rw (← at) t, rw (← is) s, (refl, refl))
-run_push step ticks m c [] (r ∷ rs) n d line reply moment o e h t s = absurd h
-run_push step ticks m c (l ∷ ls) [] n d line reply moment o e h t s = absurd h
-run_push step ticks m c (l ∷ ls) (r ∷ rs) n d line reply moment o e (mid, later, now, a, b, h) t s =
-    (mid, later, now, a, b, run_push step ticks mid later ls rs n d line reply moment o e h t s)
+-- ---- the lines of bytes
 
 all_push : {X : Type 0} (P : X → Type 0) (xs : List X) (x : X) → AllByRecursion P xs → P x → AllByRecursion P (xs ++ x ∷ [])
 all_push P [] x h p = (p, tt)
 all_push P (y ∷ ys) x h p = (h.0, all_push P ys x h.1 p)
 
+all_both : {X : Type 0} (P : X → Type 0) (xs ys : List X) → AllByRecursion P xs → AllByRecursion P ys → AllByRecursion P (xs ++ ys)
+all_both P [] ys h k = k
+all_both P (x ∷ xs) ys h k = (h.0, all_both P xs ys h.1 k)
+
 flat_push : (lines : List (List ℕ)) (line : List ℕ) → flat_map ended (lines ++ line ∷ []) ≡ flat_map ended lines ++ (line ++ 10 ∷ [])
 flat_push lines line = flat_map-append ended lines (line ∷ []) ∙ ap (λ (l : List ℕ). flat_map ended lines ++ l) (append-nil (ended line))
 
--- ---- what is served
+-- bytes are lines, each with its end, and then a rest without an end
+record Parts (bytes : List ℕ) : Type 0 where
+  pub lines : List (List ℕ)
+  pub rest : List ℕ
+  pub whole : bytes ≡ flat_map ended lines ++ rest
+  pub each : AllByRecursion IsOpen lines
+  pub open_rest : IsOpen rest
 
-pub served_add : {M C : Type 0} (step : Steps M) (ticks : Ticks C) (m : M) (c : C) (w : Option (List ℕ)) (bytes buffer : List ℕ) (n : M) (d : C) (v : Option (List ℕ)) (b : ℕ) (more : List ℕ)
-    → (b ≢ 10) → more ≡ take 1048577 (buffer ++ b ∷ []) → Served step ticks m c w bytes buffer n d v → Served step ticks m c w (bytes ++ b ∷ []) more n d v
-served_add step ticks m c w bytes buffer n d v b more other is s = record {
-  lines = s.lines;
-  rest = s.rest ++ b ∷ [];
-  replies = s.replies;
-  pieces = record {
-    whole = ap (λ (l : List ℕ). l ++ b ∷ []) s.pieces.whole ∙ append_assoc (flat_map ended s.lines) s.rest (b ∷ []);
-    each = s.pieces.each;
-    open_rest = all_push (λ (x : ℕ). x ≢ 10) s.rest b s.pieces.open_rest other;
-  };
-  keeps = is ∙ rw s.keeps (push_kept s.rest b);
-  ran = s.ran;
-  wrote = s.wrote;
+-- a byte more in front
+parts_after : (b : ℕ) (bs : List ℕ) (lines : List (List ℕ)) (rest : List ℕ) → b ≢ 10 → bs ≡ flat_map ended lines ++ rest → AllByRecursion IsOpen lines → IsOpen rest → Parts (b ∷ bs)
+parts_after b bs [] rest other is each open_rest = record { lines = []; rest = b ∷ rest; whole = ap (λ (l : List ℕ). b ∷ l) is; each = tt; open_rest = (other, open_rest) }
+parts_after b bs (line ∷ lines) rest other is each open_rest = record {
+  lines = (b ∷ line) ∷ lines;
+  rest = rest;
+  whole = ap (λ (l : List ℕ). b ∷ l) is;
+  each = ((other, each.0), each.1);
+  open_rest = open_rest;
 }
 
-pub served_end : {M C : Type 0} (step : Steps M) (ticks : Ticks C) (m : M) (c : C) (w : Option (List ℕ)) (bytes buffer : List ℕ) (n : M) (d : C) (v : Option (List ℕ)) (o : M) (e : C) (u : Option (List ℕ))
-    → (s : Served step ticks m c w bytes buffer n d v) → Answered Appends step ticks n d v s.rest o e u → Served step ticks m c w (bytes ++ 10 ∷ []) [] o e u
-served_end step ticks m c w bytes buffer n d v o e u s a = record {
-  lines = s.lines ++ s.rest ∷ [];
-  rest = [];
-  replies = s.replies ++ a.reply ∷ [];
-  pieces = record {
-    whole = ap (λ (l : List ℕ). l ++ 10 ∷ []) s.pieces.whole ∙ append_assoc (flat_map ended s.lines) s.rest (10 ∷ []) ∙ sym (append-nil (flat_map ended (s.lines ++ s.rest ∷ [])) ∙ flat_push s.lines s.rest);
-    each = all_push IsOpen s.lines s.rest s.pieces.each s.pieces.open_rest;
-    open_rest = tt;
-  };
-  keeps = refl;
-  ran = run_push step ticks m c s.lines s.replies n d s.rest a.reply a.moment o e s.ran a.ticked a.stepped;
-  wrote = rw (flat_push s.replies a.reply) (appends_then w v u _ _ s.wrote a.wrote);
-}
+parts : (bytes : List ℕ) → Parts bytes
+parts [] = record { lines = []; rest = []; whole = refl; each = tt; open_rest = tt }
+parts (b ∷ bs) =
+    let p : Parts bs = parts bs in
+    elim (cases_eq b 10) [
+      | inl is ↦ record {
+        lines = [] ∷ p.lines;
+        rest = p.rest;
+        whole = ap (λ (x : ℕ). x ∷ bs) is ∙ ap (λ (l : List ℕ). 10 ∷ l) p.whole;
+        each = (tt, p.each);
+        open_rest = p.open_rest;
+      }
+      | inr other ↦ parts_after b bs p.lines p.rest other p.whole p.each p.open_rest
+    ]
 
-pub served_none : {M C : Type 0} (step : Steps M) (ticks : Ticks C) (m : M) (c : C) (w : Option (List ℕ)) → Served step ticks m c w [] [] m c w
-served_none step ticks m c w = record {
-  lines = [];
-  rest = [];
-  replies = [];
-  pieces = record { whole = refl; each = tt; open_rest = tt };
-  keeps = refl;
-  ran = (refl, refl);
-  wrote = appends_none w;
-}
+-- the lines of some bytes and of those behind them
+parts_join : (lines others : List (List ℕ)) (behind rest : List ℕ) → behind ≡ flat_map ended others ++ rest → flat_map ended lines ++ behind ≡ flat_map ended (lines ++ others) ++ rest
+parts_join lines others behind rest is =
+    ap (λ (l : List ℕ). flat_map ended lines ++ l) is ∙ sym (append_assoc (flat_map ended lines) (flat_map ended others) rest) ∙ ap (λ (l : List ℕ). l ++ rest) (sym (flat_map-append ended lines others))
 
-pub broken_end : {M C : Type 0} (step : Steps M) (ticks : Ticks C) (m : M) (c : C) (w : Option (List ℕ)) (bytes buffer : List ℕ) (n : M) (d : C) (v : Option (List ℕ)) (o : M) (e : C) (u : Option (List ℕ)) (b : ℕ)
-    → b ≡ 10 → (s : Served step ticks m c w bytes buffer n d v) → Answered AppendsFront step ticks n d v s.rest o e u → Broken ⊥ step ticks m c w (bytes ++ b ∷ []) o e u
-broken_end step ticks m c w bytes buffer n d v o e u b is s a = record {
-  front = bytes;
-  back = b ∷ [];
-  parts = refl;
-  buffer = buffer;
-  mid = n;
-  later = d;
-  between = v;
-  served = s;
-  line = inl ([], ap (λ (x : ℕ). x ∷ []) is);
-  answered = a;
-}
-
-more_behind : (line back more : List ℕ) → IsWhole ⊥ line back → IsWhole ⊥ line (back ++ more)
-more_behind line back more (inl behind) = inl (behind.0 ++ more, ap (λ (l : List ℕ). l ++ more) behind.1)
-more_behind line back more (inr last) = absurd last.2
-
-pub broken_more : {M C : Type 0} (step : Steps M) (ticks : Ticks C) (m : M) (c : C) (w : Option (List ℕ)) (bytes more : List ℕ) (o : M) (e : C) (u : Option (List ℕ))
-    → Broken ⊥ step ticks m c w bytes o e u → Broken ⊥ step ticks m c w (bytes ++ more) o e u
-broken_more step ticks m c w bytes more o e u s = record {
-  front = s.front;
-  back = s.back ++ more;
-  parts = ap (λ (l : List ℕ). l ++ more) s.parts ∙ append_assoc s.front s.back more;
-  buffer = s.buffer;
-  mid = s.mid;
-  later = s.later;
-  between = s.between;
-  served = s.served;
-  line = more_behind s.served.rest s.back more s.line;
-  answered = s.answered;
-}
-
-whole_by : (P Q : Type 0) (line back : List ℕ) → (P → Q) → IsWhole P line back → IsWhole Q line back
-whole_by P Q line back f (inl behind) = inl behind
-whole_by P Q line back f (inr last) = inr (last.0, last.1, f last.2)
-
-broken_by : {M C : Type 0} (P Q : Type 0) (step : Steps M) (ticks : Ticks C) (m : M) (c : C) (w : Option (List ℕ)) (bytes : List ℕ) (o : M) (e : C) (u : Option (List ℕ))
-    → (P → Q) → Broken P step ticks m c w bytes o e u → Broken Q step ticks m c w bytes o e u
-broken_by P Q step ticks m c w bytes o e u f s = record {
-  front = s.front;
-  back = s.back;
-  parts = s.parts;
-  buffer = s.buffer;
-  mid = s.mid;
-  later = s.later;
-  between = s.between;
-  served = s.served;
-  line = whole_by P Q s.served.rest s.back f s.line;
-  answered = s.answered;
-}
+push_join : {X : Type 0} (xs : List X) (x : X) (ys : List X) → (xs ++ x ∷ []) ++ ys ≡ xs ++ x ∷ ys
+push_join xs x ys = append_assoc xs (x ∷ []) ys
 
 -- ---- a byte more of a slice
 
@@ -174,48 +109,12 @@ nothing_taken n (b ∷ bs) p e = absurd (omega (arith, ap length e, length-take 
 nothing_kept : (rest : List ℕ) → [] ≡ kept rest → rest ≡ []
 nothing_kept rest e = nothing_taken 1048577 rest (lit< tt) e
 
-pub finished_empty : {M C : Type 0} (step : Steps M) (ticks : Ticks C) (m : M) (c : C) (w : Option (List ℕ)) (bytes buffer : List ℕ) (n : M) (d : C) (v : Option (List ℕ))
-    → buffer ≡ [] → Served step ticks m c w bytes buffer n d v → Finished step ticks m c w bytes n d v
-finished_empty step ticks m c w bytes buffer n d v none s =
-    let is : s.rest ≡ [] = nothing_kept s.rest (sym none ∙ s.keeps) in
-    record {
-      lines = s.lines;
-      rest = s.rest;
-      replies = s.replies;
-      pieces = s.pieces;
-      ran = rw (is, append-nil) s.ran;
-      wrote = s.wrote;
-    }
+nothing_last : (rest : List ℕ) (lines : List (List ℕ)) → rest ≡ [] → lines ≡ lines ++ last_line rest
+nothing_last rest lines is = sym (append-nil lines) ∙ ap (λ (l : List ℕ). lines ++ last_line l) (sym is)
 
 last_is : (buffer rest : List ℕ) → (buffer ≡ [] → ⊥) → buffer ≡ kept rest → last_line rest ≡ rest ∷ []
 last_is buffer [] some k = absurd (some k)
 last_is buffer (b ∷ bs) some k = refl
-
-pub finished_last : {M C : Type 0} (step : Steps M) (ticks : Ticks C) (m : M) (c : C) (w : Option (List ℕ)) (bytes buffer : List ℕ) (n : M) (d : C) (v : Option (List ℕ)) (o : M) (e : C) (u : Option (List ℕ))
-    → (buffer ≡ [] → ⊥) → (s : Served step ticks m c w bytes buffer n d v) → Answered Appends step ticks n d v s.rest o e u → Finished step ticks m c w bytes o e u
-finished_last step ticks m c w bytes buffer n d v o e u some s a = record {
-  lines = s.lines;
-  rest = s.rest;
-  replies = s.replies ++ a.reply ∷ [];
-  pieces = s.pieces;
-  ran = rw (last_is buffer s.rest some s.keeps) (run_push step ticks m c s.lines s.replies n d s.rest a.reply a.moment o e s.ran a.ticked a.stepped);
-  wrote = rw (flat_push s.replies a.reply) (appends_then w v u _ _ s.wrote a.wrote);
-}
-
-pub broken_last : {M C : Type 0} (step : Steps M) (ticks : Ticks C) (m : M) (c : C) (w : Option (List ℕ)) (bytes buffer : List ℕ) (n : M) (d : C) (v : Option (List ℕ)) (o : M) (e : C) (u : Option (List ℕ))
-    → (buffer ≡ [] → ⊥) → (s : Served step ticks m c w bytes buffer n d v) → Answered AppendsFront step ticks n d v s.rest o e u → Broken (Unit {0}) step ticks m c w bytes o e u
-broken_last step ticks m c w bytes buffer n d v o e u some s a = record {
-  front = bytes;
-  back = [];
-  parts = sym (append-nil bytes);
-  buffer = buffer;
-  mid = n;
-  later = d;
-  between = v;
-  served = s;
-  line = inr (refl, (λ none. some (s.keeps ∙ ap kept none)), tt);
-  answered = a;
-}
 
 -- ---- reading
 
@@ -225,43 +124,151 @@ consumes_then (Some x) None c xs ys p q = absurd p
 consumes_then (Some x) (Some y) None xs ys p q = absurd q
 consumes_then (Some x) (Some y) (Some z) xs ys p q = p ∙ ap (λ (l : List ℕ). xs ++ l) q ∙ sym (append_assoc xs ys z)
 
-consumes_kept : (a b c : Option (List ℕ)) (xs : List ℕ) → Consumes a b xs → Keeps b c → Consumes a c xs
-consumes_kept None b c xs p q = tt
-consumes_kept (Some x) None c xs p q = absurd p
-consumes_kept (Some x) (Some y) None xs p q = absurd q
-consumes_kept (Some x) (Some y) (Some z) xs p q = p ∙ ap (λ (l : List ℕ). xs ++ l) (sym q)
-
 consumes_none : (a : Option (List ℕ)) → Consumes a a []
 consumes_none None = tt
 consumes_none (Some x) = refl
 
-pub taken_none : {M C : Type 0} (step : Steps M) (ticks : Ticks C) (r : Option (List ℕ)) (m : M) (c : C) (w : Option (List ℕ)) → Taken step ticks r m c w [] r m c w
-taken_none step ticks r m c w = record { input = []; consumed = consumes_none r; served = served_none step ticks m c w }
+-- ---- what is served
 
-pub taken_failed : {M C : Type 0} (step : Steps M) (ticks : Ticks C) (r : Option (List ℕ)) (m : M) (c : C) (w : Option (List ℕ)) (buffer : List ℕ) (q q' : Option (List ℕ)) (n : M) (d : C) (v : Option (List ℕ))
-    → Keeps q q' → Taken step ticks r m c w buffer q n d v → Taken step ticks r m c w buffer q' n d v
-taken_failed step ticks r m c w buffer q q' n d v k t = record { input = t.input; consumed = consumes_kept r q q' t.input t.consumed k; served = t.served }
+module _ {P C : Type 0} (step : Steps P) (ticks : Ticks C) where
+  run_push : (old : Session P C) (lines : List (List ℕ)) (mid : Session P C) (line : List ℕ) (new : Session P C)
+      → Run step ticks old lines mid → Answered Appends step ticks mid line new → Run step ticks old (lines ++ line ∷ []) new
+  run_push old [] mid line new is a = (new, subst (λ (s : Session P C). Answered Appends step ticks s line new) is a, refl)
+  run_push old (l ∷ ls) mid line new ran a = (ran.0, ran.1, run_push ran.0 ls mid line new ran.2 a)
 
-pub taken_more : {M C : Type 0} (step : Steps M) (ticks : Ticks C) (r : Option (List ℕ)) (m : M) (c : C) (w : Option (List ℕ)) (buffer : List ℕ) (q q' : Option (List ℕ)) (n : M) (d : C) (v : Option (List ℕ)) (bytes buffer' : List ℕ) (o : M) (e : C) (u : Option (List ℕ))
-    → Consumes q q' bytes
-    → ((m : M) (c : C) (w : Option (List ℕ)) (before : List ℕ) → Served step ticks m c w before buffer n d v → Served step ticks m c w (before ++ bytes) buffer' o e u)
-    → Taken step ticks r m c w buffer q n d v → Taken step ticks r m c w buffer' q' o e u
-taken_more step ticks r m c w buffer q q' n d v bytes buffer' o e u k f t = record { input = t.input ++ bytes; consumed = consumes_then r q q' t.input bytes t.consumed k; served = f m c w t.input t.served }
+  pub buffered_add : (old new : Session P C) (bytes buffer : List ℕ) (b : ℕ) (more : List ℕ)
+      → (b ≢ 10) → more ≡ take 1048577 (buffer ++ b ∷ []) → Buffered step ticks old bytes buffer new → Buffered step ticks old (bytes ++ b ∷ []) more new
+  buffered_add old new bytes buffer b more other is s = record {
+    lines = s.lines;
+    rest = s.rest ++ b ∷ [];
+    whole = ap (λ (l : List ℕ). l ++ b ∷ []) s.whole ∙ append_assoc (flat_map ended s.lines) s.rest (b ∷ []);
+    each = s.each;
+    open_rest = all_push (λ (x : ℕ). x ≢ 10) s.rest b s.open_rest other;
+    keeps = is ∙ rw s.keeps (push_kept s.rest b);
+    ran = s.ran;
+  }
 
-pub taken_broken : {M C : Type 0} (step : Steps M) (ticks : Ticks C) (r : Option (List ℕ)) (m : M) (c : C) (w : Option (List ℕ)) (buffer : List ℕ) (q q' : Option (List ℕ)) (n : M) (d : C) (v : Option (List ℕ)) (bytes : List ℕ) (o : M) (e : C) (u : Option (List ℕ))
-    → Consumes q q' bytes
-    → ((m : M) (c : C) (w : Option (List ℕ)) (before : List ℕ) → Served step ticks m c w before buffer n d v → Broken ⊥ step ticks m c w (before ++ bytes) o e u)
-    → Taken step ticks r m c w buffer q n d v → Stopped step ticks r m c w q' o e u
-taken_broken step ticks r m c w buffer q q' n d v bytes o e u k f t = record { input = t.input ++ bytes; consumed = consumes_then r q q' t.input bytes t.consumed k; broken = broken_by ⊥ (IsAtEnd q') step ticks m c w (t.input ++ bytes) o e u absurd (f m c w t.input t.served) }
+  -- the end of a line
+  end_added : (lines : List (List ℕ)) (rest bytes : List ℕ) → bytes ≡ flat_map ended lines ++ rest → bytes ++ 10 ∷ [] ≡ flat_map ended (lines ++ rest ∷ []) ++ []
+  end_added lines rest bytes is =
+      ap (λ (l : List ℕ). l ++ 10 ∷ []) is ∙ append_assoc (flat_map ended lines) rest (10 ∷ []) ∙ sym (append-nil (flat_map ended (lines ++ rest ∷ [])) ∙ flat_push lines rest)
 
-pub complete : {M C : Type 0} (step : Steps M) (ticks : Ticks C) (r : Option (List ℕ)) (m : M) (c : C) (w : Option (List ℕ)) (buffer : List ℕ) (q : Option (List ℕ)) (n : M) (d : C) (v : Option (List ℕ)) (o : M) (e : C) (u : Option (List ℕ))
-    → IsAtEnd q
-    → ((m : M) (c : C) (w : Option (List ℕ)) (bytes : List ℕ) → Served step ticks m c w bytes buffer n d v → Finished step ticks m c w bytes o e u)
-    → Taken step ticks r m c w buffer q n d v → Complete step ticks r m c w q o e u
-complete step ticks r m c w buffer q n d v o e u end f t = record { input = t.input; consumed = t.consumed; ended = end; finished = f m c w t.input t.served }
+  pub buffered_end : (old mid new : Session P C) (bytes buffer : List ℕ)
+      → (s : Buffered step ticks old bytes buffer mid) → Answered Appends step ticks mid s.rest new → Buffered step ticks old (bytes ++ 10 ∷ []) [] new
+  buffered_end old mid new bytes buffer s a = record {
+    lines = s.lines ++ s.rest ∷ [];
+    rest = [];
+    whole = end_added s.lines s.rest bytes s.whole;
+    each = all_push IsOpen s.lines s.rest s.each s.open_rest;
+    open_rest = tt;
+    keeps = refl;
+    ran = run_push old s.lines mid s.rest new s.ran a;
+  }
 
-pub stopped_last : {M C : Type 0} (step : Steps M) (ticks : Ticks C) (r : Option (List ℕ)) (m : M) (c : C) (w : Option (List ℕ)) (buffer : List ℕ) (q : Option (List ℕ)) (n : M) (d : C) (v : Option (List ℕ)) (o : M) (e : C) (u : Option (List ℕ))
-    → IsAtEnd q
-    → ((m : M) (c : C) (w : Option (List ℕ)) (bytes : List ℕ) → Served step ticks m c w bytes buffer n d v → Broken (Unit {0}) step ticks m c w bytes o e u)
-    → Taken step ticks r m c w buffer q n d v → Stopped step ticks r m c w q o e u
-stopped_last step ticks r m c w buffer q n d v o e u end f t = record { input = t.input; consumed = t.consumed; broken = broken_by (Unit {0}) (IsAtEnd q) step ticks m c w t.input o e u (λ _. end) (f m c w t.input t.served) }
+  pub broken_end : (old mid new : Session P C) (bytes buffer : List ℕ) (b : ℕ)
+      → b ≡ 10 → (s : Buffered step ticks old bytes buffer mid) → Answered AppendsFront step ticks mid s.rest new → Broken step ticks old (bytes ++ b ∷ []) new
+  broken_end old mid new bytes buffer b is s a = record {
+    lines = s.lines;
+    line = s.rest;
+    behind = [];
+    whole = ap (λ (x : ℕ). bytes ++ x ∷ []) is ∙ end_added s.lines s.rest bytes s.whole;
+    each = all_push IsOpen s.lines s.rest s.each s.open_rest;
+    mid = mid;
+    ran = s.ran;
+    last = a;
+  }
+
+  pub broken_more : (old new : Session P C) (bytes more : List ℕ) → Broken step ticks old bytes new → Broken step ticks old (bytes ++ more) new
+  broken_more old new bytes more s = record {
+    lines = s.lines;
+    line = s.line;
+    behind = s.behind ++ more;
+    whole = ap (λ (l : List ℕ). l ++ more) s.whole ∙ append_assoc (flat_map ended (s.lines ++ s.line ∷ [])) s.behind more;
+    each = s.each;
+    mid = s.mid;
+    ran = s.ran;
+    last = s.last;
+  }
+
+  pub taken_none : (r : Option (List ℕ)) (old : Session P C) → Taken step ticks r r [] old old
+  taken_none r old = record {
+    input = [];
+    consumed = consumes_none r;
+    served = record { lines = []; rest = []; whole = refl; each = tt; open_rest = tt; keeps = refl; ran = refl };
+  }
+
+  pub taken_more : (r q q' : Option (List ℕ)) (old mid new : Session P C) (bytes buffer buffer' : List ℕ)
+      → Consumes q q' bytes
+      → ((start : Session P C) (before : List ℕ) → Buffered step ticks start before buffer mid → Buffered step ticks start (before ++ bytes) buffer' new)
+      → Taken step ticks r q buffer old mid → Taken step ticks r q' buffer' old new
+  taken_more r q q' old mid new bytes buffer buffer' k f t = record { input = t.input ++ bytes; consumed = consumes_then r q q' t.input bytes t.consumed k; served = f old t.input t.served }
+
+  pub taken_broken : (r q q' : Option (List ℕ)) (old mid new : Session P C) (bytes buffer : List ℕ)
+      → Consumes q q' bytes
+      → ((start : Session P C) (before : List ℕ) → Buffered step ticks start before buffer mid → Broken step ticks start (before ++ bytes) new)
+      → Taken step ticks r q buffer old mid → Stopped step ticks r q' old new
+  taken_broken r q q' old mid new bytes buffer k f t =
+      let b : Broken step ticks old (t.input ++ bytes) new = f old t.input t.served in
+      let p : Parts b.behind = parts b.behind in
+      let these : List (List ℕ) = b.lines ++ b.line ∷ [] in
+      let all : (these ++ p.lines) ≡ b.lines ++ b.line ∷ p.lines = push_join b.lines b.line p.lines in
+      let read : WholeLines r q' (these ++ p.lines) = record {
+        rest = p.rest;
+        read = subst (λ (l : List ℕ). Consumes r q' l) (b.whole ∙ parts_join these p.lines b.behind p.rest p.whole) (consumes_then r q q' t.input bytes t.consumed k);
+        each = all_both IsOpen these p.lines b.each p.each;
+        open_rest = p.open_rest;
+      } in
+      record { lines = b.lines; line = b.line; others = p.lines; read = inl (subst (λ (l : List (List ℕ)). WholeLines r q' l) all read); mid = b.mid; ran = b.ran; last = b.last }
+
+  -- ---- at the end of reading
+
+  abbrev whole_lines : (r q : Option (List ℕ)) (old new : Session P C) (buffer : List ℕ) → (t : Taken step ticks r q buffer old new) → WholeLines r q t.served.lines
+  whole_lines r q old new buffer t = record {
+    rest = t.served.rest;
+    read = subst (λ (l : List ℕ). Consumes r q l) t.served.whole t.consumed;
+    each = t.served.each;
+    open_rest = t.served.open_rest;
+  }
+
+  pub whole_served : (r q : Option (List ℕ)) (old new : Session P C) (buffer : List ℕ) → Taken step ticks r q buffer old new → Served step ticks (WholeLines r q) old new
+  whole_served r q old new buffer t = (t.served.lines, whole_lines r q old new buffer t, t.served.ran)
+
+  pub all_served : (r q : Option (List ℕ)) (old new : Session P C) (buffer : List ℕ) → IsAtEnd q → buffer ≡ [] → Taken step ticks r q buffer old new → Served step ticks (AllLines r q) old new
+  all_served r q old new buffer end none t =
+      let s = t.served in
+      let is : s.rest ≡ [] = nothing_kept s.rest (sym none ∙ s.keeps) in
+      (s.lines, (s.lines, whole_lines r q old new buffer t, nothing_last s.rest s.lines is, end), s.ran)
+
+  pub last_served : (r q : Option (List ℕ)) (old mid new : Session P C) (buffer : List ℕ) → IsAtEnd q → (buffer ≡ [] → ⊥)
+      → (t : Taken step ticks r q buffer old mid) → Answered Appends step ticks mid t.served.rest new → Served step ticks (AllLines r q) old new
+  last_served r q old mid new buffer end some t a =
+      let s = t.served in
+      let is : last_line s.rest ≡ s.rest ∷ [] = last_is buffer s.rest some s.keeps in
+      (s.lines ++ s.rest ∷ [], (s.lines, whole_lines r q old mid buffer t, ap (λ (l : List (List ℕ)). s.lines ++ l) (sym is), end), run_push old s.lines mid s.rest new s.ran a)
+
+  pub last_stopped : (r q : Option (List ℕ)) (old mid new : Session P C) (buffer : List ℕ) → IsAtEnd q → (buffer ≡ [] → ⊥)
+      → (t : Taken step ticks r q buffer old mid) → Answered AppendsFront step ticks mid t.served.rest new → Stopped step ticks r q old new
+  last_stopped r q old mid new buffer end some t a =
+      let s = t.served in
+      let is : last_line s.rest ≡ s.rest ∷ [] = last_is buffer s.rest some s.keeps in
+      record {
+        lines = s.lines;
+        line = s.rest;
+        others = [];
+        read = inr (s.lines, whole_lines r q old mid buffer t, ap (λ (l : List (List ℕ)). s.lines ++ l) (sym is), end);
+        mid = mid;
+        ran = s.ran;
+        last = a;
+      }
+
+  -- ---- what a run wrote
+
+  -- a reply a line, each with its end
+  pub run_wrote : (old : Session P C) (lines : List (List ℕ)) (new : Session P C) → Run step ticks old lines new
+      → (replies : List (List ℕ)) × (length replies ≡ length lines) × Appends old.2 new.2 (flat_map ended replies)
+  run_wrote old [] new is = ([], refl, subst (λ (s : Session P C). Appends old.2 s.2 []) (sym is) (appends_none old.2))
+  run_wrote old (line ∷ lines) new ran =
+      let mid : Session P C = ran.0 in
+      let a = ran.1 in
+      let others = run_wrote mid lines new ran.2 in
+      (a.0 ∷ others.0, ap (λ (n : ℕ). suc n) others.1, appends_then old.2 mid.2 new.2 (ended a.0) (flat_map ended others.0) a.4 others.2)

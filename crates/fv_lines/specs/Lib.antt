@@ -1,3 +1,4 @@
+pub mod Buffering
 pub mod FaultNames
 pub mod Lines
 pub mod Runs

@@ -1,15 +1,16 @@
 ghost use Rattle.std.specs.Prelude.{◌≡◌, ◌≢◌, ℕ, List, [], ◌∷◌, ◌++◌, Option, OnOk, OnErr, IsErrOf, ◌<◌, length};
 ghost use Rattle.std.specs.Io.KnownBytes.{Appends, Consumes, IsAtEnd};
 ghost use Rattle.fv_datum.specs.Moments.{IsMoment};
+ghost use Rattle.fv_lines.specs.Buffering.{kept, Buffered, Broken, Taken};
 ghost use Rattle.fv_lines.specs.FaultNames.{serve_fault_name};
-ghost use Rattle.fv_lines.specs.Lines.{kept};
+ghost use Rattle.fv_lines.specs.Lines.{WholeLines, AllLines};
+ghost use Rattle.fv_lines.specs.Runs.{Session, Answered, Served, Stopped};
 ghost use Rattle.fv_lines.specs.Writes.{AppendsFront};
-ghost use Rattle.fv_lines.specs.Runs.{Answered, Served, Broken, Finished, Taken, Stopped, Complete};
 
 use crate::clock::Clock;
 use crate::line::Line;
-use crate::machine::{LIMIT, Machine, Text};
 use crate::output::{WriteFailed, write_line};
+use crate::responder::{LIMIT, Responder, Text};
 use std::alloc::Global;
 use std::io::{Read, Write};
 use thiserror::Error;
@@ -42,99 +43,104 @@ impl ServeFault {
 }
 
 /// The reply to a line of which the front is kept.
-fn reply_to<M: Machine>(alloc: Global, machine: &mut M, line: &Line, now: i64) -> M::Reply
+fn reply_to<P: Responder>(alloc: Global, responder: &mut P, line: &Line, now: i64) -> P::Reply
     requires { IsMoment now }
-    ensures { (whole : List ℕ) → line.now ≡ kept whole → M.step machine.old whole now (M.Reply.bytes result) machine.new }
+    ensures { (whole : List ℕ) → line.now ≡ kept whole
+        → P.step responder.old whole now (P.Reply.bytes result) responder.new }
 {
     let bytes = line.bytes();
     if bytes.len() > LIMIT {
-        return machine.answer_long(now);
+        return responder.answer_long(now);
     }
-    machine.answer_line(alloc, bytes, now)
+    responder.answer_line(alloc, bytes, now)
 }
 
 /// Answers one line.
-fn answer<M: Machine, W: Write, C: Clock>(
+fn answer<P: Responder, W: Write, C: Clock>(
     alloc: Global,
-    machine: &mut M,
+    responder: &mut P,
     writer: &mut W,
     clock: &mut C,
     line: &Line,
 ) -> Result<(), WriteFailed>
-    ensures ok { OnOk result ((whole : List ℕ) → line.now ≡ kept whole → Answered Appends M.step C.ticks machine.old clock.old (W.contents writer.old) whole machine.new clock.new (W.contents writer.new)) }
-    ensures err { OnErr result ((whole : List ℕ) → line.now ≡ kept whole → Answered AppendsFront M.step C.ticks machine.old clock.old (W.contents writer.old) whole machine.new clock.new (W.contents writer.new)) }
+    ensures ok { OnOk result ((whole : List ℕ) → line.now ≡ kept whole
+        → Answered Appends P.step C.ticks (responder.old, clock.old, W.contents writer.old) whole
+        (responder.new, clock.new, W.contents writer.new)) }
+    ensures err { OnErr result ((whole : List ℕ) → line.now ≡ kept whole
+        → Answered AppendsFront P.step C.ticks (responder.old, clock.old, W.contents writer.old) whole
+        (responder.new, clock.new, W.contents writer.new)) }
 {
     let now = clock.now();
-    let reply = reply_to(alloc, machine, line, now);
+    let reply = reply_to(alloc, responder, line, now);
     write_line(writer, reply.text().as_bytes())
 }
 
 /// Takes the next byte of the input.
-fn take_byte<M: Machine, W: Write, C: Clock>(
+fn take_byte<P: Responder, W: Write, C: Clock>(
     alloc: Global,
-    machine: &mut M,
+    responder: &mut P,
     writer: &mut W,
     clock: &mut C,
     line: &mut Line,
     byte: u8,
 ) -> Result<(), WriteFailed>
-    ensures ok { OnOk result ((m : M) (c : C) (w : Option (List ℕ)) (before : List ℕ) →
-        Served M.step C.ticks m c w before line.old machine.old clock.old (W.contents writer.old) →
-        Served M.step C.ticks m c w (before ++ byte ∷ []) line.new machine.new clock.new (W.contents writer.new)) }
-    ensures err { OnErr result ((m : M) (c : C) (w : Option (List ℕ)) (before : List ℕ) →
-        Served M.step C.ticks m c w before line.old machine.old clock.old (W.contents writer.old) →
-        Broken ⊥ M.step C.ticks m c w (before ++ byte ∷ []) machine.new clock.new (W.contents writer.new)) }
+    ensures ok { OnOk result ((start : Session P C) (before : List ℕ) →
+        Buffered P.step C.ticks start before line.old (responder.old, clock.old, W.contents writer.old) →
+        Buffered P.step C.ticks start (before ++ byte ∷ []) line.new (responder.new, clock.new, W.contents writer.new)) }
+    ensures err { OnErr result ((start : Session P C) (before : List ℕ) →
+        Buffered P.step C.ticks start before line.old (responder.old, clock.old, W.contents writer.old) →
+        Broken P.step C.ticks start (before ++ byte ∷ []) (responder.new, clock.new, W.contents writer.new)) }
 {
     if byte != 10 {
         line.add(byte);
         return Ok(());
     }
-    answer(alloc, machine, writer, clock, line)?;
+    answer(alloc, responder, writer, clock, line)?;
     line.clear();
     Ok(())
 }
 
 /// Takes the next bytes of the input.
-fn take_bytes<M: Machine, W: Write, C: Clock>(
+fn take_bytes<P: Responder, W: Write, C: Clock>(
     alloc: Global,
-    machine: &mut M,
+    responder: &mut P,
     writer: &mut W,
     clock: &mut C,
     line: &mut Line,
     bytes: &[u8],
 ) -> Result<(), WriteFailed>
-    ensures ok { OnOk result ((m : M) (c : C) (w : Option (List ℕ)) (before : List ℕ) →
-        Served M.step C.ticks m c w before line.old machine.old clock.old (W.contents writer.old) →
-        Served M.step C.ticks m c w (before ++ bytes.now) line.new machine.new clock.new (W.contents writer.new)) }
-    ensures err { OnErr result ((m : M) (c : C) (w : Option (List ℕ)) (before : List ℕ) →
-        Served M.step C.ticks m c w before line.old machine.old clock.old (W.contents writer.old) →
-        Broken ⊥ M.step C.ticks m c w (before ++ bytes.now) machine.new clock.new (W.contents writer.new)) }
+    ensures ok { OnOk result ((start : Session P C) (before : List ℕ) →
+        Buffered P.step C.ticks start before line.old (responder.old, clock.old, W.contents writer.old) →
+        Buffered P.step C.ticks start (before ++ bytes.now) line.new (responder.new, clock.new, W.contents writer.new)) }
+    ensures err { OnErr result ((start : Session P C) (before : List ℕ) →
+        Buffered P.step C.ticks start before line.old (responder.old, clock.old, W.contents writer.old) →
+        Broken P.step C.ticks start (before ++ bytes.now) (responder.new, clock.new, W.contents writer.new)) }
 {
     for b in bytes {
-        take_byte(alloc, machine, writer, clock, line, *b)?;
+        take_byte(alloc, responder, writer, clock, line, *b)?;
     }
     Ok(())
 }
 
 /// Answers the last line, where there is one without its end.
-fn finish<M: Machine, W: Write, C: Clock>(
+fn finish<P: Responder, W: Write, C: Clock>(
     alloc: Global,
-    machine: &mut M,
+    responder: &mut P,
     writer: &mut W,
     clock: &mut C,
     line: &Line,
 ) -> Result<(), WriteFailed>
-    ensures ok { OnOk result ((m : M) (c : C) (w : Option (List ℕ)) (bytes : List ℕ) →
-        Served M.step C.ticks m c w bytes line.now machine.old clock.old (W.contents writer.old) →
-        Finished M.step C.ticks m c w bytes machine.new clock.new (W.contents writer.new)) }
-    ensures err { OnErr result ((m : M) (c : C) (w : Option (List ℕ)) (bytes : List ℕ) →
-        Served M.step C.ticks m c w bytes line.now machine.old clock.old (W.contents writer.old) →
-        Broken (Unit {0}) M.step C.ticks m c w bytes machine.new clock.new (W.contents writer.new)) }
+    ensures ok { OnOk result ((r q : Option (List ℕ)) (start : Session P C) → IsAtEnd q →
+        Taken P.step C.ticks r q line.now start (responder.old, clock.old, W.contents writer.old) →
+        Served P.step C.ticks (AllLines r q) start (responder.new, clock.new, W.contents writer.new)) }
+    ensures err { OnErr result ((r q : Option (List ℕ)) (start : Session P C) → IsAtEnd q →
+        Taken P.step C.ticks r q line.now start (responder.old, clock.old, W.contents writer.old) →
+        Stopped P.step C.ticks r q start (responder.new, clock.new, W.contents writer.new)) }
 {
     if line.bytes().is_empty() {
         return Ok(());
     }
-    answer(alloc, machine, writer, clock, line)
+    answer(alloc, responder, writer, clock, line)
 }
 
 /// How a read went.
@@ -149,9 +155,9 @@ enum Turn {
 }
 
 /// Reads once, and serves what came.
-fn read_once<M: Machine, R: Read, W: Write, C: Clock>(
+fn read_once<P: Responder, R: Read, W: Write, C: Clock>(
     alloc: Global,
-    machine: &mut M,
+    responder: &mut P,
     reader: &mut R,
     writer: &mut W,
     clock: &mut C,
@@ -160,18 +166,19 @@ fn read_once<M: Machine, R: Read, W: Write, C: Clock>(
 ) -> Turn
     requires { 0 < length chunk.old }
     ensures end { result ≡ Turn.End → IsAtEnd (R.remaining reader.new) }
-    ensures more { result ≡ Turn.More → (bytes : List ℕ) × (0 < length bytes) × Consumes (R.remaining reader.old) (R.remaining reader.new) bytes }
-    ensures taken { result ≢ Turn.WriteFailed → (r : Option (List ℕ)) (m : M) (c : C) (w : Option (List ℕ)) →
-        Taken M.step C.ticks r m c w line.old (R.remaining reader.old) machine.old clock.old (W.contents writer.old) →
-        Taken M.step C.ticks r m c w line.new (R.remaining reader.new) machine.new clock.new (W.contents writer.new) }
-    ensures stopped { result ≡ Turn.WriteFailed → (r : Option (List ℕ)) (m : M) (c : C) (w : Option (List ℕ)) →
-        Taken M.step C.ticks r m c w line.old (R.remaining reader.old) machine.old clock.old (W.contents writer.old) →
-        Stopped M.step C.ticks r m c w (R.remaining reader.new) machine.new clock.new (W.contents writer.new) }
+    ensures more { result ≡ Turn.More → (bytes : List ℕ) × (0 < length bytes)
+        × Consumes (R.remaining reader.old) (R.remaining reader.new) bytes }
+    ensures taken { result ≢ Turn.WriteFailed → (r : Option (List ℕ)) (start : Session P C) →
+        Taken P.step C.ticks r (R.remaining reader.old) line.old start (responder.old, clock.old, W.contents writer.old) →
+        Taken P.step C.ticks r (R.remaining reader.new) line.new start (responder.new, clock.new, W.contents writer.new) }
+    ensures stopped { result ≡ Turn.WriteFailed → (r : Option (List ℕ)) (start : Session P C) →
+        Taken P.step C.ticks r (R.remaining reader.old) line.old start (responder.old, clock.old, W.contents writer.old) →
+        Stopped P.step C.ticks r (R.remaining reader.new) start (responder.new, clock.new, W.contents writer.new) }
 {
     match reader.read(chunk) {
         Err(_) => Turn::ReadFailed,
         Ok(0) => Turn::End,
-        Ok(count) => match take_bytes(alloc, machine, writer, clock, line, &chunk[..count]) {
+        Ok(count) => match take_bytes(alloc, responder, writer, clock, line, &chunk[..count]) {
             Ok(()) => Turn::More,
             Err(_) => Turn::WriteFailed,
         },
@@ -182,26 +189,31 @@ fn read_once<M: Machine, R: Read, W: Write, C: Clock>(
 const READS: u64 = 4294967296;
 
 /// Serves until the input ends.
-fn serve_lines<M: Machine, R: Read, W: Write, C: Clock>(
+fn serve_lines<P: Responder, R: Read, W: Write, C: Clock>(
     alloc: Global,
-    machine: &mut M,
+    responder: &mut P,
     reader: &mut R,
     writer: &mut W,
     clock: &mut C,
     line: &mut Line,
 ) -> Result<(), ServeFault>
     requires { line.old ≡ [] }
-    ensures ok { OnOk result (Complete M.step C.ticks (R.remaining reader.old) machine.old clock.old (W.contents writer.old) (R.remaining reader.new) machine.new clock.new (W.contents writer.new)) }
-    ensures read { IsErrOf result ServeFault.Read → Taken M.step C.ticks (R.remaining reader.old) machine.old clock.old (W.contents writer.old) line.new (R.remaining reader.new) machine.new clock.new (W.contents writer.new) }
-    ensures write { IsErrOf result ServeFault.Write → Stopped M.step C.ticks (R.remaining reader.old) machine.old clock.old (W.contents writer.old) (R.remaining reader.new) machine.new clock.new (W.contents writer.new) }
+    ensures ok { OnOk result (Served P.step C.ticks (AllLines (R.remaining reader.old) (R.remaining reader.new))
+        (responder.old, clock.old, W.contents writer.old) (responder.new, clock.new, W.contents writer.new)) }
+    ensures read { IsErrOf result ServeFault.Read
+        → Taken P.step C.ticks (R.remaining reader.old) (R.remaining reader.new) line.new
+        (responder.old, clock.old, W.contents writer.old) (responder.new, clock.new, W.contents writer.new) }
+    ensures write { IsErrOf result ServeFault.Write
+        → Stopped P.step C.ticks (R.remaining reader.old) (R.remaining reader.new)
+        (responder.old, clock.old, W.contents writer.old) (responder.new, clock.new, W.contents writer.new) }
     ensures memory { IsErrOf result ServeFault.Memory → ⊥ }
 {
     let mut chunk = [0u8; 4096];
     for _ in 0..READS {
-        match read_once(alloc, machine, reader, writer, clock, line, &mut chunk) {
+        match read_once(alloc, responder, reader, writer, clock, line, &mut chunk) {
             Turn::More => {}
             Turn::End => {
-                return match finish(alloc, machine, writer, clock, line) {
+                return match finish(alloc, responder, writer, clock, line) {
                     Ok(()) => Ok(()),
                     Err(_) => Err(ServeFault::Write),
                 };
@@ -219,24 +231,30 @@ fn serve_lines<M: Machine, R: Read, W: Write, C: Clock>(
 ///
 /// `Memory` where the room for a line was refused; `Read` where a read failed or there were 2^32
 /// reads; `Write` where a write or a flush failed or a write took nothing.
-pub fn serve_machine<M: Machine, R: Read, W: Write, C: Clock>(
+pub fn answer_lines<P: Responder, R: Read, W: Write, C: Clock>(
     alloc: Global,
-    machine: &mut M,
+    responder: &mut P,
     reader: &mut R,
     writer: &mut W,
     clock: &mut C,
 ) -> Result<(), ServeFault>
-    // What was written is the replies of a run over all lines that were read, each with its end.
-    ensures ok { OnOk result (Complete M.step C.ticks (R.remaining reader.old) machine.old clock.old (W.contents writer.old) (R.remaining reader.new) machine.new clock.new (W.contents writer.new)) }
-    // The same for the whole lines before.
-    ensures read { IsErrOf result ServeFault.Read → (rest : List ℕ) × Taken M.step C.ticks (R.remaining reader.old) machine.old clock.old (W.contents writer.old) rest (R.remaining reader.new) machine.new clock.new (W.contents writer.new) }
-    // The same for some lines, the last reply whole, in part or missing.
-    ensures write { IsErrOf result ServeFault.Write → Stopped M.step C.ticks (R.remaining reader.old) machine.old clock.old (W.contents writer.old) (R.remaining reader.new) machine.new clock.new (W.contents writer.new) }
+    // All lines of the input were answered, each reply written with its end.
+    ensures ok { OnOk result (Served P.step C.ticks (AllLines (R.remaining reader.old) (R.remaining reader.new))
+        (responder.old, clock.old, W.contents writer.old) (responder.new, clock.new, W.contents writer.new)) }
+    // The same for the whole lines that were read.
+    ensures read { IsErrOf result ServeFault.Read
+        → Served P.step C.ticks (WholeLines (R.remaining reader.old) (R.remaining reader.new))
+        (responder.old, clock.old, W.contents writer.old) (responder.new, clock.new, W.contents writer.new) }
+    // The same for some lines of these, the last reply whole, in part or missing.
+    ensures write { IsErrOf result ServeFault.Write
+        → Stopped P.step C.ticks (R.remaining reader.old) (R.remaining reader.new)
+        (responder.old, clock.old, W.contents writer.old) (responder.new, clock.new, W.contents writer.new) }
     // Nothing was read.
-    ensures memory { IsErrOf result ServeFault.Memory → (reader.new ≡ reader.old) × (writer.new ≡ writer.old) × (machine.new ≡ machine.old) × (clock.new ≡ clock.old) }
+    ensures memory { IsErrOf result ServeFault.Memory → (reader.new ≡ reader.old) × (writer.new ≡ writer.old)
+        × (responder.new ≡ responder.old) × (clock.new ≡ clock.old) }
 {
     match Line::new(alloc) {
         Err(_) => Err(ServeFault::Memory),
-        Ok(mut line) => serve_lines(alloc, machine, reader, writer, clock, &mut line),
+        Ok(mut line) => serve_lines(alloc, responder, reader, writer, clock, &mut line),
     }
 }

@@ -7,14 +7,15 @@ use Rattle.fv_datum.specs.Json.{spelled}
 use Rattle.fv_datum.specs.Lookup.{at_name}
 use Rattle.fv_datum.specs.Members.{pairs}
 use Rattle.fv_model.specs.Draft.{Part}
-use Rattle.fv_model.specs.Reading.{misfits, flaw_among, has_flaw, fits_given, all_fit}
-use Rattle.fv_model.specs.Types.{Held, DeclaredFields, Declared, FieldsApart, kind_of}
+use Rattle.fv_model.specs.Reading.{misfits, flaw_among, has_flaw}
+use Rattle.fv_model.specs.Fitting.{fits_given, all_fit}
+use Rattle.fv_model.specs.Types.{TypeUse, DeclaredFields, Declared, FieldsApart, kind_of}
 use Rattle.fv_model.proofs.Apart.{found_apart}
 use Rattle.fv_model.proofs.Bools.{not_false}
 use Rattle.fv_model.proofs.Law.{found_each, flaw_known}
 use Rattle.fv_model.proofs.Typed.{none_at}
 
-fits_at : (type : Held) (o : Option json.Data) → ((j : json.Data) → o ≡ Some j → misfits (Some type) j ≡ false) → fits_given type o ≡ true
+fits_at : (type : TypeUse) (o : Option json.Data) → ((j : json.Data) → o ≡ Some j → misfits (Some type) j ≡ false) → fits_given type o ≡ true
 fits_at type None h = refl
 fits_at type (Some j) h = not_false (is_some (spelled (kind_of type) j)) (h j refl)
 

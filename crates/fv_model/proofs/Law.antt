@@ -14,7 +14,7 @@ use Rattle.std.proofs.lemmas.Slice.Eq.{bytes_eq-Decides}
 use Rattle.serde_json.specs.Data as json
 use Rattle.serde_json.specs.Find.{get_member, as_str}
 use Rattle.serde_json.proofs.Views.{get_member-put, get_member-put_other}
-use Rattle.fv_datum.specs.Answers.{first, unless_fault}
+use Rattle.fv_datum.specs.Outcomes.{first, unless_fault}
 use Rattle.fv_datum.specs.Data.{Data, null}
 use Rattle.fv_datum.specs.Json.{spelled}
 use Rattle.fv_datum.specs.Kinds.{FitsKind, IsOfKind}
@@ -28,7 +28,7 @@ use Rattle.fv_model.specs.Bundles.{IsAscending, Thing, Things, Bundled}
 use Rattle.fv_datum.specs.Members.{pairs, each_some}
 use Rattle.fv_model.specs.Draft.{Part, part_of, draft_of}
 use Rattle.fv_model.specs.Reading.{ObjectTypes, object_types, root_missing, Flaw, flaw_among, has_flaw, undeclared, misfits, dangles, strays, is_long_text, is_long, long_text, root_type, conditions, draft_fault, datum_at, field_of, object_of, bundle_of, judged, bundle_read}
-use Rattle.fv_model.specs.Types.{Held, texts, references, DeclaredFields, Declared, AreApart, FieldsApart, kind_of, name_at}
+use Rattle.fv_model.specs.Types.{TypeUse, texts, references, DeclaredFields, Declared, AreApart, FieldsApart, kind_of, name_at}
 use Rattle.fv_model.specs.WellTyped.{NamesObject, RefersTo, IsWithinLimits, FitsUse, FieldsFit, FitsType, IsWellTyped, HasRootType}
 use Rattle.fv_model.specs.Writing.{datum_json, added, thing_json, objects_added, bundle_json}
 use Rattle.fv_model.specs.declared.types.TypeId.{TypeId}
@@ -52,7 +52,7 @@ has_json : (k : Kind) (d : Data) → FitsKind k d → datum_written d ≡ Ok (da
 has_json k d (inl is) = rw is refl
 has_json k d (inr of) = plain_json k d of
 
-again : (os : Things) (type : Held) (d : Data) → FitsUse os type d → spelled (kind_of type) (datum_json d) ≡ Some d
+again : (os : Things) (type : TypeUse) (d : Data) → FitsUse os type d → spelled (kind_of type) (datum_json d) ≡ Some d
 again os type d fits = spelled-written (kind_of type) d (datum_json d) fits.0 (has_json (kind_of type) d fits.0)
 
 short : (n : ℕ) → n ≤ 65536 → nat_lt 65536 n ≡ false
@@ -65,7 +65,7 @@ short_text d (inr (s, it)) within =
     rw it (short (length s) bound)
 
 -- only a text field's datum can be too long
-not_long : (type : Held) (d : Data) → FitsKind (kind_of type) d → IsWithinLimits d → is_long (Some type) (datum_json d) ≡ false
+not_long : (type : TypeUse) (d : Data) → FitsKind (kind_of type) d → IsWithinLimits d → is_long (Some type) (datum_json d) ≡ false
 not_long texts d fits within = short_text d fits within
 not_long _ d fits within = refl
 
@@ -91,7 +91,7 @@ is_null_null null e = refl
 is_null_null _ e = absurd (true≢false (sym e))
 
 -- the datum that is read at a name where it was put, or where it is null
-at_put : (os : Things) (b : Bool) (type : Held) (k : List ℕ) (d : Data) (ms : json.Members) → b ≡ is_null d → FitsUse os type d → get_member k ms ≡ None
+at_put : (os : Things) (b : Bool) (type : TypeUse) (k : List ℕ) (d : Data) (ms : json.Members) → b ≡ is_null d → FitsUse os type d → get_member k ms ≡ None
     → datum_at type (get_member k (cond b ms (json.put k (datum_json d) ms))) ≡ d
 at_put os true type k d ms e fit none = rw none (sym (is_null_null d (sym e)))
 at_put os false type k d ms e fit none = rw (get_member-put k (datum_json d) ms, again os type d fit) refl
@@ -148,7 +148,7 @@ other_bytes : (xs ys : List ℕ) (b : Bool) → bytes_eq xs ys ≡ b → xs ≢ 
 other_bytes xs ys true e other = absurd (other ((bytes_eq-Decides xs ys).0 e))
 other_bytes xs ys false e other = refl
 
-skip : (d : List ℕ × Held) (all ds : DeclaredFields) → AllByRecursion (λ e. e.0 ≢ d.0) ds → AllByRecursion (λ e. at_name e.0 all ≡ Some e.1) ds → AllByRecursion (λ e. at_name e.0 (d ∷ all) ≡ Some e.1) ds
+skip : (d : List ℕ × TypeUse) (all ds : DeclaredFields) → AllByRecursion (λ e. e.0 ≢ d.0) ds → AllByRecursion (λ e. at_name e.0 all ≡ Some e.1) ds → AllByRecursion (λ e. at_name e.0 (d ∷ all) ≡ Some e.1) ds
 skip d all [] other known = tt
 skip d all (e ∷ ds) other known = (rw (other_bytes e.0 d.0 _ refl other.0) known.0, skip d all ds other.1 known.1)
 
@@ -172,11 +172,11 @@ referred : (os : Things) (types : ObjectTypes) (type : List ℕ) (d : Data) → 
 referred os types type d agree (inl is) refers = inl (rw is refl)
 referred os types type d agree (inr (s, passes, it)) refers = inr (s, rw it refl, known_type os types type s agree (refers s it))
 
-not_dangling : (os : Things) (types : ObjectTypes) (type : Held) (d : Data) → Agree types os → FitsKind (kind_of type) d → RefersTo os type d → dangles types (Some type) (datum_json d) ≡ false
+not_dangling : (os : Things) (types : ObjectTypes) (type : TypeUse) (d : Data) → Agree types os → FitsKind (kind_of type) d → RefersTo os type d → dangles types (Some type) (datum_json d) ≡ false
 not_dangling os types (references type) d agree fits refers = elim (referred os types type d agree fits refers) [ inl none ↦ rw none refl | inr some ↦ rw (some.1, some.2) refl ]
 not_dangling os types _ d agree fits refers = refl
 
-not_stray : (os : Things) (types : ObjectTypes) (type : Held) (d : Data) → Agree types os → FitsKind (kind_of type) d → RefersTo os type d → strays types (Some type) (datum_json d) ≡ false
+not_stray : (os : Things) (types : ObjectTypes) (type : TypeUse) (d : Data) → Agree types os → FitsKind (kind_of type) d → RefersTo os type d → strays types (Some type) (datum_json d) ≡ false
 not_stray os types (references type) d agree fits refers = elim (referred os types type d agree fits refers) [ inl none ↦ rw none refl | inr some ↦ rw (some.1, some.2, same_bytes type) refl ]
 not_stray os types _ d agree fits refers = refl
 

@@ -13,6 +13,7 @@ use Rattle.serde_json.specs.Data as json
 use Rattle.serde_json.specs.View.{members_view}
 use Rattle.serde_json.specs.declared.value.Value.{Value}
 use Rattle.fv_model.specs.Bundles.{IsAscending}
+use Rattle.fv_datum.specs.Forms.{map2}
 use Rattle.fv_datum.specs.Members.{pairs, each_some}
 use Rattle.fv_model.specs.Draft.{Part, part_of}
 use Rattle.fv_model.specs.Reading.{object_types, object_of}
@@ -57,7 +58,7 @@ members_ascend (e ∷ es) h = (all_below (string_bytes e.0) es h.0, members_asce
 -- ---- the objects that are given
 
 built : (b : Bool) (name : List ℕ) (type : Option (List ℕ)) (given : Option json.Members) (p : Part)
-    → cond b (option_and_then (λ t. option_map (λ g. record { name = name; type_name = t; given = g }) given) type) None ≡ Some p → p.name ≡ name
+    → cond b (map2 (λ t g. record { name = name; type_name = t; given = g }) type given) None ≡ Some p → p.name ≡ name
 built true name (Some t) (Some g) p e =
     let same : record { name = name; type_name = t; given = g } ≡ p = cc in
     ap (λ (q : Part). q.name) (sym same)

@@ -11,7 +11,7 @@ use Rattle.std.proofs.lemmas.Map.Lookups.{exact_bytes}
 use Rattle.std.proofs.lemmas.Slice.Eq.{bytes_eq-Decides}
 use Rattle.serde_json.specs.Data as json
 use Rattle.serde_json.specs.Find.{get_member, as_str}
-use Rattle.fv_datum.specs.Answers.{Gives, first, unless_fault}
+use Rattle.fv_datum.specs.Outcomes.{Gives, first, unless_fault}
 use Rattle.fv_datum.specs.Data.{Data, null, text, reference}
 use Rattle.fv_datum.specs.Json.{spelled}
 use Rattle.fv_datum.specs.Kinds.{FitsKind, IsOfKind}
@@ -23,7 +23,7 @@ use Rattle.fv_model.specs.Bundles.{IsAscending, Things, Bundled}
 use Rattle.fv_datum.specs.Members.{pairs}
 use Rattle.fv_model.specs.Draft.{Part, Drafted, draft_of}
 use Rattle.fv_model.specs.Reading.{bad_name, root_missing, unknown_type, flaw_among, has_flaw, some_flawed, misfits, wrong_kind, ObjectTypes, object_types, is_missing, dangles, dangling_ref, is_other, strays, ref_type, is_long, long_text, too_large, root_type, conditions, draft_fault, datum_at, field_of, object_of, bundle_of, judged, bundle_read}
-use Rattle.fv_model.specs.Types.{Held, texts, integers, decimals, booleans, dates, instants, references, DeclaredFields, Declared, FieldsApart, kind_of, name_at}
+use Rattle.fv_model.specs.Types.{TypeUse, texts, integers, decimals, booleans, dates, instants, references, DeclaredFields, Declared, FieldsApart, kind_of, name_at}
 use Rattle.fv_model.specs.Views.{bundle_view}
 use Rattle.fv_model.specs.WellTyped.{NamesObject, RefersTo, IsWithinLimits, FitsUse, FieldsFit, FitsType, IsWellTyped, HasRootType}
 use Rattle.fv_model.specs.declared.bundle.Bundle.{Bundle}
@@ -46,7 +46,7 @@ text_within j d (s, it) e short =
     let limit : nat_lt 65536 (length s) ≡ false = rw found at short in
     rw it (ltb-false 65536 (length s) limit)
 
-plain_within : (type : Held) (j : json.Data) (d : Data) → IsOfKind (kind_of type) d → spelled (kind_of type) j ≡ Some d → is_long (Some type) j ≡ false → IsWithinLimits d
+plain_within : (type : TypeUse) (j : json.Data) (d : Data) → IsOfKind (kind_of type) d → spelled (kind_of type) j ≡ Some d → is_long (Some type) j ≡ false → IsWithinLimits d
 plain_within texts j d of e short = text_within j d of e short
 plain_within integers j d (n, fits, it) e short = rw it tt
 plain_within decimals j d (s, passes, it) e short = rw it tt
@@ -55,7 +55,7 @@ plain_within dates j d (s, passes, it) e short = rw it tt
 plain_within instants j d (n, passes, it) e short = rw it tt
 plain_within (references to) j d (s, passes, it) e short = rw it tt
 
-within : (type : Held) (j : json.Data) (d : Data) → FitsKind (kind_of type) d → spelled (kind_of type) j ≡ Some d → is_long (Some type) j ≡ false → IsWithinLimits d
+within : (type : TypeUse) (j : json.Data) (d : Data) → FitsKind (kind_of type) d → spelled (kind_of type) j ≡ Some d → is_long (Some type) j ≡ false → IsWithinLimits d
 within type j d (inl it) e short = rw it tt
 within type j d (inr of) e short = plain_within type j d of e short
 
@@ -63,7 +63,7 @@ some_of : {X : Type 0} (o : Option X) → not (is_some o) ≡ false → (x : X) 
 some_of (Some x) e = (x, refl)
 some_of None e = cc
 
-fits_some : (type : Held) (j : json.Data) → misfits (Some type) j ≡ false → is_long (Some type) j ≡ false → FitsKind (kind_of type) (datum_at type (Some j)) × IsWithinLimits (datum_at type (Some j))
+fits_some : (type : TypeUse) (j : json.Data) → misfits (Some type) j ≡ false → is_long (Some type) j ≡ false → FitsKind (kind_of type) (datum_at type (Some j)) × IsWithinLimits (datum_at type (Some j))
 fits_some type j fits short =
     let found = some_of (spelled (kind_of type) j) fits in
     let kind_fits = spelled-fits (kind_of type) j found.0 found.1 in
@@ -104,11 +104,11 @@ refers_at ts ps type name (Some s) there own is =
     let same_type : type ≡ found.0 = same_name type found.0 other in
     subst (λ (n : List ℕ). NamesObject (map (object_of ts) ps) type n) same (named_object ts ps s type (rw same_type found.1))
 
-refers_some : (ts : Declared) (ps : List Part) (type : Held) (j : json.Data) → dangles (object_types ps) (Some type) j ≡ false → strays (object_types ps) (Some type) j ≡ false → RefersTo (map (object_of ts) ps) type (datum_at type (Some j))
+refers_some : (ts : Declared) (ps : List Part) (type : TypeUse) (j : json.Data) → dangles (object_types ps) (Some type) j ≡ false → strays (object_types ps) (Some type) j ≡ false → RefersTo (map (object_of ts) ps) type (datum_at type (Some j))
 refers_some ts ps (references type) j there own = λ name is. refers_at ts ps type name (as_str j) there own (read_name type name j is)
 refers_some ts ps _ j there own = tt
 
-refers_null : (os : Things) (type : Held) → RefersTo os type null
+refers_null : (os : Things) (type : TypeUse) → RefersTo os type null
 refers_null os (references type) = λ name is. cc
 refers_null os _ = tt
 
@@ -130,13 +130,13 @@ none_at t q (json.member l e ms) j is none =
     ]
 
 -- no fault at a given datum
-record IsSound (types : ObjectTypes) (type : Option Held) (j : json.Data) : Type 0 where
+record IsSound (types : ObjectTypes) (type : Option TypeUse) (j : json.Data) : Type 0 where
   fits : misfits type j ≡ false
   there : dangles types type j ≡ false
   own : strays types type j ≡ false
   short : is_long type j ≡ false
 
-fits_at : (ts : Declared) (ps : List Part) (type : Held) (o : Option json.Data) → ((j : json.Data) → o ≡ Some j → IsSound (object_types ps) (Some type) j) → FitsUse (map (object_of ts) ps) type (datum_at type o)
+fits_at : (ts : Declared) (ps : List Part) (type : TypeUse) (o : Option json.Data) → ((j : json.Data) → o ≡ Some j → IsSound (object_types ps) (Some type) j) → FitsUse (map (object_of ts) ps) type (datum_at type o)
 fits_at ts ps type None h = (inl refl, tt, refers_null (map (object_of ts) ps) type)
 fits_at ts ps type (Some j) h =
     let sound = h j refl in
@@ -150,7 +150,7 @@ record AreSound (types : ObjectTypes) (all : DeclaredFields) (given : List (List
   own : flaw_among (strays types) all given ≡ false
   short : flaw_among is_long all given ≡ false
 
-fits_found : (ts : Declared) (ps : List Part) (all : DeclaredFields) (given : json.Members) (f : List ℕ × Held) → AreSound (object_types ps) all (pairs given) → at_name f.0 all ≡ Some f.1 → FitsUse (map (object_of ts) ps) f.1 (datum_at f.1 (get_member f.0 given))
+fits_found : (ts : Declared) (ps : List Part) (all : DeclaredFields) (given : json.Members) (f : List ℕ × TypeUse) → AreSound (object_types ps) all (pairs given) → at_name f.0 all ≡ Some f.1 → FitsUse (map (object_of ts) ps) f.1 (datum_at f.1 (get_member f.0 given))
 fits_found ts ps all given f sound found =
     fits_at ts ps f.1 (get_member f.0 given) (λ j is. record {
       fits = rw found at (none_at (λ g. misfits (at_name g.0 all) g.1) f.0 given j is sound.fits);

@@ -1,7 +1,9 @@
 pub mod Bundles
 pub mod Draft
 pub mod FaultNames
+pub mod Fitting
 pub mod Flaws
+pub mod Limits
 pub mod PartViews
 pub mod Reading
 pub mod Types

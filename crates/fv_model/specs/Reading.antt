@@ -1,15 +1,16 @@
 -- The bundle that a JSON value spells, or its first fault.
-use Rattle.std.specs.Prelude.{ℕ, ◌||◌, List, [], ◌∷◌, length, map, Bool, true, false, not, nat_lt, Option, Some, None, option_and_then, Result, Err, unwrap_or, is_some}
-use Rattle.std.specs.List.{list_any, list_all}
+use Rattle.std.specs.Prelude.{ℕ, ◌||◌, List, [], ◌∷◌, length, map, Bool, false, not, nat_lt, Option, Some, None, option_and_then, Result, Err, unwrap_or, is_some}
+use Rattle.std.specs.List.{list_any}
 use Rattle.std.specs.Str.{bytes_eq}
 use Rattle.serde_json.specs.Data as json
 use Rattle.serde_json.specs.Find.{as_str, get_member}
-use Rattle.fv_datum.specs.Answers.{first, unless_fault}
+use Rattle.fv_datum.specs.Outcomes.{first, unless_fault}
 use Rattle.fv_datum.specs.Data.{Data, null}
 use Rattle.fv_datum.specs.Json.{spelled}
 use Rattle.fv_datum.specs.Lookup.{at_name}
 use Rattle.fv_datum.specs.Name.{names}
-use Rattle.fv_model.specs.Types.{Held, texts, references, DeclaredFields, Declared, kind_of}
+use Rattle.fv_model.specs.Limits.{most_objects, longest_text}
+use Rattle.fv_model.specs.Types.{TypeUse, texts, references, DeclaredFields, Declared, kind_of}
 use Rattle.fv_model.specs.Bundles.{Thing, Bundled}
 use Rattle.fv_datum.specs.Members.{pairs}
 use Rattle.fv_model.specs.Draft.{Part, Drafted, draft_of}
@@ -44,7 +45,7 @@ unknown_type ts = list_any (λ p. not (is_some (at_name p.type_name ts)))
 
 -- a test of a datum that is given, and of what its field holds: None where the object's type has no such field
 abbrev pub Flaw : Type 0
-Flaw = Option Held → json.Data → Bool
+Flaw = Option TypeUse → json.Data → Bool
 
 -- one of the data that are given for the fields of a type has the flaw
 abbrev pub flaw_among : Flaw → DeclaredFields → List (List ℕ × json.Data) → Bool
@@ -65,12 +66,12 @@ some_flawed flaw ts = list_any (has_flaw flaw ts)
 
 -- its object's type has no such field
 abbrev pub undeclared : Flaw
-undeclared held j = not (is_some held)
+undeclared type_use j = not (is_some type_use)
 
 -- it isn't of its field's type use
 abbrev pub misfits : Flaw
 misfits None j = false
-misfits (Some held) j = not (is_some (spelled (kind_of held) j))
+misfits (Some type_use) j = not (is_some (spelled (kind_of type_use) j))
 
 -- a name that no object has
 abbrev pub is_missing : ObjectTypes → Option (List ℕ) → Bool
@@ -95,7 +96,7 @@ strays types _ j = false
 -- a text of more than 65,536 bytes
 abbrev pub is_long_text : Option (List ℕ) → Bool
 is_long_text None = false
-is_long_text (Some s) = nat_lt 65536 (length s)
+is_long_text (Some s) = nat_lt longest_text (length s)
 
 -- it is a text that is too long, for a text field
 abbrev pub is_long : Flaw
@@ -124,7 +125,7 @@ long_text = some_flawed is_long
 
 -- more than 256 objects, or a text that is too long
 abbrev pub too_large : Declared → List Part → Bool
-too_large ts ps = nat_lt 256 (length ps) || long_text ts ps
+too_large ts ps = nat_lt most_objects (length ps) || long_text ts ps
 
 -- the root is of another type than the one that is asked
 abbrev pub root_type : Option (List ℕ) → List ℕ → List Part → Bool
@@ -152,21 +153,12 @@ draft_fault ts asked d = first (conditions ts asked d)
 -- ---- what it spells where nothing is wrong
 
 -- a field's datum: null where the field isn't given
-abbrev pub datum_at : Held → Option json.Data → Data
-datum_at held None = null
-datum_at held (Some j) = unwrap_or (spelled (kind_of held) j) null
-
--- a given datum is of the type use
-abbrev pub fits_given : Held → Option json.Data → Bool
-fits_given held None = true
-fits_given held (Some j) = is_some (spelled (kind_of held) j)
-
--- the same, of each field of a type
-abbrev pub all_fit : json.Members → DeclaredFields → Bool
-all_fit given = list_all (λ f. fits_given f.1 (get_member f.0 given))
+abbrev pub datum_at : TypeUse → Option json.Data → Data
+datum_at type_use None = null
+datum_at type_use (Some j) = unwrap_or (spelled (kind_of type_use) j) null
 
 -- a field with its datum among those that are given
-abbrev pub field_of : json.Members → List ℕ × Held → List ℕ × Data
+abbrev pub field_of : json.Members → List ℕ × TypeUse → List ℕ × Data
 field_of given f = (f.0, datum_at f.1 (get_member f.0 given))
 
 -- an object with its name: each field of its type, in the type's order

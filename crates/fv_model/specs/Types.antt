@@ -6,27 +6,28 @@ use Rattle.std.specs.HashMap.{HashMap}
 use Rattle.std.specs.declared.alloc.Global.{Global}
 use Rattle.std.specs.declared.hash.FoldHasher.{FoldHasher}
 use Rattle.std.specs.declared.hash.BuildHasherDefault.{BuildHasherDefault}
-use Rattle.fv_datum.specs.Answers.{first}
+use Rattle.fv_datum.specs.Outcomes.{first}
 use Rattle.fv_datum.specs.Lookup.{at_name}
 use Rattle.fv_datum.specs.declared.kind.Kind.{Kind}
 use Rattle.fv_datum.specs.declared.kind.Kind.TheVariants as kind
-use Rattle.fv_model.specs.declared.type_use.TypeUse.{TypeUse}
+use Rattle.fv_model.specs.Limits.{most_types, most_fields}
+use Rattle.fv_model.specs.declared.type_use.TypeUse as code
 use Rattle.fv_model.specs.declared.type_use.TypeUse.TheVariants as type_use
 use Rattle.fv_model.specs.declared.fault.TypesFault.{TypesFault}
 use Rattle.fv_model.specs.declared.fault.TypesFault.TheVariants.{UnknownType, TooLarge}
 
 -- what a field of a type holds: data of a plain kind, or the names of objects of a type
-pub data Held : Type 0 where
-  texts : Held
-  integers : Held
-  decimals : Held
-  booleans : Held
-  dates : Held
-  instants : Held
-  references : List ℕ → Held
+pub data TypeUse : Type 0 where
+  texts : TypeUse
+  integers : TypeUse
+  decimals : TypeUse
+  booleans : TypeUse
+  dates : TypeUse
+  instants : TypeUse
+  references : List ℕ → TypeUse
 
 -- the kind of the data that a field holds
-abbrev pub kind_of : Held → Kind
+abbrev pub kind_of : TypeUse → Kind
 kind_of texts = kind.Text
 kind_of integers = kind.Integer
 kind_of decimals = kind.Decimal
@@ -36,18 +37,18 @@ kind_of instants = kind.Instant
 kind_of (references type) = kind.Ref
 
 -- what a type use says that a field holds
-abbrev pub held_view : TypeUse → Held
-held_view type_use.Text = texts
-held_view type_use.Integer = integers
-held_view type_use.Decimal = decimals
-held_view type_use.Boolean = booleans
-held_view type_use.Date = dates
-held_view type_use.Instant = instants
-held_view (type_use.Ref type) = references (string_bytes type)
+abbrev pub type_use_view : code.TypeUse → TypeUse
+type_use_view type_use.Text = texts
+type_use_view type_use.Integer = integers
+type_use_view type_use.Decimal = decimals
+type_use_view type_use.Boolean = booleans
+type_use_view type_use.Date = dates
+type_use_view type_use.Instant = instants
+type_use_view (type_use.Ref type) = references (string_bytes type)
 
 -- a type's fields by their names, in the order of their numbers
 abbrev pub DeclaredFields : Type 0
-DeclaredFields = List (List ℕ × Held)
+DeclaredFields = List (List ℕ × TypeUse)
 
 -- the types by their names, in the order of their numbers
 abbrev pub Declared : Type 0
@@ -58,23 +59,23 @@ abbrev pub TextMap : Type 0 → Type 0
 TextMap X = HashMap (String Global) X (BuildHasherDefault FoldHasher)
 
 -- a field with what it holds
-abbrev pub use_view : String Global × TypeUse → List ℕ × Held
-use_view e = (string_bytes e.0, held_view e.1)
+abbrev pub use_view : String Global × code.TypeUse → List ℕ × TypeUse
+use_view e = (string_bytes e.0, type_use_view e.1)
 
 -- the fields that a map has
-abbrev pub fields_view : TextMap TypeUse → DeclaredFields
+abbrev pub fields_view : TextMap code.TypeUse → DeclaredFields
 fields_view m = map use_view m.entries
 
 -- a type with its fields
-abbrev pub type_view : String Global × TextMap TypeUse → List ℕ × DeclaredFields
+abbrev pub type_view : String Global × TextMap code.TypeUse → List ℕ × DeclaredFields
 type_view e = (string_bytes e.0, fields_view e.1)
 
 -- the types that a map has
-abbrev pub declared_view : TextMap (TextMap TypeUse) → Declared
+abbrev pub declared_view : TextMap (TextMap code.TypeUse) → Declared
 declared_view m = map type_view m.entries
 
 -- a reference to a type that isn't declared
-abbrev pub is_unknown : Declared → Held → Bool
+abbrev pub is_unknown : Declared → TypeUse → Bool
 is_unknown ts (references type) = not (is_some (at_name type ts))
 is_unknown ts _ = false
 
@@ -88,7 +89,7 @@ has_unknown ts = list_any (λ t. unknown_in ts t.1) ts
 
 -- a type of more than 256 fields
 abbrev pub has_large : Declared → Bool
-has_large = list_any (λ t. nat_lt 256 (length t.1))
+has_large = list_any (λ t. nat_lt most_fields (length t.1))
 
 -- no name stands twice
 abbrev pub AreApart : {X : Type 0} → List (List ℕ × X) → Type 0
@@ -100,7 +101,7 @@ FieldsApart ts = All (λ t. AreApart t.1) ts
 
 -- more than 256 types, or a type of more than 256 fields
 abbrev pub too_many : Declared → Bool
-too_many ts = nat_lt 256 (length ts) || has_large ts
+too_many ts = nat_lt most_types (length ts) || has_large ts
 
 -- the first fault of types that are declared
 abbrev pub types_fault : Declared → Option TypesFault

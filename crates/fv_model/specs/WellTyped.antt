@@ -6,12 +6,13 @@ use Rattle.fv_datum.specs.Data.{Data, text, reference}
 use Rattle.fv_datum.specs.Kinds.{FitsKind}
 use Rattle.fv_datum.specs.Lookup.{at_name}
 use Rattle.fv_datum.specs.Name.{names}
-use Rattle.fv_model.specs.Types.{Held, references, DeclaredFields, Declared, kind_of}
+use Rattle.fv_model.specs.Limits.{most_objects, longest_text}
+use Rattle.fv_model.specs.Types.{TypeUse, references, DeclaredFields, Declared, kind_of}
 use Rattle.fv_model.specs.Bundles.{IsAscending, Thing, Things, Bundled}
 
 -- no text of more than 65,536 bytes
 abbrev pub IsWithinLimits : Data → Type 0
-IsWithinLimits (text s) = length s ≤ 65536
+IsWithinLimits (text s) = length s ≤ longest_text
 IsWithinLimits _ = Unit {0}
 
 -- the name is that of an object of the type
@@ -19,13 +20,13 @@ abbrev pub NamesObject : Things → List ℕ → List ℕ → Type 0
 NamesObject os type name = (t : Thing) × (at_name name os ≡ Some t) × (t.type_name ≡ type)
 
 -- where the field holds references, a name that the datum is names an object of their type
-abbrev pub RefersTo : Things → Held → Data → Type 0
+abbrev pub RefersTo : Things → TypeUse → Data → Type 0
 RefersTo os (references type) d = (name : List ℕ) → d ≡ reference name → NamesObject os type name
 RefersTo os _ d = Unit {0}
 
 -- null, or a datum of the field's kind, within the limits; a reference names an object of its type
-abbrev pub FitsUse : Things → Held → Data → Type 0
-FitsUse os held d = FitsKind (kind_of held) d × IsWithinLimits d × RefersTo os held d
+abbrev pub FitsUse : Things → TypeUse → Data → Type 0
+FitsUse os type_use d = FitsKind (kind_of type_use) d × IsWithinLimits d × RefersTo os type_use d
 
 -- each field of a type, in order, with a datum that fits
 abbrev pub FieldsFit : Things → DeclaredFields → List (List ℕ × Data) → Type 0
@@ -43,7 +44,7 @@ pub record FitsType (ts : Declared) (os : Things) (t : Thing) : Type 0 where
 -- at most 256 objects, each by a name, once and in order, which the root is one of; each object is of a declared type,
 -- and each datum of it fits its field
 pub record IsWellTyped (ts : Declared) (b : Bundled) : Type 0 where
-  pub few : length b.objects ≤ 256
+  pub few : length b.objects ≤ most_objects
   pub ascending : IsAscending (keys_of b.objects)
   pub named : AllByRecursion (λ o. names o.0 ≡ true) b.objects
   pub rooted : is_some (at_name b.root b.objects) ≡ true

@@ -6,9 +6,10 @@ ghost use Rattle.fv_datum.specs.Lookup.{at_name};
 ghost use Rattle.fv_datum.specs.View.{view};
 ghost use Rattle.std.specs.Map.{keys_of};
 ghost use Rattle.fv_model.specs.Bundles.{IsAscending};
-ghost use Rattle.fv_model.specs.Types.{held_view, fields_view};
+ghost use Rattle.fv_model.specs.Types.{type_use_view, fields_view};
 ghost use Rattle.fv_model.specs.Views.{types_view, given_view, part_view, draft_view, field_view, object_view, objects_view, bundle_view};
-ghost use Rattle.fv_model.specs.Reading.{object_types, unknown_type, wrong_kind, has_flaw, misfits, fits_given, all_fit, datum_at, field_of, object_of, bundle_of};
+ghost use Rattle.fv_model.specs.Reading.{object_types, unknown_type, wrong_kind, has_flaw, misfits, datum_at, field_of, object_of, bundle_of};
+ghost use Rattle.fv_model.specs.Fitting.{fits_given, all_fit};
 
 use crate::bundle::{Bundle, Object, Objects};
 use crate::field::Field;
@@ -31,8 +32,9 @@ fn find_given<'a>(given: Option<&'a Map<String, Value>>, name: &str) -> Option<&
 
 /// The datum of a field: null where the field isn't given.
 fn datum_for(alloc: Global, type_use: &TypeUse, value: Option<&Value>) -> Result<Datum, AllocError>
-    requires fits { fits_given (held_view type_use.now) (option_map (λ v. json_view v.now) value) ≡ true }
-    ensures { IfOk result (λ d. view d ≡ datum_at (held_view type_use.now) (option_map (λ v. json_view v.now) value.entry)) }
+    requires fits { fits_given (type_use_view type_use.now) (option_map (λ v. json_view v.now) value) ≡ true }
+    ensures { IfOk result (λ d. view d
+        ≡ datum_at (type_use_view type_use.now) (option_map (λ v. json_view v.now) value.entry)) }
 {
     match value {
         None => Ok(Datum::Null),
@@ -50,8 +52,9 @@ fn field_for(
     type_use: &TypeUse,
     given: Option<&Map<String, Value>>,
 ) -> Result<Field, AllocError>
-    requires fits { fits_given (held_view type_use.now) (get_member name.now (given_view given)) ≡ true }
-    ensures { IfOk result (λ f. field_view f ≡ field_of (given_view given.entry) (name.now, held_view type_use.now)) }
+    requires fits { fits_given (type_use_view type_use.now) (get_member name.now (given_view given)) ≡ true }
+    ensures { IfOk result (λ f. field_view f
+        ≡ field_of (given_view given.entry) (name.now, type_use_view type_use.now)) }
 {
     let value = find_given(given, name);
     Ok(Field {
@@ -66,7 +69,8 @@ fn fields_for(
     given: Option<&Map<String, Value>>,
 ) -> Result<Vec<Field>, AllocError>
     requires fit { all_fit (given_view given) (fields_view fields.now) ≡ true }
-    ensures { IfOk result (λ v. map field_view v.items ≡ map (field_of (given_view given.entry)) (fields_view fields.now)) }
+    ensures { IfOk result (λ v. map field_view v.items
+        ≡ map (field_of (given_view given.entry)) (fields_view fields.now)) }
 {
     let mut out = Vec::with_capacity(alloc, fields.len())?;
     for (name, type_use) in fields.iter() {

@@ -1,11 +1,14 @@
 //! A draft is read from JSON.
-ghost use Rattle.std.specs.Prelude.{◌≡◌, IfOk, map, option_map};
+ghost use Rattle.std.specs.Prelude.{◌≡◌, IfOk, Some, map, option_map};
+ghost use Rattle.std.specs.Option.{option_map_or};
 ghost use Rattle.std.specs.Map.{keys_of};
 ghost use Rattle.std.specs.BTreeMap.{IsOrdered};
 ghost use Rattle.std.specs.String.{string_cmp};
+ghost use Rattle.serde_json.specs.Data.{no_members};
+ghost use Rattle.serde_json.specs.Find.{as_object};
 ghost use Rattle.serde_json.specs.View.{view as json_view, members_view};
 ghost use Rattle.fv_datum.specs.Members.{pairs, each_some};
-ghost use Rattle.fv_model.specs.Draft.{part_of as spec_part, given_in as spec_given, draft_of as spec_draft};
+ghost use Rattle.fv_model.specs.Draft.{part_of as spec_part, draft_of as spec_draft};
 ghost use Rattle.fv_model.specs.Bundles.{IsAscending};
 ghost use Rattle.fv_model.specs.Reading.{object_types};
 ghost use Rattle.fv_model.specs.Views.{given_view, object_types_view, part_view, draft_view};
@@ -19,7 +22,8 @@ use std::alloc::{AllocError, Global};
 /// The fields that an object gives: `Some(None)` where it has no such member, `None` where that is no
 /// object.
 fn given_in<'a>(member: Option<&'a Value>) -> Option<Option<&'a Map<String, Value>>>
-    ensures { option_map given_view result ≡ spec_given (option_map (λ v. json_view v.now) member.entry) }
+    ensures { option_map given_view result
+        ≡ option_map_or as_object (option_map (λ v. json_view v.now) member.entry) (Some no_members) }
 {
     match member {
         None => Some(None),
@@ -50,7 +54,8 @@ fn parts_of<'a>(
     alloc: Global,
     objects: &'a Map<String, Value>,
 ) -> Result<Option<Vec<Part<'a>>>, AllocError>
-    ensures parts { IfOk result (λ o. option_map (λ v. map part_view v.items) o ≡ each_some spec_part (pairs (members_view objects.now.entries))) }
+    ensures parts { IfOk result (λ o. option_map (λ v. map part_view v.items) o
+        ≡ each_some spec_part (pairs (members_view objects.now.entries))) }
     ensures ordered { IsOrdered string_cmp objects.now }
 {
     let mut parts = Vec::with_capacity(alloc, objects.len())?;

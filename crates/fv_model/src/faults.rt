@@ -3,7 +3,7 @@
 ghost use Rattle.std.specs.Prelude.{◌≡◌, map, option_map, Some};
 ghost use Rattle.serde_json.specs.View.{view as json_view, members_view};
 ghost use Rattle.fv_datum.specs.Members.{pairs};
-ghost use Rattle.fv_model.specs.Types.{held_view, fields_view, name_at};
+ghost use Rattle.fv_model.specs.Types.{type_use_view, fields_view, name_at};
 ghost use Rattle.fv_model.specs.Views.{types_view, part_view, draft_view};
 ghost use Rattle.fv_model.specs.Flaws.{flaw_of};
 ghost use Rattle.fv_model.specs.Reading.{bad_name, root_missing, unknown_type, flaw_among, has_flaw, some_flawed, misfits, object_types, is_other, dangles, strays, is_long, too_large, root_type, draft_fault};
@@ -56,7 +56,7 @@ fn unknown_type(types: &Types, parts: &[Part]) -> bool
 
 /// A datum is not of its field's type use.
 fn misfits(type_use: Option<&TypeUse>, value: &Value) -> bool
-    ensures { result ≡ misfits (option_map (λ u. held_view u.now) type_use.entry) (json_view value.now) }
+    ensures { result ≡ misfits (option_map (λ u. type_use_view u.now) type_use.entry) (json_view value.now) }
 {
     match type_use {
         None => false,
@@ -66,7 +66,8 @@ fn misfits(type_use: Option<&TypeUse>, value: &Value) -> bool
 
 /// A reference names no object.
 fn dangles(draft: &Draft, type_use: Option<&TypeUse>, value: &Value) -> bool
-    ensures { result ≡ dangles (object_types (draft_view draft.now).objects) (option_map (λ u. held_view u.now) type_use.entry) (json_view value.now) }
+    ensures { result ≡ dangles (object_types (draft_view draft.now).objects)
+        (option_map (λ u. type_use_view u.now) type_use.entry) (json_view value.now) }
 {
     match (type_use, value.as_str()) {
         (Some(TypeUse::Ref(_)), Some(name)) => draft.type_at(name).is_none(),
@@ -86,7 +87,8 @@ fn is_other(type_name: &str, own: Option<&str>) -> bool
 
 /// A reference names an object of another type than declared.
 fn strays(draft: &Draft, type_use: Option<&TypeUse>, value: &Value) -> bool
-    ensures { result ≡ strays (object_types (draft_view draft.now).objects) (option_map (λ u. held_view u.now) type_use.entry) (json_view value.now) }
+    ensures { result ≡ strays (object_types (draft_view draft.now).objects)
+        (option_map (λ u. type_use_view u.now) type_use.entry) (json_view value.now) }
 {
     match (type_use, value.as_str()) {
         (Some(TypeUse::Ref(target)), Some(name)) => is_other(target.as_str(), draft.type_at(name)),
@@ -96,7 +98,7 @@ fn strays(draft: &Draft, type_use: Option<&TypeUse>, value: &Value) -> bool
 
 /// A text of more bytes than a field may hold.
 fn is_long(type_use: Option<&TypeUse>, value: &Value) -> bool
-    ensures { result ≡ is_long (option_map (λ u. held_view u.now) type_use.entry) (json_view value.now) }
+    ensures { result ≡ is_long (option_map (λ u. type_use_view u.now) type_use.entry) (json_view value.now) }
 {
     match (type_use, value.as_str()) {
         (Some(TypeUse::Text), Some(text)) => text.len() > LONGEST,
@@ -122,7 +124,8 @@ enum Flaw {
 /// Whether a given datum has the flaw. `type_use` is its field's, `None` where its object's type has
 /// no such field.
 fn is_flawed(flaw: Flaw, draft: &Draft, type_use: Option<&TypeUse>, value: &Value) -> bool
-    ensures { result ≡ flaw_of flaw (object_types (draft_view draft.now).objects) (option_map (λ u. held_view u.now) type_use.entry) (json_view value.now) }
+    ensures { result ≡ flaw_of flaw (object_types (draft_view draft.now).objects)
+        (option_map (λ u. type_use_view u.now) type_use.entry) (json_view value.now) }
 {
     match flaw {
         Flaw::Undeclared => type_use.is_none(),
@@ -135,7 +138,8 @@ fn is_flawed(flaw: Flaw, draft: &Draft, type_use: Option<&TypeUse>, value: &Valu
 
 /// Whether one of the data that are given for a type's fields has the flaw.
 fn flaw_among(flaw: Flaw, draft: &Draft, fields: &Fields, given: &Map<String, Value>) -> bool
-    ensures { result ≡ flaw_among (flaw_of flaw (object_types (draft_view draft.now).objects)) (fields_view fields.now) (pairs (members_view given.now.entries)) }
+    ensures { result ≡ flaw_among (flaw_of flaw (object_types (draft_view draft.now).objects)) (fields_view fields.now)
+        (pairs (members_view given.now.entries)) }
 {
     for (name, value) in given.iter() {
         if is_flawed(flaw, draft, use_in(fields, name.as_str()), value) {
@@ -148,7 +152,8 @@ fn flaw_among(flaw: Flaw, draft: &Draft, fields: &Fields, given: &Map<String, Va
 /// Whether one of an object's data has the flaw.
 #[tactic(auto, unfolding(crate::specs::Reading::has_flaw))]
 fn has_flaw(flaw: Flaw, types: &Types, draft: &Draft, part: &Part) -> bool
-    ensures { result ≡ has_flaw (flaw_of flaw (object_types (draft_view draft.now).objects)) (types_view types.now) (part_view part.now) }
+    ensures { result ≡ has_flaw (flaw_of flaw (object_types (draft_view draft.now).objects)) (types_view types.now)
+        (part_view part.now) }
 {
     match (types.fields(part.type_name), part.given) {
         (Some(fields), Some(given)) => flaw_among(flaw, draft, fields, given),
@@ -159,7 +164,8 @@ fn has_flaw(flaw: Flaw, types: &Types, draft: &Draft, part: &Part) -> bool
 /// Whether some object's data have the flaw.
 #[tactic(auto, using(crate::proofs::Anys::part_turn))]
 fn some_flawed(flaw: Flaw, types: &Types, draft: &Draft) -> bool
-    ensures { result ≡ some_flawed (flaw_of flaw (object_types (draft_view draft.now).objects)) (types_view types.now) (draft_view draft.now).objects }
+    ensures { result ≡ some_flawed (flaw_of flaw (object_types (draft_view draft.now).objects)) (types_view types.now)
+        (draft_view draft.now).objects }
 {
     for p in &draft.objects {
         if has_flaw(flaw, types, draft, p) {
@@ -189,7 +195,8 @@ pub(crate) fn draft_fault(
     asked: Option<TypeId>,
     draft: &Draft,
 ) -> Option<BundleFault>
-    ensures { result ≡ draft_fault (types_view types.now) (option_map (λ t. name_at (types_view types.now) t.index) asked) (draft_view draft.now) }
+    ensures { result ≡ draft_fault (types_view types.now) (option_map
+        (λ t. name_at (types_view types.now) t.index) asked) (draft_view draft.now) }
 {
     if bad_name(&draft.objects) {
         return Some(BundleFault::BadName);

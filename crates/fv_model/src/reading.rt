@@ -1,7 +1,7 @@
 ghost use Rattle.std.specs.Prelude.{◌≡◌, option_map, IfOk, Ok};
 ghost use Rattle.std.specs.Option.{ForSome};
 ghost use Rattle.serde_json.specs.View.{view as json_view};
-ghost use Rattle.fv_datum.specs.Answers.{Gives};
+ghost use Rattle.fv_datum.specs.Outcomes.{Gives};
 ghost use Rattle.fv_model.specs.Types.{name_at};
 ghost use Rattle.fv_model.specs.Views.{types_view, bundle_view};
 ghost use Rattle.fv_model.specs.Reading.{bundle_read};
@@ -32,10 +32,15 @@ pub fn read_bundle(
     asked: Option<TypeId>,
     value: &Value,
 ) -> Result<Bundle, BundleFault>
-    ensures exact { Gives BundleFault.Memory bundle_view result (bundle_read (types_view types.now) (option_map (λ t. name_at (types_view types.now) t.index) asked) (json_view value.now)) }
+    ensures exact { Gives BundleFault.Memory bundle_view result
+        (bundle_read (types_view types.now) (option_map (λ t. name_at (types_view types.now) t.index) asked)
+        (json_view value.now)) }
     ensures well_typed { IfOk result (λ b. IsWellTyped (types_view types.now) (bundle_view b)) }
-    ensures root { IfOk result (λ b. ForSome asked (λ t. HasRootType (name_at (types_view types.now) t.index) (bundle_view b))) }
-    ensures read_back { (b : Bundled) → IsWellTyped (types_view types.now) b → ForSome asked (λ t. HasRootType (name_at (types_view types.now) t.index) b) → json_view value.now ≡ bundle_json b → Gives BundleFault.Memory bundle_view result (Ok b) }
+    ensures root { IfOk result (λ b. ForSome asked (λ t. HasRootType (name_at (types_view types.now) t.index)
+        (bundle_view b))) }
+    ensures read_back { (b : Bundled) → IsWellTyped (types_view types.now) b
+        → ForSome asked (λ t. HasRootType (name_at (types_view types.now) t.index) b) → json_view value.now
+        ≡ bundle_json b → Gives BundleFault.Memory bundle_view result (Ok b) }
 {
     spelled_bundle(alloc, types, asked, value)
 }
@@ -47,7 +52,9 @@ fn spelled_bundle(
     asked: Option<TypeId>,
     value: &Value,
 ) -> Result<Bundle, BundleFault>
-    ensures exact { Gives BundleFault.Memory bundle_view result (bundle_read (types_view types.now) (option_map (λ t. name_at (types_view types.now) t.index) asked) (json_view value.now)) }
+    ensures exact { Gives BundleFault.Memory bundle_view result
+        (bundle_read (types_view types.now) (option_map (λ t. name_at (types_view types.now) t.index) asked)
+        (json_view value.now)) }
     ensures ascending { IfOk result (λ b. IsAscending (keys_of (bundle_view b).objects)) }
 {
     match draft_of(alloc, value)? {

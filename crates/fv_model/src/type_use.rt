@@ -1,6 +1,6 @@
 ghost use Rattle.std.specs.Prelude.{◌≡◌, false, IfOk};
 ghost use Rattle.fv_datum.specs.Kinds.{is_container};
-ghost use Rattle.fv_model.specs.Types.{kind_of, held_view};
+ghost use Rattle.fv_model.specs.Types.{kind_of, type_use_view};
 
 use fv_datum::Kind;
 use std::alloc::AllocError;
@@ -21,7 +21,7 @@ pub enum TypeUse {
 impl TypeUse {
     /// The kind of the data.
     pub fn kind(&self) -> Kind
-        ensures kind { result ≡ kind_of (held_view self.now) }
+        ensures kind { result ≡ kind_of (type_use_view self.now) }
         ensures plain { is_container result ≡ false }
     {
         match self {
@@ -37,7 +37,7 @@ impl TypeUse {
 
     /// The same type use.
     pub fn copy(&self) -> Result<TypeUse, AllocError>
-        ensures { IfOk result (λ u. held_view u ≡ held_view self.now) }
+        ensures { IfOk result (λ u. type_use_view u ≡ type_use_view self.now) }
     {
         match self {
             TypeUse::Text => Ok(TypeUse::Text),

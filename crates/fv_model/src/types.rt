@@ -1,7 +1,7 @@
 ghost use Rattle.std.specs.Prelude.{◌≡◌, length, option_map, MatchResult, Some, None};
 ghost use Rattle.std.specs.Bool.{OnFalse};
 ghost use Rattle.fv_datum.specs.Lookup.{at_name};
-ghost use Rattle.fv_model.specs.Types.{FieldsApart, declared_view, fields_view, held_view, is_unknown, unknown_in, has_unknown, has_large, types_fault, name_at, number_of};
+ghost use Rattle.fv_model.specs.Types.{FieldsApart, declared_view, fields_view, type_use_view, is_unknown, unknown_in, has_unknown, has_large, types_fault, name_at, number_of};
 
 use crate::fault::TypesFault;
 use crate::type_use::TypeUse;
@@ -39,7 +39,8 @@ impl Types {
     /// Refused by `UnknownType` for a reference to a type that isn't declared, else by `TooLarge`
     /// for more than 256 types, or a type of more than 256 fields.
     pub fn build(declared: IndexMap<String, Fields>) -> Result<Types, TypesFault>
-        ensures { MatchResult result (λ ts. (types_fault (declared_view declared) ≡ None) × (types_view ts ≡ declared_view declared)) (λ e. types_fault (declared_view declared) ≡ Some e) }
+        ensures { MatchResult result (λ ts. (types_fault (declared_view declared) ≡ None)
+            × (types_view ts ≡ declared_view declared)) (λ e. types_fault (declared_view declared) ≡ Some e) }
     {
         if has_unknown(&declared) {
             return Err(TypesFault::UnknownType);
@@ -94,7 +95,7 @@ fn fields_in<'a>(declared: &'a IndexMap<String, Fields>, name: &str) -> Option<&
 
 /// Whether a field refers to a type that isn't declared.
 fn is_unknown(declared: &IndexMap<String, Fields>, type_use: &TypeUse) -> bool
-    ensures { result ≡ is_unknown (declared_view declared.now) (held_view type_use.now) }
+    ensures { result ≡ is_unknown (declared_view declared.now) (type_use_view type_use.now) }
 {
     match type_use {
         TypeUse::Ref(name) => fields_in(declared, name.as_str()).is_none(),
@@ -139,7 +140,7 @@ fn has_large(declared: &IndexMap<String, Fields>) -> bool
 
 /// What the field of that name holds.
 pub(crate) fn use_in<'a>(fields: &'a Fields, name: &str) -> Option<&'a TypeUse>
-    ensures { option_map (λ u. held_view u.now) result ≡ at_name name.now (fields_view fields.now) }
+    ensures { option_map (λ u. type_use_view u.now) result ≡ at_name name.now (fields_view fields.now) }
 {
     fields.get(name)
 }

@@ -1,4 +1,4 @@
-pub mod Answers
 pub mod FaultNames
+pub mod Meanings
 pub mod Rules
 pub mod SameKind

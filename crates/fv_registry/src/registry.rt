@@ -1,7 +1,7 @@
 ghost use Rattle.std.specs.Prelude.{◌≡◌, ◌++◌, map, IfOk, None, if◌then◌else◌, Some};
 ghost use Rattle.fv_datum.specs.View.{view};
 ghost use Rattle.fv_model.specs.Views.{object_view};
-ghost use Rattle.fv_registry.specs.Answers.{FieldsMean, ObjectsMean, FieldAnswers, ObjectAnswers};
+ghost use Rattle.fv_registry.specs.Meanings.{FieldsMean, ObjectsMean, FieldAnswers, ObjectAnswers};
 ghost use Rattle.fv_registry.specs.Rules.{refused, Refuses, has_rule, lists_kind};
 
 use crate::fault::RegistryFault;

@@ -2,7 +2,7 @@ ghost use Rattle.std.proofs.Props.{props};
 ghost use Rattle.std.specs.Prelude.{◌≡◌, map};
 ghost use Rattle.fv_datum.specs.View.{view};
 ghost use Rattle.fv_model.specs.Views.{object_view};
-ghost use Rattle.fv_registry.specs.Answers.{Meanings, FieldsMean, ObjectsMean, answered, object_answered};
+ghost use Rattle.fv_registry.specs.Meanings.{Meanings, FieldsMean, ObjectsMean, answered, object_answered};
 ghost use Rattle.fv_registry.specs.Rules.{Known, knows_field, knows_object, takes};
 
 use crate::meaning::Meaning;
@@ -55,7 +55,11 @@ impl<M: Meaning> RuleSet for Registry<M> {
 
     ghost means_prop = { λ r. Prim.hlevel props };
 
-    ghost known = { λ r. record { fields = map (λ v. (v.rule, v.kinds.items)) r.fields.items; objects = map (λ v. v.rule) r.objects.items } };
+    ghost known = { λ r. record {
+      fields = map (λ v. (v.rule, v.kinds.items)) r.fields.items;
+      objects = map
+          (λ v. v.rule) r.objects.items;
+    } };
 
     fn answer(&self, rule: u32, datum: &Datum, attrs: &Attrs) -> Option<bool> {
         self.ask(rule, datum, attrs)

@@ -107,7 +107,8 @@ pub(crate) fn violations_refused(
     id: &str,
     violations: &[Violation],
 ) -> Result<String, AllocError>
-    ensures { IfOk result (λ s. string_bytes s ≡ compact_text (violations_refused_json id.now (map violation_view violations.now))) }
+    ensures { IfOk result (λ s. string_bytes s
+        ≡ compact_text (violations_refused_json id.now (map violation_view violations.now))) }
 {
     let value = violations_refused_value(alloc, id, violations)?;
     text_of(alloc, &value)

@@ -1,6 +1,6 @@
 //! The rules of rows, of closures that the program makes.
 ghost use Rattle.std.specs.Prelude.{IfOk};
-ghost use Rattle.fv_registry.specs.Answers.{FieldAnswers, FieldsMean, ObjectAnswers, ObjectsMean};
+ghost use Rattle.fv_registry.specs.Meanings.{FieldAnswers, FieldsMean, ObjectAnswers, ObjectsMean};
 ghost use Rattle.fv_house.specs.House.{decides, decides_object};
 
 use fv_datum::Kind;

@@ -2,7 +2,6 @@
 use Rattle.std.proofs.Common.{◌≡◌, ℕ, pos, List, [], ◌∷◌, map, drop, Bool, true, false, cond, None, Ok, Err, Result, OnOk, refl, sym, ap, subst, ◌∙◌}
 use Rattle.sqlite.specs.declared.types.Value.{Value}
 use Rattle.sqlite.specs.declared.types.Value.TheVariants.{Null, Int, Blob}
-use Rattle.sqlite.specs.Order.{Row}
 use Rattle.sqlite.specs.Ops.{unary}
 use Rattle.sqlite.specs.Kind.TheVariants.{Integer}
 use Rattle.sqlite.specs.Source.TheVariants.{Values}
@@ -24,8 +23,8 @@ use Rattle.sqlite.specs.State.{State, mode_of, Writes, Executes, ExecutesInside}
 use Rattle.sqlite.proofs.Callers.{IsPlain, command_of, statement_of, runs_as, one_step}
 use Rattle.fv_store.specs.Tables.{no_schema, about_table, record_table, store_schema}
 use Rattle.fv_store.specs.Records.{no_records}
-use Rattle.fv_store.specs.Stands.{about_row, Spells, IsBlank}
-use Rattle.fv_store.specs.Steps.{Advances, Turns, HasAbout, HasTables, HasNone}
+use Rattle.fv_store.specs.Stands.{about_row, HasRows, IsBlank}
+use Rattle.fv_store.specs.Steps.{Advances, Leads, HasAbout, HasEmptyTables, HasNone}
 use Rattle.fv_store.proofs.Texts.{about_text, record_text, about_schema, about_is, record_is, create_about_is, create_about_plain, create_record_is, create_record_plain, version_text, version_terms, version_is, version_plain}
 use Rattle.fv_store.proofs.Inserts.{went, same_value}
 
@@ -54,7 +53,7 @@ module _ (text : List ℕ) (schema : Schema) (table : Table) (defined : table_de
         others = subst (λ (d : Database). Rattle.sqlite.specs.Change.KeepsRows schema.tables old.now.trees d.trees) (sym now) (subst (λ (s : Schema). Rattle.sqlite.specs.Change.KeepsRows s.tables old.now.trees first.0.trees) has made.others);
       }
 
-pub about_step : (old new : State) (r : Result ℕ Error) → ExecutesInside 0 about_text [] old new r → OnOk r (Advances old new (Turns IsBlank HasAbout))
+pub about_step : (old new : State) (r : Result ℕ Error) → ExecutesInside 0 about_text [] old new r → OnOk r (Advances old new (Leads IsBlank HasAbout))
 about_step old new (Err e) h = tt
 about_step old new (Ok count) h = record {
   was_open = λ _. h.1.was_open;
@@ -63,7 +62,7 @@ about_step old new (Ok count) h = record {
   change = λ has. let it = makes about_text no_schema about_table about_is refl create_about_is.0 create_about_is.1 create_about_plain old new count has h.0 in (it.schema_is, it.empty);
 }
 
-pub record_step : (old new : State) (r : Result ℕ Error) → ExecutesInside 0 record_text [] old new r → OnOk r (Advances old new (Turns HasAbout HasTables))
+pub record_step : (old new : State) (r : Result ℕ Error) → ExecutesInside 0 record_text [] old new r → OnOk r (Advances old new (Leads HasAbout HasEmptyTables))
 record_step old new (Err e) h = tt
 record_step old new (Ok count) h = record {
   was_open = λ _. h.1.was_open;
@@ -89,10 +88,10 @@ cast_null = either _ Null
 one_is_not_zero : ◌≡◌ {A = ℕ} 1 0 → ⊥
 one_is_not_zero e = cc
 
-spells_none : Spells [] no_records
+spells_none : HasRows [] no_records
 spells_none = record { apart = tt; sound = λ row h. absurd h; complete = λ id e is. absurd cc; once = λ a b h. absurd h }
 
-versions : (old new : State) (declarations : List ℕ) (count : ℕ) → HasTables old.now → Executes version_text (Blob declarations ∷ []) old new (Ok count) → HasNone declarations new.now
+versions : (old new : State) (declarations : List ℕ) (count : ℕ) → HasEmptyTables old.now → Executes version_text (Blob declarations ∷ []) old new (Ok count) → HasNone declarations new.now
 versions old new declarations count has h =
     let params = Blob declarations ∷ [] in
     let db = old.now.trees in
@@ -111,10 +110,10 @@ versions old new declarations count has h =
     let rows : written.0 0 ≡ about_row 1 declarations ∷ [] = applied.rows ∙ ap (put_all (db 0)) news ∙ ap (λ l. put_all l (about_row 1 declarations ∷ [])) has.1 in
     let at : (t : ℕ) → new.now.trees t ≡ written.0 t = λ t. ap (λ (b : Database). b.trees t) now ∙ ap (λ (ts : Trees). ts t) trees in
     record {
-      tells = record { schema = ap (λ (b : Database). b.schema) now; about = at 0 ∙ rows };
-      records = subst (λ rs. Spells rs no_records) (sym (at 1 ∙ applied.tables.1.0 one_is_not_zero ∙ has.2)) spells_none;
+      tables = record { schema = ap (λ (b : Database). b.schema) now; about = at 0 ∙ rows };
+      records = subst (λ rs. HasRows rs no_records) (sym (at 1 ∙ applied.tables.1.0 one_is_not_zero ∙ has.2)) spells_none;
     }
 
-pub version_step : (old new : State) (declarations : List ℕ) (r : Result ℕ Error) → ExecutesInside 0 version_text (Blob declarations ∷ []) old new r → OnOk r (Advances old new (Turns HasTables (HasNone declarations)))
+pub version_step : (old new : State) (declarations : List ℕ) (r : Result ℕ Error) → ExecutesInside 0 version_text (Blob declarations ∷ []) old new r → OnOk r (Advances old new (Leads HasEmptyTables (HasNone declarations)))
 version_step old new declarations (Err e) h = tt
 version_step old new declarations (Ok count) h = record { was_open = λ _. h.1.was_open; mode = h.1.mode; committed = h.1.committed_is; change = λ has. versions old new declarations count has h.0 }

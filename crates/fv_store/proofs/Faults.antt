@@ -6,7 +6,7 @@ use Rattle.serde_json.specs.declared.error.Error.{Error}
 use Rattle.serde_json.specs.declared.error.Code.{Code}
 use Rattle.serde_json.specs.declared.error.Code.TheVariants.{Invalid, NumberOutOfRange, OutOfMemory}
 use Rattle.fv_model.specs.Bundles.{Bundled}
-use Rattle.fv_datum.specs.Answers.{Gives}
+use Rattle.fv_datum.specs.Outcomes.{Gives}
 use Rattle.fv_model.specs.declared.fault.BundleFault.{BundleFault}
 use Rattle.fv_model.specs.declared.fault.BundleFault.TheVariants as bundle
 use Rattle.fv_store.specs.declared.fault.StoreFault.{StoreFault}

@@ -2,7 +2,7 @@
 use Rattle.std.proofs.Common.{◌≡◌, ℕ, Bool, true, false, cond, List, [], ◌∷◌, bytes_eq, string_bytes, Option, Some, option_map, Result, Ok, Err, OnErr, IfOk, IsTrue, subst}
 use Rattle.std.specs.Option.{ForSome}
 use Rattle.sqlite.specs.State.{State, HasCleanDisk}
-use Rattle.fv_datum.specs.Answers.{Gives}
+use Rattle.fv_datum.specs.Outcomes.{Gives}
 use Rattle.fv_model.specs.Types.{Declared}
 use Rattle.fv_model.specs.WellTyped.{IsWellTyped}
 use Rattle.fv_store.specs.declared.change.Change.{Change}
@@ -11,11 +11,12 @@ use Rattle.fv_store.specs.declared.fault.StoreFault.{StoreFault}
 use Rattle.fv_store.specs.declared.fault.StoreFault.TheVariants.{Memory}
 use Rattle.fv_store.specs.declared.shown.Shown.{Shown}
 use Rattle.fv_store.specs.declared.stored.Stored.{Stored}
-use Rattle.fv_store.specs.Changes.{after, after_all, ChangeFits, ChangesFit}
-use Rattle.fv_store.specs.Records.{Kept, Records, Roots, Fits, AllFit, with_record, kept_text}
-use Rattle.fv_store.specs.Stands.{Holds}
+use Rattle.fv_store.specs.Changes.{after, after_all, changed, ChangeFits, ChangesFit}
+use Rattle.fv_store.specs.Records.{Kept, Records, Contents, Fits, AllFit, with_record, with_records}
 use Rattle.fv_store.specs.Steps.{Keeps}
-use Rattle.fv_store.specs.Stored.{stored_view, shown_view}
+use Rattle.fv_store.specs.Showing.{kept_text, shown_view}
+use Rattle.fv_store.specs.Stands.{Frame, Holds}
+use Rattle.fv_store.specs.Stored.{stored_view}
 use Rattle.fv_store.proofs.Openings.{keeps_of, holds_after}
 
 -- ---- what is handed out
@@ -27,43 +28,44 @@ given_is (Ok x) o h = cc
 module _ (s : State) (types : Declared) (id : List ℕ) (found : Option Shown) (r : Result (Option Stored) StoreFault) (clean : HasCleanDisk s) (live : IsTrue s.is_open)
     (shown : (d : List ℕ) (m : Records) → Keeps s d m → option_map shown_view found ≡ option_map kept_text (m id))
     (gives : (o : Option Kept) → ForSome o (λ k. IsWellTyped types k.bundle) → option_map shown_view found ≡ option_map kept_text o → Gives Memory (option_map stored_view) r (Ok o)) where
-  handed : (d : List ℕ) (roots : Roots) (m : Records) → Holds s d types roots m → Gives Memory (option_map stored_view) r (Ok (m id))
-  handed d roots m holds = gives (m id) (λ k known. ((holds clean live).0.fit id k known).typed) (shown d m (keeps_of s d types roots m holds))
+  handed : (c : Contents) → c.types ≡ types → Holds s c → Gives Memory (option_map stored_view) r (Ok (c.records id))
+  handed c same holds = gives (c.records id) (λ k known. subst (λ (ts : Declared). IsWellTyped ts k.bundle) same ((holds clean live).0.fit id k known).typed)
+      (shown c.bytes c.records (keeps_of s c holds))
 
-  pub handed_out : IfOk r (λ o. (d : List ℕ) (roots : Roots) (m : Records) → Holds s d types roots m → option_map stored_view o ≡ m id)
+  pub handed_out : IfOk r (λ o. (c : Contents) → c.types ≡ types → Holds s c → option_map stored_view o ≡ c.records id)
   handed_out = go r handed
     where
-      go : (q : Result (Option Stored) StoreFault) → ((d : List ℕ) (roots : Roots) (m : Records) → Holds s d types roots m → Gives Memory (option_map stored_view) q (Ok (m id)))
-          → IfOk q (λ o. (d : List ℕ) (roots : Roots) (m : Records) → Holds s d types roots m → option_map stored_view o ≡ m id)
+      go : (q : Result (Option Stored) StoreFault) → ((c : Contents) → c.types ≡ types → Holds s c → Gives Memory (option_map stored_view) q (Ok (c.records id)))
+          → IfOk q (λ o. (c : Contents) → c.types ≡ types → Holds s c → option_map stored_view o ≡ c.records id)
       go (Err e) h = tt
-      go (Ok x) h = λ d roots m holds. given_is (Ok x) (m id) (h d roots m holds)
+      go (Ok x) h = λ c same holds. given_is (Ok x) (c.records id) (h c same holds)
 
 -- ---- changes
 
-fits_with : (types : Declared) (roots : Roots) (id : List ℕ) (k : Kept) (m : Records) → Fits types roots k → AllFit types roots m → AllFit types roots (with_record id k m)
-fits_with types roots id k m fits fit other e known = go (bytes_eq other id) (m other) (fit other e) known
+fits_with : (k : Contents) (id : List ℕ) (kept : Kept) → Fits k.types k.roots kept → AllFit k → AllFit (with_records (with_record id kept k.records) k)
+fits_with k id kept fits fit other e known = go (bytes_eq other id) (k.records other) (fit other e) known
   where
-    go : (b : Bool) (o : Option Kept) → (o ≡ Some e → Fits types roots e) → cond b (Some k) o ≡ Some e → Fits types roots e
-    go true o were is = let same : k ≡ e = cc in subst (Fits types roots) same fits
+    go : (b : Bool) (o : Option Kept) → (o ≡ Some e → Fits k.types k.roots e) → cond b (Some kept) o ≡ Some e → Fits k.types k.roots e
+    go true o were is = let same : kept ≡ e = cc in subst (Fits k.types k.roots) same fits
     go false o were is = were is
 
-fits_after : (types : Declared) (roots : Roots) (c : Change) (m : Records) → ChangeFits types roots c → AllFit types roots m → AllFit types roots (after c m)
-fits_after types roots (Put id form bundle) m fits fit = fits_with types roots (string_bytes id) _ m fits fit
+fits_after : (k : Contents) (c : Change) → ChangeFits k.types k.roots c → AllFit k → AllFit (with_records (after c k.records) k)
+fits_after k (Put id form bundle) fits fit = fits_with k (string_bytes id) _ fits fit
 
-pub fits_after_all : (types : Declared) (roots : Roots) (cs : List Change) (m : Records) → ChangesFit types roots cs → AllFit types roots m → AllFit types roots (after_all cs m)
-fits_after_all types roots [] m fits fit = fit
-fits_after_all types roots (c ∷ cs) m fits fit = fits_after_all types roots cs (after c m) fits.1 (fits_after types roots c m fits.0 fit)
+pub fits_after_all : (cs : List Change) (k : Contents) → ChangesFit k.types k.roots cs → AllFit k → AllFit (changed cs k)
+fits_after_all [] k fits fit = fit
+fits_after_all (c ∷ cs) k fits fit = fits_after_all cs (with_records (after c k.records) k) fits.1 (fits_after k c fits.0 fit)
 
-module _ (old new : State) (clean : HasCleanDisk new → HasCleanDisk old) (was_open : HasCleanDisk new → IsTrue new.is_open → IsTrue old.is_open) where
+module _ (old new : State) (frame : Frame old new) where
   pub commit_made : (cs : List Change) → ((d : List ℕ) (m : Records) → Keeps old d m → Keeps new d (after_all cs m))
-      → (d : List ℕ) (types : Declared) (roots : Roots) (m : Records) → AllFit types roots (after_all cs m) → Holds old d types roots m → Holds new d types roots (after_all cs m)
-  commit_made cs h d types roots m fit = holds_after old new d types roots m (after_all cs m) clean was_open (h d m) (λ _. fit)
+      → (k : Contents) → AllFit (changed cs k) → Holds old k → Holds new (changed cs k)
+  commit_made cs h k fit = holds_after old new k (after_all cs k.records) frame (h k.bytes k.records) (λ _. fit)
 
   pub commit_done : (cs : List Change) → ((d : List ℕ) (m : Records) → Keeps old d m → Keeps new d (after_all cs m))
-      → (d : List ℕ) (types : Declared) (roots : Roots) (m : Records) → ChangesFit types roots cs → Holds old d types roots m → Holds new d types roots (after_all cs m)
-  commit_done cs h d types roots m fits = holds_after old new d types roots m (after_all cs m) clean was_open (h d m) (fits_after_all types roots cs m fits)
+      → (k : Contents) → ChangesFit k.types k.roots cs → Holds old k → Holds new (changed cs k)
+  commit_done cs h k fits = holds_after old new k (after_all cs k.records) frame (h k.bytes k.records) (fits_after_all cs k fits)
 
   pub commit_undone : {X E : Type 0} (q : Result X E) → ((d : List ℕ) (m : Records) → Keeps old d m → Keeps new d m)
-      → OnErr q ((d : List ℕ) (types : Declared) (roots : Roots) (m : Records) → Holds old d types roots m → Holds new d types roots m)
+      → OnErr q ((k : Contents) → Holds old k → Holds new k)
   commit_undone (Ok x) h = tt
-  commit_undone (Err e) h = λ d types roots m. holds_after old new d types roots m m clean was_open (h d m) (λ fit. fit)
+  commit_undone (Err e) h = λ k. holds_after old new k k.records frame (h k.bytes k.records) (λ fit. fit)

@@ -18,7 +18,7 @@ use Rattle.sqlite.specs.State.{State, mode_of, Executes}
 use Rattle.sqlite.proofs.Callers.{statement_of, runs_as, one_step}
 use Rattle.fv_store.specs.Tables.{store_schema}
 use Rattle.fv_store.specs.Records.{Kept, Records, with_record, bundle_text}
-use Rattle.fv_store.specs.Stands.{record_row, Spells, Spelled}
+use Rattle.fv_store.specs.Stands.{record_row, HasRows, Spells}
 use Rattle.fv_store.proofs.Texts.{kept_table, insert_text, insert_terms, insert_is, insert_plain}
 use Rattle.fv_store.proofs.RowEdits.{spells_put}
 
@@ -41,15 +41,15 @@ went (inr on) = on
 pub same_value : {B E : Type 0} {a b : B} → ◌≡◌ {A = Result B E} (Ok a) (Ok b) → a ≡ b
 same_value e = cc
 
-pub inserts : (old new : State) (id : List ℕ) (e : Kept) (count : ℕ) (d : List ℕ) (m : Records) → Spelled old.now d m → m id ≡ None
-    → Executes insert_text (Text id ∷ Text e.form ∷ Text (bundle_text e.bundle) ∷ []) old new (Ok count) → Spelled new.now d (with_record id e m)
+pub inserts : (old new : State) (id : List ℕ) (e : Kept) (count : ℕ) (d : List ℕ) (m : Records) → Spells old.now d m → m id ≡ None
+    → Executes insert_text (Text id ∷ Text e.form ∷ Text (bundle_text e.bundle) ∷ []) old new (Ok count) → Spells new.now d (with_record id e m)
 inserts old new id e count d m spelled none h =
     let params = Text id ∷ Text e.form ∷ Text (bundle_text e.bundle) ∷ [] in
     let db = old.now.trees in
     let command = Insert 1 (Values insert_terms 4) in
-    let w = runs_as insert_text params old new store_schema spelled.tells.schema command insert_is insert_plain count h in
+    let w = runs_as insert_text params old new store_schema spelled.tables.schema command insert_is insert_plain count h in
     let text = statement_of insert_text (understood store_schema insert_text) in
-    let done = went (subst (λ s. Does old.step_limit (mode_of old) params (record old.now { schema = s }) text None command (Ok (w.tally, new.now))) spelled.tells.schema w.changed) in
+    let done = went (subst (λ s. Does old.step_limit (mode_of old) params (record old.now { schema = s }) text None command (Ok (w.tally, new.now))) spelled.tables.schema w.changed) in
     let now = ap (λ (p : Tally × Database). p.1) (same_value (went (went done.2).2).2) in
     let given = went done.1 in
     let written = went (went given.2).2 in
@@ -62,6 +62,6 @@ inserts old new id e count d m spelled none h =
     let fresh : are_fresh (db 1) (record_row (next_rowid (db 1)) id e ∷ []) ≡ true = ap (are_fresh (db 1)) (sym news) ∙ applied.fresh in
     let at : (t : ℕ) → new.now.trees t ≡ written.0 t = λ t. ap (λ (b : Database). b.trees t) now ∙ ap (λ (ts : Trees). ts t) trees in
     record {
-      tells = record { schema = ap (λ (b : Database). b.schema) now; about = at 0 ∙ applied.tables.0 zero_is_not_one ∙ spelled.tells.about };
-      records = subst (λ rs. Spells rs (with_record id e m)) (sym (at 1 ∙ rows)) (spells_put (db 1) m (next_rowid (db 1)) id e spelled.records none fresh);
+      tables = record { schema = ap (λ (b : Database). b.schema) now; about = at 0 ∙ applied.tables.0 zero_is_not_one ∙ spelled.tables.about };
+      records = subst (λ rs. HasRows rs (with_record id e m)) (sym (at 1 ∙ rows)) (spells_put (db 1) m (next_rowid (db 1)) id e spelled.records none fresh);
     }

@@ -5,14 +5,13 @@ use Rattle.std.proofs.lemmas.Bool.{cases_Bool}
 use Rattle.sqlite.specs.Schema.{Schema}
 use Rattle.sqlite.specs.Effect.{Database}
 use Rattle.sqlite.specs.State.{State, HasCleanDisk}
-use Rattle.fv_datum.specs.Answers.{Gives, unless_fault}
-use Rattle.fv_model.specs.Types.{Declared}
+use Rattle.fv_datum.specs.Outcomes.{Gives, unless_fault}
 use Rattle.fv_store.specs.declared.fault.OpenStoreFault.{OpenStoreFault}
 use Rattle.fv_store.specs.declared.fault.OpenStoreFault.TheVariants.{OtherVersion, OtherDeclarations, Store, Memory}
 use Rattle.fv_store.specs.Faults.{about_fault, IsAboutFault}
-use Rattle.fv_store.specs.Records.{Records, Roots, AllFit, no_records}
+use Rattle.fv_store.specs.Records.{Kept, Records, Contents, AllFit, no_records, with_records}
 use Rattle.fv_store.specs.Tables.{store_schema}
-use Rattle.fv_store.specs.Stands.{Tells, Stands, Holds, Opens, IsBlank, IsKnown, Stays}
+use Rattle.fv_store.specs.Stands.{Frame, HasTables, Stands, Holds, Opens, IsBlank, IsKnown, Stays}
 use Rattle.fv_store.specs.Steps.{Keeps, IsTaken, IsCaused}
 
 abbrev Answer : Type 0
@@ -38,11 +37,11 @@ is_fault : (e : OpenStoreFault) (o : Option OpenStoreFault) → ◌≡◌ {A = A
 is_fault e None h = absurd cc
 is_fault e (Some f) h = let same : f ≡ e = cc in ap Some same
 
-pub taken_all : (s : State) (r : Answer) (given : List ℕ) → ((version : ℕ) (d : List ℕ) → Tells s.now version d → Judges r (about_fault version d given)) → OnOk r (IsTaken s given)
+pub taken_all : (s : State) (r : Answer) (given : List ℕ) → ((version : ℕ) (d : List ℕ) → HasTables s.now version d → Judges r (about_fault version d given)) → OnOk r (IsTaken s given)
 taken_all s (Err e) given h = tt
 taken_all s (Ok u) given h = λ version d tells. judges_ok (Ok u) (about_fault version d given) (h version d tells)
 
-pub caused_all : (s : State) (r : Answer) (given : List ℕ) → IsTrue s.is_open → (IsBlank s.now → ⊥) → ((version : ℕ) (d : List ℕ) → Tells s.now version d → Judges r (about_fault version d given)) → IfErr r (IsCaused s given)
+pub caused_all : (s : State) (r : Answer) (given : List ℕ) → IsTrue s.is_open → (IsBlank s.now → ⊥) → ((version : ℕ) (d : List ℕ) → HasTables s.now version d → Judges r (about_fault version d given)) → IfErr r (IsCaused s given)
 caused_all s (Ok u) given live filled h = tt
 caused_all s (Err e) given live filled h = λ fault. (live, filled, λ version d tells. is_fault e (about_fault version d given) (h version d tells (is_not_memory e fault)))
 
@@ -84,54 +83,56 @@ never_blank db blank is = zero_is_not_two (ap (λ (s : Schema). length s.tables)
 
 -- ---- what stands
 
-pub keeps_of : (s : State) (d : List ℕ) (types : Declared) (roots : Roots) (m : Records) → Holds s d types roots m → Keeps s d m
-keeps_of s d types roots m holds clean live = let it = holds clean live in (it.0.spelled, it.1.spelled)
+pub keeps_of : (s : State) (k : Contents) → Holds s k → Keeps s k.bytes k.records
+keeps_of s k holds clean live = let it = holds clean live in (it.0.spells, it.1.spells)
 
 -- records that are kept and fit stand
-pub holds_after : (old new : State) (d : List ℕ) (types : Declared) (roots : Roots) (m after : Records) → (HasCleanDisk new → HasCleanDisk old) → (HasCleanDisk new → IsTrue new.is_open → IsTrue old.is_open)
-    → (Keeps old d m → Keeps new d after) → (AllFit types roots m → AllFit types roots after) → Holds old d types roots m → Holds new d types roots after
-holds_after old new d types roots m after clean was_open keeps fit holds sure live =
-    let was = holds (clean sure) (was_open sure live) in
-    let now = keeps (keeps_of old d types roots m holds) sure live in
-    (record { spelled = now.0; fit = fit was.0.fit }, record { spelled = now.1; fit = fit was.1.fit })
+pub holds_after : (old new : State) (k : Contents) (after : Records) → Frame old new
+    → (Keeps old k.bytes k.records → Keeps new k.bytes after) → (AllFit k → AllFit (with_records after k)) → Holds old k → Holds new (with_records after k)
+holds_after old new k after frame keeps fit holds sure live =
+    let was = holds (frame.clean sure) (frame.was_open sure live) in
+    let now = keeps (keeps_of old k holds) sure live in
+    (record { spells = now.0; fit = fit was.0.fit }, record { spells = now.1; fit = fit was.1.fit })
 
-module _ (old new : State) (clean : HasCleanDisk new → HasCleanDisk old) (was_open : HasCleanDisk new → IsTrue new.is_open → IsTrue old.is_open) where
-  pub holds_still : ((d : List ℕ) (m : Records) → Keeps old d m → Keeps new d m) → (d : List ℕ) (types : Declared) (roots : Roots) (m : Records) → Holds old d types roots m → Holds new d types roots m
-  holds_still stays d types roots m = holds_after old new d types roots m m clean was_open (stays d m) (λ fit. fit)
+no_record : (o : Option Kept) → o ≡ None → (kept : Kept) → o ≡ Some kept → ⊥
+no_record o none kept some = cc
 
-  holds_stays : (old.now.schema ≡ store_schema → Stays old new) → (d : List ℕ) (types : Declared) (roots : Roots) (m : Records) → Holds old d types roots m → Holds new d types roots m
-  holds_stays stays d types roots m holds sure live =
-      let was = holds (clean sure) (was_open sure live) in
-      let it = stays was.0.spelled.tells.schema sure live in
-      (subst (λ db. Stands db d types roots m) (sym it.2) was.0, subst (λ db. Stands db d types roots m) (sym it.3) was.1)
+module _ (old new : State) (frame : Frame old new) where
+  pub holds_still : ((d : List ℕ) (m : Records) → Keeps old d m → Keeps new d m) → (k : Contents) → Holds old k → Holds new k
+  holds_still stays k = holds_after old new k k.records frame (stays k.bytes k.records) (λ fit. fit)
+
+  holds_stays : (old.now.schema ≡ store_schema → Stays old new) → (k : Contents) → Holds old k → Holds new k
+  holds_stays stays k holds sure live =
+      let was = holds (frame.clean sure) (frame.was_open sure live) in
+      let it = stays was.0.spells.tables.schema sure live in
+      (subst (λ db. Stands db k) (sym it.2) was.0, subst (λ db. Stands db k) (sym it.3) was.1)
 
   pub opens_ok : (given : List ℕ) → (IsBlank old.now → Keeps new given no_records) → (old.now.schema ≡ store_schema → Stays old new)
-      → (types : Declared) (roots : Roots) (m : Records) → Opens old given types roots m → Holds new given types roots m
-  opens_ok given fresh kept types roots m (inr holds) = holds_stays kept given types roots m holds
-  opens_ok given fresh kept types roots m (inl blank) = λ sure live.
-      let was = blank (clean sure) (was_open sure live) in
-      let none = fresh was.0 sure live in
-      let fit : AllFit types roots no_records = λ id k known. absurd cc in
-      let both : Stands new.now given types roots no_records × Stands new.committed given types roots no_records = (record { spelled = none.0; fit = fit }, record { spelled = none.1; fit = fit }) in
-      subst (λ n. Stands new.now given types roots n × Stands new.committed given types roots n) (sym was.1) both
+      → (k : Contents) → k.bytes ≡ given → Opens old k → Holds new k
+  opens_ok given fresh kept k is (inr holds) = holds_stays kept k holds
+  opens_ok given fresh kept k is (inl blank) = λ sure live.
+      let was = blank (frame.clean sure) (frame.was_open sure live) in
+      let none = subst (λ (d : List ℕ). Keeps new d k.records) (sym is) (subst (Keeps new given) (sym was.1) (fresh was.0)) sure live in
+      let fit : AllFit k = λ id kept known. absurd (no_record (k.records id) (ap (λ (m : Records). m id) was.1) kept known) in
+      (record { spells = none.0; fit = fit }, record { spells = none.1; fit = fit })
 
-  pub opens_err : (IsKnown old.now → Stays old new) → (d : List ℕ) (types : Declared) (roots : Roots) (m : Records) → Opens old d types roots m → Opens new d types roots m
-  opens_err untouched d types roots m (inr holds) = inr (holds_stays (λ is. untouched (inr is)) d types roots m holds)
-  opens_err untouched d types roots m (inl blank) = inl (λ sure live.
-      let was = blank (clean sure) (was_open sure live) in
+  pub opens_err : (IsKnown old.now → Stays old new) → (k : Contents) → Opens old k → Opens new k
+  opens_err untouched k (inr holds) = inr (holds_stays (λ is. untouched (inr is)) k holds)
+  opens_err untouched k (inl blank) = inl (λ sure live.
+      let was = blank (frame.clean sure) (frame.was_open sure live) in
       let it = untouched (inl was.0) sure live in
       (subst IsBlank (sym it.2) was.0, was.1))
 
 -- ---- what a refusal says of a database that is blank or stands
 
-pub opens_version : (s : State) (given d : List ℕ) (types : Declared) (roots : Roots) (m : Records) → HasCleanDisk s → IsCaused s given OtherVersion → Opens s d types roots m → ⊥
-opens_version s given d types roots m clean cause (inl blank) = let is = cause tt in is.1 (blank clean is.0).0
-opens_version s given d types roots m clean cause (inr holds) = let is = cause tt in no_version d given (is.2 1 d (holds clean is.0).0.spelled.tells)
+pub opens_version : (s : State) (given : List ℕ) (k : Contents) → HasCleanDisk s → IsCaused s given OtherVersion → Opens s k → ⊥
+opens_version s given k clean cause (inl blank) = let is = cause tt in is.1 (blank clean is.0).0
+opens_version s given k clean cause (inr holds) = let is = cause tt in no_version k.bytes given (is.2 1 k.bytes (holds clean is.0).0.spells.tables)
 
-pub opens_declarations : (s : State) (given d : List ℕ) (types : Declared) (roots : Roots) (m : Records) → HasCleanDisk s → IsCaused s given OtherDeclarations → Opens s d types roots m → d ≢ given
-opens_declarations s given d types roots m clean cause (inl blank) = let is = cause tt in absurd (is.1 (blank clean is.0).0)
-opens_declarations s given d types roots m clean cause (inr holds) = let is = cause tt in are_other d given (is.2 1 d (holds clean is.0).0.spelled.tells)
+pub opens_declarations : (s : State) (given : List ℕ) (k : Contents) → HasCleanDisk s → IsCaused s given OtherDeclarations → Opens s k → k.bytes ≢ given
+opens_declarations s given k clean cause (inl blank) = let is = cause tt in absurd (is.1 (blank clean is.0).0)
+opens_declarations s given k clean cause (inr holds) = let is = cause tt in are_other k.bytes given (is.2 1 k.bytes (holds clean is.0).0.spells.tables)
 
 -- what was taken has these declarations
-pub taken_same : (s : State) (given d : List ℕ) (types : Declared) (roots : Roots) (m : Records) → HasCleanDisk s → IsTrue s.is_open → IsTaken s given → Holds s d types roots m → d ≡ given
-taken_same s given d types roots m clean live taken holds = none_is_same d given (taken 1 d (holds clean live).0.spelled.tells)
+pub taken_same : (s : State) (given : List ℕ) (k : Contents) → HasCleanDisk s → IsTrue s.is_open → IsTaken s given → Holds s k → k.bytes ≡ given
+taken_same s given k clean live taken holds = none_is_same k.bytes given (taken 1 k.bytes (holds clean live).0.spells.tables)

@@ -18,12 +18,13 @@ use Rattle.sqlite.proofs.Callers.{IsPlain, reads_as}
 use Rattle.sqlite_rules.specs.Lists.{Has}
 use Rattle.fv_store.specs.Tables.{store_schema}
 use Rattle.fv_store.specs.Records.{Kept, Records}
-use Rattle.fv_store.specs.Stands.{Spells, Spelled, Tells, Stays, about_row}
-use Rattle.fv_store.specs.Steps.{Keeps, IsSettled, shown_row, Answers, shown_about, ShowsAbout}
+use Rattle.fv_store.specs.Stands.{HasRows, Spells, HasTables, Stays, about_row}
+use Rattle.fv_store.specs.Steps.{Keeps, IsSettled}
+use Rattle.fv_store.specs.Showing.{shown_row, ShowsRecord, shown_about, ShowsAbout}
 use Rattle.fv_store.proofs.Texts.{find_text, find_query, find_is, find_plain, find_unlisted, read_text, read_query, read_is, read_plain, read_unlisted}
 use Rattle.fv_store.proofs.OneTable.{by_id, by_id_is, shown_sound, shown_complete}
 
-module _ (db : Trees) (m : Records) (id : List ℕ) (rows : List Row) (s : Spells (db 1) m) (a : IsAnswer find_query (overlay db []) (Text id ∷ []) rows) where
+module _ (db : Trees) (m : Records) (id : List ℕ) (rows : List Row) (s : HasRows (db 1) m) (a : IsAnswer find_query (overlay db []) (Text id ∷ []) rows) where
   found_sound : (x : Row) → Has rows x → (e : Kept) × (m id ≡ Some e) × (x ≡ shown_row e)
   found_sound x h =
       let r = shown_sound 1 by_id (col 1 2 ∷ col 1 3 ∷ []) [] (overlay db []) (Text id ∷ []) rows a x h in
@@ -40,16 +41,16 @@ module _ (db : Trees) (m : Records) (id : List ℕ) (rows : List Row) (s : Spell
       let passes = by_id_is m _ id it ∙ (bytes_eq-Decides it.id id).1 key in
       shown_complete 1 by_id (col 1 2 ∷ col 1 3 ∷ []) [] (overlay db []) (Text id ∷ []) rows a _ there.1 passes
 
-  answered : (o : Option Kept) → m id ≡ o → (l : List Row) → rows ≡ l → Answers l o
+  answered : (o : Option Kept) → m id ≡ o → (l : List Row) → rows ≡ l → ShowsRecord l o
   answered None is [] same = refl
   answered (Some e) is [] same = absurd (subst (λ l. Has l (shown_row e)) same (found_complete e is))
   answered o is (x ∷ l) same =
       let it = found_sound x (subst (λ k. Has k x) (sym same) (inl refl)) in
       (it.0, sym is ∙ it.1, it.2)
 
-pub finds : (old new : State) (id : List ℕ) (rows : List Row) (d : List ℕ) (m : Records) → Spelled old.now d m → Shown find_text (Text id ∷ []) old new rows → Answers rows (m id)
+pub finds : (old new : State) (id : List ℕ) (rows : List Row) (d : List ℕ) (m : Records) → Spells old.now d m → Shown find_text (Text id ∷ []) old new rows → ShowsRecord rows (m id)
 finds old new id rows d m was h =
-    let read = reads_as find_text (Text id ∷ []) old new store_schema was.tells.schema (Select (record { lets = []; body = find_query }) (codes "form" ∷ codes "bundle" ∷ [])) find_is find_plain find_unlisted rows h in
+    let read = reads_as find_text (Text id ∷ []) old new store_schema was.tables.schema (Select (record { lets = []; body = find_query }) (codes "form" ∷ codes "bundle" ∷ [])) find_is find_plain find_unlisted rows h in
     answered old.now.trees m id rows was.records (read.answer Null) (m id) refl rows refl
 
 -- a query leaves the database as it was
@@ -79,13 +80,13 @@ module _ (db : Trees) (version : ℕ) (d : List ℕ) (rows : List Row) (has : db
 unchanged_keeps : (old new : State) (d : List ℕ) (m : Records) → IsUnchanged old new → Keeps old d m → HasCleanDisk old → Keeps new d m
 unchanged_keeps old new d m same keeps clean _ live =
     let was = keeps clean same.0.was_open in
-    (subst (λ b. Spelled b d m) (sym same.0.now_is) was.0, subst (λ b. Spelled b d m) (sym same.0.committed_is) was.1)
+    (subst (λ b. Spells b d m) (sym same.0.now_is) was.0, subst (λ b. Spells b d m) (sym same.0.committed_is) was.1)
 
 back_keeps : (old new : State) (d : List ℕ) (m : Records) → IsRolledBack old new → Keeps old d m → HasCleanDisk old → Keeps new d m
 back_keeps old new d m back keeps clean _ live =
     let was = keeps clean (back.was_open live) in
     let undone = back.undone live in
-    (subst (λ b. Spelled b d m) (sym undone.0) was.1, subst (λ b. Spelled b d m) (sym undone.1) was.1)
+    (subst (λ b. Spells b d m) (sym undone.0) was.1, subst (λ b. Spells b d m) (sym undone.1) was.1)
 
 -- a query that is refused changes nothing, or rolls back
 pub refused_keeps : (sql : List ℕ) (params : Row) (old new : State) (e : Error) → FailsToQuery sql params old new e → IsUnchanged old new ⊎ IsRolledBack old new
@@ -113,7 +114,7 @@ module _ (sql : List ℕ) (params : Row) (old new : State) (plain : IsPlain (und
       → (d : List ℕ) (m : Records) → Keeps old d m → Keeps new d m
   query_keeps (Ok rows) ok err d m keeps =
       let was = (keeps clean (shown_open sql params old new rows.items ok)).0 in
-      unchanged_keeps old new d m (still sql params old new rows.items (subst (λ s. IsPlain (understood s sql)) (sym was.tells.schema) plain) ok) keeps clean
+      unchanged_keeps old new d m (still sql params old new rows.items (subst (λ s. IsPlain (understood s sql)) (sym was.tables.schema) plain) ok) keeps clean
   query_keeps (Err e) ok err d m keeps = elim (refused_keeps sql params old new e err) [
     | inl same ↦ unchanged_keeps old new d m same keeps clean
     | inr back ↦ back_keeps old new d m back keeps clean
@@ -121,12 +122,12 @@ module _ (sql : List ℕ) (params : Row) (old new : State) (plain : IsPlain (und
 
 module _ (old new : State) (clean : HasCleanDisk old) where
   pub find_shown : (id : List ℕ) (r : Result (Vec Row Global) Error) → IfOk r (λ rows. Shown find_text (Text id ∷ []) old new rows.items)
-      → IfOk r (λ rows. IsTrue old.is_open × ((d : List ℕ) (m : Records) → Keeps old d m → Answers rows.items (m id)))
+      → IfOk r (λ rows. IsTrue old.is_open × ((d : List ℕ) (m : Records) → Keeps old d m → ShowsRecord rows.items (m id)))
   find_shown id (Err e) h = tt
   find_shown id (Ok rows) h = let live = shown_open _ _ old new rows.items h in (live, λ d m keeps. finds old new id rows.items d m (keeps clean live).0 h)
 
 pub read_shown : (old new : State) (r : Result (Vec Row Global) Error) → IfOk r (λ rows. Shown read_text [] old new rows.items)
-    → IfOk r (λ rows. IsTrue old.is_open × ((version : ℕ) (d : List ℕ) → Tells old.now version d → ShowsAbout rows.items version d))
+    → IfOk r (λ rows. IsTrue old.is_open × ((version : ℕ) (d : List ℕ) → HasTables old.now version d → ShowsAbout rows.items version d))
 read_shown old new (Err e) h = tt
 read_shown old new (Ok rows) h = (
   shown_open _ _ old new rows.items h,
@@ -169,11 +170,11 @@ query_live sql params old new (Err e) ok = tt
 
 -- ---- the first row
 
-pub none_first : (rows : List Row) (o : Option Kept) → None ≡ slice_get rows 0 → Answers rows o → None ≡ o
+pub none_first : (rows : List Row) (o : Option Kept) → None ≡ slice_get rows 0 → ShowsRecord rows o → None ≡ o
 none_first [] o none h = sym h
 none_first (row ∷ rows) o none h = absurd cc
 
-pub some_first : (rows : List Row) (o : Option Kept) (row : Row) → Some row ≡ slice_get rows 0 → Answers rows o → (k : Kept) × (o ≡ Some k) × (row ≡ shown_row k)
+pub some_first : (rows : List Row) (o : Option Kept) (row : Row) → Some row ≡ slice_get rows 0 → ShowsRecord rows o → (k : Kept) × (o ≡ Some k) × (row ≡ shown_row k)
 some_first [] o row some h = absurd cc
 some_first (r ∷ rows) o row some h = let same : row ≡ r = cc in (h.0, h.1, same ∙ h.2)
 

@@ -20,14 +20,15 @@ use Rattle.sqlite_rules.specs.Lists.{Has}
 use Rattle.sqlite_rules.specs.Calls.{ids_of}
 use Rattle.sqlite_rules.proofs.ProbeLemmas.{has_mapped, mapped_has}
 use Rattle.fv_store.specs.Tables.{store_schema}
-use Rattle.fv_store.specs.Records.{Records, without_record}
-use Rattle.fv_store.specs.Stands.{Spells, Spelled}
+use Rattle.fv_store.specs.Records.{Records}
+use Rattle.fv_store.specs.Steps.{without_record}
+use Rattle.fv_store.specs.Stands.{HasRows, Spells}
 use Rattle.fv_store.proofs.Texts.{kept_table, remove_text, remove_query, remove_is, remove_plain}
 use Rattle.fv_store.proofs.RowEdits.{AreOf, spells_left}
 use Rattle.fv_store.proofs.OneTable.{by_id, by_id_is, shown_sound, shown_complete}
 use Rattle.fv_store.proofs.Inserts.{went, same_value, zero_is_not_one}
 
-module _ (db : Trees) (m : Records) (id : List ℕ) (rows : List Row) (s : Spells (db 1) m) (a : IsAnswer remove_query (overlay db []) (Text id ∷ []) rows) where
+module _ (db : Trees) (m : Records) (id : List ℕ) (rows : List Row) (s : HasRows (db 1) m) (a : IsAnswer remove_query (overlay db []) (Text id ∷ []) rows) where
   found_sound : (i : ℤ) → Has (ids_of rows) i → (row : Row) × Has (db 1) row × (column row 1 ≡ Text id) × (rowid row ≡ Int i)
   found_sound i h =
       let x = has_mapped (λ r. id_in (rowid r)) rows i h in
@@ -49,18 +50,18 @@ module _ (db : Trees) (m : Records) (id : List ℕ) (rows : List Row) (s : Spell
   found : AreOf (db 1) id (ids_of rows)
   found = record { sound = found_sound; complete = found_complete }
 
-  pub spells_removed : Spells (without_all (db 1) (ids_of rows)) (without_record id m)
+  pub spells_removed : HasRows (without_all (db 1) (ids_of rows)) (without_record id m)
   spells_removed = spells_left (db 1) m id (ids_of rows) s found
 
-pub removes : (old new : State) (id : List ℕ) (count : ℕ) (d : List ℕ) (m : Records) → Spelled old.now d m
-    → Executes remove_text (Text id ∷ []) old new (Ok count) → Spelled new.now d (without_record id m)
+pub removes : (old new : State) (id : List ℕ) (count : ℕ) (d : List ℕ) (m : Records) → Spells old.now d m
+    → Executes remove_text (Text id ∷ []) old new (Ok count) → Spells new.now d (without_record id m)
 removes old new id count d m spelled h =
     let params = Text id ∷ [] in
     let db = old.now.trees in
     let command = Delete 1 (record { lets = []; body = remove_query }) in
-    let w = runs_as remove_text params old new store_schema spelled.tells.schema command remove_is remove_plain count h in
+    let w = runs_as remove_text params old new store_schema spelled.tables.schema command remove_is remove_plain count h in
     let text = statement_of remove_text (understood store_schema remove_text) in
-    let done = went (subst (λ s. Does old.step_limit (mode_of old) params (record old.now { schema = s }) text None command (Ok (w.tally, new.now))) spelled.tells.schema w.changed) in
+    let done = went (subst (λ s. Does old.step_limit (mode_of old) params (record old.now { schema = s }) text None command (Ok (w.tally, new.now))) spelled.tables.schema w.changed) in
     let now = ap (λ (p : Tally × Database). p.1) (same_value (went (went done.2).2).2) in
     let given = went done.1 in
     let written = went given.2 in
@@ -69,6 +70,6 @@ removes old new id count d m spelled h =
     let applied = one_step store_schema _ db written.0 edit refl written.1 in
     let at : (t : ℕ) → new.now.trees t ≡ written.0 t = λ t. ap (λ (b : Database). b.trees t) now ∙ ap (λ (ts : Trees). ts t) trees in
     record {
-      tells = record { schema = ap (λ (b : Database). b.schema) now; about = at 0 ∙ applied.tables.0 zero_is_not_one ∙ spelled.tells.about };
-      records = subst (λ rs. Spells rs (without_record id m)) (sym (at 1 ∙ applied.rows)) (spells_removed db m id given.0 spelled.records (given.1.answer Null));
+      tables = record { schema = ap (λ (b : Database). b.schema) now; about = at 0 ∙ applied.tables.0 zero_is_not_one ∙ spelled.tables.about };
+      records = subst (λ rs. HasRows rs (without_record id m)) (sym (at 1 ∙ applied.rows)) (spells_removed db m id given.0 spelled.records (given.1.answer Null));
     }

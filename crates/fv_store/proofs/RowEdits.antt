@@ -18,8 +18,9 @@ use Rattle.sqlite_keyed.proofs.ListLemmas.{ascending-filter}
 use Rattle.sqlite_rules.specs.Lists.{Has}
 use Rattle.sqlite_rules.proofs.TableLemmas.{put_all_has, put_all_keeps, put_all_adds}
 use Rattle.sqlite_trees.proofs.TreeLemmas.{IsTable-put_row}
-use Rattle.fv_store.specs.Records.{Kept, Records, with_record, without_record}
-use Rattle.fv_store.specs.Stands.{record_row, IsRowOf, Spells}
+use Rattle.fv_store.specs.Records.{Kept, Records, with_record}
+use Rattle.fv_store.specs.Steps.{without_record}
+use Rattle.fv_store.specs.Stands.{record_row, IsRowOf, HasRows}
 
 equal_ints : (i n : ℤ) → is_eq (int_cmp n i) ≡ true → i ≡ n
 equal_ints i n h = grind (arith, ints, nat_tests)
@@ -53,7 +54,7 @@ same_id id = (bytes_eq-Decides id id).1 refl
 abbrev put : List Row → ℤ → List ℕ → Kept → List Row
 put rows n id e = put_all rows (record_row n id e ∷ [])
 
-module _ (rows : List Row) (m : Records) (n : ℤ) (id : List ℕ) (e : Kept) (s : Spells rows m) (none : m id ≡ None) (free : are_fresh rows (record_row n id e ∷ []) ≡ true) where
+module _ (rows : List Row) (m : Records) (n : ℤ) (id : List ℕ) (e : Kept) (s : HasRows rows m) (none : m id ≡ None) (free : are_fresh rows (record_row n id e ∷ []) ≡ true) where
   one : (row : Row) → Has (put rows n id e) row → (row ≡ record_row n id e) ⊎ Has rows row
   one row h = elim (put_all_has (record_row n id e ∷ []) rows row h) [
     | inl new ↦ elim new [ inl is ↦ inl is | inr never ↦ absurd never ]
@@ -98,7 +99,7 @@ module _ (rows : List Row) (m : Records) (n : ℤ) (id : List ℕ) (e : Kept) (s
     ]
   ]
 
-  pub spells_put : Spells (put rows n id e) (with_record id e m)
+  pub spells_put : HasRows (put rows n id e) (with_record id e m)
   spells_put = record { apart = IsTable-put_row (record_row n id e) rows s.apart; sound = put_sound; complete = put_complete; once = put_once }
 
 -- ---- rows taken out
@@ -126,7 +127,7 @@ pub record AreOf (rows : List Row) (id : List ℕ) (ids : List ℤ) : Type 0 whe
   pub sound : (i : ℤ) → Has ids i → (row : Row) × Has rows row × (column row 1 ≡ Words id) × (rowid row ≡ Int i)
   pub complete : (row : Row) (i : ℤ) → Has rows row → column row 1 ≡ Words id → rowid row ≡ Int i → Has ids i
 
-module _ (rows : List Row) (m : Records) (id : List ℕ) (ids : List ℤ) (s : Spells rows m) (are : AreOf rows id ids) where
+module _ (rows : List Row) (m : Records) (id : List ℕ) (ids : List ℤ) (s : HasRows rows m) (are : AreOf rows id ids) where
   gone : (n : ℤ) (e : Kept) → Has (without_all rows ids) (record_row n id e) → ⊥
   gone n e h =
       let it = left_from ids rows (record_row n id e) h in
@@ -161,7 +162,7 @@ module _ (rows : List Row) (m : Records) (id : List ℕ) (ids : List ℤ) (s : S
         (it.0, left_has ids rows (record_row it.0 k f) it.1 (stays it.0 k f other it.1))
   ]
 
-  pub spells_left : Spells (without_all rows ids) (without_record id m)
+  pub spells_left : HasRows (without_all rows ids) (without_record id m)
   spells_left = record {
     apart = left_apart ids rows s.apart;
     sound = left_sound;

@@ -7,10 +7,10 @@ use Rattle.sqlite.specs.declared.types.Value.TheVariants.{Text}
 use Rattle.sqlite.specs.declared.error.Error.{Error}
 use Rattle.sqlite.specs.State.{State, HasCleanDisk, ExecutesInside, KeepsCommit, Shows, KeepsCounts}
 use Rattle.fv_store.specs.declared.change.Change.{Change}
-use Rattle.fv_store.specs.Records.{Kept, Records, with_record, without_record, bundle_text}
+use Rattle.fv_store.specs.Records.{Kept, Records, with_record, bundle_text}
+use Rattle.fv_store.specs.Steps.{without_record, Advances, Makes, Always, Lacks, Keeps}
 use Rattle.fv_store.specs.Changes.{after, after_all}
-use Rattle.fv_store.specs.Stands.{Spelled}
-use Rattle.fv_store.specs.Steps.{Advances, Makes, Always, Lacks, Keeps}
+use Rattle.fv_store.specs.Stands.{Spells}
 use Rattle.fv_store.proofs.Texts.{insert_text, remove_text}
 use Rattle.fv_store.proofs.Inserts.{inserts}
 use Rattle.fv_store.proofs.Removes.{removes}
@@ -57,7 +57,7 @@ lacks_after : (id : List ℕ) (m : Records) → Lacks id (without_record id m)
 lacks_after id m = rw ((bytes_eq-Decides id id).1 refl) refl
 
 pub replaces : (id : List ℕ) (k : Kept) (x y z : Database) → Makes Always (without_record id) x y → Makes (Lacks id) (with_record id k) y z → Makes Always (with_record id k) x z
-replaces id k x y z p q d m spelled _ = subst (Spelled z d) (replaced id k m) (q d (without_record id m) (p d m spelled tt) (lacks_after id m))
+replaces id k x y z p q d m spelled _ = subst (Spells z d) (replaced id k m) (q d (without_record id m) (p d m spelled tt) (lacks_after id m))
 
 -- no change yet
 pub begun_step : (s : State) → IsTrue s.in_transaction → Advances s s (Makes Always (after_all []))
@@ -69,7 +69,7 @@ after_all-push (x ∷ cs) c m = after_all-push cs c (after x m)
 
 -- one change more
 pub one_more : (cs : List Change) (c : Change) (x y z : Database) → Makes Always (after_all cs) x y → Makes Always (after c) y z → Makes Always (after_all (cs ++ c ∷ [])) x z
-one_more cs c x y z p q d m spelled _ = subst (Spelled z d) (sym (after_all-push cs c m)) (q d (after_all cs m) (p d m spelled tt) tt)
+one_more cs c x y z p q d m spelled _ = subst (Spells z d) (sym (after_all-push cs c m)) (q d (after_all cs m) (p d m spelled tt) tt)
 
 -- ---- the commit
 
@@ -86,7 +86,7 @@ commit_on_ok old mid new cs (Ok t) late early step ends = λ d m keeps clean liv
     let it = step (late clean) in
     let was = keeps (early (late clean)) (it.was_open end.1.was_open) in
     let spelled = it.change d m was.0 tt in
-    (subst (λ b. Spelled b d (after_all cs m)) (sym end.1.now_is) spelled, subst (λ b. Spelled b d (after_all cs m)) (sym end.1.committed_is) spelled)
+    (subst (λ b. Spells b d (after_all cs m)) (sym end.1.now_is) spelled, subst (λ b. Spells b d (after_all cs m)) (sym end.1.committed_is) spelled)
 
 -- ---- turns of a database
 

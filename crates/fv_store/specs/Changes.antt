@@ -4,7 +4,7 @@ use Rattle.fv_model.specs.Types.{Declared}
 use Rattle.fv_model.specs.Views.{bundle_view}
 use Rattle.fv_store.specs.declared.change.Change.{Change}
 use Rattle.fv_store.specs.declared.change.Change.TheVariants.{Put}
-use Rattle.fv_store.specs.Records.{Records, Roots, Fits, with_record}
+use Rattle.fv_store.specs.Records.{Records, Roots, Fits, Contents, with_record, with_records}
 
 -- after one change: what is put is the record of its id
 abbrev pub after : Change → Records → Records
@@ -14,6 +14,10 @@ after (Put id form bundle) m = with_record (string_bytes id) (record { form = st
 abbrev pub after_all : List Change → Records → Records
 after_all [] m = m
 after_all (c ∷ cs) m = after_all cs (after c m)
+
+-- the same, made of what a store keeps
+abbrev pub changed : List Change → Contents → Contents
+changed cs c = with_records (after_all cs c.records) c
 
 -- what is put fits
 abbrev pub ChangeFits : Declared → Roots → Change → Type 0

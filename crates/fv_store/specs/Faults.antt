@@ -7,7 +7,7 @@ use Rattle.sqlite.specs.declared.error.ErrorCode.TheVariants.{OutOfMemory}
 use Rattle.serde_json.specs.declared.error.Error as json
 use Rattle.serde_json.specs.declared.error.Code.{Code}
 use Rattle.serde_json.specs.declared.error.Code.TheVariants as code
-use Rattle.fv_datum.specs.Answers.{first}
+use Rattle.fv_datum.specs.Outcomes.{first}
 use Rattle.fv_model.specs.declared.fault.BundleFault.{BundleFault}
 use Rattle.fv_model.specs.declared.fault.BundleFault.TheVariants as bundle
 use Rattle.fv_store.specs.declared.fault.OpenStoreFault.{OpenStoreFault}

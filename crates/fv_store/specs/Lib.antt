@@ -2,6 +2,7 @@ pub mod Changes
 pub mod FaultNames
 pub mod Faults
 pub mod Records
+pub mod Showing
 pub mod Stands
 pub mod Steps
 pub mod Stored

@@ -25,17 +25,9 @@ no_records id = None
 abbrev pub with_record : List ℕ → Kept → Records → Records
 with_record id k m other = if bytes_eq other id then Some k else m other
 
--- the id has no record, and the others are as before
-abbrev pub without_record : List ℕ → Records → Records
-without_record id m other = if bytes_eq other id then None else m other
-
 -- the text that a bundle is kept as: its JSON with no space
 unfoldable pub bundle_text : Bundled → List ℕ
 bundle_text b = compact_text (bundle_json b)
-
--- a record with its bundle's text
-abbrev pub kept_text : Kept → List ℕ × List ℕ
-kept_text k = (k.form, bundle_text k.bundle)
 
 -- the type of each form's root
 abbrev pub Roots : Type 0
@@ -48,6 +40,17 @@ pub record Fits (types : Declared) (roots : Roots) (k : Kept) : Type 0 where
   pub typed : IsWellTyped types k.bundle
   pub rooted : HasRootType root k.bundle
 
+-- what a store keeps: the bytes of the declarations, the types and the roots of forms that they declare, and the records
+pub record Contents : Type 0 where
+  pub bytes : List ℕ
+  pub types : Declared
+  pub roots : Roots
+  pub records : Records
+
+-- the same with these records
+abbrev pub with_records : Records → Contents → Contents
+with_records m c = record { bytes = c.bytes; types = c.types; roots = c.roots; records = m }
+
 -- every record fits
-abbrev pub AllFit : Declared → Roots → Records → Type 0
-AllFit types roots m = (id : List ℕ) (k : Kept) → m id ≡ Some k → Fits types roots k
+abbrev pub AllFit : Contents → Type 0
+AllFit c = (id : List ℕ) (k : Kept) → c.records id ≡ Some k → Fits c.types c.roots k

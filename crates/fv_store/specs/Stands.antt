@@ -6,8 +6,7 @@ use Rattle.sqlite.specs.Tree.{IsTable}
 use Rattle.sqlite.specs.Effect.{Database}
 use Rattle.sqlite.specs.State.{State, HasCleanDisk}
 use Rattle.sqlite_rules.specs.Lists.{Has}
-use Rattle.fv_model.specs.Types.{Declared}
-use Rattle.fv_store.specs.Records.{Kept, Records, Roots, AllFit, no_records, bundle_text}
+use Rattle.fv_store.specs.Records.{Kept, Records, Contents, AllFit, no_records, bundle_text}
 use Rattle.fv_store.specs.Tables.{no_schema, store_schema}
 
 -- a row of `record`: its rowid, the id, the form and the bundle's text
@@ -27,7 +26,7 @@ pub record IsRowOf (m : Records) (row : Row) : Type 0 where
   pub known : m id ≡ Some kept
 
 -- the rows are one for each record, in some order
-pub record Spells (rows : List Row) (m : Records) : Type 0 where
+pub record HasRows (rows : List Row) (m : Records) : Type 0 where
   -- no two have one rowid
   pub apart : IsTable rows
   pub sound : (row : Row) → Has rows row → IsRowOf m row
@@ -36,31 +35,31 @@ pub record Spells (rows : List Row) (m : Records) : Type 0 where
   pub once : (a b : Row) → Has rows a → Has rows b → column a 1 ≡ column b 1 → a ≡ b
 
 -- these tables, with one row of `about`: this version and these declarations
-pub record Tells (db : Database) (version : ℕ) (declarations : List ℕ) : Type 0 where
+pub record HasTables (db : Database) (version : ℕ) (declarations : List ℕ) : Type 0 where
   pub schema : db.schema ≡ store_schema
   pub about : db.trees 0 ≡ about_row version declarations ∷ []
 
 -- the tables of version 1, with the declarations and the rows of the records
-pub record Spelled (db : Database) (declarations : List ℕ) (m : Records) : Type 0 where
-  pub tells : Tells db 1 declarations
-  pub records : Spells (db.trees 1) m
+pub record Spells (db : Database) (declarations : List ℕ) (m : Records) : Type 0 where
+  pub tables : HasTables db 1 declarations
+  pub records : HasRows (db.trees 1) m
 
--- The database stands for the records under these declarations, with these types and roots of forms: it spells them, and each fits.
-pub record Stands (db : Database) (declarations : List ℕ) (types : Declared) (roots : Roots) (m : Records) : Type 0 where
-  pub spelled : Spelled db declarations m
-  pub fit : AllFit types roots m
+-- the database spells the records under their declarations, and each fits
+pub record Stands (db : Database) (c : Contents) : Type 0 where
+  pub spells : Spells db c.bytes c.records
+  pub fit : AllFit c
 
 -- What a connection outside a transaction stands for, now and as committed. It says nothing once the disk has lied or has shut the connection.
-abbrev pub Holds : State → List ℕ → Declared → Roots → Records → Type 0
-Holds s declarations types roots m = HasCleanDisk s → IsTrue s.is_open → Stands s.now declarations types roots m × Stands s.committed declarations types roots m
+abbrev pub Holds : State → Contents → Type 0
+Holds s c = HasCleanDisk s → IsTrue s.is_open → Stands s.now c × Stands s.committed c
 
 -- no table, index or view
 abbrev pub IsBlank : Database → Type 0
 IsBlank db = db.schema ≡ no_schema
 
--- the records that a database hands to a store that is opened over it: none where it is blank, else those that it stands for
-abbrev pub Opens : State → List ℕ → Declared → Roots → Records → Type 0
-Opens s declarations types roots m = (HasCleanDisk s → IsTrue s.is_open → IsBlank s.now × (m ≡ no_records)) ⊎ Holds s declarations types roots m
+-- what a database hands to a store that is opened over it: no record where it is blank, else what it stands for
+abbrev pub Opens : State → Contents → Type 0
+Opens s c = (HasCleanDisk s → IsTrue s.is_open → IsBlank s.now × (c.records ≡ no_records)) ⊎ Holds s c
 
 -- the database is blank or has these tables
 abbrev pub IsKnown : Database → Type 0
@@ -69,3 +68,13 @@ IsKnown db = IsBlank db ⊎ (db.schema ≡ store_schema)
 -- the database is as it was, unless the disk has lied or has shut the connection
 abbrev pub Stays : State → State → Type 0
 Stays old new = HasCleanDisk new → IsTrue new.is_open → HasCleanDisk old × IsTrue old.is_open × (new.now ≡ old.now) × (new.committed ≡ old.committed)
+
+-- The frame of a call on a connection, whatever it answers: a disk that is clean now was clean before, and then a connection that is open
+-- now was open before.
+pub record Frame (old new : State) : Type 0 where
+  pub clean : HasCleanDisk new → HasCleanDisk old
+  pub was_open : HasCleanDisk new → IsTrue new.is_open → IsTrue old.is_open
+
+-- open, unless the disk has lied
+abbrev pub IsLive : State → Type 0
+IsLive s = HasCleanDisk s → IsTrue s.is_open

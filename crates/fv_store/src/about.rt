@@ -2,10 +2,11 @@
 ghost use Rattle.std.specs.Prelude.{◌≡◌, ℕ, List, false, IsTrue, IfOk, OnOk};
 ghost use Rattle.sqlite.specs.State.{HasCleanDisk};
 ghost use Rattle.sqlite.specs.Held.{state};
-ghost use Rattle.fv_datum.specs.Answers.{Gives, unless_fault};
+ghost use Rattle.fv_datum.specs.Outcomes.{Gives, unless_fault};
 ghost use Rattle.fv_store.specs.Faults.{about_fault};
-ghost use Rattle.fv_store.specs.Stands.{Tells, Stays};
-ghost use Rattle.fv_store.specs.Steps.{IsSettled, ShowsAbout, shown_about};
+ghost use Rattle.fv_store.specs.Stands.{HasTables, Stays, Frame, IsLive};
+ghost use Rattle.fv_store.specs.Steps.{IsSettled};
+ghost use Rattle.fv_store.specs.Showing.{ShowsAbout, shown_about};
 ghost use Rattle.fv_store.specs.Tables.{store_schema};
 
 use crate::fault::OpenStoreFault;
@@ -19,11 +20,14 @@ const VERSION: i64 = 1;
 /// The rows that show the version and the declarations: one.
 pub(crate) fn read_about<S: Alter>(conn: &mut Connection<S>) -> Result<Vec<Row>, Error>
     ensures mode { conn.old.in_transaction ≡ false → conn.new.in_transaction ≡ false }
-    ensures clean { HasCleanDisk (state S.Store conn.new) → HasCleanDisk (state S.Store conn.old) }
-    ensures was_open { HasCleanDisk (state S.Store conn.new) → IsTrue (state S.Store conn.new).is_open → IsTrue (state S.Store conn.old).is_open }
-    ensures open { OnOk result (HasCleanDisk (state S.Store conn.new) → IsTrue (state S.Store conn.new).is_open) }
-    ensures shown { HasCleanDisk (state S.Store conn.new) → IfOk result (λ rows. IsTrue (state S.Store conn.old).is_open × ((version : _) (d : _) → Tells (state S.Store conn.old).now version d → ShowsAbout rows.items version d)) }
-    ensures untouched { IsSettled (state S.Store conn.old) → (state S.Store conn.old).now.schema ≡ store_schema → Stays (state S.Store conn.old) (state S.Store conn.new) }
+    ensures frame { Frame (state S.Store conn.old) (state S.Store conn.new) }
+    ensures open { OnOk result (IsLive (state S.Store conn.new)) }
+    ensures shown { HasCleanDisk (state S.Store conn.new)
+        → IfOk result (λ rows. IsTrue (state S.Store conn.old).is_open
+        × ((version : _) (d : _) → HasTables (state S.Store conn.old).now version d
+        → ShowsAbout rows.items version d)) }
+    ensures untouched { IsSettled (state S.Store conn.old) → (state S.Store conn.old).now.schema ≡ store_schema
+        → Stays (state S.Store conn.old) (state S.Store conn.new) }
 {
     conn.query_all(READ_ABOUT, &[])
 }
@@ -34,7 +38,8 @@ pub(crate) fn read_about<S: Alter>(conn: &mut Connection<S>) -> Result<Vec<Row>,
 /// place. The version is asked first, so that tables of another version may keep their declarations
 /// in another way.
 pub(crate) fn agrees(row: &Row, declarations: &[u8]) -> Result<(), OpenStoreFault>
-    ensures { (version : ℕ) (stored : List ℕ) → row.now ≡ shown_about version stored → Gives OpenStoreFault.Memory (λ u. u) result (unless_fault (about_fault version stored declarations.now) tt) }
+    ensures { (version : ℕ) (stored : List ℕ) → row.now ≡ shown_about version stored
+        → Gives OpenStoreFault.Memory (λ u. u) result (unless_fault (about_fault version stored declarations.now) tt) }
 {
     let version: i64 = row.get(0)?;
     if version != VERSION {

@@ -1,6 +1,7 @@
 //! Changes are made in one transaction.
 ghost use Rattle.std.specs.Prelude.{◌≡◌, false, IsTrue, OnOk, OnErr};
 ghost use Rattle.sqlite.specs.State.{HasCleanDisk, KeepsCommit};
+ghost use Rattle.fv_store.specs.Stands.{Frame, IsLive};
 ghost use Rattle.sqlite.specs.Held.{state};
 ghost use Rattle.fv_store.specs.Changes.{after, after_all};
 ghost use Rattle.fv_store.specs.Steps.{Advances, Makes, Always, Keeps};
@@ -21,7 +22,8 @@ fn apply<S: Alter>(
     ensures kept { HasCleanDisk (state S.Store tx.new.conn.now) → IsTrue (state S.Store tx.old.conn.now).in_transaction
         → KeepsCommit (state S.Store tx.old.conn.now) (state S.Store tx.new.conn.now) }
     ensures done { HasCleanDisk (state S.Store tx.new.conn.now) → IsTrue (state S.Store tx.old.conn.now).in_transaction
-        → OnOk result (Advances (state S.Store tx.old.conn.now) (state S.Store tx.new.conn.now) (Makes Always (after change.now))) }
+        → OnOk result (Advances (state S.Store tx.old.conn.now) (state S.Store tx.new.conn.now)
+        (Makes Always (after change.now))) }
 {
     match change {
         Change::Put { id, form, bundle } => {
@@ -41,7 +43,8 @@ fn apply_all<S: Alter>(
     ensures kept { HasCleanDisk (state S.Store tx.new.conn.now) → IsTrue (state S.Store tx.old.conn.now).in_transaction
         → KeepsCommit (state S.Store tx.old.conn.now) (state S.Store tx.new.conn.now) }
     ensures done { HasCleanDisk (state S.Store tx.new.conn.now) → IsTrue (state S.Store tx.old.conn.now).in_transaction
-        → OnOk result (Advances (state S.Store tx.old.conn.now) (state S.Store tx.new.conn.now) (Makes Always (after_all changes.now))) }
+        → OnOk result (Advances (state S.Store tx.old.conn.now) (state S.Store tx.new.conn.now)
+        (Makes Always (after_all changes.now))) }
 {
     'changes: for change in changes {
         apply(tx, alloc, change)?;
@@ -57,11 +60,12 @@ pub(crate) fn commit<S: Alter>(
 ) -> Result<(), Error>
     requires { conn.old.in_transaction ≡ false }
     ensures mode { conn.new.in_transaction ≡ false }
-    ensures clean { HasCleanDisk (state S.Store conn.new) → HasCleanDisk (state S.Store conn.old) }
-    ensures was_open { HasCleanDisk (state S.Store conn.new) → IsTrue (state S.Store conn.new).is_open → IsTrue (state S.Store conn.old).is_open }
-    ensures open { OnOk result (HasCleanDisk (state S.Store conn.new) → IsTrue (state S.Store conn.new).is_open) }
-    ensures done { OnOk result ((d : _) (m : _) → Keeps (state S.Store conn.old) d m → Keeps (state S.Store conn.new) d (after_all changes.now m)) }
-    ensures undone { OnErr result ((d : _) (m : _) → Keeps (state S.Store conn.old) d m → Keeps (state S.Store conn.new) d m) }
+    ensures frame { Frame (state S.Store conn.old) (state S.Store conn.new) }
+    ensures open { OnOk result (IsLive (state S.Store conn.new)) }
+    ensures done { OnOk result ((d : _) (m : _) → Keeps (state S.Store conn.old) d m
+        → Keeps (state S.Store conn.new) d (after_all changes.now m)) }
+    ensures undone { OnErr result ((d : _) (m : _) → Keeps (state S.Store conn.old) d m
+        → Keeps (state S.Store conn.new) d m) }
 {
     let mut tx = conn.transaction();
     apply_all(&mut tx, alloc, changes)?;

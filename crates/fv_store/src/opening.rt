@@ -3,7 +3,7 @@ ghost use Rattle.std.specs.Prelude.{◌≡◌, ◌↔◌, false, IsTrue, IfErr, 
 ghost use Rattle.sqlite.specs.State.{HasCleanDisk};
 ghost use Rattle.sqlite.specs.Held.{state};
 ghost use Rattle.fv_store.specs.Records.{no_records};
-ghost use Rattle.fv_store.specs.Stands.{IsBlank, IsKnown, Stays};
+ghost use Rattle.fv_store.specs.Stands.{IsBlank, IsKnown, Stays, Frame, IsLive};
 ghost use Rattle.fv_store.specs.Steps.{Keeps, IsSettled, IsTaken, IsCaused};
 ghost use Rattle.fv_store.specs.Tables.{store_schema};
 
@@ -25,10 +25,10 @@ fn create<S: Alter>(conn: &mut Connection<S>, declarations: &[u8]) -> Result<(),
     requires mode { conn.old.in_transaction ≡ false }
     requires settled { IsSettled (state S.Store conn.old) }
     ensures mode { conn.new.in_transaction ≡ false }
-    ensures clean { HasCleanDisk (state S.Store conn.new) → HasCleanDisk (state S.Store conn.old) }
-    ensures was_open { HasCleanDisk (state S.Store conn.new) → IsTrue (state S.Store conn.new).is_open → IsTrue (state S.Store conn.old).is_open }
-    ensures open { OnOk result (HasCleanDisk (state S.Store conn.new) → IsTrue (state S.Store conn.new).is_open) }
-    ensures done { OnOk result (IsBlank (state S.Store conn.old).now → Keeps (state S.Store conn.new) declarations.now no_records) }
+    ensures frame { Frame (state S.Store conn.old) (state S.Store conn.new) }
+    ensures open { OnOk result (IsLive (state S.Store conn.new)) }
+    ensures done { OnOk result (IsBlank (state S.Store conn.old).now
+        → Keeps (state S.Store conn.new) declarations.now no_records) }
     ensures undone { OnErr result (Stays (state S.Store conn.old) (state S.Store conn.new)) }
 {
     let mut tx = conn.transaction();
@@ -40,12 +40,14 @@ fn create<S: Alter>(conn: &mut Connection<S>, declarations: &[u8]) -> Result<(),
 /// refused as one that can't be read.
 fn compare<S: Alter>(conn: &mut Connection<S>, declarations: &[u8]) -> Result<(), OpenStoreFault>
     ensures mode { conn.old.in_transaction ≡ false → conn.new.in_transaction ≡ false }
-    ensures clean { HasCleanDisk (state S.Store conn.new) → HasCleanDisk (state S.Store conn.old) }
-    ensures was_open { HasCleanDisk (state S.Store conn.new) → IsTrue (state S.Store conn.new).is_open → IsTrue (state S.Store conn.old).is_open }
-    ensures open { OnOk result (HasCleanDisk (state S.Store conn.new) → IsTrue (state S.Store conn.new).is_open) }
-    ensures untouched { IsSettled (state S.Store conn.old) → (state S.Store conn.old).now.schema ≡ store_schema → Stays (state S.Store conn.old) (state S.Store conn.new) }
-    ensures taken { HasCleanDisk (state S.Store conn.new) → OnOk result (IsTaken (state S.Store conn.old) declarations.now) }
-    ensures cause { HasCleanDisk (state S.Store conn.new) → (IsBlank (state S.Store conn.old).now → ⊥) → IfErr result (IsCaused (state S.Store conn.old) declarations.now) }
+    ensures frame { Frame (state S.Store conn.old) (state S.Store conn.new) }
+    ensures open { OnOk result (IsLive (state S.Store conn.new)) }
+    ensures untouched { IsSettled (state S.Store conn.old) → (state S.Store conn.old).now.schema ≡ store_schema
+        → Stays (state S.Store conn.old) (state S.Store conn.new) }
+    ensures taken { HasCleanDisk (state S.Store conn.new)
+        → OnOk result (IsTaken (state S.Store conn.old) declarations.now) }
+    ensures cause { HasCleanDisk (state S.Store conn.new) → (IsBlank (state S.Store conn.old).now → ⊥)
+        → IfErr result (IsCaused (state S.Store conn.old) declarations.now) }
 {
     let rows = read_about(conn)?;
     match rows.first() {
@@ -61,14 +63,18 @@ pub(crate) fn settle<S: Alter>(
     declarations: &[u8],
 ) -> Result<(), OpenStoreFault>
     ensures mode { OnOk result (conn.new.in_transaction ≡ false) }
-    ensures clean { HasCleanDisk (state S.Store conn.new) → HasCleanDisk (state S.Store conn.old) }
-    ensures was_open { HasCleanDisk (state S.Store conn.new) → IsTrue (state S.Store conn.new).is_open → IsTrue (state S.Store conn.old).is_open }
-    ensures open { OnOk result (HasCleanDisk (state S.Store conn.new) → IsTrue (state S.Store conn.new).is_open) }
-    ensures fresh { OnOk result (IsBlank (state S.Store conn.old).now → Keeps (state S.Store conn.new) declarations.now no_records) }
-    ensures kept { OnOk result ((state S.Store conn.old).now.schema ≡ store_schema → Stays (state S.Store conn.old) (state S.Store conn.new)) }
-    ensures taken { HasCleanDisk (state S.Store conn.new) → OnOk result (IsTaken (state S.Store conn.old) declarations.now) }
-    ensures untouched { OnErr result (IsKnown (state S.Store conn.old).now → Stays (state S.Store conn.old) (state S.Store conn.new)) }
-    ensures cause { HasCleanDisk (state S.Store conn.new) → IfErr result (IsCaused (state S.Store conn.old) declarations.now) }
+    ensures frame { Frame (state S.Store conn.old) (state S.Store conn.new) }
+    ensures open { OnOk result (IsLive (state S.Store conn.new)) }
+    ensures fresh { OnOk result (IsBlank (state S.Store conn.old).now
+        → Keeps (state S.Store conn.new) declarations.now no_records) }
+    ensures kept { OnOk result ((state S.Store conn.old).now.schema ≡ store_schema
+        → Stays (state S.Store conn.old) (state S.Store conn.new)) }
+    ensures taken { HasCleanDisk (state S.Store conn.new)
+        → OnOk result (IsTaken (state S.Store conn.old) declarations.now) }
+    ensures untouched { OnErr result (IsKnown (state S.Store conn.old).now
+        → Stays (state S.Store conn.old) (state S.Store conn.new)) }
+    ensures cause { HasCleanDisk (state S.Store conn.new)
+        → IfErr result (IsCaused (state S.Store conn.old) declarations.now) }
 {
     if !conn.is_autocommit() {
         return Err(OpenStoreFault::Store);

@@ -3,9 +3,10 @@ ghost use Rattle.std.specs.Prelude.{◌≡◌, false, IsTrue, IfOk, OnOk, option
 ghost use Rattle.sqlite.specs.State.{HasCleanDisk, KeepsCommit};
 ghost use Rattle.sqlite.specs.Held.{state};
 ghost use Rattle.fv_model.specs.Views.{bundle_view};
-ghost use Rattle.fv_store.specs.Records.{Kept, with_record, without_record, bundle_text, kept_text};
-ghost use Rattle.fv_store.specs.Steps.{Advances, Makes, Always, Lacks, Keeps, Answers};
-ghost use Rattle.fv_store.specs.Stored.{shown_view};
+ghost use Rattle.fv_store.specs.Records.{Kept, with_record, bundle_text};
+ghost use Rattle.fv_store.specs.Stands.{Frame, IsLive};
+ghost use Rattle.fv_store.specs.Steps.{without_record, Advances, Makes, Always, Lacks, Keeps};
+ghost use Rattle.fv_store.specs.Showing.{kept_text, ShowsRecord, shown_view};
 
 use crate::shown::{Shown, shown_in};
 use crate::text::text_of;
@@ -26,7 +27,8 @@ fn remove_record<S: Alter>(tx: &mut Transaction<'_, S>, id: &str) -> Result<usiz
     ensures kept { HasCleanDisk (state S.Store tx.new.conn.now) → IsTrue (state S.Store tx.old.conn.now).in_transaction
         → KeepsCommit (state S.Store tx.old.conn.now) (state S.Store tx.new.conn.now) }
     ensures done { HasCleanDisk (state S.Store tx.new.conn.now) → IsTrue (state S.Store tx.old.conn.now).in_transaction
-        → OnOk result (Advances (state S.Store tx.old.conn.now) (state S.Store tx.new.conn.now) (Makes Always (without_record id.now))) }
+        → OnOk result (Advances (state S.Store tx.old.conn.now) (state S.Store tx.new.conn.now)
+        (Makes Always (without_record id.now))) }
 {
     tx.execute(REMOVE_RECORD, params![id])
 }
@@ -42,8 +44,10 @@ fn insert_record<S: Alter>(
     ensures clean { HasCleanDisk (state S.Store tx.new.conn.now) → HasCleanDisk (state S.Store tx.old.conn.now) }
     ensures kept { HasCleanDisk (state S.Store tx.new.conn.now) → IsTrue (state S.Store tx.old.conn.now).in_transaction
         → KeepsCommit (state S.Store tx.old.conn.now) (state S.Store tx.new.conn.now) }
-    ensures done { HasCleanDisk (state S.Store tx.new.conn.now) → IsTrue (state S.Store tx.old.conn.now).in_transaction → (k : Kept) → k.form ≡ form.now → bundle_text k.bundle ≡ text.now
-        → OnOk result (Advances (state S.Store tx.old.conn.now) (state S.Store tx.new.conn.now) (Makes (Lacks id.now) (with_record id.now k))) }
+    ensures done { HasCleanDisk (state S.Store tx.new.conn.now) → IsTrue (state S.Store tx.old.conn.now).in_transaction
+        → (k : Kept) → k.form ≡ form.now → bundle_text k.bundle ≡ text.now
+        → OnOk result (Advances (state S.Store tx.old.conn.now) (state S.Store tx.new.conn.now)
+        (Makes (Lacks id.now) (with_record id.now k))) }
 {
     tx.execute(INSERT_RECORD, params![id, form, text])
 }
@@ -61,7 +65,8 @@ pub(crate) fn put_record<S: Alter>(
     ensures kept { HasCleanDisk (state S.Store tx.new.conn.now) → IsTrue (state S.Store tx.old.conn.now).in_transaction
         → KeepsCommit (state S.Store tx.old.conn.now) (state S.Store tx.new.conn.now) }
     ensures done { HasCleanDisk (state S.Store tx.new.conn.now) → IsTrue (state S.Store tx.old.conn.now).in_transaction
-        → OnOk result (Advances (state S.Store tx.old.conn.now) (state S.Store tx.new.conn.now) (Makes Always (with_record id.now (record { form = form.now; bundle = bundle_view bundle.now })))) }
+        → OnOk result (Advances (state S.Store tx.old.conn.now) (state S.Store tx.new.conn.now)
+        (Makes Always (with_record id.now (record { form = form.now; bundle = bundle_view bundle.now })))) }
 {
     let text = text_of(alloc, bundle)?;
     remove_record(tx, id)?;
@@ -71,10 +76,11 @@ pub(crate) fn put_record<S: Alter>(
 /// The rows that show the record of the id: one, or none.
 fn find_record<S: Alter>(conn: &mut Connection<S>, id: &str) -> Result<Vec<Row>, Error>
     ensures mode { conn.old.in_transaction ≡ false → conn.new.in_transaction ≡ false }
-    ensures clean { HasCleanDisk (state S.Store conn.new) → HasCleanDisk (state S.Store conn.old) }
-    ensures was_open { HasCleanDisk (state S.Store conn.new) → IsTrue (state S.Store conn.new).is_open → IsTrue (state S.Store conn.old).is_open }
-    ensures open { OnOk result (HasCleanDisk (state S.Store conn.new) → IsTrue (state S.Store conn.new).is_open) }
-    ensures shown { HasCleanDisk (state S.Store conn.new) → IfOk result (λ rows. IsTrue (state S.Store conn.old).is_open × ((d : _) (m : _) → Keeps (state S.Store conn.old) d m → Answers rows.items (m id.now))) }
+    ensures frame { Frame (state S.Store conn.old) (state S.Store conn.new) }
+    ensures open { OnOk result (IsLive (state S.Store conn.new)) }
+    ensures shown { HasCleanDisk (state S.Store conn.new)
+        → IfOk result (λ rows. IsTrue (state S.Store conn.old).is_open
+        × ((d : _) (m : _) → Keeps (state S.Store conn.old) d m → ShowsRecord rows.items (m id.now))) }
     ensures stays { (d : _) (m : _) → Keeps (state S.Store conn.old) d m → Keeps (state S.Store conn.new) d m }
 {
     conn.query_all(FIND_RECORD, params![id])
@@ -83,10 +89,11 @@ fn find_record<S: Alter>(conn: &mut Connection<S>, id: &str) -> Result<Vec<Row>,
 /// What the database shows of the record of the id, if there is one.
 pub(crate) fn find<S: Alter>(conn: &mut Connection<S>, id: &str) -> Result<Option<Shown>, Error>
     ensures mode { conn.old.in_transaction ≡ false → conn.new.in_transaction ≡ false }
-    ensures clean { HasCleanDisk (state S.Store conn.new) → HasCleanDisk (state S.Store conn.old) }
-    ensures was_open { HasCleanDisk (state S.Store conn.new) → IsTrue (state S.Store conn.new).is_open → IsTrue (state S.Store conn.old).is_open }
-    ensures open { OnOk result (HasCleanDisk (state S.Store conn.new) → IsTrue (state S.Store conn.new).is_open) }
-    ensures found { HasCleanDisk (state S.Store conn.new) → IfOk result (λ o. IsTrue (state S.Store conn.old).is_open × ((d : _) (m : _) → Keeps (state S.Store conn.old) d m → option_map shown_view o ≡ option_map kept_text (m id.now))) }
+    ensures frame { Frame (state S.Store conn.old) (state S.Store conn.new) }
+    ensures open { OnOk result (IsLive (state S.Store conn.new)) }
+    ensures found { HasCleanDisk (state S.Store conn.new) → IfOk result (λ o. IsTrue (state S.Store conn.old).is_open
+        × ((d : _) (m : _) → Keeps (state S.Store conn.old) d m → option_map shown_view o
+        ≡ option_map kept_text (m id.now))) }
     ensures stays { (d : _) (m : _) → Keeps (state S.Store conn.old) d m → Keeps (state S.Store conn.new) d m }
 {
     let rows = find_record(conn, id)?;

@@ -1,8 +1,7 @@
 //! What a row shows of a record.
 ghost use Rattle.std.specs.Prelude.{◌≡◌, IfOk};
-ghost use Rattle.fv_store.specs.Records.{Kept, kept_text};
-ghost use Rattle.fv_store.specs.Steps.{shown_row};
-ghost use Rattle.fv_store.specs.Stored.{shown_view};
+ghost use Rattle.fv_store.specs.Records.{Kept};
+ghost use Rattle.fv_store.specs.Showing.{kept_text, shown_row, shown_view};
 
 use sqlite::{Error, Row};
 

@@ -1,10 +1,10 @@
 //! The store.
-ghost use Rattle.std.specs.Prelude.{◌≡◌, ◌≢◌, IsTrue, IfOk, IfErr, OnOk, OnErr, option_map, Some, None};
+ghost use Rattle.std.specs.Prelude.{◌≡◌, ◌≢◌, IfOk, IfErr, OnOk, OnErr, MatchResult, option_map, Some, None};
 ghost use Rattle.sqlite.specs.State.{HasCleanDisk};
 ghost use Rattle.sqlite.specs.Held.{state};
 ghost use Rattle.fv_model.specs.Views.{types_view};
-ghost use Rattle.fv_store.specs.Changes.{after_all, ChangesFit};
-ghost use Rattle.fv_store.specs.Stands.{Holds, Opens, IsKnown, Stays, Tells};
+ghost use Rattle.fv_store.specs.Changes.{changed, ChangesFit};
+ghost use Rattle.fv_store.specs.Stands.{Frame, Holds, HasTables, IsKnown, IsLive, Opens, Stays};
 ghost use Rattle.fv_store.specs.Faults.{about_fault, IsAboutFault};
 ghost use Rattle.fv_store.specs.Records.{AllFit};
 ghost use Rattle.fv_store.specs.Stored.{stored_view};
@@ -57,17 +57,26 @@ impl<S: Alter + Drop> Store<S> {
         mut connection: Connection<S>,
         declarations: &[u8],
     ) -> Result<Store<S>, (OpenStoreFault, Connection<S>)>
-        ensures clean { IfOk result (λ s. HasCleanDisk (state S.Store s) → HasCleanDisk (state S.Store connection)) }
-        ensures open { IfOk result (λ s. HasCleanDisk (state S.Store s) → IsTrue (state S.Store s).is_open) }
-        ensures opened { IfOk result (λ s. (types : _) (roots : _) (m : _) → Opens (state S.Store connection) declarations.now types roots m → Holds (state S.Store s) declarations.now types roots m) }
-        ensures taken { IfOk result (λ s. HasCleanDisk (state S.Store s) → (version : _) (d : _) → Tells (state S.Store connection).now version d → about_fault version d declarations.now ≡ None) }
-        ensures same { IfOk result (λ s. HasCleanDisk (state S.Store s) → (d : _) (types : _) (roots : _) (m : _) → Holds (state S.Store connection) d types roots m → d ≡ declarations.now) }
-        ensures refused { IfErr result (λ e. IsAboutFault e.0 → HasCleanDisk (state S.Store e.1) → (version : _) (d : _) → Tells (state S.Store connection).now version d → about_fault version d declarations.now ≡ Some e.0) }
-        ensures other_version { IfErr result (λ e. e.0 ≡ OpenStoreFault.OtherVersion → HasCleanDisk (state S.Store e.1) → (d : _) (types : _) (roots : _) (m : _) → Opens (state S.Store connection) d types roots m → ⊥) }
-        ensures other_declarations { IfErr result (λ e. e.0 ≡ OpenStoreFault.OtherDeclarations → HasCleanDisk (state S.Store e.1) → (d : _) (types : _) (roots : _) (m : _) → Opens (state S.Store connection) d types roots m → d ≢ declarations.now) }
-        ensures back { IfErr result (λ e. HasCleanDisk (state S.Store e.1) → HasCleanDisk (state S.Store connection)) }
-        ensures untouched { IfErr result (λ e. IsKnown (state S.Store connection).now → Stays (state S.Store connection) (state S.Store e.1)) }
-        ensures stays { IfErr result (λ e. (d : _) (types : _) (roots : _) (m : _) → Opens (state S.Store connection) d types roots m → Opens (state S.Store e.1) d types roots m) }
+        ensures frame { MatchResult result (λ s. Frame (state S.Store connection) (state S.Store s))
+            (λ e. Frame (state S.Store connection) (state S.Store e.1)) }
+        ensures open { IfOk result (λ s. IsLive (state S.Store s)) }
+        ensures opened { IfOk result (λ s. (c : _) → c.bytes ≡ declarations.now → Opens (state S.Store connection) c
+            → Holds (state S.Store s) c) }
+        ensures taken { IfOk result (λ s. HasCleanDisk (state S.Store s) → (version : _) (d : _)
+            → HasTables (state S.Store connection).now version d → about_fault version d declarations.now ≡ None) }
+        ensures same { IfOk result (λ s. HasCleanDisk (state S.Store s) → (c : _) → Holds (state S.Store connection) c
+            → c.bytes ≡ declarations.now) }
+        ensures refused { IfErr result (λ e. IsAboutFault e.0 → HasCleanDisk (state S.Store e.1)
+            → (version : _) (d : _) → HasTables (state S.Store connection).now version d
+            → about_fault version d declarations.now ≡ Some e.0) }
+        ensures other_version { IfErr result (λ e. e.0 ≡ OpenStoreFault.OtherVersion → HasCleanDisk (state S.Store e.1)
+            → (c : _) → Opens (state S.Store connection) c → ⊥) }
+        ensures other_declarations { IfErr result (λ e. e.0 ≡ OpenStoreFault.OtherDeclarations
+            → HasCleanDisk (state S.Store e.1) → (c : _) → Opens (state S.Store connection) c
+            → c.bytes ≢ declarations.now) }
+        ensures untouched { IfErr result (λ e. IsKnown (state S.Store connection).now
+            → Stays (state S.Store connection) (state S.Store e.1)) }
+        ensures stays { IfErr result (λ e. (c : _) → Opens (state S.Store connection) c → Opens (state S.Store e.1) c) }
     {
         match settle(&mut connection, declarations) {
             Ok(()) => Ok(Store { connection }),
@@ -86,11 +95,12 @@ impl<S: Alter> Store<S> {
         types: &Types,
         id: &str,
     ) -> Result<Option<Stored>, StoreFault>
-        ensures clean { HasCleanDisk (state S.Store self.new) → HasCleanDisk (state S.Store self.old) }
-        ensures was_open { HasCleanDisk (state S.Store self.new) → IsTrue (state S.Store self.new).is_open → IsTrue (state S.Store self.old).is_open }
-        ensures open { OnOk result (HasCleanDisk (state S.Store self.new) → IsTrue (state S.Store self.new).is_open) }
-        ensures found { HasCleanDisk (state S.Store self.new) → IfOk result (λ o. (d : _) (roots : _) (m : _) → Holds (state S.Store self.old) d (types_view types.now) roots m → option_map stored_view o ≡ m id.now) }
-        ensures stays { (d : _) (declared : _) (roots : _) (m : _) → Holds (state S.Store self.old) d declared roots m → Holds (state S.Store self.new) d declared roots m }
+        ensures frame { Frame (state S.Store self.old) (state S.Store self.new) }
+        ensures open { OnOk result (IsLive (state S.Store self.new)) }
+        ensures found { HasCleanDisk (state S.Store self.new)
+            → IfOk result (λ o. (c : _) → c.types ≡ types_view types.now → Holds (state S.Store self.old) c
+            → option_map stored_view o ≡ c.records id.now) }
+        ensures stays { (c : _) → Holds (state S.Store self.old) c → Holds (state S.Store self.new) c }
     {
         let shown = find(&mut self.connection, id)?;
         stored_if(alloc, types, shown)
@@ -101,12 +111,13 @@ impl<S: Alter> Store<S> {
     ///
     /// Refused by `Store` and `Memory` at any place.
     pub fn commit(&mut self, alloc: Global, changes: &[Change]) -> Result<(), StoreFault>
-        ensures clean { HasCleanDisk (state S.Store self.new) → HasCleanDisk (state S.Store self.old) }
-        ensures was_open { HasCleanDisk (state S.Store self.new) → IsTrue (state S.Store self.new).is_open → IsTrue (state S.Store self.old).is_open }
-        ensures open { OnOk result (HasCleanDisk (state S.Store self.new) → IsTrue (state S.Store self.new).is_open) }
-        ensures made { OnOk result ((d : _) (types : _) (roots : _) (m : _) → AllFit types roots (after_all changes.now m) → Holds (state S.Store self.old) d types roots m → Holds (state S.Store self.new) d types roots (after_all changes.now m)) }
-        ensures done { OnOk result ((d : _) (types : _) (roots : _) (m : _) → ChangesFit types roots changes.now → Holds (state S.Store self.old) d types roots m → Holds (state S.Store self.new) d types roots (after_all changes.now m)) }
-        ensures undone { OnErr result ((d : _) (types : _) (roots : _) (m : _) → Holds (state S.Store self.old) d types roots m → Holds (state S.Store self.new) d types roots m) }
+        ensures frame { Frame (state S.Store self.old) (state S.Store self.new) }
+        ensures open { OnOk result (IsLive (state S.Store self.new)) }
+        ensures made { OnOk result ((c : _) → AllFit (changed changes.now c) → Holds (state S.Store self.old) c
+            → Holds (state S.Store self.new) (changed changes.now c)) }
+        ensures done { OnOk result ((c : _) → ChangesFit c.types c.roots changes.now → Holds (state S.Store self.old) c
+            → Holds (state S.Store self.new) (changed changes.now c)) }
+        ensures undone { OnErr result ((c : _) → Holds (state S.Store self.old) c → Holds (state S.Store self.new) c) }
     {
         Ok(changes::commit(&mut self.connection, alloc, changes)?)
     }
@@ -114,7 +125,7 @@ impl<S: Alter> Store<S> {
     /// The connection, its database as it is. It takes no memory.
     pub fn into_connection(self) -> Connection<S>
         ensures same { result ≡ self }
-        ensures holds { (d : _) (types : _) (roots : _) (m : _) → Holds (state S.Store self) d types roots m → Holds (state S.Store result) d types roots m }
+        ensures holds { (c : _) → Holds (state S.Store self) c → Holds (state S.Store result) c }
     {
         let Store { connection } = self;
         connection

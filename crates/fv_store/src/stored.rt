@@ -1,11 +1,12 @@
 //! A record as it is handed out.
 ghost use Rattle.std.specs.Prelude.{◌≡◌, Ok, Option, option_map};
 ghost use Rattle.std.specs.Option.{ForSome};
-ghost use Rattle.fv_datum.specs.Answers.{Gives};
+ghost use Rattle.fv_datum.specs.Outcomes.{Gives};
 ghost use Rattle.fv_model.specs.Views.{types_view};
 ghost use Rattle.fv_model.specs.WellTyped.{IsWellTyped};
-ghost use Rattle.fv_store.specs.Records.{Kept, kept_text};
-ghost use Rattle.fv_store.specs.Stored.{stored_view, shown_view};
+ghost use Rattle.fv_store.specs.Records.{Kept};
+ghost use Rattle.fv_store.specs.Showing.{kept_text, shown_view};
+ghost use Rattle.fv_store.specs.Stored.{stored_view};
 
 use crate::fault::StoreFault;
 use crate::shown::Shown;
@@ -23,7 +24,8 @@ pub struct Stored {
 /// The record that a row shows, its bundle read under these types. `Store` where its text spells
 /// no bundle.
 fn stored_from(alloc: Global, types: &Types, shown: Shown) -> Result<Stored, StoreFault>
-    ensures { (k : Kept) → IsWellTyped (types_view types.now) k.bundle → shown_view shown ≡ kept_text k → Gives StoreFault.Memory stored_view result (Ok k) }
+    ensures { (k : Kept) → IsWellTyped (types_view types.now) k.bundle → shown_view shown ≡ kept_text k
+        → Gives StoreFault.Memory stored_view result (Ok k) }
 {
     let bundle = bundle_of(alloc, types, shown.text.as_str())?;
     Ok(Stored {
@@ -38,7 +40,9 @@ pub(crate) fn stored_if(
     types: &Types,
     shown: Option<Shown>,
 ) -> Result<Option<Stored>, StoreFault>
-    ensures { (o : Option Kept) → ForSome o (λ k. IsWellTyped (types_view types.now) k.bundle) → option_map shown_view shown ≡ option_map kept_text o → Gives StoreFault.Memory (option_map stored_view) result (Ok o) }
+    ensures { (o : Option Kept) → ForSome o (λ k. IsWellTyped (types_view types.now) k.bundle)
+        → option_map shown_view shown ≡ option_map kept_text o
+        → Gives StoreFault.Memory (option_map stored_view) result (Ok o) }
 {
     match shown {
         Some(shown) => Ok(Some(stored_from(alloc, types, shown)?)),

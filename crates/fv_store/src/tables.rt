@@ -3,7 +3,7 @@ ghost use Rattle.std.specs.Prelude.{◌≡◌, IsTrue, OnOk};
 ghost use Rattle.sqlite.specs.State.{HasCleanDisk, KeepsCommit};
 ghost use Rattle.sqlite.specs.Held.{state};
 ghost use Rattle.fv_store.specs.Stands.{IsBlank};
-ghost use Rattle.fv_store.specs.Steps.{Advances, Turns, HasAbout, HasTables, HasNone};
+ghost use Rattle.fv_store.specs.Steps.{Advances, Leads, HasAbout, HasEmptyTables, HasNone};
 
 use sqlite::{Alter, Error, Transaction, params};
 
@@ -22,7 +22,8 @@ fn create_about<S: Alter>(tx: &mut Transaction<'_, S>) -> Result<usize, Error>
     ensures kept { HasCleanDisk (state S.Store tx.new.conn.now) → IsTrue (state S.Store tx.old.conn.now).in_transaction
         → KeepsCommit (state S.Store tx.old.conn.now) (state S.Store tx.new.conn.now) }
     ensures done { HasCleanDisk (state S.Store tx.new.conn.now) → IsTrue (state S.Store tx.old.conn.now).in_transaction
-        → OnOk result (Advances (state S.Store tx.old.conn.now) (state S.Store tx.new.conn.now) (Turns IsBlank HasAbout)) }
+        → OnOk result (Advances (state S.Store tx.old.conn.now) (state S.Store tx.new.conn.now)
+        (Leads IsBlank HasAbout)) }
 {
     tx.execute(CREATE_ABOUT, &[])
 }
@@ -33,7 +34,8 @@ fn create_record<S: Alter>(tx: &mut Transaction<'_, S>) -> Result<usize, Error>
     ensures kept { HasCleanDisk (state S.Store tx.new.conn.now) → IsTrue (state S.Store tx.old.conn.now).in_transaction
         → KeepsCommit (state S.Store tx.old.conn.now) (state S.Store tx.new.conn.now) }
     ensures done { HasCleanDisk (state S.Store tx.new.conn.now) → IsTrue (state S.Store tx.old.conn.now).in_transaction
-        → OnOk result (Advances (state S.Store tx.old.conn.now) (state S.Store tx.new.conn.now) (Turns HasAbout HasTables)) }
+        → OnOk result (Advances (state S.Store tx.old.conn.now) (state S.Store tx.new.conn.now)
+        (Leads HasAbout HasEmptyTables)) }
 {
     tx.execute(CREATE_RECORD, &[])
 }
@@ -44,7 +46,8 @@ fn insert_about<S: Alter>(tx: &mut Transaction<'_, S>, declarations: &[u8]) -> R
     ensures kept { HasCleanDisk (state S.Store tx.new.conn.now) → IsTrue (state S.Store tx.old.conn.now).in_transaction
         → KeepsCommit (state S.Store tx.old.conn.now) (state S.Store tx.new.conn.now) }
     ensures done { HasCleanDisk (state S.Store tx.new.conn.now) → IsTrue (state S.Store tx.old.conn.now).in_transaction
-        → OnOk result (Advances (state S.Store tx.old.conn.now) (state S.Store tx.new.conn.now) (Turns HasTables (HasNone declarations.now))) }
+        → OnOk result (Advances (state S.Store tx.old.conn.now) (state S.Store tx.new.conn.now)
+        (Leads HasEmptyTables (HasNone declarations.now))) }
 {
     tx.execute(INSERT_ABOUT, params![declarations])
 }
@@ -59,7 +62,8 @@ pub(crate) fn create_tables<S: Alter>(
     ensures kept { HasCleanDisk (state S.Store tx.new.conn.now) → IsTrue (state S.Store tx.old.conn.now).in_transaction
         → KeepsCommit (state S.Store tx.old.conn.now) (state S.Store tx.new.conn.now) }
     ensures done { HasCleanDisk (state S.Store tx.new.conn.now) → IsTrue (state S.Store tx.old.conn.now).in_transaction
-        → OnOk result (Advances (state S.Store tx.old.conn.now) (state S.Store tx.new.conn.now) (Turns IsBlank (HasNone declarations.now))) }
+        → OnOk result (Advances (state S.Store tx.old.conn.now) (state S.Store tx.new.conn.now)
+        (Leads IsBlank (HasNone declarations.now))) }
 {
     create_about(tx)?;
     create_record(tx)?;

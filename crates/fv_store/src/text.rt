@@ -1,6 +1,6 @@
 //! Bundles as texts.
 ghost use Rattle.std.specs.Prelude.{◌≡◌, IfOk, Ok, string_bytes};
-ghost use Rattle.fv_datum.specs.Answers.{Gives};
+ghost use Rattle.fv_datum.specs.Outcomes.{Gives};
 ghost use Rattle.fv_model.specs.Views.{types_view, bundle_view};
 ghost use Rattle.fv_model.specs.Bundles.{Bundled};
 ghost use Rattle.fv_model.specs.WellTyped.{IsWellTyped};
@@ -21,7 +21,8 @@ pub(crate) fn text_of(alloc: Global, bundle: &Bundle) -> Result<String, AllocErr
 
 /// The bundle that a text spells. `Store` where it spells none.
 pub(crate) fn bundle_of(alloc: Global, types: &Types, text: &str) -> Result<Bundle, StoreFault>
-    ensures { (b : Bundled) → IsWellTyped (types_view types.now) b → text.now ≡ bundle_text b → Gives StoreFault.Memory bundle_view result (Ok b) }
+    ensures { (b : Bundled) → IsWellTyped (types_view types.now) b → text.now ≡ bundle_text b
+        → Gives StoreFault.Memory bundle_view result (Ok b) }
 {
     let value = Value::from_str(alloc, text)?;
     Ok(read_bundle(alloc, types, None, &value)?)

@@ -13,12 +13,12 @@ use Rattle.fv_datum.specs.Name.{names}
 use Rattle.fv_datum.specs.declared.kind.Kind.{Kind}
 use Rattle.fv_model.specs.Bundles.{Thing, Bundled}
 use Rattle.fv_model.specs.Types.{number_of}
-use Rattle.fv_registry.specs.Answers.{Meanings}
-use Rattle.fv_declare.specs.Declarations.{FieldTest, Demand, of_field, of_object, Use, Declarations}
+use Rattle.fv_registry.specs.Meanings.{Meanings}
+use Rattle.fv_declare.specs.Declarations.{FieldTest, Demand, of_field, of_object, Occurrence, Declarations}
 use Rattle.std.specs.List.{prefix_len}
 use Rattle.fv_model.specs.Types.{DeclaredFields, Declared}
 use Rattle.fv_model.specs.WellTyped.{FitsType, IsWellTyped}
-use Rattle.fv_validate.specs.Judging.{refused_field, refused_at, report_at, reported_by, reported_all, with_first, AreUsesOf, AreApart, AreFound}
+use Rattle.fv_validate.specs.Judging.{refused_field, refused_at, report_at, reported_by, reported_all, with_first, AreOccurrencesOf, AreApart, AreFound}
 use Rattle.fv_validate.specs.Violations.{Reported, holds, IsUnmet, IsViolation, IsListed}
 
 -- what holds of an answer, by what holds
@@ -40,18 +40,18 @@ both_true : (a b : Bool) → (a && b) ≡ true → (a ≡ true) × (b ≡ true)
 both_true true b e = (refl, e)
 both_true false b e = cc
 
-true_at : (p : Use → Bool) (us : List Use) (n : ℕ) (u : Use) → list_all p us ≡ true → slice_get us n ≡ Some u → p u ≡ true
+true_at : (p : Occurrence → Bool) (us : List Occurrence) (n : ℕ) (u : Occurrence) → list_all p us ≡ true → slice_get us n ≡ Some u → p u ≡ true
 true_at p [] n u all e = cc
-true_at p (w ∷ us) zero u all e = let same : w ≡ u = cc in subst (λ (x : Use). p x ≡ true) same (both_true (p w) (list_all p us) all).0
+true_at p (w ∷ us) zero u all e = let same : w ≡ u = cc in subst (λ (x : Occurrence). p x ≡ true) same (both_true (p w) (list_all p us) all).0
 true_at p (w ∷ us) (suc n) u all e = true_at p us n u (both_true (p w) (list_all p us) all).1 e
 
-seen_at : {X : Type 0} (f : X → Use) (xs : List X) (k : ℕ) (d : X) → k < length xs → slice_get (map f xs) k ≡ Some (f (get_or xs k d))
+seen_at : {X : Type 0} (f : X → Occurrence) (xs : List X) (k : ℕ) (d : X) → k < length xs → slice_get (map f xs) k ≡ Some (f (get_or xs k d))
 seen_at f [] k d below = absurd (omega arith)
 seen_at f (x ∷ xs) zero d below = refl
 seen_at f (x ∷ xs) (suc k) d below = seen_at f xs k d (omega arith)
 
 -- what holds of all uses holds of those of a type
-pub each_fits : {X : Type 0} (p : Use → Bool) (f : X → Use) (xs : List X) (all : List Use) (type first : ℕ) → AreUsesOf all type first (map f xs) → list_all p all ≡ true → All (λ x. p (f x) ≡ true) xs
+pub each_fits : {X : Type 0} (p : Occurrence → Bool) (f : X → Occurrence) (xs : List X) (all : List Occurrence) (type first : ℕ) → AreOccurrencesOf all type first (map f xs) → list_all p all ≡ true → All (λ x. p (f x) ≡ true) xs
 each_fits p f xs all type first uses fit k d below = true_at p all (first + k) (f (get_or xs k d)) fit (uses.each k (f (get_or xs k d)) (seen_at f xs k d below)).1
 
 some_same : {X : Type 0} (x y : X) → Some x ≡ Some y → x ≡ y
@@ -99,23 +99,23 @@ module _ (m : Meanings) (now : ℤ) where
   -- ---- what a use reports
 
   -- a use reports this of the object of that name
-  record Reports (name : List ℕ) (object : Thing) (n : ℕ) (u : Use) (v : Reported) : Type 0 where
+  record Reports (name : List ℕ) (object : Thing) (n : ℕ) (u : Occurrence) (v : Reported) : Type 0 where
     pub spot : List ℕ × Data
     pub refused : IsUnmet m now name object u.demand spot.0 spot.1
     pub is : v ≡ report_at n u spot
 
-  told : (n : ℕ) (u : Use) (o : Option (List ℕ × Data)) (v : Reported) → option_map (report_at n u) o ≡ Some v → (s : List ℕ × Data) × (o ≡ Some s) × (v ≡ report_at n u s)
+  told : (n : ℕ) (u : Occurrence) (o : Option (List ℕ × Data)) (v : Reported) → option_map (report_at n u) o ≡ Some v → (s : List ℕ × Data) × (o ≡ Some s) × (v ≡ report_at n u s)
   told n u None v e = cc
   told n u (Some s) v e = (s, refl, sym (some_same _ _ e))
 
-  inverted : (name : List ℕ) (object : Thing) (n : ℕ) (u : Use) (v : Reported) → reported_by m now name object n u ≡ Some v → Reports name object n u v
+  inverted : (name : List ℕ) (object : Thing) (n : ℕ) (u : Occurrence) (v : Reported) → reported_by m now name object n u ≡ Some v → Reports name object n u v
   unfolding reported_by
   inverted name object n u v e =
       let found = told n u (refused_at m now name object u.demand) v e in
       record { spot = found.0; refused = refused_then name object u.demand found.0 found.1; is = found.2 }
 
   -- and the other way round
-  reported : (name : List ℕ) (object : Thing) (n : ℕ) (u : Use) (path : List ℕ) (value : Data) → IsUnmet m now name object u.demand path value
+  reported : (name : List ℕ) (object : Thing) (n : ℕ) (u : Occurrence) (path : List ℕ) (value : Data) → IsUnmet m now name object u.demand path value
       → reported_by m now name object n u ≡ Some (report_at n u (path, value))
   unfolding reported_by
   reported name object n u path value refused = ap (option_map (report_at n u)) (refused_there name object u.demand path value refused)
@@ -134,19 +134,19 @@ module _ (m : Meanings) (now : ℤ) where
   listed_later None rest v h = h
   listed_later (Some w) rest v h = inr h
 
-  listed : (name : List ℕ) (object : Thing) (first i : ℕ) (us : List Use) (v : Reported) (j : ℕ) (u : Use) → slice_get us j ≡ Some u
+  listed : (name : List ℕ) (object : Thing) (first i : ℕ) (us : List Occurrence) (v : Reported) (j : ℕ) (u : Occurrence) → slice_get us j ≡ Some u
       → reported_by m now name object (first + (i + j)) u ≡ Some v → IsListed (reported_all m now name object first i us) v
   listed name object first i [] v j u at e = cc
   listed name object first i (w ∷ us) v zero u at e =
       let same : w ≡ u = cc in
       let here : first + (i + 0) ≡ first + i = omega arith in
-      listed_first _ _ v (subst (λ (x : Use). reported_by m now name object (first + i) x ≡ Some v) (sym same) (subst (λ (k : ℕ). reported_by m now name object k u ≡ Some v) here e))
+      listed_first _ _ v (subst (λ (x : Occurrence). reported_by m now name object (first + i) x ≡ Some v) (sym same) (subst (λ (k : ℕ). reported_by m now name object k u ≡ Some v) here e))
   listed name object first i (w ∷ us) v (suc j) u at e =
       let same : first + (i + suc j) ≡ first + (i + 1 + j) = omega arith in
       listed_later _ _ v (listed name object first (i + 1) us v j u at (subst (λ (k : ℕ). reported_by m now name object k u ≡ Some v) same e))
 
   -- the numbers of the uses rise
-  numbers_from : (name : List ℕ) (object : Thing) (first i : ℕ) (us : List Use) (k : ℕ) → k ≤ first + i → AllByRecursion (λ v. k ≤ v.occurrence) (reported_all m now name object first i us)
+  numbers_from : (name : List ℕ) (object : Thing) (first i : ℕ) (us : List Occurrence) (k : ℕ) → k ≤ first + i → AllByRecursion (λ v. k ≤ v.occurrence) (reported_all m now name object first i us)
   numbers_from name object first i [] k le = tt
   numbers_from name object first i (u ∷ us) k le =
       all_first (λ v. k ≤ v.occurrence) (reported_by m now name object (first + i) u) _
@@ -161,7 +161,7 @@ module _ (m : Meanings) (now : ℤ) where
   apart_first None rest one more = more
   apart_first (Some v) rest one more = AllPairs-cons (λ v w. v.occurrence ≢ w.occurrence) v rest (All-from_recursion (λ w. v.occurrence ≢ w.occurrence) rest (one v refl)) more
 
-  apart : (name : List ℕ) (object : Thing) (first i : ℕ) (us : List Use) → AreApart (reported_all m now name object first i us)
+  apart : (name : List ℕ) (object : Thing) (first i : ℕ) (us : List Occurrence) → AreApart (reported_all m now name object first i us)
   apart name object first i [] = λ j k d below within. absurd (omega arith)
   apart name object first i (u ∷ us) =
       apart_first (reported_by m now name object (first + i) u) _
@@ -172,7 +172,7 @@ module _ (m : Meanings) (now : ℤ) where
   -- ---- in the root, by the uses of its type
 
   module _ (ds : Declarations) (b : Bundled) (root : Thing) (type : ℕ) (rooted : at_name b.root b.objects ≡ Some root) (typed : number_of ds.types root.type_name ≡ Some type) where
-    violation_at : (n : ℕ) (u : Use) → slice_get ds.uses n ≡ Some u → u.type ≡ type → (v : Reported) → Reports b.root root n u v → IsViolation m ds now b v
+    violation_at : (n : ℕ) (u : Occurrence) → slice_get ds.occurrences n ≡ Some u → u.type ≡ type → (v : Reported) → Reports b.root root n u v → IsViolation m ds now b v
     violation_at n u numbered of_type v r =
         let V : Reported → Type 0 = IsViolation m ds now b in
         subst V (sym r.is) (record {
@@ -186,24 +186,24 @@ module _ (m : Meanings) (now : ℤ) where
           worded = refl;
         })
 
-    sound_all : (first i : ℕ) (us : List Use) → ((j : ℕ) (u : Use) → slice_get us j ≡ Some u → (u.type ≡ type) × (slice_get ds.uses (first + (i + j)) ≡ Some u))
+    sound_all : (first i : ℕ) (us : List Occurrence) → ((j : ℕ) (u : Occurrence) → slice_get us j ≡ Some u → (u.type ≡ type) × (slice_get ds.occurrences (first + (i + j)) ≡ Some u))
         → AllByRecursion (IsViolation m ds now b) (reported_all m now b.root root first i us)
     sound_all first i [] each = tt
     sound_all first i (u ∷ us) each =
         let here = each 0 u refl in
-        let numbered : slice_get ds.uses (first + i) ≡ Some u = let same : first + (i + 0) ≡ first + i = omega arith in subst (λ (k : ℕ). slice_get ds.uses k ≡ Some u) same here.1 in
-        let later : (j : ℕ) (w : Use) → slice_get us j ≡ Some w → (w.type ≡ type) × (slice_get ds.uses (first + (i + 1 + j)) ≡ Some w)
-        = λ j w e. let one = each (suc j) w e in let same : first + (i + suc j) ≡ first + (i + 1 + j) = omega arith in (one.0, subst (λ (k : ℕ). slice_get ds.uses k ≡ Some w) same one.1) in
+        let numbered : slice_get ds.occurrences (first + i) ≡ Some u = let same : first + (i + 0) ≡ first + i = omega arith in subst (λ (k : ℕ). slice_get ds.occurrences k ≡ Some u) same here.1 in
+        let later : (j : ℕ) (w : Occurrence) → slice_get us j ≡ Some w → (w.type ≡ type) × (slice_get ds.occurrences (first + (i + 1 + j)) ≡ Some w)
+        = λ j w e. let one = each (suc j) w e in let same : first + (i + suc j) ≡ first + (i + 1 + j) = omega arith in (one.0, subst (λ (k : ℕ). slice_get ds.occurrences k ≡ Some w) same one.1) in
         all_first (IsViolation m ds now b) (reported_by m now b.root root (first + i) u) _
         (λ v e. violation_at (first + i) u numbered here.0 v (inverted b.root root (first + i) u v e))
         (sound_all first (i + 1) us later)
 
-    same_report : (v : Reported) (u : Use) → v.constraint ≡ u.constraint → v.message ≡ u.message → report_at v.occurrence u (v.path, v.value) ≡ v
+    same_report : (v : Reported) (u : Occurrence) → v.constraint ≡ u.constraint → v.message ≡ u.message → report_at v.occurrence u (v.path, v.value) ≡ v
     same_report v u named worded =
         let R : List ℕ → List ℕ → Reported = λ c w. record { path = v.path; constraint = c; occurrence = v.occurrence; message = w; value = v.value } in
         ap (λ (c : List ℕ). R c u.message) (sym named) ∙ ap (λ (w : List ℕ). R v.constraint w) (sym worded)
 
-    complete_all : (first : ℕ) (us : List Use) → AreUsesOf ds.uses type first us → (v : Reported) → IsViolation m ds now b v → IsListed (reported_all m now b.root root first 0 us) v
+    complete_all : (first : ℕ) (us : List Occurrence) → AreOccurrencesOf ds.occurrences type first us → (v : Reported) → IsViolation m ds now b v → IsListed (reported_all m now b.root root first 0 us) v
     complete_all first us uses v is =
         let same_root : is.root ≡ root = let e : Some is.root ≡ Some root = sym is.rooted ∙ rooted in some_same _ _ e in
         let same_type : is.used.type ≡ type = let e : Some is.used.type ≡ Some type = sym is.typed ∙ ap (λ (t : Thing). number_of ds.types t.type_name) same_root ∙ typed in some_same _ _ e in
@@ -214,9 +214,9 @@ module _ (m : Meanings) (now : ℤ) where
         listed b.root root first 0 us v place.0 is.used place.2 (subst (λ (k : ℕ). reported_by m now b.root root k is.used ≡ Some v) start here)
 
     -- all violations are found
-    pub all_found : (first : ℕ) (us : List Use) → AreUsesOf ds.uses type first us → AreFound m ds now b (reported_all m now b.root root first 0 us)
+    pub all_found : (first : ℕ) (us : List Occurrence) → AreOccurrencesOf ds.occurrences type first us → AreFound m ds now b (reported_all m now b.root root first 0 us)
     all_found first us uses = record {
-      sound = sound_all first 0 us (λ j u e. let one = uses.each j u e in let same : first + j ≡ first + (0 + j) = omega arith in (one.0, subst (λ (k : ℕ). slice_get ds.uses k ≡ Some u) same one.1));
+      sound = sound_all first 0 us (λ j u e. let one = uses.each j u e in let same : first + j ≡ first + (0 + j) = omega arith in (one.0, subst (λ (k : ℕ). slice_get ds.occurrences k ≡ Some u) same one.1));
       complete = complete_all first us uses;
       apart = apart b.root root first 0 us;
     }

@@ -1,3 +1,4 @@
+pub mod Alike
 pub mod Found
 pub mod Ranges
 pub mod Sorting

@@ -4,15 +4,15 @@ use Rattle.std.proofs.lemmas.Bool.{ltb-true, ltb-false, leb-true, leb-false}
 use Rattle.std.proofs.lemmas.List.{length-map, length-drop, length-take-le}
 use Rattle.std.specs.List.{AllByRecursion}
 use Rattle.std.specs.List.Sorted.{IsNonDecreasingBy, IsPartitionPoint}
-use Rattle.fv_declare.specs.Declarations.{Use}
+use Rattle.fv_declare.specs.Declarations.{Occurrence}
 use Rattle.fv_declare.specs.Ordered.{Precedes, IsRising}
-use Rattle.fv_validate.specs.Judging.{AreUsesOf}
+use Rattle.fv_validate.specs.Judging.{AreOccurrencesOf}
 
-module _ {X : Type 0} (f : X → Use) where
+module _ {X : Type 0} (f : X → Occurrence) where
   -- ---- elements and their views
 
   -- what stands at a place
-  pub at_place : (xs : List X) (i : ℕ) (u : Use) → slice_get (map f xs) i ≡ Some u → (x : X) × (i < length xs) × (f x ≡ u) × ((d : X) → get_or xs i d ≡ x)
+  pub at_place : (xs : List X) (i : ℕ) (u : Occurrence) → slice_get (map f xs) i ≡ Some u → (x : X) × (i < length xs) × (f x ≡ u) × ((d : X) → get_or xs i d ≡ x)
   at_place [] i u e = cc
   at_place (x ∷ xs) zero u e = (x, omega arith, cc, λ d. refl)
   at_place (x ∷ xs) (suc i) u e = let r = at_place xs i u e in (r.0, omega arith, r.2, r.3)
@@ -22,13 +22,13 @@ module _ {X : Type 0} (f : X → Use) where
   dropped (suc n) [] i = refl
   dropped (suc n) (x ∷ xs) i = let same : suc (n + i) ≡ suc n + i = omega arith in dropped n xs i ∙ ap (slice_get (map f (x ∷ xs))) same
 
-  taken : (n : ℕ) (xs : List X) (i : ℕ) (u : Use) → slice_get (map f (take n xs)) i ≡ Some u → (i < n) × (slice_get (map f xs) i ≡ Some u)
+  taken : (n : ℕ) (xs : List X) (i : ℕ) (u : Occurrence) → slice_get (map f (take n xs)) i ≡ Some u → (i < n) × (slice_get (map f xs) i ≡ Some u)
   taken zero xs i u e = cc
   taken (suc n) [] i u e = cc
   taken (suc n) (x ∷ xs) zero u e = (omega arith, e)
   taken (suc n) (x ∷ xs) (suc i) u e = let r = taken n xs i u e in (omega arith, r.1)
 
-  kept : (n : ℕ) (xs : List X) (i : ℕ) (u : Use) → i < n → slice_get (map f xs) i ≡ Some u → slice_get (map f (take n xs)) i ≡ Some u
+  kept : (n : ℕ) (xs : List X) (i : ℕ) (u : Occurrence) → i < n → slice_get (map f xs) i ≡ Some u → slice_get (map f (take n xs)) i ≡ Some u
   kept zero xs i u below e = absurd (omega arith)
   kept (suc n) [] i u below e = cc
   kept (suc n) (x ∷ xs) zero u below e = e
@@ -45,11 +45,11 @@ module _ {X : Type 0} (f : X → Use) where
   type_of : X → ℕ
   type_of x = (f x).type
 
-  later_type : (u v : Use) → Precedes u v → u.type ≤ v.type
+  later_type : (u v : Occurrence) → Precedes u v → u.type ≤ v.type
   later_type u v (inl below) = omega arith
   later_type u v (inr both) = omega (arith, both.0)
 
-  first_least : (u : Use) (xs : List X) (j : ℕ) (d : X) → AllByRecursion (Precedes u) (map f xs) → j < length xs → u.type ≤ (f (get_or xs j d)).type
+  first_least : (u : Occurrence) (xs : List X) (j : ℕ) (d : X) → AllByRecursion (Precedes u) (map f xs) → j < length xs → u.type ≤ (f (get_or xs j d)).type
   first_least u [] j d all at = absurd (omega arith)
   first_least u (x ∷ xs) zero d all at = later_type u (f x) all.0
   first_least u (x ∷ xs) (suc j) d all at = first_least u xs j d all.1 (omega arith)
@@ -66,23 +66,23 @@ module _ {X : Type 0} (f : X → Use) where
   module _ (xs : List X) (type first count : ℕ)
       (lower : IsPartitionPoint (λ x. nat_lt (f x).type type ≡ true) (λ x. nat_lt (f x).type type ≡ false) xs first)
       (upper : IsPartitionPoint (λ x. leb (f x).type type ≡ true) (λ x. leb (f x).type type ≡ false) (drop first xs) count) where
-    typed : (i : ℕ) (u : Use) → slice_get (map f (take count (drop first xs))) i ≡ Some u → (u.type ≡ type) × (slice_get (map f xs) (first + i) ≡ Some u)
+    typed : (i : ℕ) (u : Occurrence) → slice_get (map f (take count (drop first xs))) i ≡ Some u → (u.type ≡ type) × (slice_get (map f xs) (first + i) ≡ Some u)
     typed i u e =
         let t = taken count (drop first xs) i u e in
         let whole : slice_get (map f xs) (first + i) ≡ Some u = sym (dropped first xs i) ∙ t.1 in
         let rest = at_place (drop first xs) i u t.1 in
         let all = at_place xs (first + i) u whole in
-        let high : leb u.type type ≡ true = ap (λ (v : Use). leb v.type type) (sym (ap f (rest.3 rest.0) ∙ rest.2)) ∙ upper.0 i rest.0 (omega arith) t.0 in
-        let low : nat_lt u.type type ≡ false = ap (λ (v : Use). nat_lt v.type type) (sym (ap f (all.3 all.0) ∙ all.2)) ∙ lower.1 (first + i) all.0 (omega arith) all.1 in
+        let high : leb u.type type ≡ true = ap (λ (v : Occurrence). leb v.type type) (sym (ap f (rest.3 rest.0) ∙ rest.2)) ∙ upper.0 i rest.0 (omega arith) t.0 in
+        let low : nat_lt u.type type ≡ false = ap (λ (v : Occurrence). nat_lt v.type type) (sym (ap f (all.3 all.0) ∙ all.2)) ∙ lower.1 (first + i) all.0 (omega arith) all.1 in
         let le : u.type ≤ type = leb-true u.type type high in
         let ge : type ≤ u.type = ltb-false u.type type low in
         (omega arith, whole)
 
-    found : (n : ℕ) (u : Use) → slice_get (map f xs) n ≡ Some u → u.type ≡ type → (i : ℕ) × (n ≡ first + i) × (slice_get (map f (take count (drop first xs))) i ≡ Some u)
+    found : (n : ℕ) (u : Occurrence) → slice_get (map f xs) n ≡ Some u → u.type ≡ type → (i : ℕ) × (n ≡ first + i) × (slice_get (map f (take count (drop first xs))) i ≡ Some u)
     found n u e same =
         let here = at_place xs n u e in
         elim (split n first) [
-          | inl below ↦ let less : u.type < type = ltb-true u.type type (ap (λ (v : Use). nat_lt v.type type) (sym (ap f (here.3 here.0) ∙ here.2)) ∙ lower.0 n here.0 (omega arith) below) in absurd (omega arith)
+          | inl below ↦ let less : u.type < type = ltb-true u.type type (ap (λ (v : Occurrence). nat_lt v.type type) (sym (ap f (here.3 here.0) ∙ here.2)) ∙ lower.0 n here.0 (omega arith) below) in absurd (omega arith)
           | inr from ↦
               let i = n - first in
               let back : first + i ≡ n = omega arith in
@@ -90,11 +90,11 @@ module _ {X : Type 0} (f : X → Use) where
               let there = at_place (drop first xs) i u rest in
               elim (split i count) [
                 | inl within ↦ (i, sym back, kept count (drop first xs) i u within rest)
-                | inr past ↦ let more : type < u.type = leb-false u.type type (ap (λ (v : Use). leb v.type type) (sym (ap f (there.3 there.0) ∙ there.2)) ∙ upper.1 i there.0 past there.1) in absurd (omega arith)
+                | inr past ↦ let more : type < u.type = leb-false u.type type (ap (λ (v : Occurrence). leb v.type type) (sym (ap f (there.3 there.0) ∙ there.2)) ∙ upper.1 i there.0 past there.1) in absurd (omega arith)
               ]
         ]
 
-    pub uses_between : first ≤ length xs → count ≤ length (drop first xs) → AreUsesOf (map f xs) type first (map f (take count (drop first xs)))
+    pub uses_between : first ≤ length xs → count ≤ length (drop first xs) → AreOccurrencesOf (map f xs) type first (map f (take count (drop first xs)))
     uses_between low high = record { room = room_for; each = typed; none_left = found }
       where
         room_for : first + length (map f (take count (drop first xs))) ≤ length (map f xs)

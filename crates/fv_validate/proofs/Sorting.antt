@@ -16,7 +16,7 @@ use Rattle.std.specs.List.Sorted.{IsPermutation, IsSortedBy}
 use Rattle.std.specs.Ordering.{is_lt, is_eq, ordering_then, ordering_reverse}
 use Rattle.fv_declare.specs.Declarations.{Declarations}
 use Rattle.fv_model.specs.Bundles.{Bundled}
-use Rattle.fv_registry.specs.Answers.{Meanings}
+use Rattle.fv_registry.specs.Meanings.{Meanings}
 use Rattle.fv_validate.specs.Judging.{AreApart, AreFound, order, is_before}
 use Rattle.fv_validate.specs.Violations.{Reported, IsViolation, Precedes, IsAscending, IsListed, IsListing}
 

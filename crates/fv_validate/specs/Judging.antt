@@ -7,9 +7,9 @@ use Rattle.std.specs.declared.cmp.Ordering.{Ordering}
 use Rattle.fv_datum.specs.Data.{Data, reference}
 use Rattle.fv_datum.specs.View.{view}
 use Rattle.fv_model.specs.Bundles.{Thing, Bundled}
-use Rattle.fv_registry.specs.Answers.{Meanings}
+use Rattle.fv_registry.specs.Meanings.{Meanings}
 use Rattle.fv_registry.specs.Rules.{Known, knows_field}
-use Rattle.fv_declare.specs.Declarations.{FieldTest, built_in, by_rule, Demand, of_field, of_object, Use, Declarations}
+use Rattle.fv_declare.specs.Declarations.{FieldTest, built_in, by_rule, Demand, of_field, of_object, Occurrence, Declarations}
 use Rattle.fv_validate.specs.Violations.{Reported, holds, IsViolation, IsListed}
 use Rattle.fv_validate.specs.declared.unmet.Spot.{Spot}
 
@@ -33,11 +33,11 @@ refused_at m now name object (of_field field kind test) = refused_field m now te
 refused_at m now name object (of_object rule attributes) = if m.decides_object rule object attributes then None else Some ([], reference name)
 
 -- the report of the use of that number, of a value at a path
-abbrev pub report_at : ℕ → Use → List ℕ × Data → Reported
+abbrev pub report_at : ℕ → Occurrence → List ℕ × Data → Reported
 report_at n u f = record { path = f.0; constraint = u.constraint; occurrence = n; message = u.message; value = f.1 }
 
 -- what the use of that number reports of the object of that name
-unfoldable pub reported_by : Meanings → ℤ → List ℕ → Thing → ℕ → Use → Option Reported
+unfoldable pub reported_by : Meanings → ℤ → List ℕ → Thing → ℕ → Occurrence → Option Reported
 reported_by m now name object n u = option_map (report_at n u) (refused_at m now name object u.demand)
 
 -- a report, if there is one, before the others
@@ -46,15 +46,15 @@ with_first None vs = vs
 with_first (Some v) vs = v ∷ vs
 
 -- what the uses report, of which the first stands that many places behind the use of a number
-abbrev pub reported_all : Meanings → ℤ → List ℕ → Thing → ℕ → ℕ → List Use → List Reported
+abbrev pub reported_all : Meanings → ℤ → List ℕ → Thing → ℕ → ℕ → List Occurrence → List Reported
 reported_all m now name object first i [] = []
 reported_all m now name object first i (u ∷ us) = with_first (reported_by m now name object (first + i) u) (reported_all m now name object first (i + 1) us)
 
 -- among all uses, these are those of the type of that number, and the first of them has this number
-pub record AreUsesOf (all : List Use) (type first : ℕ) (us : List Use) : Type 0 where
+pub record AreOccurrencesOf (all : List Occurrence) (type first : ℕ) (us : List Occurrence) : Type 0 where
   pub room : first + length us ≤ length all
-  pub each : (i : ℕ) (u : Use) → slice_get us i ≡ Some u → (u.type ≡ type) × (slice_get all (first + i) ≡ Some u)
-  pub none_left : (n : ℕ) (u : Use) → slice_get all n ≡ Some u → u.type ≡ type → (i : ℕ) × (n ≡ first + i) × (slice_get us i ≡ Some u)
+  pub each : (i : ℕ) (u : Occurrence) → slice_get us i ≡ Some u → (u.type ≡ type) × (slice_get all (first + i) ≡ Some u)
+  pub none_left : (n : ℕ) (u : Occurrence) → slice_get all n ≡ Some u → u.type ≡ type → (i : ℕ) × (n ≡ first + i) × (slice_get us i ≡ Some u)
 
 -- no two at different places are of one use
 abbrev pub AreApart : List Reported → Type 0

@@ -6,8 +6,8 @@ use Rattle.std.specs.Cmp.Lexicographic.{slice_cmp}
 use Rattle.fv_datum.specs.Data.{Data, reference}
 use Rattle.fv_datum.specs.Lookup.{at_name}
 use Rattle.fv_builtin.specs.Says.{says}
-use Rattle.fv_registry.specs.Answers.{Meanings}
-use Rattle.fv_declare.specs.Declarations.{FieldTest, built_in, by_rule, Demand, of_field, of_object, Use, Declarations}
+use Rattle.fv_registry.specs.Meanings.{Meanings}
+use Rattle.fv_declare.specs.Declarations.{FieldTest, built_in, by_rule, Demand, of_field, of_object, Occurrence, Declarations}
 use Rattle.fv_model.specs.Bundles.{Thing, Bundled}
 use Rattle.fv_model.specs.Types.{number_of}
 
@@ -32,9 +32,9 @@ IsUnmet m now name object (of_object rule attributes) path value = (path ≡ [])
 
 -- v is a violation at a moment: the use of its number is of the root's type, and its demand isn't met there
 pub record IsViolation (m : Meanings) (ds : Declarations) (now : ℤ) (b : Bundled) (v : Reported) : Type 0 where
-  pub used : Use
+  pub used : Occurrence
   pub root : Thing
-  pub numbered : slice_get ds.uses v.occurrence ≡ Some used
+  pub numbered : slice_get ds.occurrences v.occurrence ≡ Some used
   pub rooted : at_name b.root b.objects ≡ Some root
   pub typed : number_of ds.types root.type_name ≡ Some used.type
   pub refused : IsUnmet m now b.root root used.demand v.path v.value

@@ -69,7 +69,11 @@ impl<R: RuleSet> Rulebook<R> {
     ) -> Result<Vec<Violation>, AllocError>
         requires moment { IsMoment now }
         requires typed { IsWellTyped self.now.types (bundle_view bundle.now) }
-        ensures { IfOk result (λ v. IsListing R.meaning self.now now (bundle_view bundle.now) (map violation_view v.items)) }
+        ensures listing { IfOk result (λ v. IsListing R.meaning self.now now (bundle_view bundle.now)
+            (map violation_view v.items)) }
+        // What is judged twice at one moment is judged alike.
+        ensures alike { IfOk result (λ v. (vs : _) → IsListing R.meaning self.now now (bundle_view bundle.now) vs → vs
+            ≡ map violation_view v.items) }
     {
         validate(alloc, &self.rules, &self.schema, bundle, now)
     }

@@ -80,7 +80,8 @@ fn refused_field<R: RuleSet>(
 ) -> Result<Option<Spot>, AllocError>
     requires moment { IsMoment now }
     requires there { is_there (R.known rules.now.rules) (test_view test.now) ≡ true }
-    ensures { IfOk result (λ o. option_map spot_view o ≡ refused_field R.meaning now (test_view test.now) (Some (field_view field.now))) }
+    ensures { IfOk result (λ o. option_map spot_view o
+        ≡ refused_field R.meaning now (test_view test.now) (Some (field_view field.now))) }
 {
     if holds(alloc, rules, test, field.datum(), now)? {
         return Ok(None);
@@ -102,7 +103,9 @@ fn refused_object<R: RuleSet>(
 ) -> Result<Option<Spot>, AllocError>
     requires named { names name.now ≡ true }
     requires there { knows_object rule (R.known rules.now.rules) ≡ true }
-    ensures { IfOk result (λ o. option_map spot_view o ≡ (if R.meaning.decides_object rule (object_view object.now) attrs.now then None else Some ([], reference name.now))) }
+    ensures { IfOk result (λ o. option_map spot_view o
+        ≡ (if R.meaning.decides_object rule (object_view object.now) attrs.now then None else Some
+        ([], reference name.now))) }
 {
     if object_rule_holds(rules, rule, object, attrs) {
         return Ok(None);
@@ -126,7 +129,8 @@ pub(crate) fn refused<R: RuleSet>(
     requires moment { IsMoment now }
     requires named { names name.now ≡ true }
     requires fits { demand_fits (R.known rules.now.rules) (demand_view demand.now) ≡ true }
-    ensures { IfOk result (λ o. option_map spot_view o ≡ refused_at R.meaning now name.now (object_view object.now) (demand_view demand.now)) }
+    ensures { IfOk result (λ o. option_map spot_view o
+        ≡ refused_at R.meaning now name.now (object_view object.now) (demand_view demand.now)) }
 {
     match demand {
         Demand::OfField { field, test, .. } => match object.fields().get(*field) {

@@ -1,5 +1,5 @@
 //! The violations of a bundle.
-ghost use Rattle.std.specs.Prelude.{◌≡◌, ◌+◌, ◌≤◌, ℕ, true, length, Some, IfOk, map, option_map};
+ghost use Rattle.std.specs.Prelude.{◌≡◌, ◌+◌, ◌≤◌, true, length, Some, IfOk, map, option_map};
 ghost use Rattle.std.specs.List.{All};
 ghost use Rattle.fv_datum.specs.Moments.{IsMoment};
 ghost use Rattle.fv_datum.specs.Name.{names};
@@ -51,7 +51,8 @@ fn judged<R: RuleSet>(
     requires moment { IsMoment now }
     requires named { names name.now ≡ true }
     requires fits { demand_fits (R.known rules.now.rules) (occurrence_view occurrence.now).demand ≡ true }
-    ensures { IfOk result (λ o. option_map violation_view o ≡ reported_by R.meaning now name.now (object_view object.now) number (occurrence_view occurrence.now)) }
+    ensures { IfOk result (λ o. option_map violation_view o
+        ≡ reported_by R.meaning now name.now (object_view object.now) number (occurrence_view occurrence.now)) }
 {
     match refused(alloc, rules, occurrence.demand(), name, object, now)? {
         None => Ok(None),
@@ -74,7 +75,8 @@ fn violations_in<R: RuleSet>(
     requires named { names name.now ≡ true }
     requires numbered { first + length uses.now ≤ 18446744073709551615 }
     requires fits { All (λ o. demand_fits (R.known rules.now.rules) (occurrence_view o).demand ≡ true) uses.now }
-    ensures { IfOk result (λ v. map violation_view v.items ≡ reported_all R.meaning now name.now (object_view object.now) first 0 (map occurrence_view uses.now)) }
+    ensures { IfOk result (λ v. map violation_view v.items
+        ≡ reported_all R.meaning now name.now (object_view object.now) first 0 (map occurrence_view uses.now)) }
 {
     let mut violations = Vec::new(alloc);
     for (i, occurrence) in uses.iter().enumerate() {
@@ -96,7 +98,8 @@ fn violations_of<R: RuleSet>(
     requires moment { IsMoment now }
     requires fits { fits (R.known rules.now.rules) schema.now ≡ true }
     requires typed { IsWellTyped schema.now.types (bundle_view bundle.now) }
-    ensures { IfOk result (λ v. AreFound R.meaning schema.now now (bundle_view bundle.now) (map violation_view v.items)) }
+    ensures { IfOk result (λ v. AreFound R.meaning schema.now now (bundle_view bundle.now)
+        (map violation_view v.items)) }
 {
     let name = bundle.root();
     let Some(root) = bundle.object(name) else {
@@ -121,7 +124,8 @@ pub(crate) fn validate<R: RuleSet>(
     requires moment { IsMoment now }
     requires fits { fits (R.known rules.now.rules) schema.now ≡ true }
     requires typed { IsWellTyped schema.now.types (bundle_view bundle.now) }
-    ensures { IfOk result (λ v. IsListing R.meaning schema.now now (bundle_view bundle.now) (map violation_view v.items)) }
+    ensures { IfOk result (λ v. IsListing R.meaning schema.now now (bundle_view bundle.now)
+        (map violation_view v.items)) }
 {
     let mut violations = violations_of(alloc, rules, schema, bundle, now)?;
     sort(&mut violations);

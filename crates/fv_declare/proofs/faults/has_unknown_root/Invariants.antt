@@ -1,8 +1,8 @@
-use Rattle.std.proofs.Common.{◌≡◌, map, drop, not}
-use Rattle.std.specs.List.{list_any}
-use Rattle.fv_declare.specs.Declares.{is_declared, unknown_root}
-use Rattle.fv_draft.specs.DraftViews.{form_view, draft_view}
+use Rattle.std.proofs.Common.{◌≡◌, map, drop}
+use Rattle.fv_model.specs.Types.{declared_view}
+use Rattle.fv_declare.specs.Declares.{unknown_root}
+use Rattle.fv_draft.specs.DraftViews.{form_view}
 use Rattle.fv_declare.proofs.faults.has_unknown_root.Given as goal
 
 abbrev pub invariant-loop-form : goal.invariant-loop-form
-invariant-loop-form l = list_any (λ f. not (is_declared f.root (draft_view l.draft).types)) (map form_view (drop l.form-index l.form-items)) ≡ unknown_root (draft_view l.draft)
+invariant-loop-form l = unknown_root (declared_view l.declared) (map form_view (drop l.form-index l.forms)) ≡ unknown_root (declared_view l.declared) (map form_view l.forms)

@@ -1,8 +1,7 @@
 use Rattle.std.proofs.Common.{◌≡◌, map, drop, string_bytes}
 use Rattle.serde_json.specs.Find.{as_str}
 use Rattle.serde_json.specs.View.{items_view}
-use Rattle.fv_datum.specs.Members.{each_some}
-use Rattle.fv_draft.specs.Drafts.{listed}
+use Rattle.fv_datum.specs.Members.{listed, each_some}
 use Rattle.fv_draft.proofs.Fronts.{with_front}
 use Rattle.fv_draft.proofs.attributes.texts_of.Given as goal
 

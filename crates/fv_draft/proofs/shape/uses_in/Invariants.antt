@@ -1,7 +1,7 @@
 use Rattle.std.proofs.Common.{◌≡◌, map, drop}
 use Rattle.serde_json.specs.View.{items_view}
-use Rattle.fv_datum.specs.Members.{each_some}
-use Rattle.fv_draft.specs.Drafts.{listed, use_of}
+use Rattle.fv_datum.specs.Members.{listed, each_some}
+use Rattle.fv_draft.specs.Drafts.{use_of}
 use Rattle.fv_draft.specs.DraftViews.{use_view}
 use Rattle.fv_draft.proofs.Fronts.{with_front}
 use Rattle.fv_draft.proofs.shape.uses_in.Given as goal

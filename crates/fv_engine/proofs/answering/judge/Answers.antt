@@ -8,7 +8,7 @@ use Rattle.fv_reply.specs.declared.answer.Refusal.TheVariants.{Memory}
 use Rattle.fv_store.specs.Records.{Kept}
 use Rattle.fv_validate.specs.ViolationView.{violation_view}
 use Rattle.fv_validate.specs.Violations.{IsListing}
-use Rattle.fv_engine.proofs.Turning.{rests, stays_itself, judged_empty, judged_some, no_items, some_items}
+use Rattle.fv_engine.proofs.Becoming.{rests, stays_itself, judged_empty, judged_some, no_items, some_items}
 use Rattle.fv_engine.proofs.answering.judge.Goals as goal
 
 pub returns-in-Err : goal.returns-in-Err
@@ -20,7 +20,7 @@ returns-then-is_empty g c =
     let kept : Kept = record { form = c.args.form.now; bundle = bundle_view c.args.bundle } in
     let found = c.in-Ok.violations.items in
     let empty : length found ≡ 0 = grind (arith, common_steps, c.if-is_empty.ensures, c.in-Ok.violations.ok) in
-    let listing : IsListing g.R.RuleSet.meaning ds c.args.now kept.bundle (map violation_view found) = rw (to_z-of_z w64 c.args.now c.ranges.now) at c.in-Ok.ensures in
+    let listing : IsListing g.R.RuleSet.meaning ds c.args.now kept.bundle (map violation_view found) = rw (to_z-of_z w64 c.args.now c.ranges.now) at c.in-Ok.ensures.listing in
     judged_empty g.R.RuleSet.meaning c.args.now c.args.id.now kept (state g.S.Store) ds _ _ _ _ (no_items violation_view found empty) listing (c.keep.ensures ds c.requires.fits)
 
 pub returns : goal.returns
@@ -29,5 +29,5 @@ returns g c =
     let kept : Kept = record { form = c.args.form.now; bundle = bundle_view c.args.bundle } in
     let found = c.in-Ok.violations.items in
     let some : length found ≡ 0 → ⊥ = λ e. grind (arith, common_steps, c.if-is_empty.ensures, c.in-Ok.violations.ok) in
-    let listing : IsListing g.R.RuleSet.meaning ds c.args.now kept.bundle (map violation_view found) = rw (to_z-of_z w64 c.args.now c.ranges.now) at c.in-Ok.ensures in
+    let listing : IsListing g.R.RuleSet.meaning ds c.args.now kept.bundle (map violation_view found) = rw (to_z-of_z w64 c.args.now c.ranges.now) at c.in-Ok.ensures.listing in
     judged_some g.R.RuleSet.meaning c.args.now c.args.id.now kept (state g.S.Store) ds _ _ (some_items violation_view found some) listing

@@ -4,7 +4,8 @@ use Rattle.fv_model.specs.Views.{bundle_view}
 use Rattle.fv_reply.specs.declared.answer.Refusal.TheVariants.{Memory}
 use Rattle.fv_store.specs.Records.{Kept, Records}
 use Rattle.fv_store.specs.Stands.{Holds}
-use Rattle.fv_engine.proofs.Turning.{rests, stays_itself, stored, unchanged}
+use Rattle.fv_engine.specs.Machines.{contents}
+use Rattle.fv_engine.proofs.Becoming.{rests, stays_itself, stored, unchanged}
 use Rattle.fv_engine.proofs.answering.keep.Goals as goal
 
 pub returns-in-Err : goal.returns-in-Err
@@ -14,11 +15,11 @@ pub returns-in-Ok-commit : goal.returns-in-Ok-commit
 returns-in-Ok-commit g c = λ ds fits.
     let kept : Kept = record { form = c.args.form.now; bundle = bundle_view c.args.bundle } in
     let done = rw c.deref.ensures.value at c.in-Ok-commit.ensures.done in
-    stored (state g.S.Store) ds _ _ c.in-Ok-commit.ensures.clean c.in-Ok-commit.ensures.was_open c.args.id.now kept c.in-Ok-commit.ensures.open
-    (λ bytes m holds. subst (λ (n : Records). Holds (state g.S.Store c.commit.new.self) bytes ds.types ds.forms n) (c.in-Ok.ensures.after m)
-    (done bytes ds.types ds.forms m (c.in-Ok.ensures.fit ds.types ds.forms fits) holds))
+    stored (state g.S.Store) ds _ _ c.in-Ok-commit.ensures.frame c.args.id.now kept c.in-Ok-commit.ensures.open
+    (λ bytes m holds. subst (λ (n : Records). Holds (state g.S.Store c.commit.new.self) (contents bytes ds n)) (c.in-Ok.ensures.after m)
+    (done (contents bytes ds m) (c.in-Ok.ensures.fit ds.types ds.forms fits) holds))
 
 pub returns : goal.returns
 returns g c = λ ds fits.
-    unchanged (state g.S.Store) ds _ _ c.in-Err-commit.ensures.clean c.in-Err-commit.ensures.was_open _ (λ clean bytes m holds stay. inr (c.undone.result, c.undone.ensures.fails, refl, stay))
-    (λ bytes m holds. c.in-Err-commit.ensures.undone bytes ds.types ds.forms m holds)
+    unchanged (state g.S.Store) ds _ _ c.in-Err-commit.ensures.frame _ (λ clean bytes m holds stay. inr (c.undone.result, c.undone.ensures.fails, refl, stay))
+    (λ bytes m holds. c.in-Err-commit.ensures.undone (contents bytes ds m) holds)

@@ -5,7 +5,7 @@ use Rattle.sqlite.specs.Held.{state}
 use Rattle.fv_datum.specs.Lookup.{at_name}
 use Rattle.serde_json.specs.View.{view as json_view}
 use Rattle.fv_model.specs.Views.{bundle_view}
-use Rattle.fv_engine.proofs.Turning.{unmoved, turned_so, put_unread, put_unknown, put_judged, declared_when}
+use Rattle.fv_engine.proofs.Becoming.{unmoved, turned_so, put_unread, put_unknown, put_judged, declared_when}
 use Rattle.fv_engine.proofs.answering.put.Goals as goal
 
 pub returns-in-Err : goal.returns-in-Err

@@ -2,7 +2,7 @@ use Rattle.std.proofs.lemmas.Int.{to_z-of_z}
 use mir.Syntax.{w64}
 use Rattle.sqlite.specs.Held.{state}
 use Rattle.serde_json.specs.View.{view as json_view}
-use Rattle.fv_engine.proofs.Turning.{weaker, told_answer, short_command}
+use Rattle.fv_engine.proofs.Becoming.{weaker, told_answer, short_command}
 use Rattle.fv_engine.proofs.answering.reply_to.Goals as goal
 
 pub returns : goal.returns

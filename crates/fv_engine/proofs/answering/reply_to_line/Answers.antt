@@ -4,17 +4,17 @@ use mir.Syntax.{w64}
 use Rattle.sqlite.specs.Held.{state}
 use Rattle.serde_json.specs.Data as json
 use Rattle.fv_datum.specs.Parsing.{json_of}
-use Rattle.fv_engine.specs.Machines.{over, Turns}
+use Rattle.fv_engine.specs.Machines.{over, Becomes}
 use Rattle.fv_engine.specs.Requests.{of_json}
-use Rattle.fv_engine.specs.Step.{Replies}
+use Rattle.fv_engine.specs.Keeping.{Replies}
 use Rattle.fv_reply.specs.Answers.{refused}
 use Rattle.fv_reply.specs.declared.answer.Refusal.TheVariants.{NotJson, Memory}
-use Rattle.fv_engine.proofs.Turning.{rests, stays_itself, told_answer, short_json}
+use Rattle.fv_engine.proofs.Becoming.{rests, stays_itself, told_answer, short_json}
 use Rattle.fv_engine.proofs.answering.reply_to_line.Goals as goal
 
 pub returns-in-Ok : goal.returns-in-Ok
 returns-in-Ok g c =
-    subst (λ (o : Option json.Data). Turns (state g.S.Store) (over (state g.S.Store) c.args.book.now c.args.store.now) (over (state g.S.Store) c.args.book.now c.reply_to.new.store)
+    subst (λ (o : Option json.Data). Becomes (state g.S.Store) (over (state g.S.Store) c.args.book.now c.args.store.now) (over (state g.S.Store) c.args.book.now c.reply_to.new.store)
     (λ x y. Replies g.R.RuleSet.meaning c.args.now (of_json o) x c.reply_to.result y)) (sym c.in-Ok.ensures.read) (rw (to_z-of_z w64 c.args.now c.ranges.now) at c.reply_to.ensures)
 
 pub returns-in-Err-NotJson : goal.returns-in-Err-NotJson

@@ -14,4 +14,4 @@ pub returns : goal.returns
 returns g c = λ whole k.
     let same : to_z w64 (of_z w64 c.args.now) ≡ c.args.now = to_z-of_z w64 c.args.now c.ranges.now in
     let stepped = rw (same, c.bytes-bytes.ensures) at c.answer_line.ensures in
-    subst (λ (l : List ℕ). g.M.Machine.step c.args.machine.now l c.args.now (g.M.Reply.Text.bytes c.answer_line.result) c.answer_line.new.self) (is_whole c.args.line.now whole k (omega (arith, ap length c.bytes-bytes.ensures, c.if-bytes-gt-LIMIT.false))) stepped
+    subst (λ (l : List ℕ). g.P.Responder.step c.args.responder.now l c.args.now (g.P.Reply.Text.bytes c.answer_line.result) c.answer_line.new.self) (is_whole c.args.line.now whole k (omega (arith, ap length c.bytes-bytes.ensures, c.if-bytes-gt-LIMIT.false))) stepped

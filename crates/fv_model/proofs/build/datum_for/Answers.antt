@@ -8,8 +8,9 @@ use Rattle.fv_datum.specs.View.{view}
 use Rattle.fv_datum.specs.declared.kind.Kind.{Kind}
 use Rattle.fv_datum.specs.declared.fault.DatumFault.{DatumFault}
 use Rattle.fv_datum.specs.declared.fault.DatumFault.TheVariants.{WrongKind, Memory}
-use Rattle.fv_model.specs.Reading.{fits_given, datum_at}
-use Rattle.fv_model.specs.Types.{Held, kind_of, held_view}
+use Rattle.fv_model.specs.Reading.{datum_at}
+use Rattle.fv_model.specs.Fitting.{fits_given}
+use Rattle.fv_model.specs.Types.{TypeUse, kind_of, type_use_view}
 use Rattle.fv_model.proofs.build.datum_for.Goals as goal
 
 refused : (o : Option Data) → is_some o ≡ true → ok_or o WrongKind ≡ Err WrongKind → ⊥
@@ -21,19 +22,19 @@ read (Some x) d e = cc
 read None d e = cc
 
 -- what is given for a field that it fits is read
-misread : (held : Held) (kind : Kind) (j : json.Data) (e : DatumFault) → kind ≡ kind_of held → fits_given held (Some j) ≡ true → e ≡ WrongKind → (e ≢ Memory → datum_read kind j ≡ Err e) → ⊥
-misread held kind j e same fits wrong told =
+misread : (type_use : TypeUse) (kind : Kind) (j : json.Data) (e : DatumFault) → kind ≡ kind_of type_use → fits_given type_use (Some j) ≡ true → e ≡ WrongKind → (e ≢ Memory → datum_read kind j ≡ Err e) → ⊥
+misread type_use kind j e same fits wrong told =
     let other : e ≢ Memory = λ memory. cc in
     let read : datum_read kind j ≡ Err WrongKind = rw wrong at (told other) in
-    refused (spelled (kind_of held) j) fits (rw same at read)
+    refused (spelled (kind_of type_use) j) fits (rw same at read)
 
-read_as : (held : Held) (kind : Kind) (j : json.Data) (d : Data) → kind ≡ kind_of held → datum_read kind j ≡ Ok d → d ≡ datum_at held (Some j)
-read_as held kind j d same e = read (spelled (kind_of held) j) d (rw same at e)
+read_as : (type_use : TypeUse) (kind : Kind) (j : json.Data) (d : Data) → kind ≡ kind_of type_use → datum_read kind j ≡ Ok d → d ≡ datum_at type_use (Some j)
+read_as type_use kind j d same e = read (spelled (kind_of type_use) j) d (rw same at e)
 
 pub unreachable-requires : goal.unreachable-requires
 unreachable-requires c =
-    let fits : fits_given (held_view c.args.type_use.now) (Some (json_view c.in-Some.value.now)) ≡ true = rw c.in-Some.is at c.requires.fits in
-    misread (held_view c.args.type_use.now) c.kind.result (json_view c.in-Some.value.now) c.in-Err-WrongKind.field-0 c.kind.ensures.kind fits c.in-Err-WrongKind.field-0-is c.in-Err-WrongKind.ensures.exact
+    let fits : fits_given (type_use_view c.args.type_use.now) (Some (json_view c.in-Some.value.now)) ≡ true = rw c.in-Some.is at c.requires.fits in
+    misread (type_use_view c.args.type_use.now) c.kind.result (json_view c.in-Some.value.now) c.in-Err-WrongKind.field-0 c.kind.ensures.kind fits c.in-Err-WrongKind.field-0-is c.in-Err-WrongKind.ensures.exact
 
 pub returns-in-Ok : goal.returns-in-Ok
-returns-in-Ok c = rw c.in-Some.is (read_as (held_view c.args.type_use.now) c.kind.result (json_view c.in-Some.value.now) (view c.in-Ok.datum) c.kind.ensures.kind c.in-Ok.ensures.exact)
+returns-in-Ok c = rw c.in-Some.is (read_as (type_use_view c.args.type_use.now) c.kind.result (json_view c.in-Some.value.now) (view c.in-Ok.datum) c.kind.ensures.kind c.in-Ok.ensures.exact)

@@ -1,7 +1,8 @@
 use Rattle.std.proofs.Common.{◌≡◌, ◌++◌, map, true}
 use Rattle.fv_model.specs.Types.{use_view, fields_view}
 use Rattle.fv_model.specs.Views.{field_view, given_view}
-use Rattle.fv_model.specs.Reading.{all_fit, field_of}
+use Rattle.fv_model.specs.Reading.{field_of}
+use Rattle.fv_model.specs.Fitting.{all_fit}
 use Rattle.fv_model.proofs.build.fields_for.Given as goal
 
 abbrev pub invariant-loop-name : goal.invariant-loop-name

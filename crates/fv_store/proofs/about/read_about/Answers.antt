@@ -6,9 +6,11 @@ use Rattle.fv_store.proofs.Texts.{read_text, read_plain}
 use Rattle.fv_store.proofs.Queries.{read_shown, query_stays, query_open, query_live}
 use Rattle.fv_store.proofs.about.read_about.Goals as goal
 
-pub returns-clause-was_open : goal.returns-clause-was_open
-returns-clause-was_open g c clean live =
-    query_open read_text [] (state g.S.Store c.args.conn.now) (state g.S.Store c.query_all.new.self) c.query_all.result (c.query_all.ensures.ok clean) (c.query_all.ensures.err clean) live
+pub returns-clause-frame : goal.returns-clause-frame
+returns-clause-frame g c = record {
+  clean = omega (arith, c.query_all.ensures.survives.clean);
+  was_open = λ clean live. query_open read_text [] (state g.S.Store c.args.conn.now) (state g.S.Store c.query_all.new.self) c.query_all.result (c.query_all.ensures.ok clean) (c.query_all.ensures.err clean) live;
+}
 
 pub returns-clause-open : goal.returns-clause-open
 returns-clause-open g c = query_live read_text [] (state g.S.Store c.args.conn.now) (state g.S.Store c.query_all.new.self) c.query_all.result c.query_all.ensures.ok

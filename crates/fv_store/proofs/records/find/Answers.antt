@@ -1,5 +1,5 @@
 use Rattle.std.proofs.Common.{Some, ap, sym, ◌∙◌}
-use Rattle.fv_store.specs.Records.{kept_text}
+use Rattle.fv_store.specs.Showing.{kept_text}
 use Rattle.std.proofs.Common.{option_map}
 use Rattle.fv_store.proofs.Queries.{none_first, some_first}
 use Rattle.fv_store.proofs.records.find.Goals as goal

@@ -5,10 +5,12 @@ use Rattle.fv_store.proofs.Texts.{find_text, find_plain}
 use Rattle.fv_store.proofs.Queries.{find_shown, query_keeps, query_open, query_live}
 use Rattle.fv_store.proofs.records.find_record.Goals as goal
 
-pub returns-clause-was_open : goal.returns-clause-was_open
-returns-clause-was_open g c clean live =
-    query_open find_text (Text c.args.id.now ∷ []) (state g.S.Store c.args.conn.now) (state g.S.Store c.query_all.new.self) c.query_all.result
-    (rw c.params-to_sql.ensures at (c.query_all.ensures.ok clean)) (rw c.params-to_sql.ensures at (c.query_all.ensures.err clean)) live
+pub returns-clause-frame : goal.returns-clause-frame
+returns-clause-frame g c = record {
+  clean = omega (arith, c.query_all.ensures.survives.clean);
+  was_open = λ clean live. query_open find_text (Text c.args.id.now ∷ []) (state g.S.Store c.args.conn.now) (state g.S.Store c.query_all.new.self) c.query_all.result
+      (rw c.params-to_sql.ensures at (c.query_all.ensures.ok clean)) (rw c.params-to_sql.ensures at (c.query_all.ensures.err clean)) live;
+}
 
 pub returns-clause-open : goal.returns-clause-open
 returns-clause-open g c =

@@ -1,6 +1,6 @@
 use Rattle.sqlite.specs.Held.{state}
 use Rattle.fv_store.specs.Stands.{IsBlank}
-use Rattle.fv_store.specs.Steps.{HasAbout, HasTables, HasNone}
+use Rattle.fv_store.specs.Steps.{HasAbout, HasEmptyTables, HasNone}
 use Rattle.fv_store.proofs.Steps.{then, then_on_ok, turned}
 use Rattle.fv_store.proofs.tables.create_tables.Goals as goal
 
@@ -13,5 +13,5 @@ returns-clause-done g c clean inside =
     let late = c.insert_about.ensures.clean clean in
     let first = c.in_ok-create_about.ensures.done (c.create_record.ensures.clean late) inside in
     let second = c.in_ok-create_record.ensures.done late first.mode in
-    let tables = then begin one two (turned IsBlank HasAbout HasTables) first second in
-    then_on_ok begin two end c.insert_about.result (turned IsBlank HasTables (HasNone c.args.declarations.now)) tables (c.insert_about.ensures.done clean second.mode)
+    let tables = then begin one two (turned IsBlank HasAbout HasEmptyTables) first second in
+    then_on_ok begin two end c.insert_about.result (turned IsBlank HasEmptyTables (HasNone c.args.declarations.now)) tables (c.insert_about.ensures.done clean second.mode)

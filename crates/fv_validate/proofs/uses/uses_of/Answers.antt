@@ -4,7 +4,7 @@ use Rattle.std.proofs.lemmas.List.Sorted.{IsPartitionPoint-from_clause, IsPartit
 use Rattle.std.proofs.Math.Seq.{take_all}
 use Rattle.fv_declare.specs.OccurrenceView.{occurrence_view}
 use Rattle.fv_declare.specs.declared.occurrence.Occurrence.{Occurrence}
-use Rattle.fv_validate.specs.Judging.{AreUsesOf}
+use Rattle.fv_validate.specs.Judging.{AreOccurrencesOf}
 use Rattle.fv_validate.proofs.Ranges.{types_rise, uses_between}
 use Rattle.fv_validate.proofs.uses.uses_of.Goals as goal
 
@@ -19,5 +19,5 @@ returns c =
     let whole : take (length xs - first) (drop first xs) ≡ drop first xs = take_all (length xs - first) (drop first xs) (omega (arith, length-drop first xs)) in
     let lower = IsPartitionPoint-from_clause (λ (o : Occurrence). nat_lt (occurrence_view o).type type) xs first c.partition_point-first.ensures.partitioned (IsPartitionedBy-ltb T xs type rise) (λ a r q k. search rules) in
     let upper = IsPartitionPoint-from_clause (λ (o : Occurrence). leb (occurrence_view o).type type) (drop first xs) count (rw whole at c.partition_point-count.ensures.partitioned) (IsPartitionedBy-leb T (drop first xs) type (IsNonDecreasingBy-drop T first xs rise)) (λ a r q k. search rules) in
-    subst (λ (l : List Occurrence). AreUsesOf (map occurrence_view xs) type first (map occurrence_view (take count l))) (sym whole)
+    subst (λ (l : List Occurrence). AreOccurrencesOf (map occurrence_view xs) type first (map occurrence_view (take count l))) (sym whole)
     (uses_between occurrence_view xs type first count lower upper c.partition_point-first.ensures.bound (rw whole at c.partition_point-count.ensures.bound))

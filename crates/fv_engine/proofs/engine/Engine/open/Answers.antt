@@ -1,8 +1,9 @@
+use Rattle.std.proofs.Common.{refl}
 use Rattle.fv_engine.proofs.Openings.{store_cause}
 use Rattle.fv_engine.proofs.engine.Engine.open.Goals as goal
 
 pub returns-in-Ok-open-clause-opened : goal.returns-in-Ok-open-clause-opened
-returns-in-Ok-open-clause-opened g c = λ m opens. c.in-Ok-open.ensures.opened _ _ m opens
+returns-in-Ok-open-clause-opened g c = λ m opens. c.in-Ok-open.ensures.opened _ refl opens
 
 pub returns-in-Err-open-clause-other_version : goal.returns-in-Err-open-clause-other_version
 returns-in-Err-open-clause-other_version g c = λ is. c.in-Err-open.ensures.other_version (store_cause c.in-Err-open.fault _ _ c.store_fault.ensures.memory c.store_fault.ensures.other is)

@@ -7,12 +7,12 @@ use Rattle.fv_store.proofs.store.Store.get.Goals as goal
 pub returns-clause-found : goal.returns-clause-found
 returns-clause-found g c clean =
     let found = rw c.self.view_is at (c.in_ok-shown.ensures.found clean) in
-    handed_out (state g.S.Store c.args.self.now) (types_view c.args.types.now) c.args.id.now c.in_ok-shown.shown c.stored_if.result (rw c.self.view_is at (c.find.ensures.clean clean)) found.0 found.1 c.stored_if.ensures
+    handed_out (state g.S.Store c.args.self.now) (types_view c.args.types.now) c.args.id.now c.in_ok-shown.shown c.stored_if.result (rw c.self.view_is at (c.find.ensures.frame.clean clean)) found.0 found.1 c.stored_if.ensures
 
 pub returns-clause-stays : goal.returns-clause-stays
 returns-clause-stays g c =
-    rw c.self.view_is at (holds_still (state g.S.Store c.self.inside.connection) (state g.S.Store c.find.new.conn) c.find.ensures.clean c.find.ensures.was_open c.find.ensures.stays)
+    rw c.self.view_is at (holds_still (state g.S.Store c.self.inside.connection) (state g.S.Store c.find.new.conn) c.find.ensures.frame c.find.ensures.stays)
 
 pub returns-in_err-shown-clause-stays : goal.returns-in_err-shown-clause-stays
 returns-in_err-shown-clause-stays g c =
-    rw c.self.view_is at (holds_still (state g.S.Store c.self.inside.connection) (state g.S.Store c.find.new.conn) c.find.ensures.clean c.find.ensures.was_open c.find.ensures.stays)
+    rw c.self.view_is at (holds_still (state g.S.Store c.self.inside.connection) (state g.S.Store c.find.new.conn) c.find.ensures.frame c.find.ensures.stays)

@@ -1,0 +1,48 @@
+-- Laws of a call, in a user's words: they are told of its reply, and follow from the step.
+use Rattle.std.specs.Prelude.{◌≡◌, ◌≢◌, ◌⊎◌, ℕ, ℤ, List, [], Ok}
+use Rattle.serde_json.specs.Data as json
+use Rattle.fv_engine.specs.Machines.{Machine}
+use Rattle.fv_engine.specs.Refusals.{bundle_under}
+use Rattle.fv_engine.specs.Requests.{put, get, asked}
+use Rattle.fv_engine.specs.Step.{Told}
+use Rattle.fv_model.specs.Bundles.{Bundled}
+use Rattle.fv_registry.specs.Meanings.{Meanings}
+use Rattle.fv_reply.specs.Answers.{Answer, taken, shown, violated, refused}
+use Rattle.fv_reply.specs.Texts.{answer_text}
+use Rattle.fv_reply.specs.declared.answer.Refusal.TheVariants.{Store, Memory}
+use Rattle.fv_store.specs.Records.{Records}
+
+-- the reply tells that a put was taken
+abbrev pub IsTaken : List ℕ → Type 0
+IsTaken reply = reply ≡ answer_text taken
+
+-- the reply tells that the store or memory failed
+abbrev pub IsFailure : List ℕ → Type 0
+IsFailure reply = (reply ≡ answer_text (refused Store)) ⊎ (reply ≡ answer_text (refused Memory))
+
+-- What a taken put stored is what the next get of its id shows, unless that get fails.
+abbrev pub ShowsWhatWasPut : Meanings → List ℕ → List ℕ → Machine Records → Machine Records → Type 0
+ShowsWhatWasPut means line reply old new = (id form : List ℕ) (bundle : json.Data) → asked line ≡ put id form bundle → IsTaken reply
+    → (b : Bundled) × (bundle_under old.declared form bundle ≡ Ok b)
+    × ((next : List ℕ) (later : ℤ) (shows : List ℕ) (last : Machine Records) → asked next ≡ get id → Told means new next later shows last
+    → (shows ≡ answer_text (shown id form b)) ⊎ IsFailure shows)
+
+-- A refusal changes no get, as it changes no record; nor does any other reply but that a put was taken.
+abbrev pub ChangesNoGet : List ℕ → Machine Records → Machine Records → Type 0
+ChangesNoGet reply old new = (IsTaken reply → ⊥) → new.records ≡ old.records
+
+-- no refusal for violations without one
+abbrev pub HasSome : Answer → Type 0
+HasSome (violated id vs) = vs ≢ []
+HasSome _ = Unit {0}
+
+-- A refusal for violations lists at least one.
+abbrev pub ListsSome : List ℕ → Type 0
+ListsSome reply = (answer : Answer) × (reply ≡ answer_text answer) × HasSome answer
+
+-- Two taken puts of different ids may change places: each is taken at its moment, and they leave the same machine.
+abbrev pub MayChangePlaces : Meanings → List ℕ → ℤ → List ℕ → Machine Records → Machine Records → Type 0
+MayChangePlaces means line now reply old new = (id form : List ℕ) (bundle : json.Data) → asked line ≡ put id form bundle → IsTaken reply
+    → (next : List ℕ) (later : ℤ) (other form_there : List ℕ) (there : json.Data) → asked next ≡ put other form_there there → other ≢ id
+    → (last : Machine Records) → Told means new next later reply last
+    → (mid : Machine Records) × Told means old next later reply mid × Told means mid line now reply last
