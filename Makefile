@@ -1,5 +1,5 @@
 # Everything is done by the toolchain's command rt (see README.md).
-.PHONY: all demo test rows planted
+.PHONY: all demo test rows planted served
 
 # As many lanes as there are processors, or quarters of the free memory in GB where these are fewer.
 lanes := $(shell free=$$(awk '/MemAvailable/ { print int($$2 / 4194304) }' /proc/meminfo); \
@@ -25,3 +25,9 @@ rows:
 # Tries the wrong bodies that the gate doesn't try: make planted, or make planted NAME=fv_model.
 planted:
 	tests/planted.sh $(NAME)
+
+# Runs the program that `make` leaves: the manual's examples, files that it can't serve, a hundred kills.
+served:
+	tests/manual.py
+	tests/statuses.py
+	tests/kills.py

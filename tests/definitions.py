@@ -75,10 +75,11 @@ def clauses_of(crate, function):
             source = text.read()
         for match in re.finditer(rf"pub fn {function}\b", source):
             head = source[match.start() :].split("\n    {\n")[0].split("\n{\n")[0]
-            clauses = [line for line in head.split("\n") if re.match(r"\s+(requires|ensures|\()", line) or "≡" in line]
+            begin = re.search(r"^\s*(requires|ensures)", head, re.M)
+            clauses = head[begin.start() :] if begin else ""
             before = source[: match.start()]
             inner = before[before.rfind("\nimpl") :] if "\nimpl" in before else ""
-            return "\n".join(clauses), {**imports_of(before), **imports_of(inner)}
+            return clauses, {**imports_of(before), **imports_of(inner)}
     sys.exit(f"no public function {function} in {crate}")
 
 

@@ -1,5 +1,6 @@
 pub mod Counts
 pub mod DigitCounts
 pub mod Pieces
+pub mod Regexes
 pub mod Templates
 pub mod Units

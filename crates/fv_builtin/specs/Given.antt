@@ -8,6 +8,9 @@ use Rattle.fv_datum.specs.Lookup.{at_name}
 use Rattle.fv_datum.specs.declared.attribute_kind.AttributeKind.{AttributeKind}
 use Rattle.fv_datum.specs.declared.attribute_kind.AttributeKind.TheVariants as attribute
 use Rattle.regex.specs.Patterns.{Re}
+use Rattle.regex.specs.declared.error.Error.{Error}
+use Rattle.regex.specs.declared.error.Error.TheVariants.{OutOfMemory}
+use Rattle.regex.specs.declared.string.regex.Regex.{Regex}
 use Rattle.fv_builtin.specs.Matches.{anchored, IsPatternOf, IsNoPattern}
 use Rattle.fv_builtin.specs.BuiltIns.{BuiltIn}
 use Rattle.fv_builtin.specs.BuiltIns as built
@@ -133,6 +136,12 @@ abbrev pub drafted : BuiltinName → Attributes → Option Draft
 drafted which given = if has_foreign which given then None else accepted which given
 
 -- ---- what is read
+
+-- the answer of the regex crate: a pattern that isn't built for another cause than memory is a bad one
+abbrev pub answer_of : Result Regex Error → Result Regex BuiltinFault
+answer_of (Ok regex) = Ok regex
+answer_of (Err OutOfMemory) = Err Memory
+answer_of (Err _) = Err BadPattern
 
 -- what a pattern's text is read as: the pattern of the text between its anchors, or a refusal of the regex crate, or
 -- want of memory

@@ -8,6 +8,7 @@ pub mod Messages
 pub mod Names
 pub mod Numbers
 pub mod Passing
+pub mod Patterns
 pub mod Says
 pub mod Sizes
 pub mod Table

@@ -1,9 +1,10 @@
 -- What a pattern says of a datum, and how it is read.
 use Rattle.std.specs.Prelude.{◌≡◌, ◌≢◌, ℕ, List, ◌++◌, Bool, true, is_some, codes}
 use Rattle.regex.specs.Patterns.{Re, find_str, Reads, default_config}
-use Rattle.regex.specs.Strings.{IsDefaultFailure}
+use Rattle.regex.specs.Strings.{regex_source, regex_config, IsReadFromSource, IsDefaultFailure}
 use Rattle.regex.specs.declared.error.Error.{Error}
 use Rattle.regex.specs.declared.error.Error.TheVariants.{OutOfMemory}
+use Rattle.regex.specs.declared.string.regex.Regex.{Regex}
 use Rattle.regex_hir.specs.Meaning.{meaning}
 use Rattle.regex_hir.specs.declared.hir.Hir.{Hir}
 use Rattle.regex_syntax.specs.Grammar.{Names}
@@ -25,3 +26,7 @@ IsPatternOf source re = (hir : Hir) × (names : Names) × Reads default_config s
 -- the regex crate refused the text, for another cause than memory
 abbrev pub IsNoPattern : List ℕ → Type 0
 IsNoPattern source = (e : Error) × (e ≢ OutOfMemory) × IsDefaultFailure source e
+
+-- what is compiled is what the regex crate reads, by its default options, from a text
+abbrev pub IsReadFrom : List ℕ → Regex → Type 0
+IsReadFrom source r = (regex_source r ≡ source) × (regex_config r ≡ default_config) × IsReadFromSource r

@@ -16,6 +16,7 @@ use crate::draft::{Draft, drafted};
 use crate::fault::BuiltinFault;
 use crate::name::{BuiltinName, builtin_named};
 use crate::pattern;
+use crate::patterns::Patterns;
 use crate::size::{is_not_empty, is_sized};
 use crate::table::takes_kind;
 use crate::time::{is_future, is_future_or_present, is_past, is_past_or_present};
@@ -23,6 +24,7 @@ use crate::truth::{is_false, is_true};
 use fv_datum::{Attrs, Datum, Kind, is_null};
 use regex::Regex;
 use std::alloc::{AllocError, Global};
+use std::rc::Rc;
 
 /// A built-in constraint with its attributes in effect. Bounds are in units of 10^-9, sizes of
 /// texts in UTF-16 code units.
@@ -48,7 +50,7 @@ pub enum Builtin {
     PastOrPresent,
     Future,
     FutureOrPresent,
-    Pattern(Regex),
+    Pattern(Rc<Regex>),
 }
 
 impl Builtin {
@@ -67,8 +69,34 @@ impl Builtin {
             → IsRead (drafted which attrs.now) (takes which kind) (answer_view result) }
     {
         match builtin_named(name) {
-            Some(which) => read_named(alloc, which, attrs, kind),
+            Some(which) => {
+                let mut patterns = Patterns::new(alloc);
+                Builtin::read_named(alloc, &mut patterns, which, attrs, kind)
+            }
             None => Err(BuiltinFault::Attribute),
+        }
+    }
+
+    /// The same for a name that is read already. A pattern that is among `patterns` is shared, and
+    /// one that isn't is built here and added.
+    pub fn read_named(
+        alloc: Global,
+        patterns: &mut Patterns,
+        which: BuiltinName,
+        attrs: &Attrs,
+        kind: Kind,
+    ) -> Result<Builtin, BuiltinFault>
+        ensures { IsRead (drafted which attrs.now) (takes which kind) (answer_view result) }
+    {
+        match drafted(which, attrs) {
+            None => Err(BuiltinFault::Attribute),
+            Some(draft) => {
+                if takes_kind(which, kind) {
+                    built(alloc, patterns, draft)
+                } else {
+                    Err(BuiltinFault::UnexpectedType)
+                }
+            }
         }
     }
 
@@ -107,32 +135,12 @@ impl Builtin {
     }
 }
 
-fn read_named(
-    alloc: Global,
-    which: BuiltinName,
-    attrs: &Attrs,
-    kind: Kind,
-) -> Result<Builtin, BuiltinFault>
-    ensures { IsRead (drafted which attrs.now) (takes which kind) (answer_view result) }
-{
-    match drafted(which, attrs) {
-        None => Err(BuiltinFault::Attribute),
-        Some(draft) => {
-            if takes_kind(which, kind) {
-                built(alloc, draft)
-            } else {
-                Err(BuiltinFault::UnexpectedType)
-            }
-        }
-    }
-}
-
-/// The constraint of a draft, with its pattern built.
-fn built(alloc: Global, draft: Draft) -> Result<Builtin, BuiltinFault>
+/// The constraint of a draft, with its pattern.
+fn built(alloc: Global, patterns: &mut Patterns, draft: Draft) -> Result<Builtin, BuiltinFault>
     ensures { IsRead (Some (draft_view draft.entry)) true (answer_view result) }
 {
     match draft {
         Draft::Ready(constraint) => Ok(constraint),
-        Draft::ToMatch(regexp) => pattern::build(alloc, regexp),
+        Draft::ToMatch(regexp) => Ok(Builtin::Pattern(patterns.find_or_build(alloc, regexp)?)),
     }
 }

@@ -2,7 +2,7 @@ ghost use Rattle.std.specs.Prelude.{◌≡◌};
 ghost use Rattle.fv_builtin.specs.FaultNames.{builtin_fault_name};
 ghost use Rattle.fv_builtin.specs.declared.fault.BuiltinFault.TheVariants.{Memory};
 
-use std::alloc::AllocError;
+use std::alloc::{AllocError, AllocFailed};
 use thiserror::Error;
 
 /// Why a use of a built-in constraint isn't taken.
@@ -40,6 +40,14 @@ impl From<AllocError> for BuiltinFault {
     ghost from_gives = { λ _ e. e ≡ Memory };
 
     fn from(_e: AllocError) -> BuiltinFault {
+        BuiltinFault::Memory
+    }
+}
+
+impl<T: Drop> From<AllocFailed<T>> for BuiltinFault {
+    ghost from_gives = { λ _ e. e ≡ Memory };
+
+    fn from(_e: AllocFailed<T>) -> BuiltinFault {
         BuiltinFault::Memory
     }
 }

@@ -1,14 +1,12 @@
 //! Pattern: all of a text matches a regular expression, as the `regex` crate reads it.
-ghost use Rattle.std.specs.Prelude.{◌≡◌, IfOk, string_bytes, is_some, option_map};
+ghost use Rattle.std.specs.Prelude.{◌≡◌, Err, IfOk, IfErr, string_bytes, is_some, option_map};
 ghost use Rattle.regex.specs.Patterns.{find_str};
 ghost use Rattle.regex.specs.Strings.{regex_pattern};
 ghost use Rattle.fv_datum.specs.Data.{text};
 ghost use Rattle.fv_datum.specs.View.{view};
-ghost use Rattle.fv_builtin.specs.Given.{IsBuilt, regexp_of};
-ghost use Rattle.fv_builtin.specs.Matches.{anchored, is_match};
-ghost use Rattle.fv_builtin.specs.Views.{answer_view};
+ghost use Rattle.fv_builtin.specs.Given.{IsBuilt, answer_of, regexp_of};
+ghost use Rattle.fv_builtin.specs.Matches.{anchored, is_match, IsReadFrom};
 
-use crate::builtin::Builtin;
 use crate::fault::BuiltinFault;
 use crate::given::text_of;
 use fv_datum::{Attrs, Datum};
@@ -23,18 +21,23 @@ pub(crate) fn regexp_of(attrs: &Attrs) -> Option<&str>
 }
 
 /// The pattern of a text between anchors, so that it matches all of a text or nothing.
-///
-/// `BadPattern` where the `regex` crate doesn't build it for another cause than memory.
-pub(crate) fn build(alloc: Global, regexp: &str) -> Result<Builtin, BuiltinFault>
-    ensures { IsBuilt regexp.now (answer_view result) }
+pub(crate) fn build(alloc: Global, regexp: &str) -> Result<Regex, BuiltinFault>
+    ensures read { IfOk result (IsReadFrom (anchored regexp.now)) }
+    ensures refused { IfErr result (λ fault. IsBuilt regexp.now (Err fault)) }
 {
     let source = anchored(alloc, regexp)?;
-    match Regex::new(alloc, source.as_str()) {
-        Ok(regex) => Ok(Builtin::Pattern(regex)),
-        Err(error) => match error {
-            Error::OutOfMemory => Err(BuiltinFault::Memory),
-            _ => Err(BuiltinFault::BadPattern),
-        },
+    answer_of(Regex::new(alloc, source.as_str()))
+}
+
+/// The answer of the `regex` crate: `BadPattern` where a pattern isn't built for another cause than
+/// memory.
+fn answer_of(built: Result<Regex, Error>) -> Result<Regex, BuiltinFault>
+    ensures { result ≡ answer_of built }
+{
+    match built {
+        Ok(regex) => Ok(regex),
+        Err(Error::OutOfMemory) => Err(BuiltinFault::Memory),
+        Err(_) => Err(BuiltinFault::BadPattern),
     }
 }
 

@@ -19,4 +19,8 @@ forms_view ts m = map (form_entry ts) m.entries
 
 -- the declarations by the types, the occurrences and the forms
 abbrev pub declared_by : Types → List Occurrence → TextMap TypeId → Declarations
-declared_by types occurrences forms = record { types = types_view types; occurrences = map occurrence_view occurrences; forms = forms_view (types_view types) forms }
+declared_by types occurrences forms = record {
+  types = types_view types;
+  occurrences = map occurrence_view occurrences;
+  forms = forms_view (types_view types) forms;
+}

@@ -3,7 +3,6 @@ ghost use Rattle.std.specs.Prelude.{◌≡◌, ◌≢◌, true, false, None, Som
 ghost use Rattle.std.specs.List.{AllZip, list_any};
 ghost use Rattle.fv_datum.specs.Outcomes.{Gives};
 ghost use Rattle.fv_builtin.specs.Given.{drafted, IsRead};
-ghost use Rattle.fv_builtin.specs.Names.{builtin_named};
 ghost use Rattle.fv_builtin.specs.Table.{takes};
 ghost use Rattle.fv_builtin.specs.Views.{builtin_view};
 ghost use Rattle.fv_builtin.specs.declared.fault.BuiltinFault.TheVariants as fault;
@@ -23,21 +22,21 @@ use crate::meant::Meant;
 use crate::occurrence::{Demand, FieldTest, Occurrence};
 use crate::plan::{Place, Plan};
 use crate::schema::Schema;
-use fv_builtin::{Builtin, BuiltinFault, BuiltinName, message};
+use fv_builtin::{Builtin, BuiltinFault, BuiltinName, Patterns, message};
 use fv_datum::{Attrs, Kind};
 use fv_draft::{DefinitionDraft, Draft, FormDraft, RuleDraft};
 use fv_model::{TypeId, Types};
 use indexmap::IndexMap;
 use std::alloc::{AllocError, Global};
 
-/// The built-in constraint of a use, its pattern built.
+/// The built-in constraint of a use, its pattern built where it isn't there yet.
 fn builtin_of(
     alloc: Global,
+    patterns: &mut Patterns,
     which: BuiltinName,
     plan: &Plan,
     kind: Kind,
 ) -> Result<Builtin, DeclFault>
-    requires named { builtin_named plan.now.constraint.now ≡ Some which }
     requires attributes { is_some (drafted which plan.now.with.now) ≡ true }
     requires kind { takes which kind ≡ true }
     ensures taken { IfOk result (λ b. IsRead (drafted which plan.now.with.now) (takes which kind)
@@ -45,7 +44,7 @@ fn builtin_of(
     ensures refused { IfErr result (λ f. f ≢ DeclFault.Memory → (f ≡ DeclFault.BadPattern)
         × IsRead (drafted which plan.now.with.now) (takes which kind) (Err fault.BadPattern)) }
 {
-    match Builtin::read(alloc, plan.constraint, plan.with, kind) {
+    match Builtin::read_named(alloc, patterns, which, plan.with, kind) {
         Ok(builtin) => Ok(builtin),
         Err(BuiltinFault::Attribute) => unreachable!(),
         Err(BuiltinFault::UnexpectedType) => unreachable!(),
@@ -81,7 +80,12 @@ fn declared_demand(
 }
 
 /// What a built-in constraint demands at a place, its pattern built.
-fn builtin_demand(alloc: Global, which: BuiltinName, plan: &Plan) -> Result<Demand, DeclFault>
+fn builtin_demand(
+    alloc: Global,
+    patterns: &mut Patterns,
+    which: BuiltinName,
+    plan: &Plan,
+) -> Result<Demand, DeclFault>
     requires named { (plan_view plan.now).meant ≡ Some (builtin which) }
     requires attributes { is_some (drafted which plan.now.with.now) ≡ true }
     requires place { (k : Known) × (is_misplaced k (Some (builtin which)) (place_view plan.now.place) ≡ false) }
@@ -93,14 +97,14 @@ fn builtin_demand(alloc: Global, which: BuiltinName, plan: &Plan) -> Result<Dema
     match plan.place {
         Place::Whole => unreachable!(),
         Place::Field(field, kind) => {
-            let test = FieldTest::BuiltIn(builtin_of(alloc, which, plan, kind)?);
+            let test = FieldTest::BuiltIn(builtin_of(alloc, patterns, which, plan, kind)?);
             Ok(Demand::OfField { field, kind, test })
         }
     }
 }
 
 /// What a use demands at its place, its pattern built.
-fn demand_of(alloc: Global, plan: &Plan) -> Result<Demand, DeclFault>
+fn demand_of(alloc: Global, patterns: &mut Patterns, plan: &Plan) -> Result<Demand, DeclFault>
     requires attributes { refuses_attributes (plan_view plan.now) ≡ false }
     requires place { (k : Known) × (refuses_kind k (plan_view plan.now) ≡ false) }
     ensures taken { IfOk result (λ d. Demands (plan_view plan.now).meant (place_view plan.now.place) plan.now.with.now
@@ -110,7 +114,7 @@ fn demand_of(alloc: Global, plan: &Plan) -> Result<Demand, DeclFault>
 {
     match &plan.meant {
         None => unreachable!(),
-        Some(Meant::BuiltIn(which)) => builtin_demand(alloc, *which, plan),
+        Some(Meant::BuiltIn(which)) => builtin_demand(alloc, patterns, *which, plan),
         Some(Meant::Declared(definition)) => {
             Ok(declared_demand(alloc, definition, plan.place, plan.with)?)
         }
@@ -129,14 +133,18 @@ fn message_of(alloc: Global, plan: &Plan) -> Result<String, AllocError>
 }
 
 /// The use of a constraint at its place, its pattern built and its message made.
-fn occurrence_of(alloc: Global, plan: &Plan) -> Result<Occurrence, DeclFault>
+fn occurrence_of(
+    alloc: Global,
+    patterns: &mut Patterns,
+    plan: &Plan,
+) -> Result<Occurrence, DeclFault>
     requires attributes { refuses_attributes (plan_view plan.now) ≡ false }
     requires place { (k : Known) × (refuses_kind k (plan_view plan.now) ≡ false) }
     ensures taken { IfOk result (λ o. IsOccurrence (plan_view plan.now) (occurrence_view o)) }
     ensures refused { IfErr result (λ f. f ≢ DeclFault.Memory → (f ≡ DeclFault.BadPattern)
         × IsReadAs (plan_view plan.now) (Err fault.BadPattern)) }
 {
-    let demand = demand_of(alloc, plan)?;
+    let demand = demand_of(alloc, patterns, plan)?;
     Ok(Occurrence {
         type_id: TypeId {
             index: plan.type_index,
@@ -147,7 +155,7 @@ fn occurrence_of(alloc: Global, plan: &Plan) -> Result<Occurrence, DeclFault>
     })
 }
 
-/// The uses of constraints, each at its number.
+/// The uses of constraints, each at its number. Those with equal patterns share one.
 fn occurrences_for(alloc: Global, plans: &[Plan]) -> Result<Vec<Occurrence>, DeclFault>
     requires attributes { list_any refuses_attributes (map plan_view plans.now) ≡ false }
     requires places { (k : Known) × (list_any (refuses_kind k) (map plan_view plans.now) ≡ false) }
@@ -156,9 +164,10 @@ fn occurrences_for(alloc: Global, plans: &[Plan]) -> Result<Vec<Occurrence>, Dec
         × ((n : _) × (p : Planned) × (slice_get (map plan_view plans.now) n ≡ Some p)
         × IsReadAs p (Err fault.BadPattern))) }
 {
+    let mut patterns = Patterns::new(alloc);
     let mut occurrences = Vec::with_capacity(alloc, plans.len())?;
     for plan in plans {
-        occurrences.push(occurrence_of(alloc, plan)?)?;
+        occurrences.push(occurrence_of(alloc, &mut patterns, plan)?)?;
     }
     Ok(occurrences)
 }

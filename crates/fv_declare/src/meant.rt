@@ -1,5 +1,4 @@
-ghost use Rattle.std.specs.Prelude.{◌≡◌, Some, map, option_map};
-ghost use Rattle.fv_builtin.specs.Names.{builtin_named};
+ghost use Rattle.std.specs.Prelude.{◌≡◌, map, option_map};
 ghost use Rattle.fv_draft.specs.DraftViews.{definition_entry};
 ghost use Rattle.fv_declare.specs.PlanViews.{meant_view};
 ghost use Rattle.fv_declare.specs.Planned.{meant_by};
@@ -20,8 +19,7 @@ pub(crate) fn meant_by<'a>(
     definitions: &'a BTreeMap<String, DefinitionDraft>,
     name: &str,
 ) -> Option<Meant<'a>>
-    ensures named { (which : _) → result ≡ Some (Meant.BuiltIn which) → builtin_named name.now ≡ Some which }
-    ensures exact { option_map meant_view result ≡ meant_by (map definition_entry definitions.now.entries) name.now }
+    ensures { option_map meant_view result ≡ meant_by (map definition_entry definitions.now.entries) name.now }
 {
     match builtin_named(name) {
         Some(which) => Some(Meant::BuiltIn(which)),

@@ -1,8 +1,3 @@
-ghost use Rattle.std.proofs.Props.{props};
-ghost use Rattle.std.specs.Prelude.{◌≡◌, Some};
-ghost use Rattle.fv_builtin.specs.Names.{builtin_named};
-ghost use Rattle.fv_declare.specs.declared.meant.Meant.TheVariants.{BuiltIn};
-
 use crate::meant::Meant;
 use fv_datum::{Attrs, Kind};
 
@@ -25,6 +20,4 @@ pub(crate) struct Plan<'a> {
     /// What the constraint's name stands for, if it is built in or declared.
     pub(crate) meant: Option<Meant<'a>>,
     pub(crate) with: &'a Attrs,
-    ghost named: { (which : _) → meant ≡ Some (BuiltIn which) → builtin_named constraint.now
-        ≡ Some which } by { Prim.hlevel props },
 }

@@ -1,5 +1,5 @@
 -- What a call makes of the machine.
-use Rattle.std.proofs.Common.{codes, bytes_eq, ◌≡◌, ◌≢◌, ◌⊎◌, ℕ, ℤ, ◌≤◌, ◌<◌, length, map, not, nat_lt, IsTrue, if◌then◌else◌, List, [], ◌∷◌, Bool, true, false, Option, Some, None, is_some, option_map, option_and_then, Result, Ok, Err, inl, inr, refl, sym, ap, subst, ◌∙◌}
+use Rattle.std.proofs.Common.{codes, bytes_eq, ◌≡◌, ◌≢◌, ◌⊎◌, ℕ, ℤ, ◌≤◌, ◌<◌, length, map, not, nat_lt, IsTrue, if◌then◌else◌, List, [], ◌∷◌, Bool, true, false, Option, Some, None, is_some, option_map, option_and_then, Result, Ok, Err, inl, inr, refl, sym, ap, subst, ◌∙◌, arith}
 use Rattle.std.proofs.lemmas.Bool.{lt-ltb, le-ltb}
 use Rattle.sqlite.specs.State.{State, HasCleanDisk}
 use Rattle.serde_json.specs.Data as json
@@ -12,8 +12,9 @@ use Rattle.fv_declare.specs.Declarations.{Declarations}
 use Rattle.fv_engine.specs.Keeping.{Replies, Fails, Keeps, Settles, unread}
 use Rattle.fv_engine.specs.Machines.{Machine, over, with_map, contents, Becomes}
 use Rattle.fv_engine.specs.Refusals.{bundle_under, is_misread, fault_of, when, first_of, is_too_long, refusal}
-use Rattle.fv_engine.specs.Requests.{Request, too_long, not_json, shape, put, get, id_at, put_of, get_of, done_by, or_shape, command_of, of_json, asked}
-use Rattle.fv_engine.specs.Step.{Unchanged, Decided, Does, MayFail, Handles, Told}
+use Rattle.fv_engine.specs.Commands.{Request, too_long, not_json, shape, put, get, id_at, put_of, get_of, done_by, or_shape, command_of, of_json, asked}
+use Rattle.fv_engine.specs.Failures.{StoreHasFailed, HasRoomFor, MayFail, FindsOut}
+use Rattle.fv_engine.specs.Step.{Unchanged, Decided, Does, Handles, Told}
 use Rattle.fv_model.specs.Bundles.{Bundled}
 use Rattle.fv_model.specs.declared.fault.BundleFault.{BundleFault}
 use Rattle.fv_model.specs.declared.fault.BundleFault.TheVariants as fault
@@ -23,6 +24,8 @@ use Rattle.fv_reply.specs.Texts.{refusal_text, TakesMemory, Tells}
 use Rattle.fv_reply.specs.declared.answer.Refusal.{Refusal}
 use Rattle.fv_reply.specs.declared.answer.Refusal.TheVariants.{LineTooLong, NotJson, Shape, UnknownForm, Bundle, NoRecord, Store, Memory}
 use Rattle.fv_store.specs.Records.{Kept, Records, with_record}
+use Rattle.fv_store.specs.declared.fault.StoreFault.{StoreFault}
+use Rattle.fv_store.specs.declared.fault.StoreFault.TheVariants as store
 use Rattle.fv_store.specs.Stands.{Frame, Holds}
 use Rattle.fv_validate.specs.Violations.{Reported, IsListing}
 
@@ -31,22 +34,22 @@ abbrev Relation : Type 1
 Relation = Machine Records → Machine Records → Type 0
 
 pub stays_itself : (x : Machine Records) → Unchanged x x
-stays_itself x = record { declared = refl; records = refl; was_open = λ live. live }
+stays_itself x = record { declared = refl; records = refl; was_open = λ live. live; counts = omega arith; closes = λ live. inl live }
 
 module _ {H : Type 0} (held : H → State) where
   -- the same, by a relation that is weaker
   pub weaker : (old new : Machine H) (T U : Relation) → ((x y : Machine Records) → T x y → U x y) → Becomes held old new T → Becomes held old new U
-  weaker old new T U w turns = record {
-    declared = turns.declared;
-    clean = turns.clean;
-    related = λ c bytes m stands. let t = turns.related c bytes m stands in (t.0, w _ _ t.1, t.2);
+  weaker old new T U w becoming = record {
+    declared = becoming.declared;
+    clean = becoming.clean;
+    related = λ c bytes m stands. let t = becoming.related c bytes m stands in (t.0, w _ _ t.1, t.2);
   }
 
   -- nothing is done
   pub rests : (e : Machine H) (T : Relation) → ((x : Machine Records) → T x x) → Becomes held e e T
   rests e T same = record { declared = refl; clean = λ c. c; related = λ c bytes m stands. (m, same _, stands) }
 
-  -- one turn and then another
+  -- one call and then another
   pub onwards : (a b c : Machine H) (T U : Relation) → Becomes held a b T → Becomes held b c U → Becomes held a c (λ x z. (y : Machine Records) × T x y × U y z)
   onwards a b c T U one two = record {
     declared = two.declared ∙ one.declared;
@@ -61,13 +64,13 @@ module _ {H : Type 0} (held : H → State) where
   pub unmoved : (ds : Declarations) (h : H) (T : Relation) → ((m : Records) → T (with_map held (over held ds h) m) (with_map held (over held ds h) m)) → Becomes held (over held ds h) (over held ds h) T
   unmoved ds h T same = record { declared = refl; clean = λ c. c; related = λ c bytes m stands. (m, same m, stands) }
 
-  pub turned_so : (ds : Declarations) (old new : H) (T U : Relation)
+  pub becomes_so : (ds : Declarations) (old new : H) (T U : Relation)
       → ((m n : Records) → T (with_map held (over held ds old) m) (with_map held (over held ds new) n) → U (with_map held (over held ds old) m) (with_map held (over held ds new) n))
       → Becomes held (over held ds old) (over held ds new) T → Becomes held (over held ds old) (over held ds new) U
-  turned_so ds old new T U w turns = record {
+  becomes_so ds old new T U w becoming = record {
     declared = refl;
-    clean = turns.clean;
-    related = λ c bytes m stands. let t = turns.related c bytes m stands in (t.0, w m t.0 t.1, t.2);
+    clean = becoming.clean;
+    related = λ c bytes m stands. let t = becoming.related c bytes m stands in (t.0, w m t.0 t.1, t.2);
   }
 
   -- a call on the store
@@ -80,7 +83,7 @@ module _ {H : Type 0} (held : H → State) where
     unchanged T does undone = record {
       declared = refl;
       clean = frame.clean;
-      related = λ c bytes m stands. (m, does c bytes m stands (record { declared = refl; records = refl; was_open = frame.was_open c }), undone bytes m stands);
+      related = λ c bytes m stands. (m, does c bytes m stands (record { declared = refl; records = refl; was_open = frame.was_open c; counts = frame.counts; closes = frame.closes c }), undone bytes m stands);
     }
 
     -- it keeps a record
@@ -90,7 +93,7 @@ module _ {H : Type 0} (held : H → State) where
     stored id kept live done = record {
       declared = refl;
       clean = frame.clean;
-      related = λ c bytes m stands. (with_record id kept m, inl (refl, record { declared = refl; records = refl; was_open = frame.was_open c (live c); is_open = live c }), done bytes m stands);
+      related = λ c bytes m stands. (with_record id kept m, inl (refl, record { declared = refl; records = refl; was_open = frame.was_open c (live c); is_open = live c; counts = frame.counts }), done bytes m stands);
     }
 
 -- ---- judging
@@ -105,9 +108,9 @@ module _ (means : Meanings) (now : ℤ) (id : List ℕ) (kept : Kept) where
   settled_empty x y answer none (inl took) = inl ([], none, took)
   settled_empty x y answer none (inr failed) = inr (failed.0, failing failed.0 failed.1, failed.2, failed.3)
     where
-      failing : (why : Refusal) → Fails why (Unit {0}) → Fails why (IsListing means x.declared now kept.bundle [])
+      failing : (why : Refusal) → Fails why (HasRoomFor id kept x → StoreHasFailed x y) → Fails why (IsListing means x.declared now kept.bundle [] × (HasRoomFor id kept x → StoreHasFailed x y))
       failing Memory f = tt
-      failing Store f = none
+      failing Store f = (none, f)
       failing LineTooLong f = absurd f
       failing NotJson f = absurd f
       failing Shape f = absurd f
@@ -117,10 +120,10 @@ module _ (means : Meanings) (now : ℤ) (id : List ℕ) (kept : Kept) where
 
   pub judged_empty : {H : Type 0} (held : H → State) (ds : Declarations) (old new : H) (answer : Answer) (vs : List Reported) → vs ≡ [] → IsListing means ds now kept.bundle vs
       → Becomes held (over held ds old) (over held ds new) (λ x y. Keeps id kept x answer y) → Becomes held (over held ds old) (over held ds new) (λ x y. Settles means now id kept x answer y)
-  judged_empty held ds old new answer vs none listing turns = record {
-    declared = turns.declared;
-    clean = turns.clean;
-    related = λ c bytes m stands. let t = turns.related c bytes m stands in (t.0, settled_empty _ _ answer (subst (IsListing means ds now kept.bundle) none listing) t.1, t.2);
+  judged_empty held ds old new answer vs none listing becoming = record {
+    declared = becoming.declared;
+    clean = becoming.clean;
+    related = λ c bytes m stands. let t = becoming.related c bytes m stands in (t.0, settled_empty _ _ answer (subst (IsListing means ds now kept.bundle) none listing) t.1, t.2);
   }
 
   pub judged_some : {H : Type 0} (held : H → State) (ds : Declarations) (h : H) (vs : List Reported) → (vs ≡ [] → ⊥) → IsListing means ds now kept.bundle vs
@@ -181,7 +184,7 @@ is_memory fault.RootType = inr (λ e. cc)
 module _ (means : Meanings) (now : ℤ) (id form : List ℕ) (bundle : json.Data) where
   -- a put is refused for this
   refused_for : (x : Machine Records) (why : Refusal) → refusal x (put id form bundle) ≡ Some why → Handles means now (put id form bundle) x (refused why) x
-  refused_for x why is = inl (subst (λ (o : Option Refusal). Does o means now (put id form bundle) x (refused why) x) (sym is) (refl, stays_itself x))
+  refused_for x why is = inl (subst (λ (o : Option Refusal). Does o means now (put id form bundle) x (refused why) x) (sym is) (refl, stays_itself x), tt)
 
   -- its bundle has a fault
   pub put_unread : (x : Machine Records) (f : BundleFault) (declared : Bool) → is_some (at_name form x.declared.forms) ≡ declared
@@ -208,12 +211,13 @@ module _ (means : Meanings) (now : ℤ) (id form : List ℕ) (bundle : json.Data
   pub put_judged : (x y : Machine Records) (b : Bundled) (type : List ℕ) (answer : Answer) → bundle_under x.declared form bundle ≡ Ok b → at_name form x.declared.forms ≡ Some type
       → Settles means now id (record { form = form; bundle = b }) x answer y → Handles means now (put id form bundle) x answer y
   put_judged x y b type answer is some (inl judged) =
-      inl (subst (λ (o : Option Refusal). Does o means now (put id form bundle) x answer y) (sym (unrefused x b type is some)) (b, is, judged))
+      inl (subst (λ (o : Option Refusal). Does o means now (put id form bundle) x answer y) (sym (unrefused x b type is some)) (b, is, judged), tt)
   put_judged x y b type answer is some (inr failed) = inr (failed.0, failing failed.0 failed.1, failed.2, failed.3)
     where
-      failing : (why : Refusal) → Fails why (IsListing means x.declared now b []) → MayFail why means now (put id form bundle) x
+      failing : (why : Refusal) → Fails why (IsListing means x.declared now b [] × (HasRoomFor id (record { form = form; bundle = b }) x → StoreHasFailed x y))
+          → MayFail why means now (put id form bundle) x y
       failing Memory f = refl
-      failing Store f = (unrefused x b type is some, (b, is, f))
+      failing Store f = (unrefused x b type is some, (b, is, f.0, f.1))
       failing LineTooLong f = absurd f
       failing NotJson f = absurd f
       failing Shape f = absurd f
@@ -223,20 +227,28 @@ module _ (means : Meanings) (now : ℤ) (id form : List ℕ) (bundle : json.Data
 
 -- ---- gets
 
+-- want of memory is told as such, and another fault of the store with its cause
+pub fails_so : (fault : StoreFault) (why : Refusal) (Cause : Type 0) → (fault ≡ store.Store → why ≡ Store) → (fault ≡ store.Memory → why ≡ Memory) → (fault ≡ store.Store → Cause) → Fails why Cause
+fails_so store.Store why Cause as_store as_memory cause = subst (λ (r : Refusal). Fails r Cause) (sym (as_store refl)) (cause refl)
+fails_so store.Memory why Cause as_store as_memory cause = subst (λ (r : Refusal). Fails r Cause) (sym (as_memory refl)) tt
+
 module _ (means : Meanings) (now : ℤ) (id : List ℕ) (x y : Machine Records) (stay : Unchanged x y) where
-  pub got_none : x.records id ≡ None → Handles means now (get id) x (refused NoRecord) y
-  got_none none = inl (subst (λ (o : Option Refusal). Does o means now (get id) x (refused NoRecord) y) (sym (ap (λ (o : Option Kept). first_of (when (not (is_some o)) NoRecord ∷ [])) none)) (refl, stay))
+  pub got_none : IsTrue x.is_open → x.records id ≡ None → Handles means now (get id) x (refused NoRecord) y
+  got_none live none = inl (subst (λ (o : Option Refusal). Does o means now (get id) x (refused NoRecord) y) (sym (ap (λ (o : Option Kept). first_of (when (not (is_some o)) NoRecord ∷ [])) none)) (refl, stay), live)
 
-  pub got_some : (kept : Kept) → x.records id ≡ Some kept → Handles means now (get id) x (shown id kept.form kept.bundle) y
-  got_some kept some = inl (subst (λ (o : Option Refusal). Does o means now (get id) x (shown id kept.form kept.bundle) y)
-      (sym (ap (λ (o : Option Kept). first_of (when (not (is_some o)) NoRecord ∷ [])) some)) (kept, some, refl, stay))
+  pub got_some : IsTrue x.is_open → (kept : Kept) → x.records id ≡ Some kept → Handles means now (get id) x (shown id kept.form kept.bundle) y
+  got_some live kept some = inl (
+    subst (λ (o : Option Refusal). Does o means now (get id) x (shown id kept.form kept.bundle) y)
+        (sym (ap (λ (o : Option Kept). first_of (when (not (is_some o)) NoRecord ∷ [])) some)) (kept, some, refl, stay),
+    live,
+  )
 
-  pub got_not : (why : Refusal) → Fails why (Unit {0}) → Handles means now (get id) x (refused why) y
+  pub got_not : (why : Refusal) → Fails why (StoreHasFailed x y) → Handles means now (get id) x (refused why) y
   got_not why f = inr (why, failing why f, refl, stay)
     where
-      failing : (r : Refusal) → Fails r (Unit {0}) → MayFail r means now (get id) x
+      failing : (r : Refusal) → Fails r (StoreHasFailed x y) → MayFail r means now (get id) x y
       failing Memory g = refl
-      failing Store g = tt
+      failing Store g = g
       failing LineTooLong g = absurd g
       failing NotJson g = absurd g
       failing Shape g = absurd g
@@ -263,7 +275,7 @@ module _ (means : Meanings) (now : ℤ) where
   -- a text that tells an answer is a reply, also where memory was refused for it
   pub told_answer : (r : Request) → is_too_long r ≡ false → (x y : Machine Records) (answer : Answer) (text : List ℕ) → Tells text answer → Handles means now r x answer y → Replies means now r x text y
   told_answer r short x y answer text (inl is) answers = (answer, is, answers)
-  told_answer r short x y answer text (inr made) (inl does) = (refused Memory, made.1, inr (Memory, short, refl, not_taken_stays (refusal x r) r x y answer (λ e. subst TakesMemory e made.0) does))
+  told_answer r short x y answer text (inr made) (inl does) = (refused Memory, made.1, inr (Memory, short, refl, not_taken_stays (refusal x r) r x y answer (λ e. subst TakesMemory e made.0) does.0))
   told_answer r short x y answer text (inr made) (inr failed) = (refused Memory, made.1, inr (Memory, short, refl, failed.3))
 
 -- ---- requests
@@ -312,7 +324,7 @@ short_json (Some j) = short_command j
 -- a command that is there is what is asked
 pub asked_of : {H : Type 0} (held : H → State) (old new : Machine H) (means : Meanings) (now : ℤ) (answer : Answer) (o : Option Request) (r : Request) → Some r ≡ o
     → Becomes held old new (λ x y. Handles means now r x answer y) → Becomes held old new (λ x y. Handles means now (or_shape o) x answer y)
-asked_of held old new means now answer o r is turns = subst (λ (p : Option Request). Becomes held old new (λ x y. Handles means now (or_shape p) x answer y)) is turns
+asked_of held old new means now answer o r is becoming = subst (λ (p : Option Request). Becomes held old new (λ x y. Handles means now (or_shape p) x answer y)) is becoming
 
 -- ---- lines
 
@@ -333,7 +345,7 @@ asked_long line long = ap (λ (b : Bool). if b then too_long else of_json (json_
 
 -- a line that is over the limit is told so
 pub long_told : (means : Meanings) (line : List ℕ) (moment : ℤ) (text : List ℕ) → 1048576 < length line → text ≡ refusal_text LineTooLong → (x : Machine Records) → Told means x line moment text x
-long_told means line moment text long is x = (refused LineTooLong, is, subst (λ (r : Request). Handles means moment r x (refused LineTooLong) x) (sym (asked_long line long)) (inl (refl, stays_itself x)))
+long_told means line moment text long is x = (refused LineTooLong, is, subst (λ (r : Request). Handles means moment r x (refused LineTooLong) x) (sym (asked_long line long)) (inl ((refl, stays_itself x), tt)))
 
 -- one that isn't, by its JSON
 pub short_told : (means : Meanings) (line : List ℕ) (moment : ℤ) (text : List ℕ) → length line ≤ 1048576 → (x y : Machine Records) → Replies means moment (of_json (json_of line)) x text y → Told means x line moment text y

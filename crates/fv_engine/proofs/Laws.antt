@@ -5,11 +5,12 @@ use Rattle.std.proofs.lemmas.Slice.Eq.{bytes_eq-Decides}
 use Rattle.sqlite.specs.State.{State}
 use Rattle.serde_json.specs.Data as json
 use Rattle.fv_declare.specs.Declarations.{Declarations}
-use Rattle.fv_engine.specs.Laws.{IsTaken, IsFailure, ShowsWhatWasPut, ChangesNoGet, HasSome, ListsSome, MayChangePlaces}
+use Rattle.fv_engine.specs.Laws.{IsTaken, IsFailure, ShowsWhatWasPut, ChangesNoGet, HasSome, ListsSome, MayChangePlaces, FailsWhereShut}
 use Rattle.fv_engine.specs.Machines.{Machine, Becomes}
 use Rattle.fv_engine.specs.Refusals.{bundle_under, when, first_of, refusal}
-use Rattle.fv_engine.specs.Requests.{Request, too_long, not_json, shape, put, get, asked}
-use Rattle.fv_engine.specs.Step.{Takes, Decided, Does, MayFail, Serves, Handles, Told}
+use Rattle.fv_engine.specs.Commands.{Request, too_long, not_json, shape, put, get, asked}
+use Rattle.fv_engine.specs.Failures.{MayFail, FindsOut}
+use Rattle.fv_engine.specs.Step.{Takes, Decided, Does, Serves, Handles, Told}
 use Rattle.fv_engine.proofs.Becoming.{not_taken_stays, weaker}
 use Rattle.fv_model.specs.Bundles.{Bundled}
 use Rattle.fv_registry.specs.Meanings.{Meanings}
@@ -40,7 +41,7 @@ Took means now id form bundle x y = (refusal x (put id form bundle) ≡ None) ×
 module _ (means : Meanings) (now : ℤ) (id form : List ℕ) (bundle : json.Data) where
   took : (x y : Machine Records) → Handles means now (put id form bundle) x taken y → Took means now id form bundle x y
   took x y (inr failed) = absurd (taken_or_refused failed.0 failed.2)
-  took x y (inl does) = by_refusal (refusal x (put id form bundle)) refl does
+  took x y (inl does) = by_refusal (refusal x (put id form bundle)) refl does.0
     where
       decided : (b : Bundled) (vs : List Reported) → IsListing means x.declared now b vs → Decided id (keep form b) vs x taken y → IsListing means x.declared now b [] × Takes id (keep form b) x y
       decided b [] listing d = (listing, d.1)
@@ -51,12 +52,12 @@ module _ (means : Meanings) (now : ℤ) (id form : List ℕ) (bundle : json.Data
       by_refusal None is d = let t = decided d.0 d.2.0 d.2.1 d.2.2 in (is, d.0, d.1, t.0, t.1)
 
   takes : (x y : Machine Records) → Took means now id form bundle x y → Handles means now (put id form bundle) x taken y
-  takes x y t = inl (subst (λ (o : Option Refusal). Does o means now (put id form bundle) x taken y) (sym t.0) (t.1, t.2, ([], t.3, (refl, t.4))))
+  takes x y t = inl (subst (λ (o : Option Refusal). Does o means now (put id form bundle) x taken y) (sym t.0) (t.1, t.2, ([], t.3, (refl, t.4))), tt)
 
   -- the same on another machine of these declarations
   elsewhere : (x y v w : Machine Records) → v.declared ≡ x.declared → (t : Took means now id form bundle x y) → Takes id (keep form t.1) v w → Took means now id form bundle v w
   elsewhere x y v w same t takes = (
-    subst (λ (ds : Declarations). refusal (record { declared = ds; records = v.records; is_open = v.is_open }) (put id form bundle) ≡ None) (sym same) t.0,
+    subst (λ (ds : Declarations). refusal (record v { declared = ds }) (put id form bundle) ≡ None) (sym same) t.0,
     t.1,
     subst (λ (ds : Declarations). bundle_under ds form bundle ≡ Ok t.1) (sym same) t.2,
     subst (λ (ds : Declarations). IsListing means ds now t.1 []) (sym same) t.3,
@@ -88,6 +89,18 @@ there id kept m = ap (λ (b : Bool). if b then Some kept else m id) ((bytes_eq-D
 
 -- ---- what a get shows
 
+-- how a get fails
+failing_get : (means : Meanings) (now : ℤ) (id : List ℕ) (x y : Machine Records) (answer : Answer) (why : Refusal) → MayFail why means now (get id) x y → answer ≡ refused why
+    → (answer ≡ refused Store) ⊎ (answer ≡ refused Memory)
+failing_get means now id x y answer Memory f is = inr is
+failing_get means now id x y answer Store f is = inl is
+failing_get means now id x y answer LineTooLong f is = absurd f
+failing_get means now id x y answer NotJson f is = absurd f
+failing_get means now id x y answer Shape f is = absurd f
+failing_get means now id x y answer UnknownForm f is = absurd f
+failing_get means now id x y answer (Bundle e) f is = absurd f
+failing_get means now id x y answer NoRecord f is = absurd f
+
 module _ (means : Meanings) (now : ℤ) (id : List ℕ) where
   abbrev kept_or : Kept → Option Kept → Kept
   kept_or k None = k
@@ -96,19 +109,9 @@ module _ (means : Meanings) (now : ℤ) (id : List ℕ) where
   -- what a get answers where there is a record
   get_shows : (kept : Kept) (x y : Machine Records) (answer : Answer) → x.records id ≡ Some kept → Handles means now (get id) x answer y
       → (answer ≡ shown id kept.form kept.bundle) ⊎ ((answer ≡ refused Store) ⊎ (answer ≡ refused Memory))
-  get_shows kept x y answer some (inr failed) = inr (failing failed.0 failed.1 failed.2)
-    where
-      failing : (why : Refusal) → MayFail why means now (get id) x → answer ≡ refused why → (answer ≡ refused Store) ⊎ (answer ≡ refused Memory)
-      failing Memory f is = inr is
-      failing Store f is = inl is
-      failing LineTooLong f is = absurd f
-      failing NotJson f is = absurd f
-      failing Shape f is = absurd f
-      failing UnknownForm f is = absurd f
-      failing (Bundle e) f is = absurd f
-      failing NoRecord f is = absurd f
+  get_shows kept x y answer some (inr failed) = inr (failing_get means now id x y answer failed.0 failed.1 failed.2)
   get_shows kept x y answer some (inl does) = inl (served
-      (subst (λ (o : Option Refusal). Does o means now (get id) x answer y) (ap (λ (o : Option Kept). first_of (when (not (is_some o)) NoRecord ∷ [])) some) does))
+      (subst (λ (o : Option Refusal). Does o means now (get id) x answer y) (ap (λ (o : Option Kept). first_of (when (not (is_some o)) NoRecord ∷ [])) some) does.0))
     where
       served : Serves means now (get id) x answer y → answer ≡ shown id kept.form kept.bundle
       served s = s.2 ∙ ap (λ (o : Option Kept). shown id (kept_or kept o).form (kept_or kept o).bundle) (sym s.1 ∙ some)
@@ -138,9 +141,9 @@ has_some means now None (put id form bundle) x y answer does = decided_some id (
 -- ---- the laws of a call
 
 module _ {H : Type 0} (held : H → State) (means : Meanings) (line : List ℕ) (now : ℤ) (reply : List ℕ) (old new : Machine H)
-    (turns : Becomes held old new (λ x y. Told means x line now reply y)) where
+    (becoming : Becomes held old new (λ x y. Told means x line now reply y)) where
   pub shows_what_was_put : Becomes held old new (ShowsWhatWasPut means line reply)
-  shows_what_was_put = weaker held old new _ _ shows turns
+  shows_what_was_put = weaker held old new _ _ shows becoming
     where
       shows : (x y : Machine Records) → Told means x line now reply y → ShowsWhatWasPut means line reply x y
       shows x y told = λ id form bundle asks is_taken.
@@ -152,35 +155,49 @@ module _ {H : Type 0} (held : H → State) (means : Meanings) (line : List ℕ) 
           )
 
   pub changes_no_get : Becomes held old new (ChangesNoGet reply)
-  changes_no_get = weaker held old new _ _ (λ x y told other. stays x y told.0 (λ e. other (told.1 ∙ ap answer_text e)) told.2) turns
+  changes_no_get = weaker held old new _ _ (λ x y told other. stays x y told.0 (λ e. other (told.1 ∙ ap answer_text e)) told.2) becoming
     where
       stays : (x y : Machine Records) (answer : Answer) → answer ≢ taken → Handles means now (asked line) x answer y → y.records ≡ x.records
-      stays x y answer other (inl does) = (not_taken_stays means now (refusal x (asked line)) (asked line) x y answer other does).records
+      stays x y answer other (inl does) = (not_taken_stays means now (refusal x (asked line)) (asked line) x y answer other does.0).records
       stays x y answer other (inr failed) = failed.3.records
 
   pub lists_some : Becomes held old new (λ x y. ListsSome reply)
-  lists_some = weaker held old new _ _ (λ x y told. (told.0, told.1, some x y told.0 told.2)) turns
+  lists_some = weaker held old new _ _ (λ x y told. (told.0, told.1, some x y told.0 told.2)) becoming
     where
       some : (x y : Machine Records) (answer : Answer) → Handles means now (asked line) x answer y → HasSome answer
-      some x y answer (inl does) = has_some means now (refusal x (asked line)) (asked line) x y answer does
+      some x y answer (inl does) = has_some means now (refusal x (asked line)) (asked line) x y answer does.0
       some x y answer (inr failed) = subst HasSome (sym failed.2) tt
 
   pub may_change_places : Becomes held old new (MayChangePlaces means line now reply)
-  may_change_places = weaker held old new _ _ swapped turns
+  may_change_places = weaker held old new _ _ swapped becoming
     where
       swapped : (x y : Machine Records) → Told means x line now reply y → MayChangePlaces means line now reply x y
       swapped x y told = λ id form bundle asks is_taken next later other form_there bundle_there asks_next apart last told_next.
           let one = told_took means now id form bundle line reply asks is_taken x y told in
           let two = told_took means later other form_there bundle_there next reply asks_next is_taken y last told_next in
-          let mid : Machine Records = record { declared = x.declared; records = with_record other (keep form_there two.1) x.records; is_open = y.is_open } in (
+          let mid : Machine Records = record y { declared = x.declared; records = with_record other (keep form_there two.1) x.records } in (
             mid,
             took_told means later other form_there bundle_there next reply asks_next is_taken x mid (elsewhere means later other form_there bundle_there y last x mid (sym one.4.declared) two
-                (record { declared = refl; records = refl; was_open = one.4.was_open; is_open = one.4.is_open })),
+                (record { declared = refl; records = refl; was_open = one.4.was_open; is_open = one.4.is_open; counts = one.4.counts })),
             took_told means now id form bundle line reply asks is_taken mid last (elsewhere means now id form bundle x y mid last refl one
                 (record {
                   declared = two.4.declared ∙ one.4.declared;
                   records = two.4.records ∙ ap (λ (m : Records). with_record other (keep form_there two.1) m) one.4.records ∙ changed_places id other (keep form one.1) (keep form_there two.1) x.records apart;
                   was_open = one.4.is_open;
                   is_open = two.4.is_open;
+                  counts = two.4.counts;
                 })),
           )
+
+  pub fails_where_shut : Becomes held old new (λ x y. FailsWhereShut line reply x)
+  fails_where_shut = weaker held old new _ _ failed becoming
+    where
+      never : (id : List ℕ) (x y : Machine Records) (answer : Answer) → x.is_open ≡ false → Handles means now (get id) x answer y → (answer ≡ refused Store) ⊎ (answer ≡ refused Memory)
+      never id x y answer shut (inl does) = let never : false ≡ true = sym shut ∙ does.1 in cc
+      never id x y answer shut (inr failure) = failing_get means now id x y answer failure.0 failure.1 failure.2
+
+      failed : (x y : Machine Records) → Told means x line now reply y → FailsWhereShut line reply x
+      failed x y told = λ id asks shut. elim (never id x y told.0 shut (subst (λ (r : Request). Handles means now r x told.0 y) asks told.2)) [
+        | inl e ↦ inl (told.1 ∙ ap answer_text e)
+        | inr e ↦ inr (told.1 ∙ ap answer_text e)
+      ]

@@ -2,3 +2,4 @@ pub mod Becoming
 pub mod Laws
 pub mod Lifts
 pub mod Openings
+pub mod Rooms

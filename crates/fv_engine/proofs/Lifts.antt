@@ -9,29 +9,29 @@ use Rattle.fv_reply.specs.Texts.{refusal_text}
 use Rattle.fv_reply.specs.declared.answer.Refusal.TheVariants.{LineTooLong}
 use Rattle.fv_engine.specs.Keeping.{Replies}
 use Rattle.fv_engine.specs.Machines.{Machine, over, Becomes}
-use Rattle.fv_engine.specs.Requests.{of_json}
+use Rattle.fv_engine.specs.Commands.{of_json}
 use Rattle.fv_engine.specs.Step.{Told}
 use Rattle.fv_engine.proofs.Becoming.{weaker, rests, onwards, long_told, short_told}
 
 module _ {H : Type 0} (means : Meanings) (held : H → State) (line : List ℕ) (moment : ℤ) (text : List ℕ) where
   -- a line that is over the limit
-  pub long_turn : (old new : Machine H) → new ≡ old → 1048576 < length line → text ≡ refusal_text LineTooLong → Becomes held old new (λ x y. Told means x line moment text y)
-  long_turn old new same long is = subst (λ (e : Machine H). Becomes held old e (λ x y. Told means x line moment text y)) (sym same)
+  pub long_becomes : (old new : Machine H) → new ≡ old → 1048576 < length line → text ≡ refusal_text LineTooLong → Becomes held old new (λ x y. Told means x line moment text y)
+  long_becomes old new same long is = subst (λ (e : Machine H). Becomes held old e (λ x y. Told means x line moment text y)) (sym same)
       (rests held old _ (λ x. long_told means line moment text long is x))
 
   -- a line that isn't
-  pub short_turn : (old : Machine H) (ds : Declarations) (before after : H) → over held ds before ≡ old → length line ≤ 1048576
+  pub short_becomes : (old : Machine H) (ds : Declarations) (before after : H) → over held ds before ≡ old → length line ≤ 1048576
       → Becomes held (over held ds before) (over held ds after) (λ x y. Replies means moment (of_json (json_of line)) x text y)
       → Becomes held old (over held ds after) (λ x y. Told means x line moment text y)
-  short_turn old ds before after is short turns = subst (λ (e : Machine H). Becomes held e (over held ds after) (λ x y. Told means x line moment text y)) is
-      (weaker held _ _ _ _ (λ x y told. short_told means line moment text short x y told) turns)
+  short_becomes old ds before after is short becoming = subst (λ (e : Machine H). Becomes held e (over held ds after) (λ x y. Told means x line moment text y)) is
+      (weaker held _ _ _ _ (λ x y told. short_told means line moment text short x y told) becoming)
 
 module _ {H C : Type 0} (means : Meanings) (held : H → State) (ticks : Ticks C) where
-  -- one line's turn
-  abbrev turn : Machine H → List ℕ → ℤ → List ℕ → Machine H → Type 0
-  turn old line moment text new = Becomes held old new (λ x y. Told means x line moment text y)
+  -- what one line does
+  abbrev line_does : Machine H → List ℕ → ℤ → List ℕ → Machine H → Type 0
+  line_does old line moment text new = Becomes held old new (λ x y. Told means x line moment text y)
 
-  run_lifted : (old : Session (Machine H) C) (lines : List (List ℕ)) (new : Session (Machine H) C) → Run turn ticks old lines new
+  run_lifted : (old : Session (Machine H) C) (lines : List (List ℕ)) (new : Session (Machine H) C) → Run line_does ticks old lines new
       → Becomes held old.0 new.0 (λ x y. Run (Told means) ticks (x, old.1, old.2) lines (y, new.1, new.2))
   run_lifted old [] new is = subst (λ (s : Session (Machine H) C). Becomes held old.0 s.0 (λ x y. Run (Told means) ticks (x, old.1, old.2) [] (y, s.1, s.2)))
       (sym is) (rests held old.0 _ (λ x. refl))
@@ -41,10 +41,10 @@ module _ {H C : Type 0} (means : Meanings) (held : H → State) (ticks : Ticks C
       weaker held old.0 new.0 _ _ (λ x y t. ((t.0, mid.1, mid.2), (a.0, a.1, a.2, t.1, a.4), t.2)) (onwards held old.0 mid.0 new.0 _ _ a.3 (run_lifted mid lines new ran.2))
 
   module _ (e f : Machine H) (c d : C) (w v : Option (List ℕ)) where
-    pub served_lifted : (Are : List (List ℕ) → Type 0) → Served turn ticks Are (e, c, w) (f, d, v) → Becomes held e f (λ x y. Served (Told means) ticks Are (x, c, w) (y, d, v))
+    pub served_lifted : (Are : List (List ℕ) → Type 0) → Served line_does ticks Are (e, c, w) (f, d, v) → Becomes held e f (λ x y. Served (Told means) ticks Are (x, c, w) (y, d, v))
     served_lifted Are s = weaker held e f _ _ (λ x y run. (s.0, s.1, run)) (run_lifted (e, c, w) s.0 (f, d, v) s.2)
 
-    pub stopped_lifted : (r q : Option (List ℕ)) → Stopped turn ticks r q (e, c, w) (f, d, v) → Becomes held e f (λ x y. Stopped (Told means) ticks r q (x, c, w) (y, d, v))
+    pub stopped_lifted : (r q : Option (List ℕ)) → Stopped line_does ticks r q (e, c, w) (f, d, v) → Becomes held e f (λ x y. Stopped (Told means) ticks r q (x, c, w) (y, d, v))
     stopped_lifted r q s =
         let mid : Session (Machine H) C = s.mid in
         let a = s.last in

@@ -2,7 +2,7 @@
 use Rattle.serde_json.specs.View.{view as json_view}
 use Rattle.fv_engine.specs.declared.command.Command.{Command}
 use Rattle.fv_engine.specs.declared.command.Command.TheVariants.{Put, Get}
-use Rattle.fv_engine.specs.Requests.{Request, put, get}
+use Rattle.fv_engine.specs.Commands.{Request, put, get}
 
 -- the request that a command is
 abbrev pub command_view : Command → Request

@@ -1,7 +1,8 @@
 -- For private clauses: what a request is replied, and what a put does on its way.
 use Rattle.std.specs.Prelude.{◌≡◌, ◌⊎◌, ℕ, ℤ, List, [], Bool, true, false}
+use Rattle.fv_engine.specs.Failures.{StoreHasFailed, HasRoomFor}
 use Rattle.fv_engine.specs.Machines.{Machine}
-use Rattle.fv_engine.specs.Requests.{Request}
+use Rattle.fv_engine.specs.Commands.{Request}
 use Rattle.fv_engine.specs.Step.{Unchanged, Takes, Judged, Handles}
 use Rattle.fv_model.specs.declared.fault.BundleFault.{BundleFault}
 use Rattle.fv_model.specs.declared.fault.BundleFault.TheVariants as fault
@@ -17,22 +18,24 @@ use Rattle.fv_validate.specs.Violations.{IsListing}
 abbrev pub Replies : Meanings → ℤ → Request → Machine Records → List ℕ → Machine Records → Type 0
 Replies means now r old text new = (answer : Answer) × (text ≡ answer_text answer) × Handles means now r old answer new
 
--- want of memory refuses, or the store, where it is needed
+-- want of memory refuses, or the store, with its cause
 abbrev pub Fails : Refusal → Type 0 → Type 0
-Fails Memory needed = Unit {0}
-Fails Store needed = needed
-Fails _ needed = ⊥
+Fails Memory cause = Unit {0}
+Fails Store cause = cause
+Fails _ cause = ⊥
 
 -- a record is stored
 abbrev pub Keeps : List ℕ → Kept → Machine Records → Answer → Machine Records → Type 0
 Keeps id kept old answer new =
-    ((answer ≡ taken) × Takes id kept old new) ⊎ ((why : Refusal) × Fails why (Unit {0}) × (answer ≡ refused why) × Unchanged old new)
+    ((answer ≡ taken) × Takes id kept old new)
+    ⊎ ((why : Refusal) × Fails why (HasRoomFor id kept old → StoreHasFailed old new) × (answer ≡ refused why) × Unchanged old new)
 
 -- a record is judged, and stored where it has no violation
 abbrev pub Settles : Meanings → ℤ → List ℕ → Kept → Machine Records → Answer → Machine Records → Type 0
 Settles means now id kept old answer new =
     Judged means now id kept old answer new
-    ⊎ ((why : Refusal) × Fails why (IsListing means old.declared now kept.bundle []) × (answer ≡ refused why) × Unchanged old new)
+    ⊎ ((why : Refusal) × Fails why (IsListing means old.declared now kept.bundle [] × (HasRoomFor id kept old → StoreHasFailed old new))
+    × (answer ≡ refused why) × Unchanged old new)
 
 -- the refusal of a put whose bundle has a fault, under a form that is declared or not
 abbrev pub unread : BundleFault → Bool → Refusal

@@ -1,9 +1,9 @@
 -- Laws of a call, in a user's words: they are told of its reply, and follow from the step.
-use Rattle.std.specs.Prelude.{◌≡◌, ◌≢◌, ◌⊎◌, ℕ, ℤ, List, [], Ok}
+use Rattle.std.specs.Prelude.{◌≡◌, ◌≢◌, ◌⊎◌, ℕ, ℤ, false, List, [], Ok}
 use Rattle.serde_json.specs.Data as json
 use Rattle.fv_engine.specs.Machines.{Machine}
 use Rattle.fv_engine.specs.Refusals.{bundle_under}
-use Rattle.fv_engine.specs.Requests.{put, get, asked}
+use Rattle.fv_engine.specs.Commands.{put, get, asked}
 use Rattle.fv_engine.specs.Step.{Told}
 use Rattle.fv_model.specs.Bundles.{Bundled}
 use Rattle.fv_registry.specs.Meanings.{Meanings}
@@ -20,7 +20,7 @@ IsTaken reply = reply ≡ answer_text taken
 abbrev pub IsFailure : List ℕ → Type 0
 IsFailure reply = (reply ≡ answer_text (refused Store)) ⊎ (reply ≡ answer_text (refused Memory))
 
--- What a taken put stored is what the next get of its id shows, unless that get fails.
+-- What a taken put stored is what a get of its id on the next line shows, unless that get fails.
 abbrev pub ShowsWhatWasPut : Meanings → List ℕ → List ℕ → Machine Records → Machine Records → Type 0
 ShowsWhatWasPut means line reply old new = (id form : List ℕ) (bundle : json.Data) → asked line ≡ put id form bundle → IsTaken reply
     → (b : Bundled) × (bundle_under old.declared form bundle ≡ Ok b)
@@ -46,3 +46,7 @@ MayChangePlaces means line now reply old new = (id form : List ℕ) (bundle : js
     → (next : List ℕ) (later : ℤ) (other form_there : List ℕ) (there : json.Data) → asked next ≡ put other form_there there → other ≢ id
     → (last : Machine Records) → Told means new next later reply last
     → (mid : Machine Records) × Told means old next later reply mid × Told means mid line now reply last
+
+-- A get fails over a connection that is shut: it neither shows a record nor says that there is none.
+abbrev pub FailsWhereShut : List ℕ → List ℕ → Machine Records → Type 0
+FailsWhereShut line reply old = (id : List ℕ) → asked line ≡ get id → old.is_open ≡ false → IsFailure reply

@@ -1,8 +1,9 @@
 pub mod CommandView
+pub mod Commands
+pub mod Failures
 pub mod FaultNames
 pub mod Keeping
 pub mod Laws
 pub mod Machines
 pub mod Refusals
-pub mod Requests
 pub mod Step

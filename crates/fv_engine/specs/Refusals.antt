@@ -4,7 +4,7 @@ use Rattle.serde_json.specs.Data as json
 use Rattle.fv_datum.specs.Lookup.{at_name}
 use Rattle.fv_declare.specs.Declarations.{Declarations}
 use Rattle.fv_engine.specs.Machines.{Machine}
-use Rattle.fv_engine.specs.Requests.{Request, too_long, not_json, shape, put, get}
+use Rattle.fv_engine.specs.Commands.{Request, too_long, not_json, shape, put, get}
 use Rattle.fv_model.specs.Bundles.{Bundled}
 use Rattle.fv_model.specs.Reading.{bundle_read}
 use Rattle.fv_model.specs.declared.fault.BundleFault.{BundleFault}

@@ -1,22 +1,25 @@
 -- The step of the record machine: what a line does to it, and the answer.
-use Rattle.std.specs.Prelude.{◌≡◌, ◌⊎◌, ℕ, ℤ, IsTrue, false, List, [], ◌∷◌, Option, Some, None, Ok}
+use Rattle.std.specs.Prelude.{◌≡◌, ◌≤◌, ◌⊎◌, ℕ, ℤ, IsTrue, List, [], ◌∷◌, Option, Some, None, Ok}
+use Rattle.sqlite.specs.Disk.{MoreFaults}
+use Rattle.fv_engine.specs.Failures.{MayFail, FindsOut}
 use Rattle.fv_engine.specs.Machines.{Machine}
-use Rattle.fv_engine.specs.Refusals.{is_too_long, bundle_under, refusal}
-use Rattle.fv_engine.specs.Requests.{Request, put, get, asked}
+use Rattle.fv_engine.specs.Refusals.{bundle_under, refusal}
+use Rattle.fv_engine.specs.Commands.{Request, put, get, asked}
 use Rattle.fv_model.specs.Bundles.{Bundled}
 use Rattle.fv_registry.specs.Meanings.{Meanings}
 use Rattle.fv_reply.specs.Answers.{Answer, taken, shown, violated, refused}
 use Rattle.fv_reply.specs.Texts.{answer_text}
 use Rattle.fv_reply.specs.declared.answer.Refusal.{Refusal}
-use Rattle.fv_reply.specs.declared.answer.Refusal.TheVariants.{Store, Memory}
 use Rattle.fv_store.specs.Records.{Kept, Records, with_record}
 use Rattle.fv_validate.specs.Violations.{Reported, IsListing}
 
--- nothing has changed, but that a failure may have shut the connection
+-- Nothing has changed, but that a failure may have shut the connection. No fault is forgotten.
 pub record Unchanged (old new : Machine Records) : Type 0 where
   pub declared : new.declared ≡ old.declared
   pub records : new.records ≡ old.records
   pub was_open : IsTrue new.is_open → IsTrue old.is_open
+  pub counts : old.faults ≤ new.faults
+  pub closes : IsTrue old.is_open → IsTrue new.is_open ⊎ MoreFaults old.faults new.faults
 
 -- the id has this record now, and nothing else has changed; the connection was open and still is
 pub record Takes (id : List ℕ) (kept : Kept) (old new : Machine Records) : Type 0 where
@@ -24,6 +27,7 @@ pub record Takes (id : List ℕ) (kept : Kept) (old new : Machine Records) : Typ
   pub records : new.records ≡ with_record id kept old.records
   pub was_open : IsTrue old.is_open
   pub is_open : IsTrue new.is_open
+  pub counts : old.faults ≤ new.faults
 
 -- what the violations of a record decide: it is taken where there are none, and else refused by all of them
 abbrev pub Decided : List ℕ → Kept → List Reported → Machine Records → Answer → Machine Records → Type 0
@@ -46,18 +50,11 @@ abbrev pub Does : Option Refusal → Meanings → ℤ → Request → Machine Re
 Does (Some why) means now r old answer new = (answer ≡ refused why) × Unchanged old new
 Does None means now r old answer new = Serves means now r old answer new
 
--- Want of memory refuses any request but a line that is too long; the store a get, and a put that would else be taken.
-abbrev pub MayFail : Refusal → Meanings → ℤ → Request → Machine Records → Type 0
-MayFail Memory means now r old = is_too_long r ≡ false
-MayFail Store means now (get id) old = Unit {0}
-MayFail Store means now (put id form bundle) old =
-    (refusal old (put id form bundle) ≡ None) × ((b : Bundled) × (bundle_under old.declared form bundle ≡ Ok b) × IsListing means old.declared now b [])
-MayFail why means now r old = ⊥
-
 -- what a request does at a moment, or that memory or the store fails
 abbrev pub Handles : Meanings → ℤ → Request → Machine Records → Answer → Machine Records → Type 0
 Handles means now r old answer new =
-    Does (refusal old r) means now r old answer new ⊎ ((why : Refusal) × MayFail why means now r old × (answer ≡ refused why) × Unchanged old new)
+    (Does (refusal old r) means now r old answer new × FindsOut r old)
+    ⊎ ((why : Refusal) × MayFail why means now r old new × (answer ≡ refused why) × Unchanged old new)
 
 -- from the old machine, the line at the moment has the answer and leaves the new one
 abbrev pub Step : Meanings → Machine Records → List ℕ → ℤ → Answer → Machine Records → Type 0

@@ -1,16 +1,17 @@
 //! What a command does to the records, and its answer.
-ghost use Rattle.std.specs.Prelude.{◌≡◌, ℤ, IfOk};
+ghost use Rattle.std.specs.Prelude.{◌≡◌, ℤ, length, IfOk};
 ghost use Rattle.fv_datum.specs.Moments.{IsMoment};
 ghost use Rattle.fv_datum.specs.Parsing.{json_of};
 ghost use Rattle.fv_declare.specs.Declarations.{Declarations};
-ghost use Rattle.fv_engine.specs.Keeping.{Replies, Fails, Keeps, Settles, unread};
+ghost use Rattle.fv_engine.specs.Keeping.{Replies, Keeps, Settles, unread};
 ghost use Rattle.fv_engine.specs.Machines.{over, Becomes};
-ghost use Rattle.fv_engine.specs.Requests.{put, get, command_of, or_shape, of_json};
+ghost use Rattle.fv_engine.specs.Commands.{put, get, command_of, or_shape, of_json};
 ghost use Rattle.fv_engine.specs.Step.{Handles};
 ghost use Rattle.fv_model.specs.Types.{Declared};
 ghost use Rattle.fv_model.specs.Views.{types_view, bundle_view};
 ghost use Rattle.fv_registry.specs.Meanings.{Meanings};
 ghost use Rattle.fv_reply.specs.AnswerView.{answer_view};
+ghost use Rattle.fv_store.specs.Causes.{IsShort, AreShort};
 ghost use Rattle.fv_store.specs.Changes.{after_all, ChangesFit};
 ghost use Rattle.fv_store.specs.Records.{Records, Roots, Fits, with_record};
 ghost use Rattle.serde_json.specs.View.{view as json_view};
@@ -31,7 +32,6 @@ use std::alloc::{AllocError, Global};
 fn undone(fault: StoreFault) -> Refusal
     ensures store { fault ≡ StoreFault.Store → result ≡ Refusal.Store }
     ensures memory { fault ≡ StoreFault.Memory → result ≡ Refusal.Memory }
-    ensures fails { Fails result (Unit {0}) }
 {
     match fault {
         StoreFault::Store => Refusal::Store,
@@ -39,7 +39,7 @@ fn undone(fault: StoreFault) -> Refusal
     }
 }
 
-/// The one change of a put.
+/// The one change of a put, as short as its record.
 fn changes_of(
     alloc: Global,
     id: &str,
@@ -50,6 +50,9 @@ fn changes_of(
         ≡ with_record id.now (record { form = form.now; bundle = bundle_view bundle }) m) }
     ensures fit { IfOk result (λ v. (types : Declared) (roots : Roots)
         → Fits types roots (record { form = form.now; bundle = bundle_view bundle }) → ChangesFit types roots v.items) }
+    ensures short { IfOk result (λ v. IsShort id.now (record { form = form.now; bundle = bundle_view bundle })
+        → AreShort v.items) }
+    ensures one { IfOk result (λ v. length v.items ≡ 1) }
 {
     let id = String::from_str(alloc, id)?;
     let form = String::from_str(alloc, form)?;

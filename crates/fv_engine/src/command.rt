@@ -3,7 +3,7 @@ ghost use Rattle.std.specs.Prelude.{◌≡◌, option_map};
 ghost use Rattle.std.specs.List.{list_all};
 ghost use Rattle.serde_json.specs.View.{view as json_view};
 ghost use Rattle.fv_engine.specs.CommandView.{command_view};
-ghost use Rattle.fv_engine.specs.Requests.{is_id_byte, is_id, id_at, put_of, get_of, command_of};
+ghost use Rattle.fv_engine.specs.Commands.{is_id_byte, is_id, id_at, put_of, get_of, command_of};
 
 use fv_datum::has_only;
 use serde_json::Value;

@@ -1,11 +1,12 @@
-ghost use Rattle.std.specs.Prelude.{◌≡◌, ◌≢◌, IfOk, IfErr, MatchResult, Ok, Err, Some, None};
+ghost use Rattle.std.specs.Prelude.{◌≡◌, ◌≢◌, false, IfOk, IfErr, MatchResult, Ok, Err, Some, None};
 ghost use Rattle.sqlite.specs.State.{HasCleanDisk};
 ghost use Rattle.sqlite.specs.Held.{state};
 ghost use Rattle.fv_datum.specs.Moments.{IsMoment};
 ghost use Rattle.fv_store.specs.Faults.{about_fault, IsAboutFault};
-ghost use Rattle.fv_store.specs.Stands.{Frame, Holds, HasTables, IsKnown, IsLive, Opens, Stays};
+ghost use Rattle.fv_store.specs.Causes.{HasFailed, IsShortAbout};
+ghost use Rattle.fv_store.specs.Stands.{Frame, Holds, HasTables, IsBlank, IsLive, Opens, Stays};
 ghost use Rattle.fv_declare.specs.Declares.{Declares};
-ghost use Rattle.fv_engine.specs.Laws.{ShowsWhatWasPut, ChangesNoGet, ListsSome, MayChangePlaces};
+ghost use Rattle.fv_engine.specs.Laws.{ShowsWhatWasPut, ChangesNoGet, ListsSome, MayChangePlaces, FailsWhereShut};
 ghost use Rattle.fv_engine.specs.Machines.{contents, StandsFor, Becomes};
 ghost use Rattle.fv_engine.specs.Step.{Told};
 ghost use Rattle.fv_engine.specs.FaultNames.{open_fault_name};
@@ -141,9 +142,17 @@ impl<R: RuleSet + Drop, S: Alter + Drop> Engine<R, S> {
             → c.bytes ≢ declarations.now) }
         // Want of memory below is told as such.
         ensures memory { IfErr result (λ r. r.0 ≢ OpenFault.Store OpenStoreFault.Memory) }
+        // The store fails with a cause, over tables of this form and over an empty database.
+        ensures store_known { IfErr result (λ r. r.0 ≡ OpenFault.Store OpenStoreFault.Store
+            → HasCleanDisk (state S.Store r.1) → connection.in_transaction ≡ false → (version : _) (d : _)
+            → HasTables (state S.Store connection).now version d
+            → HasFailed (state S.Store connection) (state S.Store r.1)) }
+        ensures store_blank { IfErr result (λ r. r.0 ≡ OpenFault.Store OpenStoreFault.Store
+            → HasCleanDisk (state S.Store r.1) → connection.in_transaction ≡ false
+            → IsBlank (state S.Store connection).now → IsShortAbout declarations.now
+            → HasFailed (state S.Store connection) (state S.Store r.1)) }
         // A refusal hands the database back as it was.
-        ensures untouched { IfErr result (λ r. IsKnown (state S.Store connection).now
-            → Stays (state S.Store connection) (state S.Store r.1)) }
+        ensures untouched { IfErr result (λ r. Stays (state S.Store connection) (state S.Store r.1)) }
         ensures stays { IfErr result (λ r. (c : _) → Opens (state S.Store connection) c → Opens (state S.Store r.1) c) }
     {
         let schema = match read_schema(alloc, &rules, declarations) {
@@ -166,14 +175,16 @@ impl<R: RuleSet, S: Alter> Engine<R, S> {
     pub fn run(&mut self, alloc: Global, line: &[u8], now: i64) -> Reply
         requires { IsMoment now }
         ensures step { Becomes (state S.Store) self.old self.new (λ x y. Told R.meaning x line.now now result y) }
-        // What a taken put stored is what the next get shows.
+        // What a taken put stored is what a get on the next line shows.
         ensures shows { Becomes (state S.Store) self.old self.new (ShowsWhatWasPut R.meaning line.now result) }
-        // A refusal changes no get.
+        // A refusal changes no record, and so no get.
         ensures unchanged { Becomes (state S.Store) self.old self.new (ChangesNoGet result) }
         // A refusal for violations lists at least one.
         ensures lists { Becomes (state S.Store) self.old self.new (λ x y. ListsSome result) }
         // Two taken puts of different ids may change places.
         ensures places { Becomes (state S.Store) self.old self.new (MayChangePlaces R.meaning line.now now result) }
+        // A get fails over a connection that is shut.
+        ensures shut { Becomes (state S.Store) self.old self.new (λ x y. FailsWhereShut line.now result x) }
     {
         if line.len() > LIMIT {
             return self.refuse_long();

@@ -77,7 +77,7 @@ either : (b : Bool) (x : Value) → cond b x x ≡ x
 either true x = refl
 either false x = refl
 
-cast_one : cast Integer (Int (pos 1)) ≡ Int (pos 1)
+pub cast_one : cast Integer (Int (pos 1)) ≡ Int (pos 1)
 unfolding unary
 cast_one = either _ (Int (pos 1))
 
@@ -85,7 +85,7 @@ cast_null : cast Integer Null ≡ Null
 unfolding unary
 cast_null = either _ Null
 
-one_is_not_zero : ◌≡◌ {A = ℕ} 1 0 → ⊥
+pub one_is_not_zero : ◌≡◌ {A = ℕ} 1 0 → ⊥
 one_is_not_zero e = cc
 
 spells_none : HasRows [] no_records

@@ -1,5 +1,5 @@
 -- What a store that holds records hands out, and holds after changes.
-use Rattle.std.proofs.Common.{◌≡◌, ℕ, Bool, true, false, cond, List, [], ◌∷◌, bytes_eq, string_bytes, Option, Some, option_map, Result, Ok, Err, OnErr, IfOk, IsTrue, subst}
+use Rattle.std.proofs.Common.{◌≡◌, ℕ, Bool, true, false, cond, List, [], ◌∷◌, bytes_eq, string_bytes, Option, Some, option_map, Result, Ok, Err, OnErr, IfErr, IfOk, IsTrue, sym, ap, subst, ◌∙◌}
 use Rattle.std.specs.Option.{ForSome}
 use Rattle.sqlite.specs.State.{State, HasCleanDisk}
 use Rattle.fv_datum.specs.Outcomes.{Gives}
@@ -8,12 +8,14 @@ use Rattle.fv_model.specs.WellTyped.{IsWellTyped}
 use Rattle.fv_store.specs.declared.change.Change.{Change}
 use Rattle.fv_store.specs.declared.change.Change.TheVariants.{Put}
 use Rattle.fv_store.specs.declared.fault.StoreFault.{StoreFault}
-use Rattle.fv_store.specs.declared.fault.StoreFault.TheVariants.{Memory}
+use Rattle.fv_store.specs.declared.fault.StoreFault.TheVariants.{Store, Memory}
 use Rattle.fv_store.specs.declared.shown.Shown.{Shown}
 use Rattle.fv_store.specs.declared.stored.Stored.{Stored}
+use Rattle.sqlite.specs.declared.error.Error.{Error}
+use Rattle.fv_store.specs.Faults.{fault_of}
 use Rattle.fv_store.specs.Changes.{after, after_all, changed, ChangeFits, ChangesFit}
 use Rattle.fv_store.specs.Records.{Kept, Records, Contents, Fits, AllFit, with_record, with_records}
-use Rattle.fv_store.specs.Steps.{Keeps}
+use Rattle.fv_store.specs.Steps.{Keeps, IsRefusal}
 use Rattle.fv_store.specs.Showing.{kept_text, shown_view}
 use Rattle.fv_store.specs.Stands.{Frame, Holds}
 use Rattle.fv_store.specs.Stored.{stored_view}
@@ -39,6 +41,18 @@ module _ (s : State) (types : Declared) (id : List ℕ) (found : Option Shown) (
           → IfOk q (λ o. (c : Contents) → c.types ≡ types → Holds s c → option_map stored_view o ≡ c.records id)
       go (Err e) h = tt
       go (Ok x) h = λ c same holds. given_is (Ok x) (c.records id) (h c same holds)
+
+  -- what is held is refused for want of memory alone
+  pub never_refused : (F : Type 0) → IfErr r (λ e. e ≡ Store → (c : Contents) → c.types ≡ types → Holds s c → F)
+  never_refused F = go r handed
+    where
+      go : (q : Result (Option Stored) StoreFault) → ((c : Contents) → c.types ≡ types → Holds s c → Gives Memory (option_map stored_view) q (Ok (c.records id)))
+          → IfErr q (λ e. e ≡ Store → (c : Contents) → c.types ≡ types → Holds s c → F)
+      go (Ok x) h = tt
+      go (Err e) h = λ is c same holds. absurd (let wrong = h c same holds (λ memory. let other : Store ≡ Memory = sym is ∙ memory in cc) in cc)
+
+pub is_refusal : (e : Error) → fault_of e ≡ Store → IsRefusal e
+is_refusal e is memory = let wrong : Memory ≡ Store = sym (ap fault_of memory) ∙ is in cc
 
 -- ---- changes
 

@@ -1,5 +1,5 @@
 -- What the INSERT does.
-use Rattle.std.proofs.Common.{◌≡◌, ◌≢◌, ◌⊎◌, inl, inr, ℕ, List, [], ◌∷◌, map, drop, Bool, true, false, cond, None, Ok, Err, Result, refl, sym, ap, subst, ◌∙◌}
+use Rattle.std.proofs.Common.{◌≡◌, ◌≢◌, ◌⊎◌, ◌+◌, inl, inr, ℕ, List, [], ◌∷◌, map, drop, Bool, true, false, cond, None, Ok, Err, Result, refl, sym, ap, subst, ◌∙◌}
 use Rattle.sqlite.specs.declared.types.Value.{Value}
 use Rattle.sqlite.specs.declared.types.Value.TheVariants.{Null, Text}
 use Rattle.sqlite.specs.Ops.{unary}
@@ -18,11 +18,13 @@ use Rattle.sqlite.specs.State.{State, mode_of, Executes}
 use Rattle.sqlite.proofs.Callers.{statement_of, runs_as, one_step}
 use Rattle.fv_store.specs.Tables.{store_schema}
 use Rattle.fv_store.specs.Records.{Kept, Records, with_record, bundle_text}
-use Rattle.fv_store.specs.Stands.{record_row, HasRows, Spells}
+use Rattle.fv_store.specs.Stands.{record_row, IsText, HasRows, Spells}
 use Rattle.fv_store.proofs.Texts.{kept_table, insert_text, insert_terms, insert_is, insert_plain}
+use Rattle.fv_store.specs.Causes.{HasRoom}
+use Rattle.fv_store.proofs.Rooms.{room_after}
 use Rattle.fv_store.proofs.RowEdits.{spells_put}
 
-either : (b : Bool) (x : Value) → cond b x x ≡ x
+pub either : (b : Bool) (x : Value) → cond b x x ≡ x
 either true x = refl
 either false x = refl
 
@@ -41,9 +43,10 @@ went (inr on) = on
 pub same_value : {B E : Type 0} {a b : B} → ◌≡◌ {A = Result B E} (Ok a) (Ok b) → a ≡ b
 same_value e = cc
 
-pub inserts : (old new : State) (id : List ℕ) (e : Kept) (count : ℕ) (d : List ℕ) (m : Records) → Spells old.now d m → m id ≡ None
-    → Executes insert_text (Text id ∷ Text e.form ∷ Text (bundle_text e.bundle) ∷ []) old new (Ok count) → Spells new.now d (with_record id e m)
-inserts old new id e count d m spelled none h =
+pub inserts : (old new : State) (id : List ℕ) (e : Kept) (count : ℕ) (d : List ℕ) (m : Records) → Spells old.now d m → m id ≡ None → IsText e
+    → Executes insert_text (Text id ∷ Text e.form ∷ Text (bundle_text e.bundle) ∷ []) old new (Ok count)
+    → Spells new.now d (with_record id e m) × ((n : ℕ) → HasRoom (n + 1) old.now → HasRoom n new.now)
+inserts old new id e count d m spelled none utf8 h =
     let params = Text id ∷ Text e.form ∷ Text (bundle_text e.bundle) ∷ [] in
     let db = old.now.trees in
     let command = Insert 1 (Values insert_terms 4) in
@@ -61,7 +64,10 @@ inserts old new id e count d m spelled none h =
     let rows : written.0 1 ≡ put_all (db 1) (record_row (next_rowid (db 1)) id e ∷ []) = applied.rows ∙ ap (put_all (db 1)) news in
     let fresh : are_fresh (db 1) (record_row (next_rowid (db 1)) id e ∷ []) ≡ true = ap (are_fresh (db 1)) (sym news) ∙ applied.fresh in
     let at : (t : ℕ) → new.now.trees t ≡ written.0 t = λ t. ap (λ (b : Database). b.trees t) now ∙ ap (λ (ts : Trees). ts t) trees in
-    record {
-      tables = record { schema = ap (λ (b : Database). b.schema) now; about = at 0 ∙ applied.tables.0 zero_is_not_one ∙ spelled.tables.about };
-      records = subst (λ rs. HasRows rs (with_record id e m)) (sym (at 1 ∙ rows)) (spells_put (db 1) m (next_rowid (db 1)) id e spelled.records none fresh);
-    }
+    let all = at 1 ∙ rows in (
+      record {
+        tables = record { schema = ap (λ (b : Database). b.schema) now; about = at 0 ∙ applied.tables.0 zero_is_not_one ∙ spelled.tables.about };
+        records = subst (λ rs. HasRows rs (with_record id e m)) (sym all) (spells_put (db 1) m (next_rowid (db 1)) id e spelled.records none utf8 fresh);
+      },
+      room_after old.now new.now (record_row (next_rowid (db 1)) id e) refl all,
+    )

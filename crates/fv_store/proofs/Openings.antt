@@ -1,18 +1,23 @@
 -- What an open finds and leaves.
-use Rattle.std.proofs.Common.{◌≡◌, ◌≢◌, ℕ, Bool, true, false, not, cond, length, List, bytes_eq, Option, Some, None, Result, Ok, Err, OnOk, IfErr, IsTrue, inl, inr, refl, sym, ap, subst, ◌∙◌}
+use Rattle.std.proofs.Common.{◌≡◌, ◌≢◌, ◌==◌, ℕ, Bool, true, false, not, cond, length, List, bytes_eq, Option, Some, None, Result, Ok, Err, OnOk, IfErr, IsTrue, inl, inr, refl, sym, ap, subst, ◌∙◌}
 use Rattle.std.proofs.lemmas.Slice.Eq.{bytes_eq-Decides}
 use Rattle.std.proofs.lemmas.Bool.{cases_Bool}
 use Rattle.sqlite.specs.Schema.{Schema}
+use Rattle.sqlite.specs.declared.error.Error.{Error}
 use Rattle.sqlite.specs.Effect.{Database}
 use Rattle.sqlite.specs.State.{State, HasCleanDisk}
 use Rattle.fv_datum.specs.Outcomes.{Gives, unless_fault}
 use Rattle.fv_store.specs.declared.fault.OpenStoreFault.{OpenStoreFault}
 use Rattle.fv_store.specs.declared.fault.OpenStoreFault.TheVariants.{OtherVersion, OtherDeclarations, Store, Memory}
-use Rattle.fv_store.specs.Faults.{about_fault, IsAboutFault}
+use Rattle.fv_store.specs.Faults.{about_fault, open_fault_of, IsAboutFault}
 use Rattle.fv_store.specs.Records.{Kept, Records, Contents, AllFit, no_records, with_records}
 use Rattle.fv_store.specs.Tables.{store_schema}
-use Rattle.fv_store.specs.Stands.{Frame, HasTables, Stands, Holds, Opens, IsBlank, IsKnown, Stays}
-use Rattle.fv_store.specs.Steps.{Keeps, IsTaken, IsCaused}
+use Rattle.fv_store.specs.Stands.{Frame, HasTables, Stands, Holds, Opens, IsBlank, Stays}
+use Rattle.fv_store.specs.Steps.{Keeps, IsTaken, IsCaused, IsRefusal, IsOpenExcused}
+
+-- a frame says nothing of the limit on steps
+pub unlimited : (old new : State) → Frame (record old { step_limit = None }) new → Frame old new
+unlimited old new f = record { clean = f.clean; was_open = f.was_open; counts = f.counts; closes = f.closes }
 
 abbrev Answer : Type 0
 Answer = Result (Unit {0}) OpenStoreFault
@@ -44,6 +49,25 @@ taken_all s (Ok u) given h = λ version d tells. judges_ok (Ok u) (about_fault v
 pub caused_all : (s : State) (r : Answer) (given : List ℕ) → IsTrue s.is_open → (IsBlank s.now → ⊥) → ((version : ℕ) (d : List ℕ) → HasTables s.now version d → Judges r (about_fault version d given)) → IfErr r (IsCaused s given)
 caused_all s (Ok u) given live filled h = tt
 caused_all s (Err e) given live filled h = λ fault. (live, filled, λ version d tells. is_fault e (about_fault version d given) (h version d tells (is_not_memory e fault)))
+
+never_store : (version : ℕ) (d given : List ℕ) → about_fault version d given ≡ Some Store → ⊥
+never_store version d given = go (not (version == 1)) (not (bytes_eq d given))
+  where
+    go : (a b : Bool) → ◌≡◌ {A = Option OpenStoreFault} (cond a (Some OtherVersion) (cond b (Some OtherDeclarations) None)) (Some Store) → ⊥
+    go true b h = cc
+    go false true h = cc
+    go false false h = cc
+
+-- the row of `about` is no cause for `Store`
+pub excused_all : (old new : State) (r : Answer) (given : List ℕ) → ((version : ℕ) (d : List ℕ) → HasTables old.now version d → Judges r (about_fault version d given))
+    → IfErr r (λ e. (version : ℕ) (d : List ℕ) → HasTables old.now version d → IsOpenExcused old new e)
+excused_all old new (Ok u) given h = tt
+excused_all old new (Err e) given h = λ version d tells is.
+    absurd (never_store version d given (is_fault e (about_fault version d given) (h version d tells (λ memory. let wrong : Store ≡ Memory = sym is ∙ memory in cc)) ∙ ap Some is))
+
+-- a refusal of the database
+pub is_refusal : (e : Error) → open_fault_of e ≡ Store → IsRefusal e
+is_refusal e is memory = let wrong : Memory ≡ Store = sym (ap open_fault_of memory) ∙ is in cc
 
 -- of version 1 the declarations alone are judged
 fault_is : (d given : List ℕ) → about_fault 1 d given ≡ cond (bytes_eq d given) None (Some OtherDeclarations)
@@ -116,11 +140,11 @@ module _ (old new : State) (frame : Frame old new) where
       let fit : AllFit k = λ id kept known. absurd (no_record (k.records id) (ap (λ (m : Records). m id) was.1) kept known) in
       (record { spells = none.0; fit = fit }, record { spells = none.1; fit = fit })
 
-  pub opens_err : (IsKnown old.now → Stays old new) → (k : Contents) → Opens old k → Opens new k
-  opens_err untouched k (inr holds) = inr (holds_stays (λ is. untouched (inr is)) k holds)
+  pub opens_err : Stays old new → (k : Contents) → Opens old k → Opens new k
+  opens_err untouched k (inr holds) = inr (holds_stays (λ _. untouched) k holds)
   opens_err untouched k (inl blank) = inl (λ sure live.
       let was = blank (frame.clean sure) (frame.was_open sure live) in
-      let it = untouched (inl was.0) sure live in
+      let it = untouched sure live in
       (subst IsBlank (sym it.2) was.0, was.1))
 
 -- ---- what a refusal says of a database that is blank or stands

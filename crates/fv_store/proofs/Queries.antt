@@ -3,6 +3,8 @@ use Rattle.std.proofs.Common.{◌≡◌, inl, inr, ℕ, List, [], ◌∷◌, Opt
 use Rattle.std.proofs.lemmas.Slice.Eq.{bytes_eq-Decides}
 use Rattle.sqlite.specs.declared.types.Value.TheVariants.{Null, Text}
 use Rattle.sqlite.specs.Order.{Row, column}
+use Rattle.sqlite.specs.Schema.{Schema}
+use Rattle.sqlite_resolve.specs.declared.compiled.Compiled.{Compiled}
 use Rattle.sqlite_schema.specs.declared.command.Returning.{Returning}
 use Rattle.sqlite.specs.declared.error.Error.{Error}
 use Rattle.std.specs.declared.alloc.Global.{Global}
@@ -18,19 +20,19 @@ use Rattle.sqlite.proofs.Callers.{IsPlain, reads_as}
 use Rattle.sqlite_rules.specs.Lists.{Has}
 use Rattle.fv_store.specs.Tables.{store_schema}
 use Rattle.fv_store.specs.Records.{Kept, Records}
-use Rattle.fv_store.specs.Stands.{HasRows, Spells, HasTables, Stays, about_row}
+use Rattle.fv_store.specs.Stands.{HasRows, IsText, Spells, HasTables, Stays, about_row}
 use Rattle.fv_store.specs.Steps.{Keeps, IsSettled}
 use Rattle.fv_store.specs.Showing.{shown_row, ShowsRecord, shown_about, ShowsAbout}
 use Rattle.fv_store.proofs.Texts.{find_text, find_query, find_is, find_plain, find_unlisted, read_text, read_query, read_is, read_plain, read_unlisted}
 use Rattle.fv_store.proofs.OneTable.{by_id, by_id_is, shown_sound, shown_complete}
 
 module _ (db : Trees) (m : Records) (id : List ℕ) (rows : List Row) (s : HasRows (db 1) m) (a : IsAnswer find_query (overlay db []) (Text id ∷ []) rows) where
-  found_sound : (x : Row) → Has rows x → (e : Kept) × (m id ≡ Some e) × (x ≡ shown_row e)
+  found_sound : (x : Row) → Has rows x → (e : Kept) × (m id ≡ Some e) × (x ≡ shown_row e) × IsText e
   found_sound x h =
       let r = shown_sound 1 by_id (col 1 2 ∷ col 1 3 ∷ []) [] (overlay db []) (Text id ∷ []) rows a x h in
       let it = s.sound r.0 r.1 in
-      let key : it.id ≡ id = (bytes_eq-Decides it.id id).0 (sym (by_id_is m r.0 id it) ∙ r.2) in
-      (it.kept, ap m (sym key) ∙ it.known, r.3 ∙ ap (λ (v : Row). column v 2 ∷ column v 3 ∷ []) it.is)
+      let key : it.id ≡ id = (bytes_eq-Decides it.id id).0 (sym (by_id_is m r.0 id [] it) ∙ r.2) in
+      (it.kept, ap m (sym key) ∙ it.known, r.3 ∙ ap (λ (v : Row). column v 2 ∷ column v 3 ∷ []) it.is, it.utf8)
 
   found_complete : (e : Kept) → m id ≡ Some e → Has rows (shown_row e)
   found_complete e is =
@@ -38,7 +40,7 @@ module _ (db : Trees) (m : Records) (id : List ℕ) (rows : List Row) (s : HasRo
       let it = s.sound _ there.1 in
       let words : Text it.id ≡ Text id = ap (λ (v : Row). column v 1) (sym it.is) in
       let key : it.id ≡ id = cc in
-      let passes = by_id_is m _ id it ∙ (bytes_eq-Decides it.id id).1 key in
+      let passes = by_id_is m _ id [] it ∙ (bytes_eq-Decides it.id id).1 key in
       shown_complete 1 by_id (col 1 2 ∷ col 1 3 ∷ []) [] (overlay db []) (Text id ∷ []) rows a _ there.1 passes
 
   answered : (o : Option Kept) → m id ≡ o → (l : List Row) → rows ≡ l → ShowsRecord l o
@@ -46,19 +48,24 @@ module _ (db : Trees) (m : Records) (id : List ℕ) (rows : List Row) (s : HasRo
   answered (Some e) is [] same = absurd (subst (λ l. Has l (shown_row e)) same (found_complete e is))
   answered o is (x ∷ l) same =
       let it = found_sound x (subst (λ k. Has k x) (sym same) (inl refl)) in
-      (it.0, sym is ∙ it.1, it.2)
+      (it.0, sym is ∙ it.1, it.2, it.3)
 
 pub finds : (old new : State) (id : List ℕ) (rows : List Row) (d : List ℕ) (m : Records) → Spells old.now d m → Shown find_text (Text id ∷ []) old new rows → ShowsRecord rows (m id)
 finds old new id rows d m was h =
     let read = reads_as find_text (Text id ∷ []) old new store_schema was.tables.schema (Select (record { lets = []; body = find_query }) (codes "form" ∷ codes "bundle" ∷ [])) find_is find_plain find_unlisted rows h in
     answered old.now.trees m id rows was.records (read.answer Null) (m id) refl rows refl
 
+-- the text has no RETURNING
+abbrev pub IsBare : Schema → List ℕ → Type 0
+IsBare s sql = (c : Compiled) → understood s sql ≡ Ok c → c.returning ≡ None
+
 -- a query leaves the database as it was
-pub still : (sql : List ℕ) (params : Row) (old new : State) (rows : List Row) → IsPlain (understood old.now.schema sql) → Shown sql params old new rows → IsUnchanged old new
+pub still : (sql : List ℕ) (params : Row) (old new : State) (rows : List Row) → IsBare old.now.schema sql → Shown sql params old new rows → IsUnchanged old new
 unfolding Shown
-still sql params old new rows plain h =
-    let none = (subst IsPlain h.1.is plain).0 in
-    (subst (ShowsRows old new sql h.0 (timed params h.0.formats h.1.now) rows) none h.2).3
+still sql params old new rows bare h = (subst (ShowsRows old new sql h.0 (timed params h.0.formats h.1.now) rows) (bare h.0 h.1.is) h.2).3
+
+pub plain_is_bare : (s : Schema) (sql : List ℕ) → IsPlain (understood s sql) → IsBare s sql
+plain_is_bare s sql plain c is = (subst IsPlain is plain).0
 
 -- ---- the row of `about`
 
@@ -114,7 +121,7 @@ module _ (sql : List ℕ) (params : Row) (old new : State) (plain : IsPlain (und
       → (d : List ℕ) (m : Records) → Keeps old d m → Keeps new d m
   query_keeps (Ok rows) ok err d m keeps =
       let was = (keeps clean (shown_open sql params old new rows.items ok)).0 in
-      unchanged_keeps old new d m (still sql params old new rows.items (subst (λ s. IsPlain (understood s sql)) (sym was.tables.schema) plain) ok) keeps clean
+      unchanged_keeps old new d m (still sql params old new rows.items (subst (λ s. IsBare s sql) (sym was.tables.schema) (plain_is_bare store_schema sql plain)) ok) keeps clean
   query_keeps (Err e) ok err d m keeps = elim (refused_keeps sql params old new e err) [
     | inl same ↦ unchanged_keeps old new d m same keeps clean
     | inr back ↦ back_keeps old new d m back keeps clean
@@ -144,10 +151,10 @@ module _ (old new : State) (clean : HasCleanDisk old) (settled : IsSettled old) 
   back_stays : IsRolledBack old new → Stays old new
   back_stays back _ live = let undone = back.undone live in let was = back.was_open live in (clean, was, undone.0 ∙ sym (settled was), undone.1)
 
-  pub query_stays : (sql : List ℕ) (params : Row) → IsPlain (understood old.now.schema sql) → (r : Result (Vec Row Global) Error) → IfOk r (λ rows. Shown sql params old new rows.items)
+  pub query_stays : (sql : List ℕ) (params : Row) → IsBare old.now.schema sql → (r : Result (Vec Row Global) Error) → IfOk r (λ rows. Shown sql params old new rows.items)
       → IfErr r (FailsToQuery sql params old new) → Stays old new
-  query_stays sql params plain (Ok rows) ok err = same_stays (still sql params old new rows.items plain ok)
-  query_stays sql params plain (Err e) ok err = elim (refused_keeps sql params old new e err) [ inl same ↦ same_stays same | inr back ↦ back_stays back ]
+  query_stays sql params bare (Ok rows) ok err = same_stays (still sql params old new rows.items bare ok)
+  query_stays sql params bare (Err e) ok err = elim (refused_keeps sql params old new e err) [ inl same ↦ same_stays same | inr back ↦ back_stays back ]
 
 pub query_open : (sql : List ℕ) (params : Row) (old new : State) (r : Result (Vec Row Global) Error) → IfOk r (λ rows. Shown sql params old new rows.items) → IfErr r (FailsToQuery sql params old new)
     → IsTrue new.is_open → IsTrue old.is_open
@@ -174,10 +181,14 @@ pub none_first : (rows : List Row) (o : Option Kept) → None ≡ slice_get rows
 none_first [] o none h = sym h
 none_first (row ∷ rows) o none h = absurd cc
 
-pub some_first : (rows : List Row) (o : Option Kept) (row : Row) → Some row ≡ slice_get rows 0 → ShowsRecord rows o → (k : Kept) × (o ≡ Some k) × (row ≡ shown_row k)
+pub some_first : (rows : List Row) (o : Option Kept) (row : Row) → Some row ≡ slice_get rows 0 → ShowsRecord rows o → (k : Kept) × (o ≡ Some k) × (row ≡ shown_row k) × IsText k
 some_first [] o row some h = absurd cc
-some_first (r ∷ rows) o row some h = let same : row ≡ r = cc in (h.0, h.1, same ∙ h.2)
+some_first (r ∷ rows) o row some h = let same : row ≡ r = cc in (h.0, h.1, same ∙ h.2, h.3)
 
 pub about_first : (rows : List Row) (version : ℕ) (d : List ℕ) (row : Row) → Some row ≡ slice_get rows 0 → ShowsAbout rows version d → row ≡ shown_about version d
 about_first [] version d row some h = absurd cc
 about_first (r ∷ rows) version d row some h = let same : row ≡ r = cc in same ∙ h
+
+pub about_never : (rows : List Row) (version : ℕ) (d : List ℕ) → None ≡ slice_get rows 0 → ShowsAbout rows version d → ⊥
+about_never [] version d none h = h
+about_never (row ∷ rows) version d none h = absurd cc

@@ -1,5 +1,5 @@
 -- What the texts of the statements mean.
-use Rattle.std.proofs.Common.{◌≡◌, ℕ, pos, negsuc, List, [], ◌∷◌, codes, false, Ok, None, refl}
+use Rattle.std.proofs.Common.{◌≡◌, ◌≤◌, ℕ, pos, negsuc, List, [], ◌∷◌, length, codes, true, false, Result, Ok, Err, None, refl, lit≤}
 use Rattle.sqlite.specs.Compile.{table_defined_by}
 use Rattle.sqlite.specs.Change.{created}
 use Rattle.sqlite.specs.Term.{Term, lit, col, op2}
@@ -8,9 +8,12 @@ use Rattle.sqlite_sql.specs.declared.ops.CompareOp.TheVariants.{Eq}
 use Rattle.sqlite.specs.Collation.TheVariants.{Binary}
 use Rattle.sqlite.specs.Schema.{Schema}
 use Rattle.sqlite.specs.Query.{Query, inner, end}
-use Rattle.sqlite.specs.declared.types.Value.TheVariants.{Null, Int}
+use Rattle.sqlite.specs.declared.types.Value.TheVariants.{Null, Int, Text as Words, Blob}
 use Rattle.sqlite.specs.Source.TheVariants.{Values}
-use Rattle.sqlite.specs.Command.TheVariants.{Insert, Select, Delete, CreateTable}
+use Rattle.sqlite.specs.Command.TheVariants.{Insert, Select, Update, CreateTable}
+use Rattle.sqlite_resolve.specs.declared.compiled.Compiled.{Compiled}
+use Rattle.sqlite_resolve.specs.declared.error.CompileError.{CompileError}
+use Rattle.sqlite_typing.specs.Types.{accepts_program, accepts_terms}
 use Rattle.sqlite_tied.specs.Compute.{everything}
 use Rattle.sqlite.specs.Listing.{understood, reads_listing}
 use Rattle.sqlite.proofs.Callers.{IsPlain, command_of, statement_of}
@@ -29,6 +32,11 @@ record_text = codes "CREATE TABLE record (id TEXT NOT NULL PRIMARY KEY, form TEX
 abbrev pub kept_table : Table
 kept_table = record record_table { tree = 1 }
 
+-- the whole text is one statement, with so many parameters
+abbrev pub IsWhole : List ℕ → ℕ → Result Compiled CompileError → Type 0
+IsWhole sql given (Ok c) = (length sql ≤ c.tail) × (given ≡ length c.names)
+IsWhole sql given (Err e) = ⊥
+
 pub about_is : table_defined_by about_text ≡ Ok about_table
 unfolding everything
 about_is = refl
@@ -46,6 +54,14 @@ insert_terms = lit Null ∷ col 0 0 ∷ col 0 1 ∷ col 0 2 ∷ []
 pub insert_is : command_of (understood store_schema insert_text) ≡ Insert 1 (Values insert_terms 4)
 unfolding understood everything
 insert_is = refl
+
+pub insert_whole : IsWhole insert_text 3 (understood store_schema insert_text)
+unfolding understood everything
+insert_whole = (lit≤ tt, refl)
+
+pub insert_accepted : (id form text : List ℕ) → accepts_terms insert_terms (Words id ∷ Words form ∷ Words text ∷ []) ≡ true
+unfolding everything
+insert_accepted id form text = refl
 
 pub insert_plain : IsPlain (understood store_schema insert_text)
 unfolding understood everything
@@ -71,15 +87,19 @@ pub find_is : command_of (understood store_schema find_text) ≡ Select (record 
 unfolding understood everything
 find_is = refl
 
-abbrev pub remove_text : List ℕ
-remove_text = codes "DELETE FROM record WHERE id = ?1"
+abbrev pub update_text : List ℕ
+update_text = codes "UPDATE record SET form = ?2, bundle = ?3 WHERE id = ?1"
 
-abbrev pub remove_query : Query
-remove_query = record {
+-- the rowid of the row, and then the whole new row
+abbrev pub update_terms : List Term
+update_terms = col 1 0 ∷ col 1 0 ∷ col 1 1 ∷ col 0 1 ∷ col 0 2 ∷ []
+
+abbrev pub update_query : Query
+update_query = record {
   from = inner 1 end;
   filter = op2 (Compare Eq Binary) (col 1 1) (col 0 0) ∷ [];
   group = None;
-  project = col 1 0 ∷ [];
+  project = update_terms;
   distinct = false;
   collations = [];
   order = [];
@@ -87,17 +107,33 @@ remove_query = record {
   offset = lit (Int (pos 0));
 }
 
-pub remove_is : command_of (understood store_schema remove_text) ≡ Delete 1 (record { lets = []; body = remove_query })
+pub update_is : command_of (understood store_schema update_text) ≡ Update 1 (record { lets = []; body = update_query })
 unfolding understood everything
-remove_is = refl
+update_is = refl
 
-pub remove_plain : IsPlain (understood store_schema remove_text)
+pub update_whole : IsWhole update_text 3 (understood store_schema update_text)
 unfolding understood everything
-remove_plain = (refl, refl)
+update_whole = (lit≤ tt, refl)
+
+pub update_accepted : (id form text : List ℕ) → accepts_program store_schema [] update_query (Words id ∷ Words form ∷ Words text ∷ []) ≡ true
+unfolding everything
+update_accepted id form text = refl
+
+pub update_plain : IsPlain (understood store_schema update_text)
+unfolding understood everything
+update_plain = (refl, refl)
 
 pub find_plain : IsPlain (understood store_schema find_text)
 unfolding understood everything
 find_plain = (refl, refl)
+
+pub find_whole : IsWhole find_text 1 (understood store_schema find_text)
+unfolding understood everything
+find_whole = (lit≤ tt, refl)
+
+pub find_accepted : (id : List ℕ) → accepts_program store_schema [] find_query (Words id ∷ []) ≡ true
+unfolding everything
+find_accepted id = refl
 
 pub find_unlisted : reads_listing store_schema find_text ≡ false
 unfolding everything
@@ -112,6 +148,10 @@ pub create_about_is : (command_of (understood no_schema about_text) ≡ CreateTa
 unfolding understood everything
 create_about_is = (refl, refl)
 
+pub create_about_whole : IsWhole about_text 0 (understood no_schema about_text)
+unfolding understood everything
+create_about_whole = (lit≤ tt, refl)
+
 pub create_about_plain : IsPlain (understood no_schema about_text)
 unfolding understood everything
 create_about_plain = (refl, refl)
@@ -119,6 +159,10 @@ create_about_plain = (refl, refl)
 pub create_record_is : (command_of (understood about_schema record_text) ≡ CreateTable) × (statement_of record_text (understood about_schema record_text) ≡ record_text)
 unfolding understood everything
 create_record_is = (refl, refl)
+
+pub create_record_whole : IsWhole record_text 0 (understood about_schema record_text)
+unfolding understood everything
+create_record_whole = (lit≤ tt, refl)
 
 pub create_record_plain : IsPlain (understood about_schema record_text)
 unfolding understood everything
@@ -133,6 +177,14 @@ version_terms = lit (Int (pos 1)) ∷ lit Null ∷ lit (Int (pos 1)) ∷ col 0 0
 pub version_is : command_of (understood store_schema version_text) ≡ Insert 0 (Values version_terms 4)
 unfolding understood everything
 version_is = refl
+
+pub version_whole : IsWhole version_text 1 (understood store_schema version_text)
+unfolding understood everything
+version_whole = (lit≤ tt, refl)
+
+pub version_accepted : (declarations : List ℕ) → accepts_terms version_terms (Blob declarations ∷ []) ≡ true
+unfolding everything
+version_accepted declarations = refl
 
 pub version_plain : IsPlain (understood store_schema version_text)
 unfolding understood everything
@@ -161,6 +213,14 @@ read_is = refl
 pub read_plain : IsPlain (understood store_schema read_text)
 unfolding understood everything
 read_plain = (refl, refl)
+
+pub read_whole : IsWhole read_text 0 (understood store_schema read_text)
+unfolding understood everything
+read_whole = (lit≤ tt, refl)
+
+pub read_accepted : accepts_program store_schema [] read_query [] ≡ true
+unfolding everything
+read_accepted = refl
 
 pub read_unlisted : reads_listing store_schema read_text ≡ false
 unfolding everything

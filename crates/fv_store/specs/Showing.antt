@@ -3,6 +3,7 @@ use Rattle.std.specs.Prelude.{◌≡◌, ℕ, pos, List, [], ◌∷◌, Option, 
 use Rattle.sqlite.specs.declared.types.Value.TheVariants.{Int, Text as Words, Blob as Raw}
 use Rattle.sqlite.specs.Order.{Row}
 use Rattle.fv_store.specs.Records.{Kept, bundle_text}
+use Rattle.fv_store.specs.Stands.{IsText}
 use Rattle.fv_store.specs.declared.shown.Shown.{Shown}
 
 -- a record with its bundle's text
@@ -16,7 +17,7 @@ shown_row k = Words k.form ∷ Words (bundle_text k.bundle) ∷ []
 -- no row where there is no record, and else a first row that shows it
 abbrev pub ShowsRecord : List Row → Option Kept → Type 0
 ShowsRecord [] o = o ≡ None
-ShowsRecord (row ∷ rows) o = (k : Kept) × (o ≡ Some k) × (row ≡ shown_row k)
+ShowsRecord (row ∷ rows) o = (k : Kept) × (o ≡ Some k) × (row ≡ shown_row k) × IsText k
 
 -- the form and the text that a row shows
 abbrev pub shown_view : Shown → List ℕ × List ℕ

@@ -1,5 +1,6 @@
 -- The records that a database stands for.
-use Rattle.std.specs.Prelude.{◌≡◌, ◌⊎◌, ℕ, ℤ, pos, IsTrue, List, [], ◌∷◌, Some}
+use Rattle.std.specs.Prelude.{◌≡◌, ◌≤◌, ◌⊎◌, ℕ, ℤ, pos, IsTrue, IsUtf8, List, [], ◌∷◌, Some}
+use Rattle.sqlite.specs.Disk.{MoreFaults}
 use Rattle.sqlite.specs.declared.types.Value.TheVariants.{Null, Int, Text as Words, Blob as Raw}
 use Rattle.sqlite.specs.Order.{Row, column}
 use Rattle.sqlite.specs.Tree.{IsTable}
@@ -13,6 +14,10 @@ use Rattle.fv_store.specs.Tables.{no_schema, store_schema}
 abbrev pub record_row : ℤ → List ℕ → Kept → Row
 record_row n id k = Int n ∷ Words id ∷ Words k.form ∷ Words (bundle_text k.bundle) ∷ []
 
+-- the form and the bundle's text are text
+abbrev pub IsText : Kept → Type 0
+IsText k = IsUtf8 k.form × IsUtf8 (bundle_text k.bundle)
+
 -- the row of `about`: its key stands for the rowid and is kept as NULL
 abbrev pub about_row : ℕ → List ℕ → Row
 about_row version declarations = Int (pos 1) ∷ Null ∷ Int (pos version) ∷ Raw declarations ∷ []
@@ -24,6 +29,8 @@ pub record IsRowOf (m : Records) (row : Row) : Type 0 where
   pub kept : Kept
   pub is : row ≡ record_row number id kept
   pub known : m id ≡ Some kept
+  -- what it keeps as text is text
+  pub utf8 : IsText kept
 
 -- the rows are one for each record, in some order
 pub record HasRows (rows : List Row) (m : Records) : Type 0 where
@@ -61,10 +68,6 @@ IsBlank db = db.schema ≡ no_schema
 abbrev pub Opens : State → Contents → Type 0
 Opens s c = (HasCleanDisk s → IsTrue s.is_open → IsBlank s.now × (c.records ≡ no_records)) ⊎ Holds s c
 
--- the database is blank or has these tables
-abbrev pub IsKnown : Database → Type 0
-IsKnown db = IsBlank db ⊎ (db.schema ≡ store_schema)
-
 -- the database is as it was, unless the disk has lied or has shut the connection
 abbrev pub Stays : State → State → Type 0
 Stays old new = HasCleanDisk new → IsTrue new.is_open → HasCleanDisk old × IsTrue old.is_open × (new.now ≡ old.now) × (new.committed ≡ old.committed)
@@ -74,6 +77,10 @@ Stays old new = HasCleanDisk new → IsTrue new.is_open → HasCleanDisk old × 
 pub record Frame (old new : State) : Type 0 where
   pub clean : HasCleanDisk new → HasCleanDisk old
   pub was_open : HasCleanDisk new → IsTrue new.is_open → IsTrue old.is_open
+  -- no fault is forgotten
+  pub counts : old.faults ≤ new.faults
+  -- an open connection is shut only with more faults
+  pub closes : HasCleanDisk new → IsTrue old.is_open → IsTrue new.is_open ⊎ MoreFaults old.faults new.faults
 
 -- open, unless the disk has lied
 abbrev pub IsLive : State → Type 0

@@ -1,18 +1,20 @@
 -- What one statement does to a database, for private clauses.
-use Rattle.std.specs.Prelude.{◌≡◌, ℕ, IsTrue, List, [], Some, None, if◌then◌else◌}
-use Rattle.std.specs.Str.{bytes_eq}
+use Rattle.std.specs.Prelude.{◌≡◌, ◌≢◌, ◌⊎◌, ℕ, ◌+◌, IsTrue, List, [], length, Some, None, IsSome}
 use Rattle.sqlite.specs.Change.{created}
 use Rattle.sqlite.specs.Effect.{Database}
 use Rattle.sqlite.specs.State.{State, HasCleanDisk}
-use Rattle.fv_store.specs.Records.{Records, no_records}
+use Rattle.sqlite.specs.declared.error.Error.{Error}
+use Rattle.sqlite.specs.declared.error.Error.TheVariants.{SqliteFailure}
+use Rattle.sqlite.specs.declared.error.ErrorCode.TheVariants.{OutOfMemory}
+use Rattle.fv_store.specs.declared.change.Change.{Change}
+use Rattle.fv_store.specs.Changes.{after_all}
+use Rattle.fv_store.specs.Causes.{HasFailed, HasRoom}
+use Rattle.fv_store.specs.Records.{Kept, Records, no_records, with_record}
 use Rattle.fv_store.specs.Tables.{no_schema, about_table, store_schema}
 use Rattle.fv_store.specs.Faults.{about_fault, IsAboutFault}
 use Rattle.fv_store.specs.Stands.{HasTables, Spells, IsBlank}
 use Rattle.fv_store.specs.declared.fault.OpenStoreFault.{OpenStoreFault}
-
--- the id has no record, and the others are as before
-abbrev pub without_record : List ℕ → Records → Records
-without_record id m other = if bytes_eq other id then None else m other
+use Rattle.fv_store.specs.declared.fault.OpenStoreFault.TheVariants as refusal
 
 -- a statement was run inside a transaction, which is still open: nothing is committed, and the database has changed so
 pub record Advances (old new : State) (Change : Database → Database → Type 0) : Type 0 where
@@ -21,17 +23,29 @@ pub record Advances (old new : State) (Change : Database → Database → Type 0
   pub committed : new.committed ≡ old.committed
   pub change : Change old.now new.now
 
--- a change of the records that the database spells, where it applies to them
-abbrev pub Makes : (Records → Type 0) → (Records → Records) → Database → Database → Type 0
-Makes Applies change old new = (d : List ℕ) (m : Records) → Spells old d m → Applies m → Spells new d (change m)
+-- a change of the records that the database spells, where it applies to them; so many fewer rows have room then
+abbrev pub Makes : ℕ → (Records → Type 0) → (Records → Records) → Database → Database → Type 0
+Makes taken Applies change old new =
+    (d : List ℕ) (m : Records) → Spells old d m → Applies m → Spells new d (change m) × ((n : ℕ) → HasRoom (n + taken) old → HasRoom n new)
 
 -- to any records
 abbrev pub Always : Records → Type 0
 Always m = Unit {0}
 
+-- these changes in order
+abbrev pub MakesAll : List Change → Database → Database → Type 0
+MakesAll cs = Makes (length cs) Always (after_all cs)
+
 -- to records with none of that id
 abbrev pub Lacks : List ℕ → Records → Type 0
 Lacks id m = m id ≡ None
+
+-- So many rows were updated: one, where the records that the database spells have one of the id, which this one has replaced, and else none.
+abbrev pub Updates : List ℕ → Kept → ℕ → Database → Database → Type 0
+Updates id k count old new =
+    (d : List ℕ) (m : Records) → Spells old d m
+    → ((Lacks id m × (count ≡ 0) × Spells new d m) ⊎ (IsSome (m id) × (count ≡ 1) × Spells new d (with_record id k m)))
+    × ((n : ℕ) → HasRoom n old → HasRoom n new)
 
 -- from databases of one kind to those of another
 abbrev pub Leads : (Database → Type 0) → (Database → Type 0) → Database → Database → Type 0
@@ -65,3 +79,15 @@ IsTaken s given = (version : ℕ) (stored : List ℕ) → HasTables s.now versio
 abbrev pub IsCaused : State → List ℕ → OpenStoreFault → Type 0
 IsCaused s given e = IsAboutFault e → IsTrue s.is_open × (IsBlank s.now → ⊥) × ((version : ℕ) (stored : List ℕ)
     → HasTables s.now version stored → about_fault version stored given ≡ Some e)
+
+-- the database refused, for another cause than want of memory
+abbrev pub IsRefusal : Error → Type 0
+IsRefusal e = e ≢ SqliteFailure OutOfMemory
+
+-- of a refusal only a failure of the disk or a shut connection is the cause
+abbrev pub IsExcused : State → State → Error → Type 0
+IsExcused old new e = IsRefusal e → HasFailed old new
+
+-- the same of a refusal to open a store
+abbrev pub IsOpenExcused : State → State → OpenStoreFault → Type 0
+IsOpenExcused old new e = e ≡ refusal.Store → HasFailed old new

@@ -1,10 +1,11 @@
 //! Changes are made in one transaction.
-ghost use Rattle.std.specs.Prelude.{◌≡◌, false, IsTrue, OnOk, OnErr};
+ghost use Rattle.std.specs.Prelude.{◌≡◌, false, length, IfErr, IsTrue, None, OnOk, OnErr};
 ghost use Rattle.sqlite.specs.State.{HasCleanDisk, KeepsCommit};
-ghost use Rattle.fv_store.specs.Stands.{Frame, IsLive};
+ghost use Rattle.fv_store.specs.Stands.{Frame, IsLive, Spells};
 ghost use Rattle.sqlite.specs.Held.{state};
+ghost use Rattle.fv_store.specs.Causes.{AreShort, HasRoom, PutsShort};
 ghost use Rattle.fv_store.specs.Changes.{after, after_all};
-ghost use Rattle.fv_store.specs.Steps.{Advances, Makes, Always, Keeps};
+ghost use Rattle.fv_store.specs.Steps.{Advances, Makes, MakesAll, Always, IsExcused, Keeps};
 
 use crate::change::Change;
 use crate::records::put_record;
@@ -18,12 +19,18 @@ fn apply<S: Alter>(
     change: &Change,
 ) -> Result<usize, Error>
     ensures same_reference { tx.new.conn.ghost_name ≡ tx.old.conn.ghost_name }
-    ensures clean { HasCleanDisk (state S.Store tx.new.conn.now) → HasCleanDisk (state S.Store tx.old.conn.now) }
+    ensures frame { Frame (state S.Store tx.old.conn.now) (state S.Store tx.new.conn.now) }
+    ensures limit { tx.new.conn.now.step_limit ≡ tx.old.conn.now.step_limit }
     ensures kept { HasCleanDisk (state S.Store tx.new.conn.now) → IsTrue (state S.Store tx.old.conn.now).in_transaction
         → KeepsCommit (state S.Store tx.old.conn.now) (state S.Store tx.new.conn.now) }
     ensures done { HasCleanDisk (state S.Store tx.new.conn.now) → IsTrue (state S.Store tx.old.conn.now).in_transaction
         → OnOk result (Advances (state S.Store tx.old.conn.now) (state S.Store tx.new.conn.now)
-        (Makes Always (after change.now))) }
+        (Makes 1 Always (after change.now))) }
+    ensures cause { HasCleanDisk (state S.Store tx.new.conn.now) → IsTrue (state S.Store tx.old.conn.now).in_transaction
+        → tx.old.conn.now.step_limit ≡ None → IfErr result (λ e. (d : _) (m : _)
+        → Spells (state S.Store tx.old.conn.now).now d m → HasRoom 1 (state S.Store tx.old.conn.now).now
+        → PutsShort change.now
+        → IsExcused (state S.Store tx.old.conn.now) (state S.Store tx.new.conn.now) e) }
 {
     match change {
         Change::Put { id, form, bundle } => {
@@ -39,12 +46,18 @@ fn apply_all<S: Alter>(
     changes: &[Change],
 ) -> Result<(), Error>
     ensures same_reference { tx.new.conn.ghost_name ≡ tx.old.conn.ghost_name }
-    ensures clean { HasCleanDisk (state S.Store tx.new.conn.now) → HasCleanDisk (state S.Store tx.old.conn.now) }
+    ensures frame { Frame (state S.Store tx.old.conn.now) (state S.Store tx.new.conn.now) }
+    ensures limit { tx.new.conn.now.step_limit ≡ tx.old.conn.now.step_limit }
     ensures kept { HasCleanDisk (state S.Store tx.new.conn.now) → IsTrue (state S.Store tx.old.conn.now).in_transaction
         → KeepsCommit (state S.Store tx.old.conn.now) (state S.Store tx.new.conn.now) }
     ensures done { HasCleanDisk (state S.Store tx.new.conn.now) → IsTrue (state S.Store tx.old.conn.now).in_transaction
         → OnOk result (Advances (state S.Store tx.old.conn.now) (state S.Store tx.new.conn.now)
-        (Makes Always (after_all changes.now))) }
+        (MakesAll changes.now)) }
+    ensures cause { HasCleanDisk (state S.Store tx.new.conn.now) → IsTrue (state S.Store tx.old.conn.now).in_transaction
+        → tx.old.conn.now.step_limit ≡ None → IfErr result (λ e. (d : _) (m : _)
+        → Spells (state S.Store tx.old.conn.now).now d m
+        → HasRoom (length changes.now) (state S.Store tx.old.conn.now).now → AreShort changes.now
+        → IsExcused (state S.Store tx.old.conn.now) (state S.Store tx.new.conn.now) e) }
 {
     'changes: for change in changes {
         apply(tx, alloc, change)?;
@@ -61,11 +74,15 @@ pub(crate) fn commit<S: Alter>(
     requires { conn.old.in_transaction ≡ false }
     ensures mode { conn.new.in_transaction ≡ false }
     ensures frame { Frame (state S.Store conn.old) (state S.Store conn.new) }
+    ensures limit { conn.new.step_limit ≡ conn.old.step_limit }
     ensures open { OnOk result (IsLive (state S.Store conn.new)) }
     ensures done { OnOk result ((d : _) (m : _) → Keeps (state S.Store conn.old) d m
         → Keeps (state S.Store conn.new) d (after_all changes.now m)) }
     ensures undone { OnErr result ((d : _) (m : _) → Keeps (state S.Store conn.old) d m
         → Keeps (state S.Store conn.new) d m) }
+    ensures cause { HasCleanDisk (state S.Store conn.new) → conn.old.step_limit ≡ None → IfErr result (λ e.
+        (d : _) (m : _) → Keeps (state S.Store conn.old) d m → HasRoom (length changes.now) (state S.Store conn.old).now
+        → AreShort changes.now → IsExcused (state S.Store conn.old) (state S.Store conn.new) e) }
 {
     let mut tx = conn.transaction();
     apply_all(&mut tx, alloc, changes)?;

@@ -1,10 +1,11 @@
 //! A database is made ready, or is compared with what it is asked to be.
-ghost use Rattle.std.specs.Prelude.{◌≡◌, ◌↔◌, false, IsTrue, IfErr, OnOk, OnErr};
+ghost use Rattle.std.specs.Prelude.{◌≡◌, ◌↔◌, false, IsTrue, IfErr, None, OnOk, OnErr};
 ghost use Rattle.sqlite.specs.State.{HasCleanDisk};
 ghost use Rattle.sqlite.specs.Held.{state};
+ghost use Rattle.fv_store.specs.Causes.{IsShortAbout};
 ghost use Rattle.fv_store.specs.Records.{no_records};
-ghost use Rattle.fv_store.specs.Stands.{IsBlank, IsKnown, Stays, Frame, IsLive};
-ghost use Rattle.fv_store.specs.Steps.{Keeps, IsSettled, IsTaken, IsCaused};
+ghost use Rattle.fv_store.specs.Stands.{HasTables, IsBlank, Stays, Frame, IsLive};
+ghost use Rattle.fv_store.specs.Steps.{Keeps, IsSettled, IsTaken, IsCaused, IsExcused, IsOpenExcused};
 ghost use Rattle.fv_store.specs.Tables.{store_schema};
 
 use crate::about::{agrees, read_about};
@@ -26,10 +27,14 @@ fn create<S: Alter>(conn: &mut Connection<S>, declarations: &[u8]) -> Result<(),
     requires settled { IsSettled (state S.Store conn.old) }
     ensures mode { conn.new.in_transaction ≡ false }
     ensures frame { Frame (state S.Store conn.old) (state S.Store conn.new) }
+    ensures limit { conn.new.step_limit ≡ conn.old.step_limit }
     ensures open { OnOk result (IsLive (state S.Store conn.new)) }
     ensures done { OnOk result (IsBlank (state S.Store conn.old).now
         → Keeps (state S.Store conn.new) declarations.now no_records) }
     ensures undone { OnErr result (Stays (state S.Store conn.old) (state S.Store conn.new)) }
+    ensures cause { HasCleanDisk (state S.Store conn.new) → conn.old.step_limit ≡ None → IfErr result (λ e.
+        IsBlank (state S.Store conn.old).now → IsShortAbout declarations.now
+        → IsExcused (state S.Store conn.old) (state S.Store conn.new) e) }
 {
     let mut tx = conn.transaction();
     create_tables(&mut tx, declarations)?;
@@ -41,13 +46,16 @@ fn create<S: Alter>(conn: &mut Connection<S>, declarations: &[u8]) -> Result<(),
 fn compare<S: Alter>(conn: &mut Connection<S>, declarations: &[u8]) -> Result<(), OpenStoreFault>
     ensures mode { conn.old.in_transaction ≡ false → conn.new.in_transaction ≡ false }
     ensures frame { Frame (state S.Store conn.old) (state S.Store conn.new) }
+    ensures limit { conn.new.step_limit ≡ conn.old.step_limit }
     ensures open { OnOk result (IsLive (state S.Store conn.new)) }
-    ensures untouched { IsSettled (state S.Store conn.old) → (state S.Store conn.old).now.schema ≡ store_schema
-        → Stays (state S.Store conn.old) (state S.Store conn.new) }
+    ensures untouched { IsSettled (state S.Store conn.old) → Stays (state S.Store conn.old) (state S.Store conn.new) }
     ensures taken { HasCleanDisk (state S.Store conn.new)
         → OnOk result (IsTaken (state S.Store conn.old) declarations.now) }
     ensures cause { HasCleanDisk (state S.Store conn.new) → (IsBlank (state S.Store conn.old).now → ⊥)
         → IfErr result (IsCaused (state S.Store conn.old) declarations.now) }
+    ensures store_known { HasCleanDisk (state S.Store conn.new) → conn.old.step_limit ≡ None
+        → IfErr result (λ e. (version : _) (d : _) → HasTables (state S.Store conn.old).now version d
+        → IsOpenExcused (state S.Store conn.old) (state S.Store conn.new) e) }
 {
     let rows = read_about(conn)?;
     match rows.first() {
@@ -64,6 +72,7 @@ pub(crate) fn settle<S: Alter>(
 ) -> Result<(), OpenStoreFault>
     ensures mode { OnOk result (conn.new.in_transaction ≡ false) }
     ensures frame { Frame (state S.Store conn.old) (state S.Store conn.new) }
+    ensures limit { conn.new.step_limit ≡ conn.old.step_limit }
     ensures open { OnOk result (IsLive (state S.Store conn.new)) }
     ensures fresh { OnOk result (IsBlank (state S.Store conn.old).now
         → Keeps (state S.Store conn.new) declarations.now no_records) }
@@ -71,10 +80,16 @@ pub(crate) fn settle<S: Alter>(
         → Stays (state S.Store conn.old) (state S.Store conn.new)) }
     ensures taken { HasCleanDisk (state S.Store conn.new)
         → OnOk result (IsTaken (state S.Store conn.old) declarations.now) }
-    ensures untouched { OnErr result (IsKnown (state S.Store conn.old).now
-        → Stays (state S.Store conn.old) (state S.Store conn.new)) }
+    ensures untouched { OnErr result (Stays (state S.Store conn.old) (state S.Store conn.new)) }
     ensures cause { HasCleanDisk (state S.Store conn.new)
         → IfErr result (IsCaused (state S.Store conn.old) declarations.now) }
+    ensures store_known { HasCleanDisk (state S.Store conn.new) → conn.old.in_transaction ≡ false
+        → conn.old.step_limit ≡ None → IfErr result (λ e. (version : _) (d : _)
+        → HasTables (state S.Store conn.old).now version d
+        → IsOpenExcused (state S.Store conn.old) (state S.Store conn.new) e) }
+    ensures store_blank { HasCleanDisk (state S.Store conn.new) → conn.old.in_transaction ≡ false
+        → conn.old.step_limit ≡ None → IfErr result (λ e. IsBlank (state S.Store conn.old).now
+        → IsShortAbout declarations.now → IsOpenExcused (state S.Store conn.old) (state S.Store conn.new) e) }
 {
     if !conn.is_autocommit() {
         return Err(OpenStoreFault::Store);

@@ -1,11 +1,12 @@
 //! The statements on the rows of `record`.
-ghost use Rattle.std.specs.Prelude.{◌≡◌, false, IsTrue, IfOk, OnOk, option_map};
+ghost use Rattle.std.specs.Prelude.{◌≡◌, false, IsTrue, IfErr, IfOk, OnOk, None, option_map};
 ghost use Rattle.sqlite.specs.State.{HasCleanDisk, KeepsCommit};
 ghost use Rattle.sqlite.specs.Held.{state};
 ghost use Rattle.fv_model.specs.Views.{bundle_view};
 ghost use Rattle.fv_store.specs.Records.{Kept, with_record, bundle_text};
-ghost use Rattle.fv_store.specs.Stands.{Frame, IsLive};
-ghost use Rattle.fv_store.specs.Steps.{without_record, Advances, Makes, Always, Lacks, Keeps};
+ghost use Rattle.fv_store.specs.Causes.{HasRoom, IsShort};
+ghost use Rattle.fv_store.specs.Stands.{Frame, IsLive, Spells};
+ghost use Rattle.fv_store.specs.Steps.{Advances, Makes, Always, IsExcused, Lacks, Keeps, Updates};
 ghost use Rattle.fv_store.specs.Showing.{kept_text, ShowsRecord, shown_view};
 
 use crate::shown::{Shown, shown_in};
@@ -14,23 +15,36 @@ use fv_model::Bundle;
 use sqlite::{Alter, Connection, Error, Row, Transaction, params};
 use std::alloc::Global;
 
-const REMOVE_RECORD: &str = "DELETE FROM record WHERE id = ?1";
+const UPDATE_RECORD: &str = "UPDATE record SET form = ?2, bundle = ?3 WHERE id = ?1";
 
 const INSERT_RECORD: &str = "INSERT INTO record (id, form, bundle) VALUES (?1, ?2, ?3)";
 
 const FIND_RECORD: &str = "SELECT form, bundle FROM record WHERE id = ?1";
 
-/// Takes the record of the id out, if there is one.
-fn remove_record<S: Alter>(tx: &mut Transaction<'_, S>, id: &str) -> Result<usize, Error>
+/// Writes the record in place of the one of that id, if there is one, and counts the rows that it changed: 1, or else 0.
+fn update_record<S: Alter>(
+    tx: &mut Transaction<'_, S>,
+    id: &str,
+    form: &str,
+    text: &str,
+) -> Result<usize, Error>
     ensures same_reference { tx.new.conn.ghost_name ≡ tx.old.conn.ghost_name }
-    ensures clean { HasCleanDisk (state S.Store tx.new.conn.now) → HasCleanDisk (state S.Store tx.old.conn.now) }
+    ensures frame { Frame (state S.Store tx.old.conn.now) (state S.Store tx.new.conn.now) }
+    ensures limit { tx.new.conn.now.step_limit ≡ tx.old.conn.now.step_limit }
     ensures kept { HasCleanDisk (state S.Store tx.new.conn.now) → IsTrue (state S.Store tx.old.conn.now).in_transaction
         → KeepsCommit (state S.Store tx.old.conn.now) (state S.Store tx.new.conn.now) }
     ensures done { HasCleanDisk (state S.Store tx.new.conn.now) → IsTrue (state S.Store tx.old.conn.now).in_transaction
-        → OnOk result (Advances (state S.Store tx.old.conn.now) (state S.Store tx.new.conn.now)
-        (Makes Always (without_record id.now))) }
+        → (k : Kept) → k.form ≡ form.now → bundle_text k.bundle ≡ text.now
+        → IfOk result (λ count. Advances (state S.Store tx.old.conn.now) (state S.Store tx.new.conn.now)
+        (Updates id.now k count)) }
+    ensures cause { HasCleanDisk (state S.Store tx.new.conn.now) → IsTrue (state S.Store tx.old.conn.now).in_transaction
+        → tx.old.conn.now.step_limit ≡ None → IfErr result (λ e. (k : Kept)
+        → k.form ≡ form.now → bundle_text k.bundle ≡ text.now
+        → (d : _) (m : _) → Spells (state S.Store tx.old.conn.now).now d m
+        → HasRoom 0 (state S.Store tx.old.conn.now).now → IsShort id.now k
+        → IsExcused (state S.Store tx.old.conn.now) (state S.Store tx.new.conn.now) e) }
 {
-    tx.execute(REMOVE_RECORD, params![id])
+    tx.execute(UPDATE_RECORD, params![id, form, text])
 }
 
 /// Writes the row of a record whose id has none.
@@ -41,13 +55,20 @@ fn insert_record<S: Alter>(
     text: &str,
 ) -> Result<usize, Error>
     ensures same_reference { tx.new.conn.ghost_name ≡ tx.old.conn.ghost_name }
-    ensures clean { HasCleanDisk (state S.Store tx.new.conn.now) → HasCleanDisk (state S.Store tx.old.conn.now) }
+    ensures frame { Frame (state S.Store tx.old.conn.now) (state S.Store tx.new.conn.now) }
+    ensures limit { tx.new.conn.now.step_limit ≡ tx.old.conn.now.step_limit }
     ensures kept { HasCleanDisk (state S.Store tx.new.conn.now) → IsTrue (state S.Store tx.old.conn.now).in_transaction
         → KeepsCommit (state S.Store tx.old.conn.now) (state S.Store tx.new.conn.now) }
     ensures done { HasCleanDisk (state S.Store tx.new.conn.now) → IsTrue (state S.Store tx.old.conn.now).in_transaction
         → (k : Kept) → k.form ≡ form.now → bundle_text k.bundle ≡ text.now
         → OnOk result (Advances (state S.Store tx.old.conn.now) (state S.Store tx.new.conn.now)
-        (Makes (Lacks id.now) (with_record id.now k))) }
+        (Makes 1 (Lacks id.now) (with_record id.now k))) }
+    ensures cause { HasCleanDisk (state S.Store tx.new.conn.now) → IsTrue (state S.Store tx.old.conn.now).in_transaction
+        → tx.old.conn.now.step_limit ≡ None → IfErr result (λ e. (k : Kept)
+        → k.form ≡ form.now → bundle_text k.bundle ≡ text.now
+        → (d : _) (m : _) → Spells (state S.Store tx.old.conn.now).now d m
+        → Lacks id.now m → HasRoom 1 (state S.Store tx.old.conn.now).now → IsShort id.now k
+        → IsExcused (state S.Store tx.old.conn.now) (state S.Store tx.new.conn.now) e) }
 {
     tx.execute(INSERT_RECORD, params![id, form, text])
 }
@@ -61,26 +82,38 @@ pub(crate) fn put_record<S: Alter>(
     bundle: &Bundle,
 ) -> Result<usize, Error>
     ensures same_reference { tx.new.conn.ghost_name ≡ tx.old.conn.ghost_name }
-    ensures clean { HasCleanDisk (state S.Store tx.new.conn.now) → HasCleanDisk (state S.Store tx.old.conn.now) }
+    ensures frame { Frame (state S.Store tx.old.conn.now) (state S.Store tx.new.conn.now) }
+    ensures limit { tx.new.conn.now.step_limit ≡ tx.old.conn.now.step_limit }
     ensures kept { HasCleanDisk (state S.Store tx.new.conn.now) → IsTrue (state S.Store tx.old.conn.now).in_transaction
         → KeepsCommit (state S.Store tx.old.conn.now) (state S.Store tx.new.conn.now) }
     ensures done { HasCleanDisk (state S.Store tx.new.conn.now) → IsTrue (state S.Store tx.old.conn.now).in_transaction
         → OnOk result (Advances (state S.Store tx.old.conn.now) (state S.Store tx.new.conn.now)
-        (Makes Always (with_record id.now (record { form = form.now; bundle = bundle_view bundle.now })))) }
+        (Makes 1 Always (with_record id.now (record { form = form.now; bundle = bundle_view bundle.now })))) }
+    ensures cause { HasCleanDisk (state S.Store tx.new.conn.now) → IsTrue (state S.Store tx.old.conn.now).in_transaction
+        → tx.old.conn.now.step_limit ≡ None → IfErr result (λ e. (d : _) (m : _)
+        → Spells (state S.Store tx.old.conn.now).now d m → HasRoom 1 (state S.Store tx.old.conn.now).now
+        → IsShort id.now (record { form = form.now; bundle = bundle_view bundle.now })
+        → IsExcused (state S.Store tx.old.conn.now) (state S.Store tx.new.conn.now) e) }
 {
     let text = text_of(alloc, bundle)?;
-    remove_record(tx, id)?;
-    insert_record(tx, id, form, text.as_str())
+    match update_record(tx, id, form, text.as_str())? {
+        0 => insert_record(tx, id, form, text.as_str()),
+        changed => Ok(changed),
+    }
 }
 
 /// The rows that show the record of the id: one, or none.
 fn find_record<S: Alter>(conn: &mut Connection<S>, id: &str) -> Result<Vec<Row>, Error>
     ensures mode { conn.old.in_transaction ≡ false → conn.new.in_transaction ≡ false }
     ensures frame { Frame (state S.Store conn.old) (state S.Store conn.new) }
+    ensures limit { conn.new.step_limit ≡ conn.old.step_limit }
     ensures open { OnOk result (IsLive (state S.Store conn.new)) }
     ensures shown { HasCleanDisk (state S.Store conn.new)
         → IfOk result (λ rows. IsTrue (state S.Store conn.old).is_open
         × ((d : _) (m : _) → Keeps (state S.Store conn.old) d m → ShowsRecord rows.items (m id.now))) }
+    ensures cause { HasCleanDisk (state S.Store conn.new) → conn.old.step_limit ≡ None → IfErr result (λ e.
+        (d : _) (m : _) → Keeps (state S.Store conn.old) d m
+        → IsExcused (state S.Store conn.old) (state S.Store conn.new) e) }
     ensures stays { (d : _) (m : _) → Keeps (state S.Store conn.old) d m → Keeps (state S.Store conn.new) d m }
 {
     conn.query_all(FIND_RECORD, params![id])
@@ -90,10 +123,14 @@ fn find_record<S: Alter>(conn: &mut Connection<S>, id: &str) -> Result<Vec<Row>,
 pub(crate) fn find<S: Alter>(conn: &mut Connection<S>, id: &str) -> Result<Option<Shown>, Error>
     ensures mode { conn.old.in_transaction ≡ false → conn.new.in_transaction ≡ false }
     ensures frame { Frame (state S.Store conn.old) (state S.Store conn.new) }
+    ensures limit { conn.new.step_limit ≡ conn.old.step_limit }
     ensures open { OnOk result (IsLive (state S.Store conn.new)) }
     ensures found { HasCleanDisk (state S.Store conn.new) → IfOk result (λ o. IsTrue (state S.Store conn.old).is_open
         × ((d : _) (m : _) → Keeps (state S.Store conn.old) d m → option_map shown_view o
         ≡ option_map kept_text (m id.now))) }
+    ensures cause { HasCleanDisk (state S.Store conn.new) → conn.old.step_limit ≡ None → IfErr result (λ e.
+        (d : _) (m : _) → Keeps (state S.Store conn.old) d m
+        → IsExcused (state S.Store conn.old) (state S.Store conn.new) e) }
     ensures stays { (d : _) (m : _) → Keeps (state S.Store conn.old) d m → Keeps (state S.Store conn.new) d m }
 {
     let rows = find_record(conn, id)?;

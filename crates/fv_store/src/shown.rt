@@ -1,6 +1,8 @@
 //! What a row shows of a record.
-ghost use Rattle.std.specs.Prelude.{◌≡◌, IfOk};
+ghost use Rattle.std.specs.Prelude.{◌≡◌, IfErr, IfOk};
 ghost use Rattle.fv_store.specs.Records.{Kept};
+ghost use Rattle.fv_store.specs.Stands.{IsText};
+ghost use Rattle.fv_store.specs.Steps.{IsRefusal};
 ghost use Rattle.fv_store.specs.Showing.{kept_text, shown_row, shown_view};
 
 use sqlite::{Error, Row};
@@ -14,7 +16,8 @@ pub(crate) struct Shown {
 
 /// Reads the row that shows a record.
 pub(crate) fn shown_in(row: &Row) -> Result<Shown, Error>
-    ensures { IfOk result (λ s. (k : Kept) → row.now ≡ shown_row k → shown_view s ≡ kept_text k) }
+    ensures shown { IfOk result (λ s. (k : Kept) → row.now ≡ shown_row k → shown_view s ≡ kept_text k) }
+    ensures cause { IfErr result (λ e. (k : Kept) → row.now ≡ shown_row k → IsText k → ¬ IsRefusal e) }
 {
     let form = row.get(0)?;
     let text = row.get(1)?;

@@ -1,10 +1,11 @@
 //! The store.
-ghost use Rattle.std.specs.Prelude.{◌≡◌, ◌≢◌, IfOk, IfErr, OnOk, OnErr, MatchResult, option_map, Some, None};
+ghost use Rattle.std.specs.Prelude.{◌≡◌, ◌≢◌, false, length, IfOk, IfErr, OnOk, OnErr, MatchResult, option_map, Some, None};
 ghost use Rattle.sqlite.specs.State.{HasCleanDisk};
 ghost use Rattle.sqlite.specs.Held.{state};
 ghost use Rattle.fv_model.specs.Views.{types_view};
+ghost use Rattle.fv_store.specs.Causes.{AreShort, HasFailed, HasRoom, IsShortAbout};
 ghost use Rattle.fv_store.specs.Changes.{changed, ChangesFit};
-ghost use Rattle.fv_store.specs.Stands.{Frame, Holds, HasTables, IsKnown, IsLive, Opens, Stays};
+ghost use Rattle.fv_store.specs.Stands.{Frame, Holds, HasTables, IsBlank, IsLive, Opens, Stays};
 ghost use Rattle.fv_store.specs.Faults.{about_fault, IsAboutFault};
 ghost use Rattle.fv_store.specs.Records.{AllFit};
 ghost use Rattle.fv_store.specs.Stored.{stored_view};
@@ -21,7 +22,7 @@ use std::alloc::Global;
 use std::marker::Model;
 
 /// Records by their ids, in a database. Contracts see it as its connection, which is outside a
-/// transaction.
+/// transaction and has no limit on the steps of a statement.
 pub struct Store<S: Alter> {
     connection: Connection<S>,
 }
@@ -33,7 +34,7 @@ impl<S: Alter + Drop> Drop for Store<S> {
 }
 
 impl<S: Alter> Model for Store<S> {
-    ghost use Rattle.std.specs.Prelude.{◌≡◌, false};
+    ghost use Rattle.std.specs.Prelude.{◌≡◌, false, None};
     ghost use Rattle.sqlite.specs.Held.{Held, held_code};
 
     ghost Value = { Held S };
@@ -42,17 +43,20 @@ impl<S: Alter> Model for Store<S> {
 
     ghost view = { λ s. s.connection };
 
-    ghost invariant = { λ s. s.connection.in_transaction ≡ false };
+    ghost invariant = { λ s. (s.connection.in_transaction ≡ false) × (s.connection.step_limit ≡ None) };
 }
 
 impl<S: Alter + Drop> Store<S> {
     /// A store over the database of a connection, under these declarations. A database with no
-    /// table, index or view is given the tables, with no record.
+    /// table, index or view is given the tables, with no record. The connection has no limit on the
+    /// steps of a statement from now on, also where it is handed back.
     ///
     /// Refused by `OtherVersion` for tables of another version, then by `OtherDeclarations` where
-    /// the declarations that are stored are others; by `Store` where the connection is inside a
-    /// transaction, and by `Store` and `Memory` at any place. A refusal hands the connection back,
-    /// its database as it was.
+    /// the declarations that are stored are others; by `Memory` at any place; and by `Store` where the
+    /// connection is inside a transaction or was shut before, where the disk has failed during the
+    /// call, where the declarations are too long, and where the database has other tables and no row of
+    /// declarations, or one of another form. Whether the table of records is of its form isn't looked at.
+    /// A refusal hands the connection back, its database as it was.
     pub fn open(
         mut connection: Connection<S>,
         declarations: &[u8],
@@ -74,10 +78,17 @@ impl<S: Alter + Drop> Store<S> {
         ensures other_declarations { IfErr result (λ e. e.0 ≡ OpenStoreFault.OtherDeclarations
             → HasCleanDisk (state S.Store e.1) → (c : _) → Opens (state S.Store connection) c
             → c.bytes ≢ declarations.now) }
-        ensures untouched { IfErr result (λ e. IsKnown (state S.Store connection).now
-            → Stays (state S.Store connection) (state S.Store e.1)) }
+        ensures store_known { IfErr result (λ e. e.0 ≡ OpenStoreFault.Store → HasCleanDisk (state S.Store e.1)
+            → connection.in_transaction ≡ false → (version : _) (d : _)
+            → HasTables (state S.Store connection).now version d
+            → HasFailed (state S.Store connection) (state S.Store e.1)) }
+        ensures store_blank { IfErr result (λ e. e.0 ≡ OpenStoreFault.Store → HasCleanDisk (state S.Store e.1)
+            → connection.in_transaction ≡ false → IsBlank (state S.Store connection).now
+            → IsShortAbout declarations.now → HasFailed (state S.Store connection) (state S.Store e.1)) }
+        ensures untouched { IfErr result (λ e. Stays (state S.Store connection) (state S.Store e.1)) }
         ensures stays { IfErr result (λ e. (c : _) → Opens (state S.Store connection) c → Opens (state S.Store e.1) c) }
     {
+        connection.set_step_limit(None);
         match settle(&mut connection, declarations) {
             Ok(()) => Ok(Store { connection }),
             Err(fault) => Err((fault, connection)),
@@ -88,7 +99,8 @@ impl<S: Alter + Drop> Store<S> {
 impl<S: Alter> Store<S> {
     /// The record of that id, if there is one, its bundle read under these types.
     ///
-    /// Refused by `Store` and `Memory` at any place.
+    /// Refused by `Memory` at any place, and by `Store` only where the disk has failed during the call
+    /// or the connection was shut before, if the store holds records under these types.
     pub fn get(
         &mut self,
         alloc: Global,
@@ -100,6 +112,9 @@ impl<S: Alter> Store<S> {
         ensures found { HasCleanDisk (state S.Store self.new)
             → IfOk result (λ o. (c : _) → c.types ≡ types_view types.now → Holds (state S.Store self.old) c
             → option_map stored_view o ≡ c.records id.now) }
+        ensures cause { HasCleanDisk (state S.Store self.new) → IfErr result (λ e. e ≡ StoreFault.Store → (c : _)
+            → c.types ≡ types_view types.now → Holds (state S.Store self.old) c
+            → HasFailed (state S.Store self.old) (state S.Store self.new)) }
         ensures stays { (c : _) → Holds (state S.Store self.old) c → Holds (state S.Store self.new) c }
     {
         let shown = find(&mut self.connection, id)?;
@@ -109,7 +124,9 @@ impl<S: Alter> Store<S> {
     /// Makes the changes in order, all of them or none. The records after all of them have to fit;
     /// they do where each change fits.
     ///
-    /// Refused by `Store` and `Memory` at any place.
+    /// Refused by `Memory` at any place, and by `Store` only where the disk has failed during the call
+    /// or the connection was shut before, where no rowids are left or where a record is too long, if
+    /// the store holds records.
     pub fn commit(&mut self, alloc: Global, changes: &[Change]) -> Result<(), StoreFault>
         ensures frame { Frame (state S.Store self.old) (state S.Store self.new) }
         ensures open { OnOk result (IsLive (state S.Store self.new)) }
@@ -118,6 +135,9 @@ impl<S: Alter> Store<S> {
         ensures done { OnOk result ((c : _) → ChangesFit c.types c.roots changes.now → Holds (state S.Store self.old) c
             → Holds (state S.Store self.new) (changed changes.now c)) }
         ensures undone { OnErr result ((c : _) → Holds (state S.Store self.old) c → Holds (state S.Store self.new) c) }
+        ensures cause { HasCleanDisk (state S.Store self.new) → IfErr result (λ e. e ≡ StoreFault.Store → (c : _)
+            → Holds (state S.Store self.old) c → HasRoom (length changes.now) (state S.Store self.old).now
+            → AreShort changes.now → HasFailed (state S.Store self.old) (state S.Store self.new)) }
     {
         Ok(changes::commit(&mut self.connection, alloc, changes)?)
     }

@@ -7,16 +7,17 @@ ghost use Rattle.fv_model.specs.WellTyped.{IsWellTyped};
 ghost use Rattle.fv_store.specs.Records.{bundle_text};
 
 use crate::fault::StoreFault;
-use fv_model::{Bundle, Types, read_bundle, write_bundle};
+use fv_model::{Bundle, Types, read_bundle};
+use fv_text::write_text;
 use serde_json::Value;
 use std::alloc::{AllocError, Global};
 
 /// The text that a bundle is kept as.
+#[tactic(auto, unfolding(crate::specs::Records::bundle_text))]
 pub(crate) fn text_of(alloc: Global, bundle: &Bundle) -> Result<String, AllocError>
     ensures { IfOk result (λ s. string_bytes s ≡ bundle_text (bundle_view bundle.now)) }
 {
-    let value = write_bundle(alloc, bundle)?;
-    value.to_string(alloc)
+    write_text(alloc, bundle)
 }
 
 /// The bundle that a text spells. `Store` where it spells none.

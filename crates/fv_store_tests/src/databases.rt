@@ -1,5 +1,6 @@
 //! Databases that a store takes, with their tables as SQL makes and shows them.
 use crate::transcripts::{check, check_each};
+use std::alloc::Global;
 use std::test::Fail;
 
 #[test]
@@ -64,16 +65,20 @@ const DAMAGES: &str = r#"{damage} := UPDATE record SET bundle = '{' WHERE id = '
 
 {damage} := UPDATE record SET bundle = replace(bundle, '1', '"1"') WHERE id = 'r1'
 
-{damage} := UPDATE record SET form = x'ff' WHERE id = 'r1'"#;
+{damage} := UPDATE record SET form = x'ff' WHERE id = 'r1'
 
-/// Rows that spell no record. The others are found, and a put mends the row.
-#[test]
-fn a_damaged_row_is_refused_by_itself(rt: HostRuntime) -> Result<(), Fail> {
-    check_each(
-        &rt,
-        rt.alloc(),
-        DAMAGES,
-        "
+{damage} := UPDATE record SET bundle = x'ff' WHERE id = 'r1'
+
+{damage} := UPDATE record SET bundle = '{"root":"a","objects":{"a":{"type":"Item"},"9":{"type":"Item"}}}' WHERE id = 'r1'
+
+{damage} := UPDATE record SET bundle = '{"root":"a","objects":{"a":{"type":"Item","fields":{"more":1}}}}' WHERE id = 'r1'
+
+{damage} := UPDATE record SET bundle = '{"root":"a","objects":{"a":{"type":"Item","fields":{"to":"b"}}}}' WHERE id = 'r1'
+
+{damage} := UPDATE record SET bundle = '{"root":"a","objects":{"a":{"type":"Item","fields":{"to":"a"}}}}' WHERE id = 'r1'"#;
+
+/// What is found around a damaged row. A put mends it.
+const AROUND: &str = "
 {about}; {record}
 {first}
 INSERT INTO record VALUES ('r1', 'item', '<1>')
@@ -103,6 +108,28 @@ get r1
 = item <3>
 get r2
 = item <2>
-",
-    )
+";
+
+/// Rows that spell no record. The others are found.
+#[test]
+fn a_damaged_row_is_refused_by_itself(rt: HostRuntime) -> Result<(), Fail> {
+    check_each(&rt, rt.alloc(), DAMAGES, AROUND)
+}
+
+/// A statement that gives the record `r1` a text of 65,537 bytes, one more than may be.
+fn too_long(alloc: Global) -> Result<String, Fail> {
+    let mut text = String::from_str(
+        alloc,
+        r#"{damage} := UPDATE record SET bundle = '{"root":"a","objects":{"a":{"type":"Item","fields":{"name":""#,
+    )?;
+    for _ in 0..65537 {
+        text.push('x')?;
+    }
+    text.push_str("\"}}}}' WHERE id = 'r1'")?;
+    Ok(text)
+}
+
+#[test]
+fn a_row_of_too_long_a_text_is_refused(rt: HostRuntime) -> Result<(), Fail> {
+    check_each(&rt, rt.alloc(), too_long(rt.alloc())?.as_str(), AROUND)
 }

@@ -7,6 +7,8 @@ mod databases;
 #[cfg(test)]
 mod disks;
 #[cfg(test)]
+mod faults;
+#[cfg(test)]
 mod refusals;
 #[cfg(test)]
 mod storing;

@@ -77,7 +77,11 @@ const CHANGES: &str = "{change} := UPDATE about SET version = 2
 
 {change} := UPDATE about SET version = 'first'
 {fault} := Store
-{row} := 1 first [6465636C61726174696F6E73]";
+{row} := 1 first [6465636C61726174696F6E73]
+
+{change} := UPDATE about SET declarations = 'declarations'
+{fault} := Store
+{row} := 1 1 [6465636C61726174696F6E73]";
 
 #[test]
 fn other_rows_are_refused(rt: HostRuntime) -> Result<(), Fail> {

@@ -10,11 +10,13 @@ fn add_field(fields: &mut Fields, alloc: Global, name: &str, held: TypeUse) -> R
     Ok(())
 }
 
-/// A text `name` and an integer `count`.
+/// A text `name`, an integer `count`, and a reference `to` to a `Note`.
 fn fields(alloc: Global) -> Result<Fields, Fail> {
     let mut fields = IndexMap::new(alloc);
     add_field(&mut fields, alloc, "name", TypeUse::Text)?;
     add_field(&mut fields, alloc, "count", TypeUse::Integer)?;
+    let note = String::from_str(alloc, "Note")?;
+    add_field(&mut fields, alloc, "to", TypeUse::Ref(note))?;
     Ok(fields)
 }
 
@@ -32,7 +34,8 @@ fn declared(alloc: Global) -> Result<IndexMap<String, Fields>, Fail> {
     Ok(types)
 }
 
-/// The types `Item` and `Note`, each with a text `name` and an integer `count`.
+/// The types `Item` and `Note`, each with a text `name`, an integer `count`, and a reference `to` to a
+/// `Note`.
 pub(crate) fn item_and_note(alloc: Global) -> Result<Types, Fail> {
     Ok(Types::build(declared(alloc)?)?)
 }

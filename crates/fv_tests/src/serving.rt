@@ -246,6 +246,18 @@ fn long_and_odd_lines_are_answered(rt: HostRuntime) -> Result<(), Fail> {
     check_answered(&rt, rt.alloc(), made, (&input, whole), ODD_ANSWERS)
 }
 
+/// More reads than 2^22, of a byte each: a line that is too long and a get.
+#[test]
+fn many_reads_are_served(rt: HostRuntime) -> Result<(), Fail> {
+    let mut input = Vec::new(rt.alloc());
+    input.resize(4194304, b'x')?;
+    input.extend_from_slice(b"\n{\"do\":\"get\",\"id\":\"r1\"}")?;
+    let made = (DECLARATIONS, [].as_slice());
+    let wanted =
+        "{\"error\":\"C1\",\"name\":\"LineTooLong\"}\n{\"error\":\"C6\",\"name\":\"NoRecord\"}\n";
+    check_answered(&rt, rt.alloc(), made, (&input, (1, NEVER, NEVER)), wanted)
+}
+
 /// Declarations of an event: when it is, a date to come, and a note.
 const EVENTS: &str =
     r#"{"types":{"Event":{"fields":{"when":{"type":"date","constraints":[{"constraint":"Future"}]},"note":{"type":"text"}}}},"forms":{"f":{"root":"Event"}}}"#;

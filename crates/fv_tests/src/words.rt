@@ -22,6 +22,7 @@ const HELP: &str = "Judges and stores the records of a form: command lines in, r
 Usage: formd [COMMAND]
 
 Commands:
+  serve         Answers command lines over a database, under declarations.
   declarations  Reads declarations and prints ok where they are taken.
   help          Print this message or the help of the given subcommand(s)
 
@@ -40,7 +41,18 @@ Options:
   -h, --help  Print help
 ";
 
-const NO_COMMAND: &str = "error: unrecognized subcommand 'serve'
+const SERVE_HELP: &str = "Answers command lines over a database, under declarations.
+
+Usage: formd serve [OPTIONS] --declarations <FILE> --database <FILE>
+
+Options:
+      --declarations <FILE>  The file with the declarations
+      --database <FILE>      The database, made where there is none
+      --now <SECONDS>        The moment of every command, in seconds since 1970 (the machine's clock where not given)
+  -h, --help                 Print help
+";
+
+const NO_COMMAND: &str = "error: unrecognized subcommand 'list'
 
 Usage: formd [COMMAND]
 
@@ -65,6 +77,23 @@ For more information, try '--help'.
 const NOT_UTF8: &str = "error: invalid UTF-8 was detected in one or more arguments
 
 Usage: formd [COMMAND]
+
+For more information, try '--help'.
+";
+
+const NO_FILES: &str = "error: the following required arguments were not provided:
+  --declarations <FILE>
+  --database <FILE>
+
+Usage: formd serve --declarations <FILE> --database <FILE>
+
+For more information, try '--help'.
+";
+
+const NO_DATABASE: &str = "error: the following required arguments were not provided:
+  --database <FILE>
+
+Usage: formd serve --declarations <FILE> --database <FILE>
 
 For more information, try '--help'.
 ";
@@ -116,7 +145,7 @@ fn run_with_house<I: Read, W: Write>(
 }
 
 /// The status of a run of these words, and its complaint.
-fn ran<I: Read, W: Write>(
+pub(crate) fn ran<I: Read, W: Write>(
     host: &HostRuntime,
     words: &str,
     reader: &mut I,
@@ -129,7 +158,7 @@ fn ran<I: Read, W: Write>(
 }
 
 /// A status and the texts on both writers are these.
-fn check_ended(
+pub(crate) fn check_ended(
     rt: &impl Abort,
     words: &str,
     (ended, told, complaint): (u8, &[u8], &[u8]),
@@ -160,7 +189,9 @@ fn no_words_serve_the_demonstration(rt: HostRuntime) -> Result<(), Fail> {
 
 #[test]
 fn words_that_are_not_understood_end_with_status_2(rt: HostRuntime) -> Result<(), Fail> {
-    check(&rt, &rt, "serve", (2, "", NO_COMMAND))?;
+    check(&rt, &rt, "list", (2, "", NO_COMMAND))?;
+    check(&rt, &rt, "serve", (2, "", NO_FILES))?;
+    check(&rt, &rt, "serve\n--declarations\na", (2, "", NO_DATABASE))?;
     check(&rt, &rt, "--now", (2, "", NO_OPTION))?;
     check(&rt, &rt, "declarations", (2, "", NO_FILE))?;
     check(&rt, &rt, "declarations\na\nb", (2, "", TWO_FILES))
@@ -171,6 +202,7 @@ fn words_that_call_for_help_end_with_status_2(rt: HostRuntime) -> Result<(), Fai
     check(&rt, &rt, "--help", (2, "", HELP))?;
     check(&rt, &rt, "-h", (2, "", HELP))?;
     check(&rt, &rt, "help", (2, "", HELP))?;
+    check(&rt, &rt, "serve\n--help", (2, "", SERVE_HELP))?;
     check(&rt, &rt, "declarations\n--help", (2, "", DECLARATIONS_HELP))?;
     check(&rt, &rt, "help\ndeclarations", (2, "", DECLARATIONS_HELP))
 }
@@ -228,7 +260,17 @@ F15 UnknownRule: {"types":{},"forms":{},"constraints":{"C":{"rule":{"object":5}}
 F16 Attribute: {"types":{"T":{"fields":{"f":{"type":"integer","constraints":[{"constraint":"Min"}]}}}},"forms":{}}
 F17 UnexpectedType: {"types":{"T":{"fields":{"f":{"type":"integer","constraints":[{"constraint":"Size"}]}}}},"forms":{}}
 F17 UnexpectedType: {"types":{"T":{"fields":{"f":{"type":"integer","constraints":[{"constraint":"C"}]}}}},"forms":{},"constraints":{"C":{"rule":{"field":1}}}}
+F17 UnexpectedType: {"types":{"T":{"fields":{"f":{"type":"decimal","constraints":[{"constraint":"C"}]}}}},"forms":{},"constraints":{"C":{"rule":{"field":1}}}}
+F17 UnexpectedType: {"types":{"T":{"fields":{"f":{"type":"boolean","constraints":[{"constraint":"C"}]}}}},"forms":{},"constraints":{"C":{"rule":{"field":1}}}}
+F17 UnexpectedType: {"types":{"T":{"fields":{"f":{"type":"date","constraints":[{"constraint":"C"}]}}}},"forms":{},"constraints":{"C":{"rule":{"field":1}}}}
+F17 UnexpectedType: {"types":{"T":{"fields":{"f":{"type":"instant","constraints":[{"constraint":"C"}]}}}},"forms":{},"constraints":{"C":{"rule":{"field":1}}}}
+F17 UnexpectedType: {"types":{"T":{"fields":{"f":{"type":{"ref":"T"},"constraints":[{"constraint":"C"}]}}}},"forms":{},"constraints":{"C":{"rule":{"field":1}}}}
+F17 UnexpectedType: {"types":{"T":{"fields":{"f":{"type":"integer","constraints":[{"constraint":"C","with":{"words":[]}}]}}}},"forms":{},"constraints":{"C":{"attributes":{"words":{"kind":"texts"}},"rule":{"field":2}}}}
+F17 UnexpectedType: {"types":{"T":{"fields":{"f":{"type":"decimal","constraints":[{"constraint":"C","with":{"words":[]}}]}}}},"forms":{},"constraints":{"C":{"attributes":{"words":{"kind":"texts"}},"rule":{"field":2}}}}
+F17 UnexpectedType: {"types":{"T":{"fields":{"f":{"type":"boolean","constraints":[{"constraint":"C","with":{"words":[]}}]}}}},"forms":{},"constraints":{"C":{"attributes":{"words":{"kind":"texts"}},"rule":{"field":2}}}}
 F17 UnexpectedType: {"types":{"T":{"fields":{"f":{"type":"date","constraints":[{"constraint":"C","with":{"words":[]}}]}}}},"forms":{},"constraints":{"C":{"attributes":{"words":{"kind":"texts"}},"rule":{"field":2}}}}
+F17 UnexpectedType: {"types":{"T":{"fields":{"f":{"type":"instant","constraints":[{"constraint":"C","with":{"words":[]}}]}}}},"forms":{},"constraints":{"C":{"attributes":{"words":{"kind":"texts"}},"rule":{"field":2}}}}
+F17 UnexpectedType: {"types":{"T":{"fields":{"f":{"type":{"ref":"T"},"constraints":[{"constraint":"C","with":{"words":[]}}]}}}},"forms":{},"constraints":{"C":{"attributes":{"words":{"kind":"texts"}},"rule":{"field":2}}}}
 F17 UnexpectedType: {"types":{"T":{"fields":{"f":{"type":"text","constraints":[{"constraint":"C"}]}}}},"forms":{},"constraints":{"C":{"rule":{"object":3}}}}
 F17 UnexpectedType: {"types":{"T":{"fields":{},"constraints":[{"constraint":"C"}]}},"forms":{},"constraints":{"C":{"rule":{"field":1}}}}
 F18 BadPattern: {"types":{"T":{"fields":{"f":{"type":"text","constraints":[{"constraint":"Pattern","with":{"regexp":"("}}]}}}},"forms":{}}
@@ -272,7 +314,7 @@ fn too_many_forms_are_refused(rt: HostRuntime) -> Result<(), Fail> {
     )
 }
 
-const NOT_READ: &str = "formd: cannot read declarations\n";
+pub(crate) const NOT_READ: &str = "formd: cannot read declarations\n";
 
 /// So many spaces.
 fn spaces(alloc: Global, count: usize) -> Result<Vec<u8>, Fail> {

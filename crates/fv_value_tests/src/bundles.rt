@@ -2,6 +2,7 @@
 use crate::given::{built, check, check_that};
 use fv_datum::Datum;
 use fv_model::{Bundle, BundleFault, Types, read_bundle, write_bundle};
+use fv_text::write_text;
 use serde_json::Value;
 use std::alloc::Global;
 use std::test::Fail;
@@ -99,6 +100,31 @@ fn objects_and_fields_are_found_by_their_names(rt: HostRuntime) -> Result<(), Fa
     Ok(())
 }
 
+/// Types with fields in the order of their names, and one whose fields are in another.
+const ORDERED: &str =
+    "All = active: B, born: E, count: I, note: T, price: D, seen: M, to: &All\nItem = name: T, count: I";
+
+/// Bundles and their texts: data of each kind, the least and the greatest number, what has to be
+/// escaped, objects and fields that are given in another order.
+const TEXTS: &str = r#"
+{"root":"a","objects":{"a":{"type":"All"}}} => {"objects":{"a":{"fields":{},"type":"All"}},"root":"a"}
+{"objects":{"a":{"fields":{"to":"a","seen":-62135596800,"price":"-0.50","note":"a\"b\\c\u0001\u00e9\ud83d\ude00\n\/","count":-9223372036854775808,"born":"2024-02-29","active":false},"type":"All"}},"root":"a"} => {"objects":{"a":{"fields":{"active":false,"born":"2024-02-29","count":-9223372036854775808,"note":"a\"b\\c\u0001é😀\n/","price":"-0.50","seen":-62135596800,"to":"a"},"type":"All"}},"root":"a"}
+{"root":"b","objects":{"b":{"type":"All","fields":{"active":true,"note":null,"to":"a"}},"a":{"type":"All","fields":{"count":9223372036854775807}}}} => {"objects":{"a":{"fields":{"count":9223372036854775807},"type":"All"},"b":{"fields":{"active":true,"to":"a"},"type":"All"}},"root":"b"}
+{"root":"a","objects":{"a":{"type":"Item","fields":{"name":"x","count":1}}}} => {"objects":{"a":{"fields":{"count":1,"name":"x"},"type":"Item"}},"root":"a"}
+"#;
+
+#[test]
+fn bundles_are_written_as_texts(rt: HostRuntime) -> Result<(), Fail> {
+    let types = built(rt.alloc(), ORDERED)?;
+    for row in TEXTS.trim().lines() {
+        let (given, wanted) = row.split_once(" => ").ok_or("a row")?;
+        let bundle = bundle_of(rt.alloc(), &types, "", given)?;
+        let written = write_text(rt.alloc(), &bundle)?;
+        check(&rt, written.as_str(), wanted, given);
+    }
+    Ok(())
+}
+
 /// Items for the numbers from 1000 to 1255, with commas between: `#` in an item is the number.
 fn items(alloc: Global, item: &str, comma: &str) -> Result<String, Fail> {
     let mut text = String::new(alloc);
@@ -136,5 +162,7 @@ fn all_objects_refer_to_all(rt: HostRuntime) -> Result<(), Fail> {
     let bundle = bundle_of(rt.alloc(), &types, "Hub", text.as_str())?;
     let written = write_bundle(rt.alloc(), &bundle)?.to_string(rt.alloc())?;
     check_that(&rt, written.as_str() == text.as_str(), "the net");
+    let written = write_text(rt.alloc(), &bundle)?;
+    check_that(&rt, written.as_str() == text.as_str(), "its text");
     Ok(())
 }

@@ -93,6 +93,28 @@ fn data_of_all_kinds_are_written_and_copied(rt: HostRuntime) -> Result<(), Fail>
     Ok(())
 }
 
+/// A list of 2,000 numbers, and the list as JSON.
+fn long_list(alloc: Global) -> Result<(Datum, String), Fail> {
+    let mut items = Vec::new(alloc);
+    let mut text = String::from_str(alloc, "[0")?;
+    items.push(Datum::Integer(0))?;
+    for number in 1..2000 {
+        items.push(Datum::Integer(number))?;
+        write!(text, ",{number}")?;
+    }
+    text.push(']')?;
+    Ok((Datum::List(items), text))
+}
+
+#[test]
+fn long_lists_are_copied_whole(rt: HostRuntime) -> Result<(), Fail> {
+    let (list, wanted) = long_list(rt.alloc())?;
+    let copy = list.copy(rt.alloc())?;
+    let found = written(rt.alloc(), &copy)?;
+    check(&rt, found.as_str(), wanted.as_str(), "a copy");
+    Ok(())
+}
+
 /// Whether a datum is null or passes one of the rules of texts.
 fn passes(datum: &Datum, attrs: &Attrs) -> bool {
     luhn(datum) || one_of(datum, attrs) || is_null(datum)

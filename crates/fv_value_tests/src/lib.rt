@@ -12,6 +12,8 @@ mod constraints;
 #[cfg(test)]
 mod data;
 #[cfg(test)]
+mod faults;
+#[cfg(test)]
 mod given;
 #[cfg(test)]
 mod house;

@@ -1,13 +1,12 @@
-ghost use Rattle.std.specs.Prelude.{◌≡◌};
+ghost use Rattle.std.specs.Prelude.{◌≡◌, ◌≤◌, ◌<◌, pos};
 ghost use Rattle.fv_datum.specs.Moments.{IsMoment};
 
 use fv_datum::{LAST_MOMENT, moment_ok};
 use fv_engine::Clock;
 use std::rt::Clock as TimeSource;
-use std::time::{SystemTime, UNIX_EPOCH};
 
-/// The machine's clock, clamped to the range of moments. Where it fails, or stands before 1970, it
-/// gives its last answer, 0 at first.
+/// The machine's clock, clamped to the range of moments. Where it fails, as where it stands before
+/// 1970, it gives its last answer, 0 at first.
 pub struct MachineClock<'a, T: TimeSource> {
     source: &'a T,
     last: i64,
@@ -29,7 +28,9 @@ impl<T: TimeSource> Drop for MachineClock<'_, T> {
 
 /// Seconds since 1970-01-01T00:00:00Z as a moment: those past the last are the last.
 fn clamped(seconds: u64) -> i64
-    ensures { IsMoment result }
+    ensures moment { IsMoment result }
+    ensures within { seconds ≤ 253402128000 → result ≡ pos seconds }
+    ensures past { 253402128000 < seconds → result ≡ pos 253402128000 }
 {
     match i64::try_from(seconds) {
         Ok(seconds) => if moment_ok(seconds) {
@@ -45,10 +46,8 @@ impl<T: TimeSource> Clock for MachineClock<'_, T> {
     ghost ticks = { λ _ moment new. new.last ≡ moment };
 
     fn now(&mut self) -> i64 {
-        if let Ok(time) = SystemTime::now(self.source) {
-            if let Ok(passed) = time.duration_since(UNIX_EPOCH) {
-                self.last = clamped(passed.as_secs());
-            }
+        if let Ok(passed) = self.source.since_1970() {
+            self.last = clamped(passed.as_secs());
         }
         self.last
     }

@@ -1,6 +1,7 @@
 //! The demonstration: declarations of one form of one type, with three constraints.
 use crate::failure::Failure;
-use fv_engine::{Engine, FixedClock, serve};
+use crate::serving::answer_over;
+use fv_engine::FixedClock;
 use fv_registry::RuleSet;
 use sqlite::Connection;
 use std::alloc::Global;
@@ -21,10 +22,15 @@ pub(crate) fn serve_demonstration<R: RuleSet + Drop, I: Read, W: Write>(
     let Ok(connection) = Connection::open_in_memory(alloc) else {
         return Err(Failure::Memory);
     };
-    let mut engine = match Engine::open(alloc, registry, DECLARATIONS, connection) {
-        Ok(engine) => engine,
-        Err((fault, _)) => return Err(Failure::from(fault)),
-    };
-    serve(alloc, &mut engine, reader, output, &mut FixedClock::new(0))?;
-    Ok(())
+    let clock = &mut FixedClock::new(0);
+    let (_, served) = answer_over(
+        alloc,
+        registry,
+        DECLARATIONS,
+        connection,
+        reader,
+        output,
+        clock,
+    );
+    served
 }

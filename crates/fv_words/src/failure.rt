@@ -20,6 +20,8 @@ pub enum Failure {
     NotUtf8,
     /// The file of the declarations can't be read.
     Unreadable,
+    /// The database's file can't be opened or made, is in use, or holds no sound database.
+    CannotOpen,
     /// The declarations aren't taken.
     Declarations(DeclFault),
     /// The database isn't taken.
@@ -91,6 +93,7 @@ impl Failure {
         let _ = match self {
             Failure::NotUtf8 => write!(error, "{NOT_UTF8}"),
             Failure::Unreadable => writeln!(error, "formd: cannot read declarations"),
+            Failure::CannotOpen => writeln!(error, "formd: cannot open database"),
             Failure::Declarations(fault) => {
                 let code = fault.code();
                 let name = fault.name();

@@ -8,6 +8,7 @@ mod failure;
 mod files;
 mod given;
 mod running;
+mod serving;
 mod words;
 
 pub use clocks::MachineClock;

@@ -1,6 +1,7 @@
 use crate::declarations::check_declarations;
 use crate::demonstration::serve_demonstration;
 use crate::failure::Failure;
+use crate::serving::serve_files;
 use crate::words::{Task, task_of};
 use clap::Error;
 use clap::error::ErrorKind;
@@ -18,27 +19,32 @@ fn report_words<E: Write>(refused: &Error, error: &mut E) -> u8 {
 }
 
 /// Does what is asked.
-fn run_task<R: RuleSet + Drop, I: Read, W: Write>(
+fn run_task<R: RuleSet + Drop, I: Read, W: Write, C: Clock>(
     rt: &HostRuntime,
     task: Task<'_>,
     registry: R,
     reader: &mut I,
     output: &mut W,
+    clock: &mut C,
 ) -> Result<(), Failure>
     requires { R.means registry }
 {
     match task {
         Task::Demonstration => serve_demonstration(rt.alloc(), registry, reader, output),
         Task::Declarations(path) => check_declarations(rt.alloc(), rt, path, &registry, output),
+        Task::Serve(service) => serve_files(rt, service, registry, reader, output, clock),
     }
 }
 
 /// Does what the words ask, without the program's name: without words it serves the demonstration's
 /// declarations over a database in memory at the moment 0, the reader to the output writer;
-/// `declarations F` prints `ok` where the declarations of the file F are taken.
+/// `declarations F` prints `ok` where the declarations of the file F are taken;
+/// `serve --declarations F --database G [--now N]` serves those of the file F over the database at
+/// the path G, at the moment N or at those of the clock.
 ///
 /// Gives the exit status: 0 done; 2 the words weren't understood, or call for help, with a text on
-/// the error writer; 3 and 4 with a line there.
+/// the error writer; 3 where the declarations are refused and 4 for any other failure, with a line
+/// there.
 pub fn run_words<R: RuleSet + Drop, I: Read, W: Write, E: Write, C: Clock>(
     rt: &HostRuntime,
     words: &[String],
@@ -46,7 +52,7 @@ pub fn run_words<R: RuleSet + Drop, I: Read, W: Write, E: Write, C: Clock>(
     reader: &mut I,
     output: &mut W,
     error: &mut E,
-    _clock: &mut C,
+    clock: &mut C,
 ) -> u8
     requires { R.means registry }
 {
@@ -54,7 +60,7 @@ pub fn run_words<R: RuleSet + Drop, I: Read, W: Write, E: Write, C: Clock>(
         Ok(task) => task,
         Err(refused) => return report_words(&refused, error),
     };
-    match run_task(rt, task, registry, reader, output) {
+    match run_task(rt, task, registry, reader, output, clock) {
         Ok(()) => 0,
         Err(failure) => failure.report(error),
     }

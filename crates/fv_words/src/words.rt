@@ -1,39 +1,116 @@
-use clap::{Arg, Command, Error};
+use clap::error::ErrorKind;
+use clap::{Arg, ArgMatches, Command, Error, value_parser};
+use fv_datum::moment_ok;
+use fv_engine::FixedClock;
 use std::alloc::Global;
 
 /// What the words ask.
-#[derive(Clone, Copy, Debug, PartialEq, Eq)]
+#[derive(Drop)]
 pub(crate) enum Task<'a> {
     /// Serve the demonstration's declarations.
     Demonstration,
     /// Say whether the declarations of the file at this path are taken.
     Declarations(&'a str),
+    /// Serve declarations over a database.
+    Serve(Service<'a>),
 }
 
-/// The words that the program knows.
-fn command<'a>(alloc: Global) -> Result<Command<'a>, Error> {
+/// What is served.
+#[derive(Drop)]
+pub(crate) struct Service<'a> {
+    /// The path of the file with the declarations.
+    pub(crate) declarations: &'a str,
+    /// The path of the database.
+    pub(crate) database: &'a str,
+    /// The clock that stands at the moment that was given, if one was.
+    pub(crate) clock: Option<FixedClock>,
+}
+
+/// `declarations FILE`.
+fn declarations_command<'a>(alloc: Global) -> Result<Command<'a>, Error> {
     let file = Arg::new(alloc, "file")
         .value_name("FILE")
         .required(true)
         .help("The file with the declarations");
-    let declarations = Command::new(alloc, "declarations")
-        .about("Reads declarations and prints ok where they are taken.")
-        .arg(file)?;
+    Ok(
+        Command::new(alloc, "declarations")
+            .about("Reads declarations and prints ok where they are taken.")
+            .arg(file)?,
+    )
+}
+
+/// `serve --declarations FILE --database FILE [--now SECONDS]`.
+fn serve_command<'a>(alloc: Global) -> Result<Command<'a>, Error> {
+    let declarations = Arg::new(alloc, "declarations")
+        .long("declarations")
+        .value_name("FILE")
+        .required(true)
+        .help("The file with the declarations");
+    let database = Arg::new(alloc, "database")
+        .long("database")
+        .value_name("FILE")
+        .required(true)
+        .help("The database, made where there is none");
+    let now = Arg::new(alloc, "now")
+        .long("now")
+        .value_name("SECONDS")
+        .value_parser(value_parser!(i64))
+        .help(
+            "The moment of every command, in seconds since 1970 (the machine's clock where not given)",
+        );
+    Ok(
+        Command::new(alloc, "serve")
+            .about("Answers command lines over a database, under declarations.")
+            .arg(declarations)?
+            .arg(database)?
+            .arg(now)?,
+    )
+}
+
+/// The words that the program knows.
+fn command<'a>(alloc: Global) -> Result<Command<'a>, Error> {
     Ok(
         Command::new(alloc, "formd")
             .about("Judges and stores the records of a form: command lines in, replies out.")
             .bin_name("formd")?
             .no_binary_name(true)
-            .subcommand(declarations)?,
+            .subcommand(serve_command(alloc)?)?
+            .subcommand(declarations_command(alloc)?)?,
     )
+}
+
+/// The clock that stands at a moment; refused where the seconds are none.
+fn clock_at(alloc: Global, seconds: i64) -> Result<FixedClock, Error> {
+    if moment_ok(seconds) {
+        return Ok(FixedClock::new(seconds));
+    }
+    let text = format!(in alloc;
+        "invalid value '{seconds}' for '--now <SECONDS>': it lies outside 0001-01-01T00:00:00Z to 9999-12-30T00:00:00Z"
+    )?;
+    let mut command = serve_command(alloc)?.bin_name("formd serve")?;
+    Err(command.error(ErrorKind::ValueValidation, text.as_str())?)
+}
+
+/// What `serve` asks.
+fn service_of<'a>(alloc: Global, given: &ArgMatches<'a>) -> Result<Service<'a>, Error> {
+    let clock = match given.get_one::<i64>("now") {
+        None => None,
+        Some(seconds) => Some(clock_at(alloc, seconds)?),
+    };
+    Ok(Service {
+        declarations: given.get_str("declarations").unwrap_or(""),
+        database: given.get_str("database").unwrap_or(""),
+        clock,
+    })
 }
 
 /// What the words ask, without the program's name. Refused by their text for the user, also where
 /// they call for help, or for want of memory.
 pub(crate) fn task_of<'a>(alloc: Global, words: &'a [String]) -> Result<Task<'a>, Error> {
     let matches = command(alloc)?.try_get_matches_from(words)?;
-    match matches.subcommand_matches("declarations") {
+    match matches.subcommand() {
+        Some(("serve", given)) => Ok(Task::Serve(service_of(alloc, given)?)),
+        Some((_, given)) => Ok(Task::Declarations(given.get_str("file").unwrap_or(""))),
         None => Ok(Task::Demonstration),
-        Some(given) => Ok(Task::Declarations(given.get_str("file").unwrap_or(""))),
     }
 }

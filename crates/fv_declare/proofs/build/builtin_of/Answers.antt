@@ -5,10 +5,10 @@ use Rattle.fv_declare.proofs.build.builtin_of.Goals as goal
 
 pub unreachable-requires : goal.unreachable-requires
 unreachable-requires c =
-    not_other c.args.which c.args.plan.now.with.now c.args.kind Attribute (answer_view c.read.result) c.requires.attributes c.requires.kind tt
-    (refused_as c.read.result c.in-Err-Attribute.field-0 Attribute c.in-Err-Attribute.is c.in-Err-Attribute.field-0-is) (c.read.ensures c.args.which c.requires.named)
+    not_other c.args.which c.args.plan.now.with.now c.args.kind Attribute (answer_view c.read_named.result) c.requires.attributes c.requires.kind tt
+    (refused_as c.read_named.result c.in-Err-Attribute.field-0 Attribute c.in-Err-Attribute.is c.in-Err-Attribute.field-0-is) c.read_named.ensures
 
 pub unreachable-requires-in-Err-UnexpectedType : goal.unreachable-requires-in-Err-UnexpectedType
 unreachable-requires-in-Err-UnexpectedType c =
-    not_other c.args.which c.args.plan.now.with.now c.args.kind UnexpectedType (answer_view c.read.result) c.requires.attributes c.requires.kind tt
-    (refused_as c.read.result c.in-Err-UnexpectedType.field-0 UnexpectedType c.in-Err-UnexpectedType.is c.in-Err-UnexpectedType.field-0-is) (c.read.ensures c.args.which c.requires.named)
+    not_other c.args.which c.args.plan.now.with.now c.args.kind UnexpectedType (answer_view c.read_named.result) c.requires.attributes c.requires.kind tt
+    (refused_as c.read_named.result c.in-Err-UnexpectedType.field-0 UnexpectedType c.in-Err-UnexpectedType.is c.in-Err-UnexpectedType.field-0-is) c.read_named.ensures

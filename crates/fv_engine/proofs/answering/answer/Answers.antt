@@ -3,7 +3,7 @@ use Rattle.std.proofs.lemmas.Int.{to_z-of_z}
 use mir.Syntax.{w64}
 use Rattle.sqlite.specs.Held.{state}
 use Rattle.fv_declare.specs.Declarations.{Declarations}
-use Rattle.fv_engine.specs.Requests.{Request, or_shape}
+use Rattle.fv_engine.specs.Commands.{Request, or_shape}
 use Rattle.fv_engine.specs.Step.{Handles}
 use Rattle.fv_reply.specs.Answers.{refused}
 use Rattle.fv_reply.specs.declared.answer.Refusal.TheVariants.{Shape}
@@ -11,7 +11,7 @@ use Rattle.fv_engine.proofs.Becoming.{rests, stays_itself, asked_of}
 use Rattle.fv_engine.proofs.answering.answer.Goals as goal
 
 pub returns-in-None : goal.returns-in-None
-returns-in-None g c = rests (state g.S.Store) _ _ (λ x. subst (λ (o : Option Request). Handles g.R.RuleSet.meaning c.args.now (or_shape o) x (refused Shape) x) c.in-None.ensures (inl (refl, stays_itself x)))
+returns-in-None g c = rests (state g.S.Store) _ _ (λ x. subst (λ (o : Option Request). Handles g.R.RuleSet.meaning c.args.now (or_shape o) x (refused Shape) x) c.in-None.ensures (inl ((refl, stays_itself x), tt)))
 
 pub returns-in-Some-Put : goal.returns-in-Some-Put
 returns-in-Some-Put g c = asked_of (state g.S.Store) _ _ g.R.RuleSet.meaning c.args.now _ _ _ (rw c.in-Some-Put.field-0-is at c.in-Some-Put.ensures) (rw (to_z-of_z w64 c.args.now c.ranges.now) at c.put.ensures)

@@ -1,11 +1,13 @@
-use Rattle.std.proofs.Common.{inr, refl, subst}
+use Rattle.std.proofs.Common.{ℕ, inr, refl, sym, subst}
 use Rattle.sqlite.specs.Held.{state}
 use Rattle.fv_model.specs.Views.{bundle_view}
 use Rattle.fv_reply.specs.declared.answer.Refusal.TheVariants.{Memory}
 use Rattle.fv_store.specs.Records.{Kept, Records}
+use Rattle.fv_store.specs.Causes.{HasRoom}
 use Rattle.fv_store.specs.Stands.{Holds}
 use Rattle.fv_engine.specs.Machines.{contents}
-use Rattle.fv_engine.proofs.Becoming.{rests, stays_itself, stored, unchanged}
+use Rattle.fv_engine.proofs.Becoming.{rests, stays_itself, stored, unchanged, fails_so}
+use Rattle.fv_engine.proofs.Rooms.{room_for_one}
 use Rattle.fv_engine.proofs.answering.keep.Goals as goal
 
 pub returns-in-Err : goal.returns-in-Err
@@ -21,5 +23,12 @@ returns-in-Ok-commit g c = λ ds fits.
 
 pub returns : goal.returns
 returns g c = λ ds fits.
-    unchanged (state g.S.Store) ds _ _ c.in-Err-commit.ensures.frame _ (λ clean bytes m holds stay. inr (c.undone.result, c.undone.ensures.fails, refl, stay))
+    let cause = rw c.deref.ensures.value at c.in-Err-commit.ensures.cause in
+    unchanged (state g.S.Store) ds _ _ c.in-Err-commit.ensures.frame _ (λ clean bytes m holds stay. inr (
+      c.undone.result,
+      fails_so c.in-Err-commit.fault c.undone.result _ c.undone.ensures.store c.undone.ensures.memory (λ is room. cause clean is (contents bytes ds m) holds
+          (subst (λ (n : ℕ). HasRoom n (state g.S.Store c.args.store.now).now) (sym c.in-Ok.ensures.one) (room_for_one _ room.0)) (c.in-Ok.ensures.short room.1)),
+      refl,
+      stay,
+    ))
     (λ bytes m holds. c.in-Err-commit.ensures.undone (contents bytes ds m) holds)

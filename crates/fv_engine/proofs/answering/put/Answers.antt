@@ -5,7 +5,7 @@ use Rattle.sqlite.specs.Held.{state}
 use Rattle.fv_datum.specs.Lookup.{at_name}
 use Rattle.serde_json.specs.View.{view as json_view}
 use Rattle.fv_model.specs.Views.{bundle_view}
-use Rattle.fv_engine.proofs.Becoming.{unmoved, turned_so, put_unread, put_unknown, put_judged, declared_when}
+use Rattle.fv_engine.proofs.Becoming.{unmoved, becomes_so, put_unread, put_unknown, put_judged, declared_when}
 use Rattle.fv_engine.proofs.answering.put.Goals as goal
 
 pub returns-in-Err : goal.returns-in-Err
@@ -27,7 +27,7 @@ returns-in-Some g c =
     let ds = c.args.book.now in
     let read = rw (c.types.ensures, c.root_of-root.ensures, c.schema-schema.ensures) at c.in-Ok.ensures.exact in
     let some = sym (rw c.schema-schema.ensures at c.in-Some.ensures) in
-    turned_so (state g.S.Store) ds _ _ _ _
+    becomes_so (state g.S.Store) ds _ _ _ _
     (λ m n settled. put_judged g.R.RuleSet.meaning c.args.now c.args.id.now c.args.form.now (json_view c.args.bundle.now) _ _ (bundle_view c.in-Ok.bundle) _ _ read some settled)
     (rw (to_z-of_z w64 c.args.now c.ranges.now) at c.judge.ensures)
 

@@ -5,7 +5,7 @@ use Rattle.sqlite.specs.Held.{state}
 use Rattle.serde_json.specs.Data as json
 use Rattle.fv_datum.specs.Parsing.{json_of}
 use Rattle.fv_engine.specs.Machines.{over, Becomes}
-use Rattle.fv_engine.specs.Requests.{of_json}
+use Rattle.fv_engine.specs.Commands.{of_json}
 use Rattle.fv_engine.specs.Keeping.{Replies}
 use Rattle.fv_reply.specs.Answers.{refused}
 use Rattle.fv_reply.specs.declared.answer.Refusal.TheVariants.{NotJson, Memory}
@@ -20,7 +20,7 @@ returns-in-Ok g c =
 pub returns-in-Err-NotJson : goal.returns-in-Err-NotJson
 returns-in-Err-NotJson g c = rests (state g.S.Store) _ _ (λ x.
     subst (λ (o : Option json.Data). Replies g.R.RuleSet.meaning c.args.now (of_json o) x c.refused.result x) (sym (c.in-Err-NotJson.ensures.not_json (ap (λ e. Err e) c.in-Err-NotJson.field-0-is)))
-    (told_answer g.R.RuleSet.meaning c.args.now _ refl x x (refused NotJson) _ c.refused.ensures (inl (refl, stays_itself x))))
+    (told_answer g.R.RuleSet.meaning c.args.now _ refl x x (refused NotJson) _ c.refused.ensures (inl ((refl, stays_itself x), tt))))
 
 pub returns-in-Err-Memory : goal.returns-in-Err-Memory
 returns-in-Err-Memory g c = rests (state g.S.Store) _ _ (λ x.

@@ -1,6 +1,8 @@
 use Rattle.sqlite.specs.Held.{state}
-use Rattle.fv_store.proofs.Queries.{about_first}
-use Rattle.fv_store.proofs.Openings.{taken_all, caused_all}
+use Rattle.fv_store.specs.Faults.{open_fault_of}
+use Rattle.fv_store.proofs.Queries.{about_first, about_never}
+use Rattle.fv_store.proofs.Openings.{taken_all, caused_all, excused_all, is_refusal}
+use Rattle.fv_store.proofs.Refusals.{handed_on}
 use Rattle.fv_store.proofs.opening.compare.Goals as goal
 
 pub returns-in-Some-clause-taken : goal.returns-in-Some-clause-taken
@@ -12,3 +14,17 @@ pub returns-in-Some-clause-cause : goal.returns-in-Some-clause-cause
 returns-in-Some-clause-cause g c clean filled =
     caused_all (state g.S.Store c.args.conn.now) c.agrees.result c.args.declarations.now (c.in_ok-rows.ensures.shown clean).0 filled
     (λ version d tells. c.agrees.ensures version d (about_first _ version d c.in-Some.row.now (rw (c.in-Some.is, c.deref.ensures.value) at c.first.ensures.value) ((c.in_ok-rows.ensures.shown clean).1 version d tells)))
+
+pub returns-in_err-rows-clause-store_known : goal.returns-in_err-rows-clause-store_known
+returns-in_err-rows-clause-store_known g c clean none =
+    handed_on _ c.from_residual.result (open_fault_of c.in_err-rows.field-0.0) c.from_residual.ensures.1
+    (λ version d tells is. c.in_err-rows.ensures.cause clean none tells.schema (is_refusal c.in_err-rows.field-0.0 is))
+
+pub returns-in-Some-clause-store_known : goal.returns-in-Some-clause-store_known
+returns-in-Some-clause-store_known g c clean none =
+    excused_all (state g.S.Store c.args.conn.now) (state g.S.Store c.read_about.new.conn) c.agrees.result c.args.declarations.now
+    (λ version d tells. c.agrees.ensures version d (about_first _ version d c.in-Some.row.now (rw (c.in-Some.is, c.deref.ensures.value) at c.first.ensures.value) ((c.in_ok-rows.ensures.shown clean).1 version d tells)))
+
+pub returns-clause-store_known : goal.returns-clause-store_known
+returns-clause-store_known g c clean none version d tells is =
+    absurd (about_never _ version d (rw (c.in-None.is, c.deref.ensures.value) at c.first.ensures.value) ((c.in_ok-rows.ensures.shown clean).1 version d tells))

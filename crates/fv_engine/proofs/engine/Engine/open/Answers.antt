@@ -10,3 +10,9 @@ returns-in-Err-open-clause-other_version g c = λ is. c.in-Err-open.ensures.othe
 
 pub returns-in-Err-open-clause-other_declarations : goal.returns-in-Err-open-clause-other_declarations
 returns-in-Err-open-clause-other_declarations g c = λ is. c.in-Err-open.ensures.other_declarations (store_cause c.in-Err-open.fault _ _ c.store_fault.ensures.memory c.store_fault.ensures.other is)
+
+pub returns-in-Err-open-clause-store_known : goal.returns-in-Err-open-clause-store_known
+returns-in-Err-open-clause-store_known g c = λ is. c.in-Err-open.ensures.store_known (store_cause c.in-Err-open.fault _ _ c.store_fault.ensures.memory c.store_fault.ensures.other is)
+
+pub returns-in-Err-open-clause-store_blank : goal.returns-in-Err-open-clause-store_blank
+returns-in-Err-open-clause-store_blank g c = λ is. c.in-Err-open.ensures.store_blank (store_cause c.in-Err-open.fault _ _ c.store_fault.ensures.memory c.store_fault.ensures.other is)

@@ -1,17 +1,17 @@
 use Rattle.sqlite.specs.Held.{state}
 use Rattle.std.proofs.lemmas.Int.{to_z-of_z}
 use mir.Syntax.{w64}
-use Rattle.fv_engine.proofs.Laws.{shows_what_was_put, changes_no_get, lists_some, may_change_places}
-use Rattle.fv_engine.proofs.Lifts.{long_turn, short_turn}
+use Rattle.fv_engine.proofs.Laws.{shows_what_was_put, changes_no_get, lists_some, may_change_places, fails_where_shut}
+use Rattle.fv_engine.proofs.Lifts.{long_becomes, short_becomes}
 use Rattle.fv_engine.proofs.engine.Engine.run.Goals as goal
 
 pub returns-then-line-gt-LIMIT-clause-step : goal.returns-then-line-gt-LIMIT-clause-step
 returns-then-line-gt-LIMIT-clause-step g c =
-    long_turn g.R.RuleSet.meaning (state g.S.Store) c.args.line.now _ _ c.args.self.now _ c.refuse_long.ensures.same c.if-line-gt-LIMIT.true c.refuse_long.ensures.refused
+    long_becomes g.R.RuleSet.meaning (state g.S.Store) c.args.line.now _ _ c.args.self.now _ c.refuse_long.ensures.same c.if-line-gt-LIMIT.true c.refuse_long.ensures.refused
 
 pub returns-clause-step : goal.returns-clause-step
 returns-clause-step g c =
-    short_turn g.R.RuleSet.meaning (state g.S.Store) c.args.line.now _ _ c.args.self.now _ c.self.inside.store c.reply_to_line.new.store c.self.view_is c.if-line-gt-LIMIT.false (rw (to_z-of_z w64 c.args.now c.ranges.now) at c.reply_to_line.ensures)
+    short_becomes g.R.RuleSet.meaning (state g.S.Store) c.args.line.now _ _ c.args.self.now _ c.self.inside.store c.reply_to_line.new.store c.self.view_is c.if-line-gt-LIMIT.false (rw (to_z-of_z w64 c.args.now c.ranges.now) at c.reply_to_line.ensures)
 
 pub returns-then-line-gt-LIMIT-clause-shows : goal.returns-then-line-gt-LIMIT-clause-shows
 returns-then-line-gt-LIMIT-clause-shows g c = shows_what_was_put (state g.S.Store) g.R.RuleSet.meaning c.args.line.now _ _ c.args.self.now _ (returns-then-line-gt-LIMIT-clause-step g c)
@@ -36,3 +36,9 @@ returns-then-line-gt-LIMIT-clause-places g c = may_change_places (state g.S.Stor
 
 pub returns-clause-places : goal.returns-clause-places
 returns-clause-places g c = may_change_places (state g.S.Store) g.R.RuleSet.meaning c.args.line.now _ _ c.args.self.now _ (returns-clause-step g c)
+
+pub returns-then-line-gt-LIMIT-clause-shut : goal.returns-then-line-gt-LIMIT-clause-shut
+returns-then-line-gt-LIMIT-clause-shut g c = fails_where_shut (state g.S.Store) g.R.RuleSet.meaning c.args.line.now _ _ c.args.self.now _ (returns-then-line-gt-LIMIT-clause-step g c)
+
+pub returns-clause-shut : goal.returns-clause-shut
+returns-clause-shut g c = fails_where_shut (state g.S.Store) g.R.RuleSet.meaning c.args.line.now _ _ c.args.self.now _ (returns-clause-step g c)

@@ -1,7 +1,9 @@
 use Rattle.sqlite.specs.Held.{state}
 use Rattle.fv_model.specs.Views.{types_view}
-use Rattle.fv_store.proofs.Openings.{holds_still}
-use Rattle.fv_store.proofs.Holdings.{handed_out}
+use Rattle.fv_store.specs.Faults.{fault_of}
+use Rattle.fv_store.proofs.Openings.{keeps_of, holds_still}
+use Rattle.fv_store.proofs.Holdings.{handed_out, never_refused, is_refusal}
+use Rattle.fv_store.proofs.Refusals.{handed_on}
 use Rattle.fv_store.proofs.store.Store.get.Goals as goal
 
 pub returns-clause-found : goal.returns-clause-found
@@ -16,3 +18,13 @@ returns-clause-stays g c =
 pub returns-in_err-shown-clause-stays : goal.returns-in_err-shown-clause-stays
 returns-in_err-shown-clause-stays g c =
     rw c.self.view_is at (holds_still (state g.S.Store c.self.inside.connection) (state g.S.Store c.find.new.conn) c.find.ensures.frame c.find.ensures.stays)
+
+pub returns-clause-cause : goal.returns-clause-cause
+returns-clause-cause g c clean =
+    let found = rw c.self.view_is at (c.in_ok-shown.ensures.found clean) in
+    never_refused (state g.S.Store c.args.self.now) (types_view c.args.types.now) c.args.id.now c.in_ok-shown.shown c.stored_if.result (rw c.self.view_is at (c.find.ensures.frame.clean clean)) found.0 found.1 c.stored_if.ensures _
+
+pub returns-in_err-shown-clause-cause : goal.returns-in_err-shown-clause-cause
+returns-in_err-shown-clause-cause g c clean =
+    handed_on _ c.from_residual.result (fault_of c.in_err-shown.field-0.0) c.from_residual.ensures.1
+    (λ is k same holds. rw c.self.view_is at (c.in_err-shown.ensures.cause clean c.self.invariant.1 k.bytes k.records) (keeps_of (state g.S.Store c.args.self.now) k holds) (is_refusal c.in_err-shown.field-0.0 is))

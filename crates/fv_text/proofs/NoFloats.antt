@@ -23,7 +23,7 @@ ordered Less a b c p q r = p
 ordered Equal a b c p q r = q
 ordered Greater a b c p q r = r
 
-pub put_float : (k : List ℕ) (d : json.Data) (ms : json.Members) → has_float d ≡ false → members_have_float ms ≡ false → members_have_float (json.put k d ms) ≡ false
+put_float : (k : List ℕ) (d : json.Data) (ms : json.Members) → has_float d ≡ false → members_have_float ms ≡ false → members_have_float (json.put k d ms) ≡ false
 put_float k d json.no_members p q = neither (has_float d) false p refl
 put_float k d (json.member l e ms) p q =
     let parts = or_parts (has_float e) _ q in

@@ -1,0 +1,9 @@
+use Rattle.fv_store.specs.Faults.{open_fault_of}
+use Rattle.fv_store.proofs.Openings.{is_refusal}
+use Rattle.fv_store.proofs.Refusals.{handed_on}
+use Rattle.fv_store.proofs.opening.settle.Goals as goal
+
+pub returns-in_err-create-clause-store_blank : goal.returns-in_err-create-clause-store_blank
+returns-in_err-create-clause-store_blank g c clean outside none =
+    handed_on _ c.from_residual.result (open_fault_of c.in_err-create.field-0.0) c.from_residual.ensures.1
+    (λ blank short is. c.in_err-create.ensures.cause clean none blank short (is_refusal c.in_err-create.field-0.0 is))

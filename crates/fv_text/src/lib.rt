@@ -1,0 +1,6 @@
+//! The texts of bundles, written straight from the bundles.
+#![tactic(auto)]
+
+mod text;
+
+pub use text::write_text;
