@@ -15,3 +15,10 @@ or_left false b e = refl
 pub or_right : (a b : Bool) → (a || b) ≡ false → b ≡ false
 or_right true b e = absurd (true≢false e)
 or_right false b e = e
+
+-- what is false with one another is the same
+pub same_bool : (a b : Bool) → (a ≡ false → b ≡ false) → (b ≡ false → a ≡ false) → a ≡ b
+same_bool true true f g = refl
+same_bool true false f g = g refl
+same_bool false true f g = sym (f refl)
+same_bool false false f g = refl

@@ -71,7 +71,7 @@ fits_some type j fits short =
 
 -- ---- references
 
-chosen : {X : Type 0} (b : Bool) (x : X) (rest : Option X) (y : X) → cond b (Some x) rest ≡ Some y → ((b ≡ true) × (x ≡ y)) ⊎ ((b ≡ false) × (rest ≡ Some y))
+pub chosen : {X : Type 0} (b : Bool) (x : X) (rest : Option X) (y : X) → cond b (Some x) rest ≡ Some y → ((b ≡ true) × (x ≡ y)) ⊎ ((b ≡ false) × (rest ≡ Some y))
 chosen true x rest y e = inl (refl, cc)
 chosen false x rest y e = inr (refl, e)
 

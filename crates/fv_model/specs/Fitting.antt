@@ -1,16 +1,27 @@
 -- Whether given data fit, for private clauses.
-use Rattle.std.specs.Prelude.{Bool, true, Option, Some, None, is_some}
-use Rattle.std.specs.List.{list_all}
+use Rattle.std.specs.Prelude.{ℕ, List, Bool, false, Option, Some, None, Result, Ok, Err, if◌then◌else◌}
+use Rattle.std.specs.List.{list_any}
 use Rattle.serde_json.specs.Data as json
 use Rattle.serde_json.specs.Find.{get_member}
-use Rattle.fv_datum.specs.Json.{spelled}
-use Rattle.fv_model.specs.Types.{TypeUse, DeclaredFields, kind_of}
+use Rattle.fv_model.specs.Draft.{Part}
+use Rattle.fv_model.specs.Reading.{fields_of, misfits}
+use Rattle.fv_model.specs.Types.{TypeUse, Declared}
+use Rattle.fv_model.specs.declared.fault.BundleFault.{BundleFault}
+use Rattle.fv_model.specs.declared.fault.BundleFault.TheVariants.{WrongKind}
 
--- a given datum is of the type use
-abbrev pub fits_given : TypeUse → Option json.Data → Bool
-fits_given type_use None = true
-fits_given type_use (Some j) = is_some (spelled (kind_of type_use) j)
+-- a given datum isn't of the type use
+abbrev pub misfits_given : TypeUse → Option json.Data → Bool
+misfits_given type_use None = false
+misfits_given type_use (Some j) = misfits (Some type_use) j
 
--- the same, of each field of a type
-abbrev pub all_fit : json.Members → DeclaredFields → Bool
-all_fit given = list_all (λ f. fits_given f.1 (get_member f.0 given))
+-- the same, of a field
+abbrev pub field_misfits : json.Members → List ℕ × TypeUse → Bool
+field_misfits given f = misfits_given f.1 (get_member f.0 given)
+
+-- the same, of one of an object's fields
+abbrev pub part_misfits : Declared → Part → Bool
+part_misfits ts p = list_any (field_misfits p.given) (fields_of ts p.type_name)
+
+-- the value, unless a datum is of another kind
+abbrev pub unless_wrong : {X : Type 0} → Bool → X → Result X BundleFault
+unless_wrong wrong x = if wrong then Err WrongKind else Ok x

@@ -1,4 +1,5 @@
 pub mod Bundles
+pub mod Conditions
 pub mod Draft
 pub mod FaultNames
 pub mod Fitting

@@ -1,17 +1,21 @@
-//! The bundle that a draft without fault is: its types are declared, and its data of their kinds.
+//! The bundle that a draft is, where its types are declared and its data are of their kinds.
 ghost use Rattle.std.specs.Prelude.{◌≡◌, true, false, IfOk, map, option_map, is_some};
+ghost use Rattle.std.specs.List.{list_any};
+ghost use Rattle.std.specs.Map.{keys_of};
 ghost use Rattle.serde_json.specs.Find.{get_member};
 ghost use Rattle.serde_json.specs.View.{view as json_view};
 ghost use Rattle.fv_datum.specs.Lookup.{at_name};
+ghost use Rattle.fv_datum.specs.Outcomes.{Gives};
 ghost use Rattle.fv_datum.specs.View.{view};
-ghost use Rattle.std.specs.Map.{keys_of};
 ghost use Rattle.fv_model.specs.Bundles.{IsAscending};
 ghost use Rattle.fv_model.specs.Types.{type_use_view, fields_view};
 ghost use Rattle.fv_model.specs.Views.{types_view, given_view, part_view, draft_view, field_view, object_view, objects_view, bundle_view};
-ghost use Rattle.fv_model.specs.Reading.{object_types, unknown_type, wrong_kind, has_flaw, misfits, datum_at, field_of, object_of, bundle_of};
-ghost use Rattle.fv_model.specs.Fitting.{fits_given, all_fit};
+ghost use Rattle.fv_model.specs.Reading.{object_types, unknown_type, datum_at, field_of, object_of, bundle_of};
+ghost use Rattle.fv_model.specs.Fitting.{misfits_given, field_misfits, part_misfits, unless_wrong};
+ghost use Rattle.fv_model.specs.Writing.{IsWritten};
 
 use crate::bundle::{Bundle, Object, Objects};
+use crate::fault::BundleFault;
 use crate::field::Field;
 use crate::parts::{Draft, Part};
 use crate::type_use::TypeUse;
@@ -19,7 +23,7 @@ use crate::types::{Fields, Types};
 use fv_datum::{Datum, DatumFault, read_datum};
 use indexmap::IndexMap;
 use serde_json::{Map, Value};
-use std::alloc::{AllocError, Global};
+use std::alloc::Global;
 
 fn find_given<'a>(given: Option<&'a Map<String, Value>>, name: &str) -> Option<&'a Value>
     ensures { option_map (λ v. json_view v.now) result ≡ get_member name.now (given_view given.entry) }
@@ -31,17 +35,18 @@ fn find_given<'a>(given: Option<&'a Map<String, Value>>, name: &str) -> Option<&
 }
 
 /// The datum of a field: null where the field isn't given.
-fn datum_for(alloc: Global, type_use: &TypeUse, value: Option<&Value>) -> Result<Datum, AllocError>
-    requires fits { fits_given (type_use_view type_use.now) (option_map (λ v. json_view v.now) value) ≡ true }
-    ensures { IfOk result (λ d. view d
-        ≡ datum_at (type_use_view type_use.now) (option_map (λ v. json_view v.now) value.entry)) }
+fn datum_for(alloc: Global, type_use: &TypeUse, value: Option<&Value>) -> Result<Datum, BundleFault>
+    ensures exact { Gives BundleFault.Memory view result (unless_wrong
+        (misfits_given (type_use_view type_use.now) (option_map (λ v. json_view v.now) value.entry))
+        (datum_at (type_use_view type_use.now) (option_map (λ v. json_view v.now) value.entry))) }
+    ensures written { IfOk result (λ d. IsWritten (view d)) }
 {
     match value {
         None => Ok(Datum::Null),
         Some(value) => match read_datum(alloc, type_use.kind(), value) {
             Ok(datum) => Ok(datum),
-            Err(DatumFault::WrongKind) => unreachable!(),
-            Err(DatumFault::Memory) => Err(AllocError),
+            Err(DatumFault::WrongKind) => Err(BundleFault::WrongKind),
+            Err(DatumFault::Memory) => Err(BundleFault::Memory),
         },
     }
 }
@@ -51,15 +56,15 @@ fn field_for(
     name: &str,
     type_use: &TypeUse,
     given: Option<&Map<String, Value>>,
-) -> Result<Field, AllocError>
-    requires fits { fits_given (type_use_view type_use.now) (get_member name.now (given_view given)) ≡ true }
-    ensures { IfOk result (λ f. field_view f
-        ≡ field_of (given_view given.entry) (name.now, type_use_view type_use.now)) }
+) -> Result<Field, BundleFault>
+    ensures { Gives BundleFault.Memory field_view result (unless_wrong
+        (field_misfits (given_view given.entry) (name.now, type_use_view type_use.now))
+        (field_of (given_view given.entry) (name.now, type_use_view type_use.now))) }
 {
-    let value = find_given(given, name);
+    let datum = datum_for(alloc, type_use, find_given(given, name))?;
     Ok(Field {
         name: String::from_str(alloc, name)?,
-        datum: datum_for(alloc, type_use, value)?,
+        datum,
     })
 }
 
@@ -67,10 +72,10 @@ fn fields_for(
     alloc: Global,
     fields: &Fields,
     given: Option<&Map<String, Value>>,
-) -> Result<Vec<Field>, AllocError>
-    requires fit { all_fit (given_view given) (fields_view fields.now) ≡ true }
-    ensures { IfOk result (λ v. map field_view v.items
-        ≡ map (field_of (given_view given.entry)) (fields_view fields.now)) }
+) -> Result<Vec<Field>, BundleFault>
+    ensures { Gives BundleFault.Memory (λ v. map field_view v.items) result (unless_wrong
+        (list_any (field_misfits (given_view given.entry)) (fields_view fields.now))
+        (map (field_of (given_view given.entry)) (fields_view fields.now))) }
 {
     let mut out = Vec::with_capacity(alloc, fields.len())?;
     for (name, type_use) in fields.iter() {
@@ -79,10 +84,11 @@ fn fields_for(
     Ok(out)
 }
 
-fn object_for(alloc: Global, types: &Types, part: &Part) -> Result<Object, AllocError>
+fn object_for(alloc: Global, types: &Types, part: &Part) -> Result<Object, BundleFault>
     requires declared { is_some (at_name part.now.type_name.now (types_view types.now)) ≡ true }
-    requires fits { has_flaw misfits (types_view types.now) (part_view part.now) ≡ false }
-    ensures { IfOk result (λ o. object_view o ≡ (object_of (types_view types.now) (part_view part.now)).1) }
+    ensures { Gives BundleFault.Memory object_view result (unless_wrong
+        (part_misfits (types_view types.now) (part_view part.now))
+        (object_of (types_view types.now) (part_view part.now)).1) }
 {
     let fields = match types.fields(part.type_name) {
         None => unreachable!(),
@@ -94,12 +100,12 @@ fn object_for(alloc: Global, types: &Types, part: &Part) -> Result<Object, Alloc
     })
 }
 
-#[tactic(auto, using(crate::proofs::Anys::part_turn))]
-fn objects_for(alloc: Global, types: &Types, parts: &[Part]) -> Result<Objects, AllocError>
+fn objects_for(alloc: Global, types: &Types, parts: &[Part]) -> Result<Objects, BundleFault>
     requires ascending { IsAscending (keys_of (object_types (map part_view parts.now))) }
     requires declared { unknown_type (types_view types.now) (map part_view parts.now) ≡ false }
-    requires fit { wrong_kind (types_view types.now) (map part_view parts.now) ≡ false }
-    ensures { IfOk result (λ m. objects_view m ≡ map (object_of (types_view types.now)) (map part_view parts.now)) }
+    ensures { Gives BundleFault.Memory objects_view result (unless_wrong
+        (list_any (part_misfits (types_view types.now)) (map part_view parts.now))
+        (map (object_of (types_view types.now)) (map part_view parts.now))) }
 {
     let mut out = IndexMap::with_capacity(alloc, parts.len())?;
     for part in parts {
@@ -109,10 +115,12 @@ fn objects_for(alloc: Global, types: &Types, parts: &[Part]) -> Result<Objects, 
     Ok(out)
 }
 
-pub(crate) fn build(alloc: Global, types: &Types, draft: &Draft) -> Result<Bundle, AllocError>
+/// The bundle, or `WrongKind` where a datum that a field is given is of another kind.
+pub(crate) fn build(alloc: Global, types: &Types, draft: &Draft) -> Result<Bundle, BundleFault>
     requires declared { unknown_type (types_view types.now) (draft_view draft.now).objects ≡ false }
-    requires fit { wrong_kind (types_view types.now) (draft_view draft.now).objects ≡ false }
-    ensures bundle { IfOk result (λ b. bundle_view b ≡ bundle_of (types_view types.now) (draft_view draft.now)) }
+    ensures bundle { Gives BundleFault.Memory bundle_view result (unless_wrong
+        (list_any (part_misfits (types_view types.now)) (draft_view draft.now).objects)
+        (bundle_of (types_view types.now) (draft_view draft.now))) }
     ensures ascending { IfOk result (λ b. IsAscending (keys_of (bundle_view b).objects)) }
 {
     Ok(Bundle {

@@ -1,25 +1,21 @@
-//! What can be wrong with a draft: with its names and types, with one datum that is given
-//! (`is_flawed`), and which fault is the first.
+//! What can be wrong with a draft, and which fault is the first: before its data are decoded
+//! (`name_fault`), and after (`late_fault`).
 ghost use Rattle.std.specs.Prelude.{◌≡◌, map, option_map, Some};
-ghost use Rattle.serde_json.specs.View.{view as json_view, members_view};
-ghost use Rattle.fv_datum.specs.Members.{pairs};
-ghost use Rattle.fv_model.specs.Types.{type_use_view, fields_view, name_at};
+ghost use Rattle.fv_datum.specs.Outcomes.{first};
+ghost use Rattle.fv_model.specs.Types.{name_at};
 ghost use Rattle.fv_model.specs.Views.{types_view, part_view, draft_view};
-ghost use Rattle.fv_model.specs.Flaws.{flaw_of};
-ghost use Rattle.fv_model.specs.Reading.{bad_name, root_missing, unknown_type, flaw_among, has_flaw, some_flawed, misfits, object_types, is_other, dangles, strays, is_long, too_large, root_type, draft_fault};
+ghost use Rattle.fv_model.specs.Flaws.{Tells};
+ghost use Rattle.fv_model.specs.Conditions.{name_conditions, late_conditions};
+ghost use Rattle.fv_model.specs.Reading.{bad_name, root_missing, unknown_type, some_flawed, object_types, root_type};
 
 use crate::fault::BundleFault;
+use crate::flaws::{Flaws, is_other};
 use crate::parts::{Draft, Part};
-use crate::type_use::TypeUse;
-use crate::types::{Fields, TypeId, Types, use_in};
-use fv_datum::{is_name, spells_datum};
-use serde_json::{Map, Value};
+use crate::types::{TypeId, Types};
+use fv_datum::is_name;
 
 /// The most objects.
 const MOST_OBJECTS: usize = 256;
-
-/// The most bytes of a text.
-const LONGEST: usize = 65536;
 
 /// An object's name is no name.
 #[tactic(auto, using(crate::proofs::Anys::part_turn))]
@@ -54,134 +50,6 @@ fn unknown_type(types: &Types, parts: &[Part]) -> bool
     false
 }
 
-/// A datum is not of its field's type use.
-fn misfits(type_use: Option<&TypeUse>, value: &Value) -> bool
-    ensures { result ≡ misfits (option_map (λ u. type_use_view u.now) type_use.entry) (json_view value.now) }
-{
-    match type_use {
-        None => false,
-        Some(type_use) => !spells_datum(type_use.kind(), value),
-    }
-}
-
-/// A reference names no object.
-fn dangles(draft: &Draft, type_use: Option<&TypeUse>, value: &Value) -> bool
-    ensures { result ≡ dangles (object_types (draft_view draft.now).objects)
-        (option_map (λ u. type_use_view u.now) type_use.entry) (json_view value.now) }
-{
-    match (type_use, value.as_str()) {
-        (Some(TypeUse::Ref(_)), Some(name)) => draft.type_at(name).is_none(),
-        _ => false,
-    }
-}
-
-/// An object is of another type than this one.
-fn is_other(type_name: &str, own: Option<&str>) -> bool
-    ensures { result ≡ is_other type_name.now (option_map (λ s. s.now) own.entry) }
-{
-    match own {
-        None => false,
-        Some(own) => type_name != own,
-    }
-}
-
-/// A reference names an object of another type than declared.
-fn strays(draft: &Draft, type_use: Option<&TypeUse>, value: &Value) -> bool
-    ensures { result ≡ strays (object_types (draft_view draft.now).objects)
-        (option_map (λ u. type_use_view u.now) type_use.entry) (json_view value.now) }
-{
-    match (type_use, value.as_str()) {
-        (Some(TypeUse::Ref(target)), Some(name)) => is_other(target.as_str(), draft.type_at(name)),
-        _ => false,
-    }
-}
-
-/// A text of more bytes than a field may hold.
-fn is_long(type_use: Option<&TypeUse>, value: &Value) -> bool
-    ensures { result ≡ is_long (option_map (λ u. type_use_view u.now) type_use.entry) (json_view value.now) }
-{
-    match (type_use, value.as_str()) {
-        (Some(TypeUse::Text), Some(text)) => text.len() > LONGEST,
-        _ => false,
-    }
-}
-
-/// What can be wrong with a datum that is given.
-#[derive(Clone, Copy)]
-enum Flaw {
-    /// Its object's type has no such field.
-    Undeclared,
-    /// It is not of its field's type use.
-    Misfit,
-    /// It is a reference to no object.
-    Dangling,
-    /// It is a reference to an object of another type than its field's.
-    Stray,
-    /// It is a text that is too long.
-    LongText,
-}
-
-/// Whether a given datum has the flaw. `type_use` is its field's, `None` where its object's type has
-/// no such field.
-fn is_flawed(flaw: Flaw, draft: &Draft, type_use: Option<&TypeUse>, value: &Value) -> bool
-    ensures { result ≡ flaw_of flaw (object_types (draft_view draft.now).objects)
-        (option_map (λ u. type_use_view u.now) type_use.entry) (json_view value.now) }
-{
-    match flaw {
-        Flaw::Undeclared => type_use.is_none(),
-        Flaw::Misfit => misfits(type_use, value),
-        Flaw::Dangling => dangles(draft, type_use, value),
-        Flaw::Stray => strays(draft, type_use, value),
-        Flaw::LongText => is_long(type_use, value),
-    }
-}
-
-/// Whether one of the data that are given for a type's fields has the flaw.
-fn flaw_among(flaw: Flaw, draft: &Draft, fields: &Fields, given: &Map<String, Value>) -> bool
-    ensures { result ≡ flaw_among (flaw_of flaw (object_types (draft_view draft.now).objects)) (fields_view fields.now)
-        (pairs (members_view given.now.entries)) }
-{
-    for (name, value) in given.iter() {
-        if is_flawed(flaw, draft, use_in(fields, name.as_str()), value) {
-            return true;
-        }
-    }
-    false
-}
-
-/// Whether one of an object's data has the flaw.
-#[tactic(auto, unfolding(crate::specs::Reading::has_flaw))]
-fn has_flaw(flaw: Flaw, types: &Types, draft: &Draft, part: &Part) -> bool
-    ensures { result ≡ has_flaw (flaw_of flaw (object_types (draft_view draft.now).objects)) (types_view types.now)
-        (part_view part.now) }
-{
-    match (types.fields(part.type_name), part.given) {
-        (Some(fields), Some(given)) => flaw_among(flaw, draft, fields, given),
-        _ => false,
-    }
-}
-
-/// Whether some object's data have the flaw.
-#[tactic(auto, using(crate::proofs::Anys::part_turn))]
-fn some_flawed(flaw: Flaw, types: &Types, draft: &Draft) -> bool
-    ensures { result ≡ some_flawed (flaw_of flaw (object_types (draft_view draft.now).objects)) (types_view types.now)
-        (draft_view draft.now).objects }
-{
-    for p in &draft.objects {
-        if has_flaw(flaw, types, draft, p) {
-            return true;
-        }
-    }
-    false
-}
-
-/// More than 256 objects, or a text that is too long.
-fn too_large(types: &Types, draft: &Draft) -> bool
-    ensures { result ≡ too_large (types_view types.now) (draft_view draft.now).objects }
-{
-    draft.objects.len() > MOST_OBJECTS || some_flawed(Flaw::LongText, types, draft)
-}
-
 /// The root is of another type than this one.
 fn root_type(type_name: &str, draft: &Draft) -> bool
     ensures { result ≡ root_type (Some type_name.now) (draft_view draft.now).root (draft_view draft.now).objects }
@@ -189,14 +57,9 @@ fn root_type(type_name: &str, draft: &Draft) -> bool
     is_other(type_name, draft.type_at(draft.root))
 }
 
-/// The first fault of a draft, apart from want of memory.
-pub(crate) fn draft_fault(
-    types: &Types,
-    asked: Option<TypeId>,
-    draft: &Draft,
-) -> Option<BundleFault>
-    ensures { result ≡ draft_fault (types_view types.now) (option_map
-        (λ t. name_at (types_view types.now) t.index) asked) (draft_view draft.now) }
+/// The first fault of a draft's names and types.
+pub(crate) fn name_fault(types: &Types, draft: &Draft) -> Option<BundleFault>
+    ensures { result ≡ first (name_conditions (types_view types.now) (draft_view draft.now)) }
 {
     if bad_name(&draft.objects) {
         return Some(BundleFault::BadName);
@@ -207,19 +70,28 @@ pub(crate) fn draft_fault(
     if unknown_type(types, &draft.objects) {
         return Some(BundleFault::UnknownType);
     }
-    if some_flawed(Flaw::Undeclared, types, draft) {
-        return Some(BundleFault::UnknownField);
-    }
-    if some_flawed(Flaw::Misfit, types, draft) {
-        return Some(BundleFault::WrongKind);
-    }
-    if some_flawed(Flaw::Dangling, types, draft) {
+    None
+}
+
+/// The first fault of a draft whose data are of their kinds, by what is wrong with them.
+pub(crate) fn late_fault(
+    types: &Types,
+    asked: Option<TypeId>,
+    draft: &Draft,
+    flaws: Flaws,
+) -> Option<BundleFault>
+    requires { Tells flaws (object_types (draft_view draft.now).objects)
+        (λ flaw. some_flawed flaw (types_view types.now) (draft_view draft.now).objects) }
+    ensures { result ≡ first (late_conditions (types_view types.now) (option_map
+        (λ t. name_at (types_view types.now) t.index) asked) (draft_view draft.now)) }
+{
+    if flaws.dangling {
         return Some(BundleFault::DanglingRef);
     }
-    if some_flawed(Flaw::Stray, types, draft) {
+    if flaws.stray {
         return Some(BundleFault::RefType);
     }
-    if too_large(types, draft) {
+    if draft.objects.len() > MOST_OBJECTS || flaws.long_text {
         return Some(BundleFault::TooLarge);
     }
     match asked {

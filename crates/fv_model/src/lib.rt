@@ -8,6 +8,7 @@ mod draft;
 mod fault;
 mod faults;
 mod field;
+mod flaws;
 mod parts;
 mod reading;
 mod type_use;

@@ -1,10 +1,10 @@
-ghost use Rattle.std.specs.Prelude.{◌≡◌, option_map, IfOk, Ok};
+ghost use Rattle.std.specs.Prelude.{◌≡◌, option_map, IfOk, Ok, Some};
 ghost use Rattle.std.specs.Option.{ForSome};
 ghost use Rattle.serde_json.specs.View.{view as json_view};
 ghost use Rattle.fv_datum.specs.Outcomes.{Gives};
 ghost use Rattle.fv_model.specs.Types.{name_at};
-ghost use Rattle.fv_model.specs.Views.{types_view, bundle_view};
-ghost use Rattle.fv_model.specs.Reading.{bundle_read};
+ghost use Rattle.fv_model.specs.Views.{types_view, draft_view, bundle_view};
+ghost use Rattle.fv_model.specs.Reading.{judged, bundle_read};
 ghost use Rattle.std.specs.Map.{keys_of};
 ghost use Rattle.fv_model.specs.Bundles.{Bundled, IsAscending};
 ghost use Rattle.fv_model.specs.WellTyped.{IsWellTyped, HasRootType};
@@ -14,7 +14,9 @@ use crate::build::build;
 use crate::bundle::Bundle;
 use crate::draft::draft_of;
 use crate::fault::BundleFault;
-use crate::faults::draft_fault;
+use crate::faults::{late_fault, name_fault};
+use crate::flaws::draft_flaws;
+use crate::parts::Draft;
 use crate::types::{TypeId, Types};
 use serde_json::Value;
 use std::alloc::Global;
@@ -59,9 +61,32 @@ fn spelled_bundle(
 {
     match draft_of(alloc, value)? {
         None => Err(BundleFault::Shape),
-        Some(draft) => match draft_fault(types, asked, &draft) {
-            Some(fault) => Err(fault),
-            None => Ok(build(alloc, types, &draft)?),
-        },
+        Some(draft) => judged(alloc, types, asked, &draft),
+    }
+}
+
+/// The bundle that a draft is, or its first fault.
+fn judged(
+    alloc: Global,
+    types: &Types,
+    asked: Option<TypeId>,
+    draft: &Draft,
+) -> Result<Bundle, BundleFault>
+    ensures exact { Gives BundleFault.Memory bundle_view result
+        (judged (types_view types.now) (option_map (λ t. name_at (types_view types.now) t.index) asked)
+        (Some (draft_view draft.now))) }
+    ensures ascending { IfOk result (λ b. IsAscending (keys_of (bundle_view b).objects)) }
+{
+    if let Some(fault) = name_fault(types, draft) {
+        return Err(fault);
+    }
+    let flaws = draft_flaws(types, draft);
+    if flaws.undeclared {
+        return Err(BundleFault::UnknownField);
+    }
+    let bundle = build(alloc, types, draft)?;
+    match late_fault(types, asked, draft, flaws) {
+        Some(fault) => Err(fault),
+        None => Ok(bundle),
     }
 }
