@@ -1,9 +1,8 @@
 -- Serving line after line.
-use Rattle.std.proofs.Common.{◌≡◌, ◌≢◌, ℕ, ℤ, ◌+◌, ◌<◌, ◌≤◌, List, [], ◌∷◌, ◌++◌, length, get_or, take, drop, Option, Some, None, refl, sym, ap, ◌∙◌, append_assoc, add-one, arith, inl, inr, lit<, subst, suc}
-use Rattle.std.proofs.Math.Seq.{take-suc}
-use Rattle.std.proofs.lemmas.List.{append-nil, take_all, length-take, take-append-drop, take-append-le}
+use Rattle.std.proofs.Common.{◌≡◌, ◌≢◌, ℕ, ℤ, ◌+◌, ◌<◌, ◌≤◌, ◌==◌, true, List, [], ◌∷◌, ◌++◌, length, get_or, take, drop, Option, Some, None, refl, sym, ap, ◌∙◌, append_assoc, arith, inl, inr, lit<, subst, zero, suc, eq-eqb}
+use Rattle.std.proofs.lemmas.List.{append-nil, take_all, length-take, take-append-drop, take-append-le, drop_more}
 use Rattle.std.proofs.lemmas.List.Concat.{flat_map-append}
-use Rattle.std.proofs.lemmas.Bool.{cases_lt, cases_eq}
+use Rattle.std.proofs.lemmas.Bool.{cases_lt, cases_eq, eqb-true}
 use Rattle.std.specs.List.{flat_map, AllByRecursion}
 use Rattle.std.specs.Io.KnownBytes.{Appends, Consumes, IsAtEnd}
 use Rattle.fv_lines.specs.Buffering.{kept, Buffered, Broken, Taken}
@@ -26,11 +25,11 @@ pub answered : {P C : Type 0} (grows : Option (List ℕ) → Option (List ℕ) �
 answered grows step ticks old new buffer moment told reply text same_moment t s same g whole k = (text, moment, t, rw (same, ← same_moment) (s whole k), g)
 
 -- what is kept of a line grows by what is kept of the longer line
-push_kept : (rest : List ℕ) (b : ℕ) → take 1048577 (take 1048577 rest ++ b ∷ []) ≡ take 1048577 (rest ++ b ∷ [])
-push_kept rest b =
+kept_on : (rest more : List ℕ) → take 1048577 (take 1048577 rest ++ more) ≡ take 1048577 (rest ++ more)
+kept_on rest more =
     elim (cases_lt 1048577 (length rest)) [
       | inr le ↦ rw (take_all 1048577 rest le) refl
-      | inl lt ↦ take-append-le 1048577 (take 1048577 rest) (b ∷ []) (omega (arith, length-take 1048577 rest)) ∙ take_all 1048577 (take 1048577 rest) (omega (arith, length-take 1048577 rest)) ∙ sym (take-append-le 1048577 rest (b ∷ []) (omega arith))
+      | inl lt ↦ take-append-le 1048577 (take 1048577 rest) more (omega (arith, length-take 1048577 rest)) ∙ take_all 1048577 (take 1048577 rest) (omega (arith, length-take 1048577 rest)) ∙ sym (take-append-le 1048577 rest more (omega arith))
     ]
 
 -- ---- the lines of bytes
@@ -88,16 +87,33 @@ parts_join lines others behind rest is =
 push_join : {X : Type 0} (xs : List X) (x : X) (ys : List X) → (xs ++ x ∷ []) ++ ys ≡ xs ++ x ∷ ys
 push_join xs x ys = append_assoc xs (x ∷ []) ys
 
--- ---- a byte more of a slice
+-- ---- the first line of a slice, found by its end
 
-pub one_more : (before bs : List ℕ) (i : ℕ) → i < length bs → (before ++ take i bs) ++ get_or bs i 0 ∷ [] ≡ before ++ take (i + 1) bs
-one_more before bs i lt = append_assoc before (take i bs) (get_or bs i 0 ∷ []) ∙ ap (λ (l : List ℕ). before ++ l) (sym (rw add-one (take-suc bs i 0 lt)))
+-- no byte before a place ends a line
+pub open_before : (bytes : List ℕ) (n : ℕ) → ((k : ℕ) → 0 ≤ k → k < n → ¬ (get_or bytes k 0 == 10) ≡ true) → IsOpen (take n bytes)
+open_before bytes zero h = tt
+open_before [] (suc n) h = tt
+open_before (b ∷ bs) (suc n) h = (λ e. h 0 (omega arith) (omega arith) (eq-eqb b 10 e), open_before bs n (λ k _ lt. h (suc k) (omega arith) (omega arith)))
 
-pub and_rest : (before bs : List ℕ) (i : ℕ) → i < length bs → ((before ++ take i bs) ++ get_or bs i 0 ∷ []) ++ drop (i + 1) bs ≡ before ++ bs
-and_rest before bs i lt = rw (one_more before bs i lt) (append_assoc before (take (i + 1) bs) (drop (i + 1) bs) ∙ ap (λ (l : List ℕ). before ++ l) (take-append-drop (i + 1) bs))
+-- no byte ends a line
+pub open_whole : (bytes : List ℕ) → ((k : ℕ) → 0 ≤ k → k < length bytes → ¬ (get_or bytes k 0 == 10) ≡ true) → IsOpen bytes
+open_whole bytes h = subst IsOpen (take_all (length bytes) bytes (omega arith)) (open_before bytes (length bytes) h)
 
-pub all_taken : (before bs : List ℕ) (i : ℕ) → length bs ≤ i → before ++ take i bs ≡ before ++ bs
-all_taken before bs i le = rw (take_all i bs le) refl
+-- bytes around the end of a line
+around_end : (bytes : List ℕ) (at : ℕ) → at < length bytes → (get_or bytes at 0 == 10) ≡ true → bytes ≡ ended (take at bytes) ++ drop (at + 1) bytes
+around_end bytes at lt e =
+    sym (take-append-drop at bytes) ∙ ap (λ (l : List ℕ). take at bytes ++ l) (drop_more bytes at 0 lt ∙ ap (λ (b : ℕ). b ∷ drop (at + 1) bytes) (eqb-true (get_or bytes at 0) 10 e))
+    ∙ sym (append_assoc (take at bytes) (10 ∷ []) (drop (at + 1) bytes))
+
+-- a line more is done
+pub line_done : (bytes done rest : List ℕ) (at : ℕ) → bytes ≡ done ++ rest → at < length rest → (get_or rest at 0 == 10) ≡ true
+    → bytes ≡ (done ++ ended (take at rest)) ++ drop (at + 1) rest
+line_done bytes done rest at is lt e =
+    is ∙ ap (λ (l : List ℕ). done ++ l) (around_end rest at lt e) ∙ sym (append_assoc done (ended (take at rest)) (drop (at + 1) rest))
+
+-- bytes behind a line that is behind others
+pub behind_line : (before bytes done line behind : List ℕ) → bytes ≡ (done ++ line) ++ behind → ((before ++ done) ++ line) ++ behind ≡ before ++ bytes
+behind_line before bytes done line behind is = rw (append_assoc before done line, append_assoc before (done ++ line) behind) (ap (λ (l : List ℕ). before ++ l) (sym is))
 
 -- ---- the end of the input
 
@@ -136,15 +152,15 @@ module _ {P C : Type 0} (step : Steps P) (ticks : Ticks C) where
   run_push old [] mid line new is a = (new, subst (λ (s : Session P C). Answered Appends step ticks s line new) is a, refl)
   run_push old (l ∷ ls) mid line new ran a = (ran.0, ran.1, run_push ran.0 ls mid line new ran.2 a)
 
-  pub buffered_add : (old new : Session P C) (bytes buffer : List ℕ) (b : ℕ) (more : List ℕ)
-      → (b ≢ 10) → more ≡ take 1048577 (buffer ++ b ∷ []) → Buffered step ticks old bytes buffer new → Buffered step ticks old (bytes ++ b ∷ []) more new
-  buffered_add old new bytes buffer b more other is s = record {
+  pub buffered_add : (old new : Session P C) (bytes buffer more buffer' : List ℕ)
+      → IsOpen more → buffer' ≡ take 1048577 (buffer ++ more) → Buffered step ticks old bytes buffer new → Buffered step ticks old (bytes ++ more) buffer' new
+  buffered_add old new bytes buffer more buffer' no_end is s = record {
     lines = s.lines;
-    rest = s.rest ++ b ∷ [];
-    whole = ap (λ (l : List ℕ). l ++ b ∷ []) s.whole ∙ append_assoc (flat_map ended s.lines) s.rest (b ∷ []);
+    rest = s.rest ++ more;
+    whole = ap (λ (l : List ℕ). l ++ more) s.whole ∙ append_assoc (flat_map ended s.lines) s.rest more;
     each = s.each;
-    open_rest = all_push (λ (x : ℕ). x ≢ 10) s.rest b s.open_rest other;
-    keeps = is ∙ rw s.keeps (push_kept s.rest b);
+    open_rest = all_both (λ (x : ℕ). x ≢ 10) s.rest more s.open_rest no_end;
+    keeps = is ∙ rw s.keeps (kept_on s.rest more);
     ran = s.ran;
   }
 
@@ -153,7 +169,7 @@ module _ {P C : Type 0} (step : Steps P) (ticks : Ticks C) where
   end_added lines rest bytes is =
       ap (λ (l : List ℕ). l ++ 10 ∷ []) is ∙ append_assoc (flat_map ended lines) rest (10 ∷ []) ∙ sym (append-nil (flat_map ended (lines ++ rest ∷ [])) ∙ flat_push lines rest)
 
-  pub buffered_end : (old mid new : Session P C) (bytes buffer : List ℕ)
+  buffered_end : (old mid new : Session P C) (bytes buffer : List ℕ)
       → (s : Buffered step ticks old bytes buffer mid) → Answered Appends step ticks mid s.rest new → Buffered step ticks old (bytes ++ 10 ∷ []) [] new
   buffered_end old mid new bytes buffer s a = record {
     lines = s.lines ++ s.rest ∷ [];
@@ -165,18 +181,33 @@ module _ {P C : Type 0} (step : Steps P) (ticks : Ticks C) where
     ran = run_push old s.lines mid s.rest new s.ran a;
   }
 
-  pub broken_end : (old mid new : Session P C) (bytes buffer : List ℕ) (b : ℕ)
-      → b ≡ 10 → (s : Buffered step ticks old bytes buffer mid) → Answered AppendsFront step ticks mid s.rest new → Broken step ticks old (bytes ++ b ∷ []) new
-  broken_end old mid new bytes buffer b is s a = record {
+  broken_end : (old mid new : Session P C) (bytes buffer : List ℕ)
+      → (s : Buffered step ticks old bytes buffer mid) → Answered AppendsFront step ticks mid s.rest new → Broken step ticks old (bytes ++ 10 ∷ []) new
+  broken_end old mid new bytes buffer s a = record {
     lines = s.lines;
     line = s.rest;
     behind = [];
-    whole = ap (λ (x : ℕ). bytes ++ x ∷ []) is ∙ end_added s.lines s.rest bytes s.whole;
+    whole = end_added s.lines s.rest bytes s.whole;
     each = all_push IsOpen s.lines s.rest s.each s.open_rest;
     mid = mid;
     ran = s.ran;
     last = a;
   }
+
+  -- the last bytes of a line and its end
+  pub buffered_line : (old mid new : Session P C) (bytes buffer last line : List ℕ)
+      → IsOpen last → line ≡ take 1048577 (buffer ++ last) → ((whole : List ℕ) → line ≡ kept whole → Answered Appends step ticks mid whole new)
+      → Buffered step ticks old bytes buffer mid → Buffered step ticks old (bytes ++ ended last) [] new
+  buffered_line old mid new bytes buffer last line no_end is a s =
+      let t : Buffered step ticks old (bytes ++ last) line mid = buffered_add old mid bytes buffer last line no_end is s in
+      subst (λ (l : List ℕ). Buffered step ticks old l [] new) (append_assoc bytes last (10 ∷ [])) (buffered_end old mid new (bytes ++ last) line t (a t.rest t.keeps))
+
+  pub broken_line : (old mid new : Session P C) (bytes buffer last line : List ℕ)
+      → IsOpen last → line ≡ take 1048577 (buffer ++ last) → ((whole : List ℕ) → line ≡ kept whole → Answered AppendsFront step ticks mid whole new)
+      → Buffered step ticks old bytes buffer mid → Broken step ticks old (bytes ++ ended last) new
+  broken_line old mid new bytes buffer last line no_end is a s =
+      let t : Buffered step ticks old (bytes ++ last) line mid = buffered_add old mid bytes buffer last line no_end is s in
+      subst (λ (l : List ℕ). Broken step ticks old l new) (append_assoc bytes last (10 ∷ [])) (broken_end old mid new (bytes ++ last) line t (a t.rest t.keeps))
 
   pub broken_more : (old new : Session P C) (bytes more : List ℕ) → Broken step ticks old bytes new → Broken step ticks old (bytes ++ more) new
   broken_more old new bytes more s = record {

@@ -1,7 +1,8 @@
 -- One write after another.
-use Rattle.std.proofs.Common.{◌≡◌, ℕ, ◌+◌, ◌≤◌, List, [], ◌++◌, length, take, drop, Option, Some, None, refl, sym, ap, ◌∙◌, append_assoc, arith, ◌-◌, length-drop}
+use Rattle.std.proofs.Common.{◌≡◌, ℕ, ◌+◌, ◌≤◌, List, [], ◌++◌, length, take, drop, Option, Some, None, refl, sym, ap, ◌∙◌, append_assoc, arith, inl, inr, ◌-◌, min, length-drop}
 use Rattle.std.proofs.Math.Seq.{take-append-add}
-use Rattle.std.proofs.lemmas.List.{append-nil, take-append-drop, length-take-le, take_all, take-append-le}
+use Rattle.std.proofs.lemmas.List.{append-nil, take-append-drop, length-take-le, take_all}
+use Rattle.std.proofs.lemmas.Bool.{cases_lt}
 use Rattle.std.specs.Io.KnownBytes.{Appends, Keeps}
 use Rattle.fv_lines.specs.Writes.{AppendsFront}
 
@@ -37,7 +38,7 @@ take_on at n bs le =
     sym (rw (length-take-le at bs le, take-append-drop at bs) at e)
 
 -- the slice from a place on, as `&bs[at..]` has it
-from_on : (at : ℕ) (bs : List ℕ) → take (length bs - at) (drop at bs) ≡ drop at bs
+pub from_on : (at : ℕ) (bs : List ℕ) → take (length bs - at) (drop at bs) ≡ drop at bs
 from_on at bs = take_all (length bs - at) (drop at bs) (omega (arith, length-drop at bs))
 
 pub wrote_on : (a b c : Option (List ℕ)) (at n : ℕ) (bs : List ℕ) → at ≤ length bs → Appends a b (take at bs) → Appends b c (take n (take (length bs - at) (drop at bs))) → Appends a c (take (at + n) bs)
@@ -52,8 +53,14 @@ wrote_some a c n bs p = (take n bs, drop n bs, sym (take-append-drop n bs), p)
 pub front_whole : (a c : Option (List ℕ)) (bs : List ℕ) → Appends a c bs → AppendsFront a c bs
 front_whole a c bs p = (bs, [], sym (append-nil bs), p)
 
-pub kept_more : (n : ℕ) (xs ys : List ℕ) → length (xs ++ ys) ≤ n → xs ++ ys ≡ take n (xs ++ ys)
-kept_more n xs ys le = sym (take_all n (xs ++ ys) le)
-
-pub kept_full : (n : ℕ) (xs ys : List ℕ) → length xs ≡ n → xs ≡ take n (xs ++ ys)
-kept_full n xs ys e = sym (take-append-le n xs ys (omega arith) ∙ take_all n xs (omega arith))
+-- what fits below a limit is what a longer list keeps
+pub kept_fitting : (limit n : ℕ) (xs ys : List ℕ) → length xs ≤ limit → n ≡ min (length ys) (limit - length xs) → xs ++ take n ys ≡ take limit (xs ++ ys)
+kept_fitting limit n xs ys le is =
+    let free : ℕ = limit - length xs in
+    let all : length xs + free ≡ limit = omega arith in
+    let same : take n ys ≡ take free ys =
+    elim (cases_lt free (length ys)) [
+      | inl lt ↦ ap (λ (k : ℕ). take k ys) (omega arith)
+      | inr fits ↦ take_all n ys (omega arith) ∙ sym (take_all free ys fits)
+    ] in
+    ap (λ (l : List ℕ). xs ++ l) same ∙ sym (take-append-add xs ys free) ∙ ap (λ (k : ℕ). take k (xs ++ ys)) all

@@ -1,9 +1,9 @@
-ghost use Rattle.std.specs.Prelude.{◌≡◌, ◌≢◌, ℕ, List, [], ◌∷◌, ◌++◌, Option, OnOk, OnErr, IsErrOf, ◌<◌, length};
+ghost use Rattle.std.specs.Prelude.{◌≡◌, ◌≢◌, ℕ, List, [], ◌++◌, Option, OnOk, OnErr, IsErrOf, ◌<◌, length};
 ghost use Rattle.std.specs.Io.KnownBytes.{Appends, Consumes, IsAtEnd};
 ghost use Rattle.fv_datum.specs.Moments.{IsMoment};
 ghost use Rattle.fv_lines.specs.Buffering.{kept, Buffered, Broken, Taken};
 ghost use Rattle.fv_lines.specs.FaultNames.{serve_fault_name};
-ghost use Rattle.fv_lines.specs.Lines.{WholeLines, AllLines};
+ghost use Rattle.fv_lines.specs.Lines.{IsOpen, ended, WholeLines, AllLines};
 ghost use Rattle.fv_lines.specs.Runs.{Session, Answered, Served, Stopped};
 ghost use Rattle.fv_lines.specs.Writes.{AppendsFront};
 
@@ -11,6 +11,7 @@ use crate::clock::Clock;
 use crate::line::Line;
 use crate::output::{WriteFailed, write_line};
 use crate::responder::{LIMIT, Responder, Text};
+use memchr::memchr;
 use std::alloc::Global;
 use std::io::{Read, Write};
 use thiserror::Error;
@@ -75,26 +76,24 @@ fn answer<P: Responder, W: Write, C: Clock>(
     write_line(writer, reply.text().as_bytes())
 }
 
-/// Takes the next byte of the input.
-fn take_byte<P: Responder, W: Write, C: Clock>(
+/// Takes the last bytes of a line and its end, and answers it.
+fn end_line<P: Responder, W: Write, C: Clock>(
     alloc: Global,
     responder: &mut P,
     writer: &mut W,
     clock: &mut C,
     line: &mut Line,
-    byte: u8,
+    last: &[u8],
 ) -> Result<(), WriteFailed>
+    requires { IsOpen last.now }
     ensures ok { OnOk result ((start : Session P C) (before : List ℕ) →
         Buffered P.step C.ticks start before line.old (responder.old, clock.old, W.contents writer.old) →
-        Buffered P.step C.ticks start (before ++ byte ∷ []) line.new (responder.new, clock.new, W.contents writer.new)) }
+        Buffered P.step C.ticks start (before ++ ended last.now) line.new (responder.new, clock.new, W.contents writer.new)) }
     ensures err { OnErr result ((start : Session P C) (before : List ℕ) →
         Buffered P.step C.ticks start before line.old (responder.old, clock.old, W.contents writer.old) →
-        Broken P.step C.ticks start (before ++ byte ∷ []) (responder.new, clock.new, W.contents writer.new)) }
+        Broken P.step C.ticks start (before ++ ended last.now) (responder.new, clock.new, W.contents writer.new)) }
 {
-    if byte != 10 {
-        line.add(byte);
-        return Ok(());
-    }
+    line.add_all(last);
     answer(alloc, responder, writer, clock, line)?;
     line.clear();
     Ok(())
@@ -116,9 +115,12 @@ fn take_bytes<P: Responder, W: Write, C: Clock>(
         Buffered P.step C.ticks start before line.old (responder.old, clock.old, W.contents writer.old) →
         Broken P.step C.ticks start (before ++ bytes.now) (responder.new, clock.new, W.contents writer.new)) }
 {
-    for b in bytes {
-        take_byte(alloc, responder, writer, clock, line, *b)?;
+    let mut rest = bytes;
+    'lines: while let Some(end) = memchr(b'\n', rest) {
+        end_line(alloc, responder, writer, clock, line, &rest[..end])?;
+        rest = &rest[end + 1..];
     }
+    line.add_all(rest);
     Ok(())
 }
 

@@ -5,11 +5,13 @@ ghost use Rattle.fv_model.specs.Views.{bundle_view};
 ghost use Rattle.fv_model.specs.Writing.{datum_json};
 ghost use Rattle.fv_reply.specs.Texts.{bundle_refused_json, violation_json, judged_json, refusal_json, violations_refused_json, record_json};
 ghost use Rattle.fv_validate.specs.ViolationView.{violation_view};
+ghost use Rattle.json.specs.Print.{quoted};
 ghost use Rattle.serde_json.specs.View.{view as json_view};
 ghost use Rattle.serde_json.specs.Written.{compact_text, has_float};
 
 use fv_datum::{DatumFault, write_datum};
-use fv_model::{Bundle, BundleFault, write_bundle};
+use fv_model::{Bundle, BundleFault};
+use fv_text::write_text;
 use fv_validate::Violation;
 use serde_json::{Value, json, push};
 use std::alloc::{AllocError, Global};
@@ -114,11 +116,12 @@ pub(crate) fn violations_refused(
     text_of(alloc, &value)
 }
 
-fn record_value(alloc: Global, id: &str, form: &str, bundle: &Bundle) -> Result<Value, AllocError>
-    ensures { IfOk result (λ v. json_view v ≡ record_json id.now form.now (bundle_view bundle.now)) }
+/// The JSON of a text.
+fn quoted(alloc: Global, text: &str) -> Result<String, AllocError>
+    ensures { IfOk result (λ s. string_bytes s ≡ quoted text.now) }
 {
-    let bundle = write_bundle(alloc, bundle)?;
-    json!(in alloc; {"bundle": bundle, "form": form, "id": id, "ok": "get"})
+    let value = Value::String(String::from_str(alloc, text)?);
+    text_of(alloc, &value)
 }
 
 /// `{"bundle":..,"form":..,"id":..,"ok":"get"}`.
@@ -130,6 +133,8 @@ pub(crate) fn record_shown(
 ) -> Result<String, AllocError>
     ensures { IfOk result (λ s. string_bytes s ≡ compact_text (record_json id.now form.now (bundle_view bundle.now))) }
 {
-    let value = record_value(alloc, id, form, bundle)?;
-    text_of(alloc, &value)
+    let bundle = write_text(alloc, bundle)?;
+    let form = quoted(alloc, form)?;
+    let id = quoted(alloc, id)?;
+    format!(in alloc; "{{\"bundle\":{bundle},\"form\":{form},\"id\":{id},\"ok\":\"get\"}}")
 }

@@ -87,6 +87,9 @@ or_null : (o : Option json.Data) → SomeFits has_float o → has_float (unwrap_
 or_null None h = refl
 or_null (Some j) h = h
 
+pub datum_json_float : (d : Data) → has_float (datum_json d) ≡ false
+datum_json_float d = or_null (written d) (datum_float d)
+
 -- ---- bundles
 
 unless : (b : Bool) (x y : json.Members) → members_have_float x ≡ false → members_have_float y ≡ false → members_have_float (cond b x y) ≡ false
@@ -95,7 +98,7 @@ unless false x y p q = q
 
 added_float : (ms : json.Members) (fs : List (List ℕ × Data)) → members_have_float ms ≡ false → members_have_float (added ms fs) ≡ false
 added_float ms [] h = h
-added_float ms (f ∷ fs) h = added_float (cond (is_null f.1) ms (json.put f.0 (datum_json f.1) ms)) fs (unless (is_null f.1) _ _ h (put_float f.0 (datum_json f.1) ms (or_null (written f.1) (datum_float f.1)) h))
+added_float ms (f ∷ fs) h = added_float (cond (is_null f.1) ms (json.put f.0 (datum_json f.1) ms)) fs (unless (is_null f.1) _ _ h (put_float f.0 (datum_json f.1) ms (datum_json_float f.1) h))
 
 thing_float : (t : Thing) → has_float (thing_json t) ≡ false
 thing_float t = neither (members_have_float (added json.no_members t.fields)) false (added_float json.no_members t.fields refl) refl

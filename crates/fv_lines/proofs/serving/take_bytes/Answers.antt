@@ -1,23 +1,45 @@
-use Rattle.std.proofs.Common.{◌++◌, ◌+◌, List, ℕ, take, drop, subst}
+use Rattle.std.proofs.Common.{◌++◌, ◌+◌, ◌∙◌, [], List, ℕ, take, drop, refl, sym, ap, subst, append_assoc}
+use Rattle.std.proofs.lemmas.List.{append-nil}
 use Rattle.std.proofs.lemmas.Result.{err_from_is_err_and}
 use Rattle.fv_lines.specs.Buffering.{Buffered, Broken}
-use Rattle.fv_lines.proofs.Lines.{broken_more, one_more, and_rest, all_taken}
+use Rattle.fv_lines.specs.Lines.{ended}
+use Rattle.fv_lines.proofs.Lines.{buffered_add, broken_more, open_before, open_whole, line_done, behind_line}
+use Rattle.fv_lines.proofs.Writes.{from_on}
 use Rattle.fv_lines.proofs.serving.take_bytes.Goals as goal
 
-pub loop-b-preserved : goal.loop-b-preserved
-loop-b-preserved g c = λ start before s.
-    subst (λ (l : List ℕ). Buffered g.P.Responder.step g.C.Clock.ticks start l c.take_byte.new.line (c.take_byte.new.responder, c.take_byte.new.clock, g.W.Write.contents c.take_byte.new.writer)) (one_more before c.args.bytes.now c.loop-b.b-index c.loop-b-test.true)
-    (c.in_ok-take_byte.ensures.ok start (before ++ take c.loop-b.b-index c.args.bytes.now) (c.loop-b.invariant start before s))
+pub lines-init : goal.lines-init
+lines-init g c = record { done = []; whole = refl; served = λ start before s. rw (append-nil before) s }
+
+pub end_line-requires : goal.end_line-requires
+end_line-requires g c = open_before c.lines.rest.now c.in-Some.end c.in-Some.ensures.0.before
+
+pub lines-preserved : goal.lines-preserved
+lines-preserved g c =
+    let done = c.lines.invariant.done in
+    let rest = c.lines.rest.now in
+    let at = c.in-Some.end in
+    record {
+      done = done ++ ended (take at rest);
+      whole = rw (from_on (at + 1) rest) (line_done c.args.bytes.now done rest at c.lines.invariant.whole c.in-Some.ensures.0.high c.in-Some.ensures.1);
+      served = λ start before s.
+          subst (λ (l : List ℕ). Buffered g.P.Responder.step g.C.Clock.ticks start l c.end_line.new.line (c.end_line.new.responder, c.end_line.new.clock, g.W.Write.contents c.end_line.new.writer)) (append_assoc before done (ended (take at rest)))
+          (c.in_ok-end_line.ensures.ok start (before ++ done) (c.lines.invariant.served start before s));
+    }
 
 pub returns-clause-ok : goal.returns-clause-ok
 returns-clause-ok g c = λ start before s.
-    subst (λ (l : List ℕ). Buffered g.P.Responder.step g.C.Clock.ticks start l c.loop-b.line (c.loop-b.responder, c.loop-b.clock, g.W.Write.contents c.loop-b.writer)) (all_taken before c.args.bytes.now c.loop-b.b-index c.loop-b-test.false) (c.loop-b.invariant start before s)
+    let done = c.lines.invariant.done in
+    let rest = c.lines.rest.now in
+    subst (λ (l : List ℕ). Buffered g.P.Responder.step g.C.Clock.ticks start l c.add_all.new.self (c.lines.responder, c.lines.clock, g.W.Write.contents c.lines.writer)) (append_assoc before done rest ∙ ap (λ (l : List ℕ). before ++ l) (sym c.lines.invariant.whole))
+    (buffered_add g.P.Responder.step g.C.Clock.ticks start _ (before ++ done) _ rest _ (open_whole rest c.in_default.ensures) c.add_all.ensures (c.lines.invariant.served start before s))
 
-pub returns-in_err-take_byte-clause-err : goal.returns-in_err-take_byte-clause-err
-returns-in_err-take_byte-clause-err g c =
+pub returns-in_err-end_line-clause-err : goal.returns-in_err-end_line-clause-err
+returns-in_err-end_line-clause-err g c =
     let p = err_from_is_err_and c.from_residual.result c.from_residual.ensures.1 in
-    let i = c.loop-b.b-index in
-    let bytes = c.args.bytes.now in
+    let done = c.lines.invariant.done in
+    let rest = c.lines.rest.now in
+    let at = c.in-Some.end in
     rw p.1 (λ start before s.
-    subst (λ (l : List ℕ). Broken g.P.Responder.step g.C.Clock.ticks start l (c.take_byte.new.responder, c.take_byte.new.clock, g.W.Write.contents c.take_byte.new.writer)) (and_rest before bytes i c.loop-b-test.true)
-    (broken_more g.P.Responder.step g.C.Clock.ticks start _ _ (drop (i + 1) bytes) (c.in_err-take_byte.ensures.err start (before ++ take i bytes) (c.loop-b.invariant start before s))))
+    subst (λ (l : List ℕ). Broken g.P.Responder.step g.C.Clock.ticks start l (c.end_line.new.responder, c.end_line.new.clock, g.W.Write.contents c.end_line.new.writer))
+    (behind_line before c.args.bytes.now done (ended (take at rest)) (drop (at + 1) rest) (line_done c.args.bytes.now done rest at c.lines.invariant.whole c.in-Some.ensures.0.high c.in-Some.ensures.1))
+    (broken_more g.P.Responder.step g.C.Clock.ticks start _ _ (drop (at + 1) rest) (c.in_err-end_line.ensures.err start (before ++ done) (c.lines.invariant.served start before s))))
