@@ -1,0 +1,9 @@
+pub mod Lists
+pub mod Chains
+pub mod Searching
+pub mod Endings
+pub mod Moves
+pub mod Unfolding
+pub mod Filling
+pub mod Totals
+pub mod Growth
