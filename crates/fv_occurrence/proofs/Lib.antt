@@ -1,0 +1,4 @@
+pub mod Entries
+pub mod Laws
+pub mod Steps
+pub mod Walking

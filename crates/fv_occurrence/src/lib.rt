@@ -1,0 +1,11 @@
+//! Composed constraints: what a tree of constraints reports of a datum or of an object.
+#![tactic(auto)]
+
+mod node;
+mod occurrence;
+mod reporting;
+mod subject;
+
+pub use node::{Node, Test};
+pub use occurrence::Occurrence;
+pub use reporting::{report, report_object};
