@@ -1,7 +1,7 @@
 //! What trees report of data.
 use crate::given::{check, occurrence_of, written};
-use fv_occurrence::report;
 use fv_datum::Datum;
+use fv_occurrence::report;
 use fv_registry::{RuleSet, Ruled};
 use std::alloc::Global;
 use std::process::Abort;

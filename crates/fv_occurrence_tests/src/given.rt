@@ -6,8 +6,8 @@ ghost use Rattle.fv_occurrence.specs.Trees.{Trees};
 ghost use Rattle.fv_occurrence.specs.Views.{entry_view};
 
 use fv_builtin::Builtin;
-use fv_occurrence::{Node, Occurrence, Test};
 use fv_datum::Attrs;
+use fv_occurrence::{Node, Occurrence, Test};
 use std::alloc::Global;
 use std::collections::BTreeMap;
 use std::process::Abort;

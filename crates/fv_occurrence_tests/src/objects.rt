@@ -1,7 +1,7 @@
 //! What trees report of objects.
 use crate::given::{check, occurrence_of, written};
-use fv_occurrence::report_object;
 use fv_model::{Fields, Types, read_bundle};
+use fv_occurrence::report_object;
 use fv_registry::{RuleSet, Ruled};
 use indexmap::IndexMap;
 use serde_json::Value;
