@@ -1,0 +1,30 @@
+-- A constraint has one tree alone.
+use Rattle.std.proofs.Common.{◌≡◌, ℕ, List, [], ◌∷◌, Option, refl, sym, ap, subst, ◌∙◌}
+use Rattle.fv_datum.specs.Attributes.{AttributeValue, Attributes}
+use Rattle.fv_constraint.specs.Composed.{Planned, IsTreeOf, AreTreesOf}
+use Rattle.fv_constraint.specs.Definitions.{Composing, Definitions, Meant, composing_of}
+use Rattle.fv_constraint.specs.Effect.{effective, handed}
+use Rattle.fv_occurrence.specs.Trees.{Tree, tree, Trees, none, more}
+
+planned_same : (a b : List ℕ) (m n : Meant) (g h : Attributes) → a ≡ b → m ≡ n → g ≡ h
+    → ◌≡◌ {A = Planned} (record { constraint = a; meant = m; given = g }) (record { constraint = b; meant = n; given = h })
+planned_same a b m n g h x y z = rw (x, y, z) refl
+
+mutual
+  pub unique : (ds : Definitions) (name : List ℕ) (given : Attributes) (t u : Tree Planned) → IsTreeOf ds name given t → IsTreeOf ds name given u → t ≡ u
+  unique ds name given (tree p below) (tree q others) x y =
+      let found = sym x.1 ∙ y.1 in
+      let meant : p.meant ≡ q.meant = cc in
+      let same : p ≡ q = planned_same p.constraint q.constraint p.meant q.meant p.given q.given (x.0 ∙ sym y.0) meant (x.2 ∙ sym y.2) in
+      let z = subst (λ (m : Meant). AreTreesOf ds (composing_of m) (effective m given) others) (sym meant) y.3 in
+      let kids = uniques ds (composing_of p.meant) (effective p.meant given) below others x.3 z in
+      ap (λ r. tree r below) same ∙ ap (tree q) kids
+
+  uniques : (ds : Definitions) (cs : List Composing) (above : List ℕ → Option AttributeValue) (ts us : Trees Planned) → AreTreesOf ds cs above ts → AreTreesOf ds cs above us → ts ≡ us
+  uniques ds [] above none none x y = refl
+  uniques ds [] above none (more u us) x y = absurd y
+  uniques ds [] above (more t ts) us x y = absurd x
+  uniques ds (c ∷ cs) above none us x y = absurd x
+  uniques ds (c ∷ cs) above (more t ts) none x y = absurd y
+  uniques ds (c ∷ cs) above (more t ts) (more u us) x y =
+      ap (λ r. more r ts) (unique ds c.constraint (handed c above) t u x.0 y.0) ∙ ap (more u) (uniques ds cs above ts us x.1 y.1)

@@ -1,0 +1,8 @@
+pub mod Composed
+pub mod DefinitionViews
+pub mod Definitions
+pub mod Effect
+pub mod Numbered
+pub mod PlaceViews
+pub mod PlannedViews
+pub mod Refusals

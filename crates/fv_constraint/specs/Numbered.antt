@@ -1,0 +1,49 @@
+-- Definitions as a graph: the nodes are the definitions in order, and one more that stands for all other constraints.
+use Rattle.std.specs.Prelude.{◌≡◌, ℕ, suc, List, [], ◌∷◌, ◌++◌, map, length, cond, false, min, slice_index, Option, Some, None}
+use Rattle.std.specs.Option.{unwrap_or}
+use Rattle.std.specs.Str.{bytes_eq}
+use Rattle.fv_datum.specs.Attributes.{Attributes}
+use Rattle.fv_builtin.specs.Names.{is_builtin}
+use Rattle.fv_constraint.specs.Composed.{Planned, IsTreeOf, IsCyclic}
+use Rattle.fv_constraint.specs.Definitions.{Composing, Definitions, meant_by, composes_unknown}
+use Rattle.fv_constraint.specs.Effect.{effective, handed}
+use Rattle.fv_occurrence.specs.Trees.{Tree, size}
+
+-- how many definitions stand before the one of that name
+abbrev pub place_of : List ℕ → Definitions → ℕ
+place_of name [] = 0
+place_of name (d ∷ ds) = cond (bytes_eq name d.0) 0 (suc (place_of name ds))
+
+-- the node of a constraint
+abbrev pub number_of : Definitions → List ℕ → ℕ
+number_of ds name = cond (is_builtin name) (length ds) (place_of name ds)
+
+-- the nodes of composing constraints
+abbrev pub numbers_of : Definitions → List Composing → List ℕ
+numbers_of ds cs = map (λ c. number_of ds c.constraint) cs
+
+-- the nodes that each node's edges lead to
+abbrev pub edges_of : Definitions → List (List ℕ)
+edges_of ds = map (λ d. numbers_of ds d.1.composing) ds ++ [] ∷ []
+
+-- a table has the size of each constraint's tree, or the limit where it is larger
+abbrev pub AreSizes : Definitions → ℕ → List ℕ → Type 0
+AreSizes ds limit sizes =
+    (name : List ℕ) (given : Attributes) (t : Tree Planned) → IsTreeOf ds name given t → slice_index sizes (number_of ds name) ≡ min limit (size t)
+
+-- the definitions are a graph without cycles: the nodes that each node's edges lead to, and the sizes up to the limit
+pub record IsNumbered (ds : Definitions) (edges : List (List ℕ)) (sizes : List ℕ) : Type 0 where
+  pub known : composes_unknown ds ≡ false
+  pub acyclic : IsCyclic ds → ⊥
+  pub edges_are : edges ≡ edges_of ds
+  pub each : length sizes ≡ length edges
+  pub sized : AreSizes ds 1025 sizes
+
+-- what stands below a constraint at a composing constraint
+abbrev pub composing_at : Definitions → Planned → Option Composing → Planned
+composing_at ds p None = record { constraint = p.constraint; meant = p.meant; given = [] }
+composing_at ds p (Some c) = record {
+  constraint = c.constraint;
+  meant = unwrap_or (meant_by ds c.constraint) p.meant;
+  given = handed c (effective p.meant p.given);
+}

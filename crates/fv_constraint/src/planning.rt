@@ -1,0 +1,83 @@
+//! The constraints of a tree, each by what stands above it.
+ghost use Rattle.std.specs.Prelude.{◌≡◌, IfOk, map, slice_get};
+ghost use Rattle.fv_constraint.specs.PlannedViews.{planned_view};
+ghost use Rattle.fv_constraint.specs.Definitions.{composing_of};
+ghost use Rattle.fv_constraint.specs.DefinitionViews.{definition_entry};
+ghost use Rattle.fv_constraint.specs.Numbered.{composing_at};
+
+use crate::definition::Definition;
+use crate::effect::handed;
+use crate::meant::{Meant, meant_by};
+use fv_datum::Attrs;
+use fv_graph::Hand;
+use std::alloc::{AllocError, Global};
+use std::collections::BTreeMap;
+
+/// A constraint in a tree.
+#[derive(Drop)]
+pub struct Planned<'a> {
+    pub constraint: &'a str,
+    /// What its name stands for.
+    pub meant: Meant<'a>,
+    /// The attributes that it is given.
+    pub with: Attrs,
+}
+
+/// Hands attributes down along definitions.
+#[derive(Drop)]
+pub(crate) struct Handing<'a> {
+    pub(crate) definitions: &'a BTreeMap<String, Definition>,
+}
+
+impl<'a> Hand for Handing<'a> {
+    type Value = Planned<'a>;
+
+    ghost use Rattle.std.specs.Prelude.{map, slice_get};
+    ghost use Rattle.fv_constraint.specs.Composed as spec;
+    ghost use Rattle.fv_constraint.specs.PlannedViews.{planned_view};
+    ghost use Rattle.fv_constraint.specs.Definitions.{composing_of};
+    ghost use Rattle.fv_constraint.specs.DefinitionViews.{definition_entry};
+    ghost use Rattle.fv_constraint.specs.Numbered.{composing_at};
+
+    ghost Seen = { spec.Planned };
+
+    ghost seen = { planned_view };
+
+    ghost hands = { λ h node edge p. composing_at (map definition_entry h.definitions.now.entries) p
+        (slice_get (composing_of p.meant) edge) };
+
+    fn hand(
+        &self,
+        alloc: Global,
+        _node: usize,
+        edge: usize,
+        value: &Planned<'a>,
+    ) -> Result<Planned<'a>, AllocError> {
+        plan_below(alloc, self.definitions, value, edge)
+    }
+}
+
+/// What stands below a constraint at a composing constraint, told by its place among them.
+fn plan_below<'a>(
+    alloc: Global,
+    definitions: &'a BTreeMap<String, Definition>,
+    above: &Planned<'a>,
+    edge: usize,
+) -> Result<Planned<'a>, AllocError>
+    ensures { IfOk result (λ made. planned_view made ≡ composing_at (map definition_entry definitions.now.entries)
+        (planned_view above.now) (slice_get (composing_of (planned_view above.now).meant) edge)) }
+{
+    let meant = above.meant;
+    let Some(composing) = meant.composing().get(edge) else {
+        return Ok(Planned {
+            constraint: above.constraint,
+            meant,
+            with: Attrs::new(BTreeMap::new(alloc)),
+        });
+    };
+    Ok(Planned {
+        constraint: composing.constraint.as_str(),
+        meant: meant_by(definitions, composing.constraint.as_str()).unwrap_or(meant),
+        with: handed(alloc, composing, meant, &above.with)?,
+    })
+}

@@ -1,0 +1,98 @@
+//! Definitions as tests are given them, a line each: `NAME ATTRIBUTE=DEFAULT .. : COMPOSING & ..`,
+//! where a composing constraint is its name, then what is given to it, `ATTRIBUTE=VALUE`, and what is
+//! overridden, `ATTRIBUTE<ATTRIBUTE`, the second of them that of the composed constraint. Values are
+//! whole numbers, and an attribute without `=` has no default.
+use fv_constraint::{AttributeDefinition, Composing, Definition};
+use fv_datum::{Attribute, AttributeKind, Attrs};
+use std::alloc::Global;
+use std::collections::BTreeMap;
+use std::test::Fail;
+
+fn number(text: &str) -> Result<Attribute, Fail> {
+    Ok(Attribute::Integer(text.parse::<i64>()?))
+}
+
+/// The attributes among words.
+pub(crate) fn attrs_of(alloc: Global, words: &str) -> Result<Attrs, Fail> {
+    let mut entries = BTreeMap::new(alloc);
+    for word in words.split_whitespace() {
+        if let Some((name, value)) = word.split_once("=") {
+            let _ = entries.insert(String::from_str(alloc, name)?, number(value)?)?;
+        }
+    }
+    Ok(Attrs::new(entries))
+}
+
+/// The overridden attributes among words.
+fn overrides_of(alloc: Global, words: &str) -> Result<BTreeMap<String, String>, Fail> {
+    let mut overrides = BTreeMap::new(alloc);
+    for word in words.split_whitespace() {
+        if let Some((inner, outer)) = word.split_once("<") {
+            let name = String::from_str(alloc, inner)?;
+            let _ = overrides.insert(name, String::from_str(alloc, outer)?)?;
+        }
+    }
+    Ok(overrides)
+}
+
+/// A name, and the words behind it.
+pub(crate) fn named(text: &str) -> (&str, &str) {
+    match text.trim().split_once(" ") {
+        Some(parts) => parts,
+        None => (text.trim(), ""),
+    }
+}
+
+fn composing_of(alloc: Global, text: &str) -> Result<Vec<Composing>, Fail> {
+    let mut composing = Vec::new(alloc);
+    for part in text.split('&') {
+        let (constraint, words) = named(part);
+        if !constraint.is_empty() {
+            composing.push(Composing {
+                constraint: String::from_str(alloc, constraint)?,
+                with: attrs_of(alloc, words)?,
+                overrides: overrides_of(alloc, words)?,
+            })?;
+        }
+    }
+    Ok(composing)
+}
+
+fn attributes_of(
+    alloc: Global,
+    words: &str,
+) -> Result<BTreeMap<String, AttributeDefinition>, Fail> {
+    let mut attributes = BTreeMap::new(alloc);
+    for word in words.split_whitespace() {
+        let (name, default) = match word.split_once("=") {
+            Some((name, value)) => (name, Some(number(value)?)),
+            None => (word, None),
+        };
+        let attribute = AttributeDefinition {
+            kind: AttributeKind::Integer,
+            default,
+        };
+        let _ = attributes.insert(String::from_str(alloc, name)?, attribute)?;
+    }
+    Ok(attributes)
+}
+
+/// The definitions of lines.
+pub(crate) fn definitions_of(
+    alloc: Global,
+    lines: &str,
+) -> Result<BTreeMap<String, Definition>, Fail> {
+    let mut definitions = BTreeMap::new(alloc);
+    for line in lines.trim().lines() {
+        let (head, tail) = line.split_once(":").ok_or("a colon")?;
+        let (name, words) = named(head);
+        let definition = Definition {
+            attributes: attributes_of(alloc, words)?,
+            rule: None,
+            composing: composing_of(alloc, tail)?,
+            single: false,
+        };
+        let _ = definitions.insert(String::from_str(alloc, name)?, definition)?;
+    }
+    Ok(definitions)
+}

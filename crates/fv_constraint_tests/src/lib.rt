@@ -1,0 +1,8 @@
+//! Tests of composed constraints: the trees that definitions compose. The wanted ones are worked out by
+//! hand from the standard's section "Constraint composition".
+#![tactic(auto)]
+
+#[cfg(test)]
+mod composing;
+#[cfg(test)]
+mod declared;
