@@ -1,5 +1,5 @@
 -- What each built-in constraint takes: its attributes with their kinds and defaults, and the kinds of data that it is on.
-use Rattle.std.specs.Prelude.{ℕ, pos, List, [], ◌∷◌, Bool, true, false, Option, Some, None, option_map, option_and_then, codes}
+use Rattle.std.specs.Prelude.{ℕ, pos, List, [], ◌∷◌, Bool, true, false, Option, Some, None, option_map, option_and_then, map, filter, not, is_some, codes}
 use Rattle.fv_datum.specs.AttributeKinds.{attribute_kind}
 use Rattle.fv_datum.specs.Attributes.{AttributeValue, integer, boolean}
 use Rattle.fv_datum.specs.Lookup.{at_name}
@@ -34,6 +34,10 @@ attributes_of _ = []
 -- the kind of a constraint's attribute, if it has one of that name
 abbrev pub kind_of_attribute : BuiltinName → List ℕ → Option AttributeKind
 kind_of_attribute which name = option_map (λ a. a.0) (at_name name (attributes_of which))
+
+-- the names of the attributes that a constraint has no default for
+abbrev pub required_attributes : BuiltinName → List (List ℕ)
+required_attributes which = map (λ a. a.0) (filter (λ a. not (is_some a.1.1)) (attributes_of which))
 
 -- the default of a constraint's attribute, if it has one
 abbrev pub default_of : BuiltinName → List ℕ → Option AttributeValue

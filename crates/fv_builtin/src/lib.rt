@@ -25,5 +25,5 @@ pub use fault::BuiltinFault;
 pub use interpolate::message;
 pub use name::{BuiltinName, builtin_named, is_builtin};
 pub use patterns::Patterns;
-pub use table::takes_kind;
+pub use table::{kind_of_attribute, required_attributes, takes_kind};
 pub use template::builtin_message;

@@ -1,8 +1,8 @@
 //! What each built-in constraint takes: its attributes with their kinds and defaults, and the
 //! kinds of data that it is on.
-ghost use Rattle.std.specs.Prelude.{◌≡◌, option_map};
+ghost use Rattle.std.specs.Prelude.{◌≡◌, map, option_map};
 ghost use Rattle.fv_datum.specs.Attributes.{attribute_view};
-ghost use Rattle.fv_builtin.specs.Table.{kind_of_attribute, default_of, takes};
+ghost use Rattle.fv_builtin.specs.Table.{kind_of_attribute, required_attributes, default_of, takes};
 
 use crate::name::BuiltinName;
 use fv_datum::{Attribute, AttributeKind, Kind};
@@ -17,7 +17,7 @@ pub(crate) const MAX_SIZE: i64 = 2147483647;
 pub(crate) const INCLUSIVE: bool = true;
 
 /// The kind of a constraint's attribute, if it has one of that name.
-pub(crate) fn kind_of_attribute(which: BuiltinName, name: &str) -> Option<AttributeKind>
+pub fn kind_of_attribute(which: BuiltinName, name: &str) -> Option<AttributeKind>
     ensures { result ≡ kind_of_attribute which name.now }
 {
     match which {
@@ -43,6 +43,19 @@ pub(crate) fn kind_of_attribute(which: BuiltinName, name: &str) -> Option<Attrib
             _ => None,
         },
         _ => None,
+    }
+}
+
+/// The names of the attributes that a constraint has no default for.
+pub fn required_attributes(which: BuiltinName) -> &'static [&'static str]
+    ensures { map (λ name. name.now) result.now ≡ required_attributes which }
+{
+    match which {
+        BuiltinName::Min | BuiltinName::Max | BuiltinName::DecimalMin | BuiltinName::DecimalMax =>
+            &["value"],
+        BuiltinName::Digits => &["integer", "fraction"],
+        BuiltinName::Pattern => &["regexp"],
+        _ => &[],
     }
 }
 

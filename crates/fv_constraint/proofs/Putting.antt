@@ -39,7 +39,7 @@ module _ {X Y : Type 0} (view : X → Y) where
   below_names k (e ∷ es) h = (h.0, below_names k es h.1)
 
   -- the keys of a map ascend, so their bytes do
-  names-ascend : (es : List (String Global × X)) → IsStrictlySortedBy string_cmp (keys_of es) → IsStrictlySortedBy (slice_cmp nat_cmp) (names_of (map seen es))
+  pub names-ascend : (es : List (String Global × X)) → IsStrictlySortedBy string_cmp (keys_of es) → IsStrictlySortedBy (slice_cmp nat_cmp) (names_of (map seen es))
   unfolding IsStrictlySortedBy
   names-ascend [] h = tt
   names-ascend (e ∷ es) h = (below_names e.0 es h.0, names-ascend es h.1)
@@ -52,7 +52,7 @@ above : (first name : List ℕ) → slice_cmp nat_cmp first name ≡ Less → sl
 above first name h = nat_list_cmp_total.antisymm name first ∙ ap ordering_reverse h
 
 -- a name above those before it goes last
-put_last : {Y : Type 0} (es : List (List ℕ × Y)) (name : List ℕ) (y : Y) (more : List (List ℕ)) → IsStrictlySortedBy (slice_cmp nat_cmp) (names_of es ++ name ∷ more)
+pub put_last : {Y : Type 0} (es : List (List ℕ × Y)) (name : List ℕ) (y : Y) (more : List (List ℕ)) → IsStrictlySortedBy (slice_cmp nat_cmp) (names_of es ++ name ∷ more)
     → insert_entry (slice_cmp nat_cmp) es name y ≡ es ++ (name, y) ∷ []
 unfolding IsStrictlySortedBy
 put_last [] name y more h = refl

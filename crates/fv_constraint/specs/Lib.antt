@@ -3,6 +3,4 @@ pub mod DefinitionViews
 pub mod Definitions
 pub mod Effect
 pub mod Numbered
-pub mod PlaceViews
 pub mod PlannedViews
-pub mod Refusals

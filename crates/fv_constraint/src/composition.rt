@@ -70,6 +70,13 @@ impl<'a> Composition<'a> {
         }))
     }
 
+    /// The definitions.
+    pub fn definitions(&self) -> &'a BTreeMap<String, Definition>
+        ensures { map definition_entry result.now.entries ≡ self.now }
+    {
+        self.definitions
+    }
+
     /// How many nodes the tree of a constraint has, whatever attributes it is given, but no more
     /// than 1,025. No tree is made.
     pub fn size_of(&self, name: &str) -> usize

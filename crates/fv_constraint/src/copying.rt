@@ -19,7 +19,7 @@ fn copy_texts(alloc: Global, texts: &[String]) -> Result<Vec<String>, AllocError
 }
 
 /// Another attribute of the same value.
-pub(crate) fn copy_of(alloc: Global, attribute: &Attribute) -> Result<Attribute, AllocError>
+pub fn copy_of(alloc: Global, attribute: &Attribute) -> Result<Attribute, AllocError>
     ensures { IfOk result (λ a. attribute_view a ≡ attribute_view attribute.now) }
 {
     match attribute {
@@ -31,7 +31,7 @@ pub(crate) fn copy_of(alloc: Global, attribute: &Attribute) -> Result<Attribute,
 }
 
 /// Puts a value in at a name, in place of one that stands there.
-pub(crate) fn put<V: Drop>(
+pub fn put<V: Drop>(
     entries: &mut BTreeMap<String, V>,
     name: &String,
     value: V,
@@ -44,7 +44,7 @@ pub(crate) fn put<V: Drop>(
 }
 
 /// The same attributes again.
-pub(crate) fn copy_entries(
+pub fn copy_entries(
     alloc: Global,
     entries: &BTreeMap<String, Attribute>,
 ) -> Result<BTreeMap<String, Attribute>, AllocError>

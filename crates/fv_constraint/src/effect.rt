@@ -14,7 +14,7 @@ use fv_datum::{Attribute, Attrs};
 use std::alloc::{AllocError, Global};
 
 /// The value in effect of an attribute: that which is given, else the default.
-pub(crate) fn value_of<'a>(
+pub fn value_of<'a>(
     attribute: &'a AttributeDefinition,
     given: &'a Attrs,
     name: &str,

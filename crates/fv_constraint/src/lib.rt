@@ -1,5 +1,4 @@
-//! Composed constraints: the trees that definitions compose constraints to, and what a tree reports
-//! of a datum or of an object.
+//! Declared constraints, and the trees that definitions compose constraints to.
 #![tactic(auto)]
 
 mod composition;
@@ -8,12 +7,14 @@ mod definition;
 mod effect;
 mod meant;
 mod planning;
-mod refusals;
 mod uniqueness;
+mod unknown;
 
 pub use composition::Composition;
+pub use copying::{copy_entries, copy_of, put};
 pub use definition::{AttributeDefinition, Composing, Definition, Rule};
+pub use effect::value_of;
 pub use meant::{Meant, meant_by};
 pub use planning::Planned;
-pub use refusals::{Place, composes_unknown};
 pub use uniqueness::tree_is_unique;
+pub use unknown::composes_unknown;

@@ -123,7 +123,7 @@ fn cycles_are_found(rt: HostRuntime) -> Result<(), Fail> {
 }
 
 /// So many definitions, each after the first composed twice of the one before.
-fn doubling(alloc: Global, count: usize) -> Result<String, Fail> {
+pub(crate) fn doubling(alloc: Global, count: usize) -> Result<String, Fail> {
     let mut lines = String::from_str(alloc, "D0 : NotNull\n")?;
     for number in 1..count {
         let before = number - 1;

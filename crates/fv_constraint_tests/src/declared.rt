@@ -1,23 +1,27 @@
 //! Definitions as tests are given them, a line each: `NAME ATTRIBUTE=DEFAULT .. : COMPOSING & ..`,
 //! where a composing constraint is its name, then what is given to it, `ATTRIBUTE=VALUE`, and what is
 //! overridden, `ATTRIBUTE<ATTRIBUTE`, the second of them that of the composed constraint. Values are
-//! whole numbers, and an attribute without `=` has no default.
-use fv_constraint::{AttributeDefinition, Composing, Definition};
+//! whole numbers, else texts. An attribute without `=` has no default; it is a whole number, or a
+//! text where `~` stands behind its name. A rule is `#NUMBER` of data, or `@NUMBER` of objects.
+use fv_constraint::{AttributeDefinition, Composing, Definition, Rule};
 use fv_datum::{Attribute, AttributeKind, Attrs};
 use std::alloc::Global;
 use std::collections::BTreeMap;
 use std::test::Fail;
 
-fn number(text: &str) -> Result<Attribute, Fail> {
-    Ok(Attribute::Integer(text.parse::<i64>()?))
+fn value(alloc: Global, text: &str) -> Result<Attribute, Fail> {
+    match text.parse::<i64>() {
+        Ok(number) => Ok(Attribute::Integer(number)),
+        Err(_) => Ok(Attribute::Text(String::from_str(alloc, text)?)),
+    }
 }
 
 /// The attributes among words.
 pub(crate) fn attrs_of(alloc: Global, words: &str) -> Result<Attrs, Fail> {
     let mut entries = BTreeMap::new(alloc);
     for word in words.split_whitespace() {
-        if let Some((name, value)) = word.split_once("=") {
-            let _ = entries.insert(String::from_str(alloc, name)?, number(value)?)?;
+        if let Some((name, text)) = word.split_once("=") {
+            let _ = entries.insert(String::from_str(alloc, name)?, value(alloc, text)?)?;
         }
     }
     Ok(Attrs::new(entries))
@@ -58,23 +62,44 @@ fn composing_of(alloc: Global, text: &str) -> Result<Vec<Composing>, Fail> {
     Ok(composing)
 }
 
+/// The attribute of a word, by its name.
+fn attribute_of<'a>(alloc: Global, word: &'a str) -> Result<(&'a str, AttributeDefinition), Fail> {
+    let (name, default) = match word.split_once("=") {
+        Some((name, text)) => (name, Some(value(alloc, text)?)),
+        None => (word, None),
+    };
+    let (name, kind) = match name.split_once("~") {
+        Some((name, _)) => (name, AttributeKind::Text),
+        None => (name, AttributeKind::Integer),
+    };
+    Ok((name, AttributeDefinition { kind, default }))
+}
+
 fn attributes_of(
     alloc: Global,
     words: &str,
 ) -> Result<BTreeMap<String, AttributeDefinition>, Fail> {
     let mut attributes = BTreeMap::new(alloc);
     for word in words.split_whitespace() {
-        let (name, default) = match word.split_once("=") {
-            Some((name, value)) => (name, Some(number(value)?)),
-            None => (word, None),
-        };
-        let attribute = AttributeDefinition {
-            kind: AttributeKind::Integer,
-            default,
-        };
-        let _ = attributes.insert(String::from_str(alloc, name)?, attribute)?;
+        if !word.starts_with("#") && !word.starts_with("@") {
+            let (name, attribute) = attribute_of(alloc, word)?;
+            let _ = attributes.insert(String::from_str(alloc, name)?, attribute)?;
+        }
     }
     Ok(attributes)
+}
+
+/// The rule among words.
+fn rule_of(words: &str) -> Result<Option<Rule>, Fail> {
+    for word in words.split_whitespace() {
+        if let Some((_, number)) = word.split_once("#") {
+            return Ok(Some(Rule::Data(number.parse::<u32>()?)));
+        }
+        if let Some((_, number)) = word.split_once("@") {
+            return Ok(Some(Rule::Objects(number.parse::<u32>()?)));
+        }
+    }
+    Ok(None)
 }
 
 /// The definitions of lines.
@@ -88,7 +113,7 @@ pub(crate) fn definitions_of(
         let (name, words) = named(head);
         let definition = Definition {
             attributes: attributes_of(alloc, words)?,
-            rule: None,
+            rule: rule_of(words)?,
             composing: composing_of(alloc, tail)?,
             single: false,
         };

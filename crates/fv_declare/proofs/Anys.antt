@@ -1,22 +1,22 @@
--- Whether some draft or plan passes a test, seen from one of them on.
+-- Whether some draft or use passes a test, seen from one of them on.
 use Rattle.std.proofs.Common.{◌≡◌, ℕ, ◌+◌, ◌<◌, List, length, get_or, drop, map, Bool, ◌||◌, refl, add-one, drop-cons}
 use Rattle.std.specs.List.{list_any}
 use Rattle.fv_draft.specs.Drafts as spec
 use Rattle.fv_draft.specs.DraftViews.{field_view, type_view, form_view}
-use Rattle.fv_declare.specs.PlanViews.{plan_view}
-use Rattle.fv_declare.specs.Planned.{Planned}
+use Rattle.fv_declare.specs.UseViews.{use_view}
+use Rattle.fv_declare.specs.Uses as uses
 use Rattle.fv_draft.specs.declared.draft.FieldDraft.{FieldDraft}
 use Rattle.fv_draft.specs.declared.draft.TypeDraft.{TypeDraft}
 use Rattle.fv_draft.specs.declared.draft.FormDraft.{FormDraft}
-use Rattle.fv_declare.specs.declared.plan.Plan.{Plan}
+use Rattle.fv_declare.specs.declared.uses.Use.{Use}
 
 turn : {X Y : Type 0} (view : X → Y) (test : Y → Bool) (xs : List X) (i : ℕ) (x : X) → i < length xs → x ≡ get_or xs i x
     → list_any test (map view (drop i xs)) ≡ (test (view x) || list_any test (map view (drop (i + 1) xs)))
 turn view test xs i x h is = rw (add-one, drop-cons xs i x h, ← is) refl
 
-pub plan_turn : (test : Planned → Bool) (xs : List Plan) (i : ℕ) (x : Plan) → i < length xs → x ≡ get_or xs i x
-    → list_any test (map plan_view (drop i xs)) ≡ (test (plan_view x) || list_any test (map plan_view (drop (i + 1) xs)))
-plan_turn = turn plan_view
+pub use_turn : (test : uses.Use → Bool) (xs : List Use) (i : ℕ) (x : Use) → i < length xs → x ≡ get_or xs i x
+    → list_any test (map use_view (drop i xs)) ≡ (test (use_view x) || list_any test (map use_view (drop (i + 1) xs)))
+use_turn = turn use_view
 
 pub field_turn : (test : spec.FieldDraft → Bool) (xs : List FieldDraft) (i : ℕ) (x : FieldDraft) → i < length xs → x ≡ get_or xs i x
     → list_any test (map field_view (drop i xs)) ≡ (test (field_view x) || list_any test (map field_view (drop (i + 1) xs)))

@@ -8,12 +8,13 @@ use Rattle.std.proofs.lemmas.Option.{unwrap_or-slice_get}
 use Rattle.std.proofs.lemmas.Slice.Eq.{bytes_eq-Decides}
 use Rattle.fv_datum.specs.Lookup.{at_name}
 use Rattle.fv_model.specs.Types.{DeclaredFields, Declared, number_of, name_at, has_unknown}
-use Rattle.fv_registry.specs.Rules.{Known}
+use Rattle.fv_constraint.specs.Definitions.{composes_unknown}
+use Rattle.fv_datum.specs.Outcomes.{first}
 use Rattle.fv_draft.specs.Drafts as spec
-use Rattle.fv_declare.specs.Declares.{types_declared, bad_name, unknown_name, empty_constraint, too_large, unknown_rule, bad_attribute, unexpected_type, plans_of, unknown_root, draft_fault}
+use Rattle.fv_declare.specs.Declares.{types_declared, bad_name, unknown_constraint, unknown_name, unknown_root, name_conditions}
+use Rattle.fv_declare.specs.declared.fault.DeclFault.TheVariants.{BadName, UnknownName}
 use Rattle.fv_draft.specs.DraftViews.{form_view}
 use Rattle.fv_draft.specs.declared.draft.FormDraft.{FormDraft}
-use Rattle.fv_declare.specs.Planned.{is_unknown_constraint, refuses_attributes, refuses_kind}
 use Rattle.fv_declare.proofs.Anys.{form_turn}
 
 pub or_left : (a b : Bool) → (a || b) ≡ false → a ≡ false
@@ -38,34 +39,8 @@ nor_later : {E : Type 0} (b : Bool) (e : E) (rest : Option E) → cond b (Some e
 nor_later true e rest h = cc
 nor_later false e rest h = h
 
--- none of the conditions holds
-pub record IsGood (k : Known) (d : spec.Drafted) : Type 0 where
-  pub names : unknown_name d ≡ false
-  pub rules : unknown_rule k d ≡ false
-  pub attributes : bad_attribute d ≡ false
-  pub kinds : unexpected_type k d ≡ false
-
-pub is_good : (k : Known) (d : spec.Drafted) → draft_fault k d ≡ None → IsGood k d
-is_good k d e =
-    let behind_names = nor_later (bad_name d) _ _ e in
-    let behind_unknown = nor_later (unknown_name d) _ _ behind_names in
-    let behind_empty = nor_later (empty_constraint d) _ _ behind_unknown in
-    let behind_large = nor_later (too_large d) _ _ behind_empty in
-    let behind_rules = nor_later (unknown_rule k d) _ _ behind_large in
-    let behind_attributes = nor_later (bad_attribute d) _ _ behind_rules in
-    record {
-      names = not_here (unknown_name d) _ _ behind_names;
-      rules = not_here (unknown_rule k d) _ _ behind_large;
-      attributes = not_here (bad_attribute d) _ _ behind_rules;
-      kinds = not_here (unexpected_type k d) _ _ behind_attributes;
-    }
-
-pub good_attributes : (k : Known) (d : spec.Drafted) → draft_fault k d ≡ None → list_any refuses_attributes (plans_of d) ≡ false
-unfolding bad_attribute
-good_attributes k d e = let all : bad_attribute d ≡ false = (is_good k d e).attributes in or_right _ _ all
-
-pub good_kinds : (k : Known) (d : spec.Drafted) → draft_fault k d ≡ None → list_any (refuses_kind k) (plans_of d) ≡ false
-good_kinds k d e = (is_good k d e).kinds
+pub good_names : (d : spec.Drafted) → first (name_conditions d) ≡ None → unknown_name d ≡ false
+good_names d e = not_here (unknown_name d) UnknownName None (nor_later (bad_name d) BadName _ e)
 
 -- ---- the roots
 
@@ -84,7 +59,7 @@ stops p (x ∷ xs) = grind (arith, common_steps, place (p x) (prefix_len (λ y. 
 is_some-position : {X : Type 0} (p : X → Bool) (xs : List X) → is_some (position p xs) ≡ list_any p xs
 is_some-position p xs = at_some (nat_lt (prefix_len (λ x. not (p x)) xs) (length xs)) _ ∙ stops p xs
 
-any_map : {X Y : Type 0} (p : Y → Bool) (f : X → Y) (xs : List X) → list_any p (map f xs) ≡ list_any (λ x. p (f x)) xs
+pub any_map : {X Y : Type 0} (p : Y → Bool) (f : X → Y) (xs : List X) → list_any p (map f xs) ≡ list_any (λ x. p (f x)) xs
 any_map p f [] = refl
 any_map p f (x ∷ xs) = ap (λ b. p (f x) || b) (any_map p f xs)
 
@@ -92,9 +67,23 @@ any_map p f (x ∷ xs) = ap (λ b. p (f x) || b) (any_map p f xs)
 numbered : (ts : Declared) (name : List ℕ) → is_some (number_of ts name) ≡ is_some (at_name name ts)
 numbered ts name = is_some-position (λ t. bytes_eq name t.0) ts ∙ sym (any_map (bytes_eq name) (λ t. t.0) ts) ∙ sym (is_some-lookup (bytes_eq name) ts)
 
-pub roots_known : (k : Known) (d : spec.Drafted) → draft_fault k d ≡ None → unknown_root (types_declared d) d.forms ≡ false
-unfolding unknown_name
-roots_known k d e = let all : unknown_name d ≡ false = (is_good k d e).names in or_right (list_any is_unknown_constraint (plans_of d) || has_unknown (types_declared d)) _ all
+module _ (d : spec.Drafted) (good : first (name_conditions d) ≡ None) where
+  -- no condition of unknown names holds
+  all_known : ((unknown_constraint d || composes_unknown d.definitions) || has_unknown (types_declared d)) || unknown_root (types_declared d) d.forms ≡ false
+  unfolding unknown_name
+  all_known = let all : unknown_name d ≡ false = good_names d good in all
+
+  pub roots_known : unknown_root (types_declared d) d.forms ≡ false
+  roots_known = or_right ((unknown_constraint d || composes_unknown d.definitions) || has_unknown (types_declared d)) _ all_known
+
+  constraints_known : unknown_constraint d || composes_unknown d.definitions ≡ false
+  constraints_known = or_left _ (has_unknown (types_declared d)) (or_left _ (unknown_root (types_declared d) d.forms) all_known)
+
+  pub composed_known : composes_unknown d.definitions ≡ false
+  composed_known = or_right (unknown_constraint d) _ constraints_known
+
+  pub used_known : unknown_constraint d ≡ false
+  used_known = or_left _ (composes_unknown d.definitions) constraints_known
 
 pub known_here : (ts : Declared) (fs : List FormDraft) (i : ℕ) (f : FormDraft) → i < length fs → f ≡ get_or fs i f → unknown_root ts (map form_view (drop i fs)) ≡ false → not (is_some (number_of ts f.root.now)) ≡ false
 known_here ts fs i f h is e = ap not (numbered ts f.root.now) ∙ or_left _ _ (sym (form_turn (λ g. not (is_some (at_name g.root ts))) fs i f h is) ∙ e)

@@ -1,9 +1,10 @@
 pub mod Anys
-pub mod Fits
+pub mod Counts
 pub mod Found
 pub mod Inserted
+pub mod Judged
 pub mod Lookups
+pub mod Nodes
 pub mod Ordered
-pub mod Readings
 pub mod Steps
-pub mod Zips
+pub mod Verdicts

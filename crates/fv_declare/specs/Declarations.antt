@@ -1,30 +1,30 @@
 -- What declarations declare.
-use Rattle.std.specs.Prelude.{ℕ, List}
-use Rattle.fv_builtin.specs.BuiltIns.{BuiltIn}
-use Rattle.fv_datum.specs.Attributes.{Attributes}
-use Rattle.fv_datum.specs.declared.kind.Kind.{Kind}
+use Rattle.std.specs.Prelude.{◌≡◌, ℕ, ◌+◌, List, [], ◌∷◌}
 use Rattle.fv_model.specs.Types.{Declared}
+use Rattle.fv_occurrence.specs.Nodes.{Node}
+use Rattle.fv_occurrence.specs.Trees.{Tree, size}
+use Rattle.fv_declare.specs.Uses.{Place}
 
--- what is asked of a datum: a built-in constraint, or the rule of that number with the attributes in effect
-pub data FieldTest : Type 0 where
-  built_in : BuiltIn → FieldTest
-  by_rule : ℕ → Attributes → FieldTest
-
--- what a use demands: of the datum in the field of that number, whose data are of the kind, or of the whole object, the rule of that
--- number with the attributes in effect
-pub data Demand : Type 0 where
-  of_field : ℕ → Kind → FieldTest → Demand
-  of_object : ℕ → Attributes → Demand
-
--- a use of a constraint: the number of its type, the constraint's name, its message and what it demands
-pub record Occurrence : Type 0 where
+-- a use of a constraint where it stands: the number of its type, its place there, its tree, and the number of the tree's root over the
+-- whole declarations, from which the numbers of the nodes run on in preorder
+pub record Placed : Type 0 where
   pub type : ℕ
-  pub constraint : List ℕ
-  pub message : List ℕ
-  pub demand : Demand
+  pub place : Place
+  pub number : ℕ
+  pub tree : Tree Node
 
--- the types, the uses of constraints by their numbers, and the forms by their names, each with its root's type
+-- the types, the uses of constraints where they stand, and the forms by their names, each with its root's type
 pub record Declarations : Type 0 where
   pub types : Declared
-  pub occurrences : List Occurrence
+  pub occurrences : List Placed
   pub forms : List (List ℕ × List ℕ)
+
+-- how many nodes trees have
+abbrev pub count_nodes : {N : Type 0} → List (Tree N) → ℕ
+count_nodes [] = 0
+count_nodes (t ∷ ts) = size t + count_nodes ts
+
+-- the first has this number, and each other the number behind the last node of the one before it
+abbrev pub AreNumbered : ℕ → List Placed → Type 0
+AreNumbered n [] = Unit {0}
+AreNumbered n (o ∷ os) = (o.number ≡ n) × AreNumbered (n + size o.tree) os

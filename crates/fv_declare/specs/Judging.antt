@@ -1,10 +1,16 @@
--- What can be wrong where the types are built; for private clauses.
-use Rattle.std.specs.Prelude.{List, [], ◌∷◌, Bool}
-use Rattle.fv_draft.specs.Drafts.{Drafted}
-use Rattle.fv_declare.specs.Declares.{unknown_name, empty_constraint, too_large}
-use Rattle.fv_declare.specs.declared.fault.DeclFault.{DeclFault}
-use Rattle.fv_declare.specs.declared.fault.DeclFault.TheVariants.{UnknownName, EmptyConstraint, TooLarge}
+-- What is found on the way to a schema; for private clauses.
+use Rattle.std.specs.Prelude.{ℕ, ◌+◌, List, [], ◌∷◌, Option, Some, None, if◌then◌else◌}
+use Rattle.fv_model.specs.Types.{Declared, too_many}
+use Rattle.fv_occurrence.specs.Nodes.{Node}
+use Rattle.fv_occurrence.specs.Trees.{Tree, size}
+use Rattle.fv_declare.specs.Declarations.{Placed}
+use Rattle.fv_declare.specs.Uses.{Use}
 
--- what can be wrong behind bad names and before the rules, in the order in which it is answered
-abbrev pub type_conditions : Drafted → List (Bool × DeclFault)
-type_conditions d = (unknown_name d, UnknownName) ∷ (empty_constraint d, EmptyConstraint) ∷ (too_large d, TooLarge) ∷ []
+-- types, unless there are too many of them or of the fields of one
+abbrev pub unless_many : Declared → Option Declared
+unless_many ts = if too_many ts then None else Some ts
+
+-- uses with their trees at their places, in order, where the root of the first tree has a number
+abbrev pub placed_from : ℕ → List Use → List (Tree Node) → List Placed
+placed_from n (u ∷ us) (t ∷ ts) = record { type = u.type; place = u.place; number = n; tree = t } ∷ placed_from (n + size t) us ts
+placed_from n _ _ = []

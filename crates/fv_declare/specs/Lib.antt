@@ -3,8 +3,8 @@ pub mod Declares
 pub mod FaultNames
 pub mod Fits
 pub mod Judging
-pub mod OccurrenceView
 pub mod Ordered
-pub mod PlanViews
-pub mod Planned
+pub mod PlacedView
 pub mod SchemaView
+pub mod UseViews
+pub mod Uses

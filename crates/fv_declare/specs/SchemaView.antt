@@ -6,8 +6,8 @@ use Rattle.fv_model.specs.Views.{types_view}
 use Rattle.fv_model.specs.declared.types.TypeId.{TypeId}
 use Rattle.fv_model.specs.declared.types.Types.{Types}
 use Rattle.fv_declare.specs.Declarations.{Declarations}
-use Rattle.fv_declare.specs.OccurrenceView.{occurrence_view}
-use Rattle.fv_declare.specs.declared.occurrence.Occurrence.{Occurrence}
+use Rattle.fv_declare.specs.PlacedView.{placed_view}
+use Rattle.fv_declare.specs.declared.placed.Placed.{Placed}
 
 -- a form's name and its root's type by name
 abbrev pub form_entry : Declared → String Global × TypeId → List ℕ × List ℕ
@@ -18,9 +18,9 @@ abbrev pub forms_view : Declared → TextMap TypeId → List (List ℕ × List �
 forms_view ts m = map (form_entry ts) m.entries
 
 -- the declarations by the types, the occurrences and the forms
-abbrev pub declared_by : Types → List Occurrence → TextMap TypeId → Declarations
+abbrev pub declared_by : Types → List Placed → TextMap TypeId → Declarations
 declared_by types occurrences forms = record {
   types = types_view types;
-  occurrences = map occurrence_view occurrences;
+  occurrences = map placed_view occurrences;
   forms = forms_view (types_view types) forms;
 }

@@ -1,175 +1,59 @@
 //! The schema that declarations without fault declare.
-ghost use Rattle.std.specs.Prelude.{◌≡◌, ◌≢◌, true, false, None, Some, Ok, Err, IfOk, IfErr, map, is_some, slice_get, string_bytes};
-ghost use Rattle.std.specs.List.{AllZip, list_any};
+ghost use Rattle.std.specs.Prelude.{◌≡◌, ◌≤◌, true, false, Ok, IfOk, IfErr, List, length, map, zip};
+ghost use Rattle.std.specs.List.{AllZip};
+ghost use Rattle.fv_constraint.specs.Composed.{Planned};
 ghost use Rattle.fv_datum.specs.Outcomes.{Gives};
-ghost use Rattle.fv_builtin.specs.Given.{drafted, IsRead};
-ghost use Rattle.fv_builtin.specs.Table.{takes};
-ghost use Rattle.fv_builtin.specs.Views.{builtin_view};
-ghost use Rattle.fv_builtin.specs.declared.fault.BuiltinFault.TheVariants as fault;
-ghost use Rattle.fv_model.specs.Views.{types_view};
-ghost use Rattle.fv_registry.specs.Rules.{Known};
-ghost use Rattle.fv_declare.specs.Declares.{types_declared, unknown_root, form_declared, plans_of, IsBuilt, draft_fault};
-ghost use Rattle.fv_draft.specs.DraftViews.{form_view, definition_view, draft_view};
-ghost use Rattle.fv_declare.specs.PlanViews.{place_view, plan_view};
+ghost use Rattle.fv_draft.specs.DraftViews.{form_view, draft_view};
+ghost use Rattle.fv_flatten.specs.Fits.{tree_fits};
+ghost use Rattle.fv_flatten.specs.Read.{IsReadTree};
 ghost use Rattle.fv_model.specs.Bundles.{IsAscending};
-ghost use Rattle.fv_declare.specs.Planned.{Planned, builtin, declared, in_effect, is_misplaced, refuses_attributes, refuses_place, refuses_kind, IsReadAs, Demands, worded, IsOccurrence};
-ghost use Rattle.fv_declare.specs.OccurrenceView.{demand_view, occurrence_view};
+ghost use Rattle.fv_model.specs.Views.{types_view};
+ghost use Rattle.fv_occurrence.specs.Trees.{Tree};
+ghost use Rattle.fv_registry.specs.Rules.{Known};
+ghost use Rattle.fv_declare.specs.Declarations.{count_nodes};
+ghost use Rattle.fv_declare.specs.Declares.{types_declared, unknown_root, form_declared, used_in, IsDeclared};
+ghost use Rattle.fv_declare.specs.Fits.{fits};
+ghost use Rattle.fv_declare.specs.Judging.{placed_from};
+ghost use Rattle.fv_declare.specs.PlacedView.{placed_view};
 ghost use Rattle.fv_declare.specs.SchemaView.{forms_view};
+ghost use Rattle.fv_declare.specs.Uses.{uses_in};
+ghost use Rattle.fv_declare.specs.UseViews.{use_view};
 
-use crate::effect::in_effect;
 use crate::fault::DeclFault;
-use crate::meant::Meant;
-use crate::occurrence::{Demand, FieldTest, Occurrence};
-use crate::plan::{Place, Plan};
+use crate::placed::Placed;
 use crate::schema::Schema;
-use fv_builtin::{Builtin, BuiltinFault, BuiltinName, Patterns, message};
-use fv_datum::{Attrs, Kind};
-use fv_draft::{DefinitionDraft, Draft, FormDraft, RuleDraft};
+use crate::uses::Use;
+use fv_draft::{Draft, FormDraft};
 use fv_model::{TypeId, Types};
+use fv_occurrence::Occurrence;
 use indexmap::IndexMap;
 use std::alloc::{AllocError, Global};
 
-/// The built-in constraint of a use, its pattern built where it isn't there yet.
-fn builtin_of(
-    alloc: Global,
-    patterns: &mut Patterns,
-    which: BuiltinName,
-    plan: &Plan,
-    kind: Kind,
-) -> Result<Builtin, DeclFault>
-    requires attributes { is_some (drafted which plan.now.with.now) ≡ true }
-    requires kind { takes which kind ≡ true }
-    ensures taken { IfOk result (λ b. IsRead (drafted which plan.now.with.now) (takes which kind)
-        (Ok (builtin_view b))) }
-    ensures refused { IfErr result (λ f. f ≢ DeclFault.Memory → (f ≡ DeclFault.BadPattern)
-        × IsRead (drafted which plan.now.with.now) (takes which kind) (Err fault.BadPattern)) }
+/// The uses with their trees, each at its place, the nodes of all trees numbered from 0.
+fn place_all(alloc: Global, uses: &[Use], trees: Vec<Occurrence>) -> Result<Vec<Placed>, AllocError>
+    requires each { length trees.items ≡ length uses.now }
+    requires few { count_nodes trees.items ≤ 1024 }
+    ensures { IfOk result (λ v. map placed_view v.items ≡ placed_from 0 (map use_view uses.now) trees.items) }
 {
-    match Builtin::read_named(alloc, patterns, which, plan.with, kind) {
-        Ok(builtin) => Ok(builtin),
-        Err(BuiltinFault::Attribute) => unreachable!(),
-        Err(BuiltinFault::UnexpectedType) => unreachable!(),
-        Err(BuiltinFault::BadPattern) => Err(DeclFault::BadPattern),
-        Err(BuiltinFault::Memory) => Err(DeclFault::Memory),
+    let mut placed = Vec::with_capacity(alloc, uses.len())?;
+    let mut rest = trees.into_iter();
+    let mut number = 0;
+    for given in uses {
+        let Some(occurrence) = rest.next() else {
+            unreachable!()
+        };
+        let size = occurrence.size();
+        placed.push(Placed {
+            type_id: TypeId {
+                index: given.type_index,
+            },
+            place: given.place,
+            number,
+            occurrence,
+        })?;
+        number += size;
     }
-}
-
-/// What a declared constraint demands at a place.
-fn declared_demand(
-    alloc: Global,
-    definition: &DefinitionDraft,
-    place: Place,
-    given: &Attrs,
-) -> Result<Demand, AllocError>
-    requires effect { is_some (in_effect (definition_view definition.now).attributes given.now) ≡ true }
-    requires place { (k : Known) × (refuses_place k (definition_view definition.now).rule (place_view place) ≡ false) }
-    ensures { IfOk result (λ d. Demands (Some (declared (definition_view definition.now))) (place_view place) given.now
-        (demand_view d)) }
-{
-    let Some(attributes) = in_effect(alloc, &definition.attributes, given)? else {
-        unreachable!()
-    };
-    match (definition.rule, place) {
-        (Some(RuleDraft::Field(rule)), Place::Field(field, kind)) => Ok(Demand::OfField {
-            field,
-            kind,
-            test: FieldTest::ByRule { rule, attributes },
-        }),
-        (Some(RuleDraft::Object(rule)), Place::Whole) => Ok(Demand::OfObject { rule, attributes }),
-        _ => unreachable!(),
-    }
-}
-
-/// What a built-in constraint demands at a place, its pattern built.
-fn builtin_demand(
-    alloc: Global,
-    patterns: &mut Patterns,
-    which: BuiltinName,
-    plan: &Plan,
-) -> Result<Demand, DeclFault>
-    requires named { (plan_view plan.now).meant ≡ Some (builtin which) }
-    requires attributes { is_some (drafted which plan.now.with.now) ≡ true }
-    requires place { (k : Known) × (is_misplaced k (Some (builtin which)) (place_view plan.now.place) ≡ false) }
-    ensures taken { IfOk result (λ d. Demands (Some (builtin which)) (place_view plan.now.place) plan.now.with.now
-        (demand_view d)) }
-    ensures refused { IfErr result (λ f. f ≢ DeclFault.Memory → (f ≡ DeclFault.BadPattern)
-        × IsReadAs (plan_view plan.now) (Err fault.BadPattern)) }
-{
-    match plan.place {
-        Place::Whole => unreachable!(),
-        Place::Field(field, kind) => {
-            let test = FieldTest::BuiltIn(builtin_of(alloc, patterns, which, plan, kind)?);
-            Ok(Demand::OfField { field, kind, test })
-        }
-    }
-}
-
-/// What a use demands at its place, its pattern built.
-fn demand_of(alloc: Global, patterns: &mut Patterns, plan: &Plan) -> Result<Demand, DeclFault>
-    requires attributes { refuses_attributes (plan_view plan.now) ≡ false }
-    requires place { (k : Known) × (refuses_kind k (plan_view plan.now) ≡ false) }
-    ensures taken { IfOk result (λ d. Demands (plan_view plan.now).meant (place_view plan.now.place) plan.now.with.now
-        (demand_view d)) }
-    ensures refused { IfErr result (λ f. f ≢ DeclFault.Memory → (f ≡ DeclFault.BadPattern)
-        × IsReadAs (plan_view plan.now) (Err fault.BadPattern)) }
-{
-    match &plan.meant {
-        None => unreachable!(),
-        Some(Meant::BuiltIn(which)) => builtin_demand(alloc, patterns, *which, plan),
-        Some(Meant::Declared(definition)) => {
-            Ok(declared_demand(alloc, definition, plan.place, plan.with)?)
-        }
-    }
-}
-
-/// The message of a use.
-fn message_of(alloc: Global, plan: &Plan) -> Result<String, AllocError>
-    ensures { IfOk result (λ s. string_bytes s
-        ≡ worded (plan_view plan.now).meant plan.now.constraint.now plan.now.with.now) }
-{
-    match &plan.meant {
-        Some(Meant::BuiltIn(which)) => message(alloc, *which, plan.with),
-        _ => format!(in alloc; "{{{}.message}}", plan.constraint),
-    }
-}
-
-/// The use of a constraint at its place, its pattern built and its message made.
-fn occurrence_of(
-    alloc: Global,
-    patterns: &mut Patterns,
-    plan: &Plan,
-) -> Result<Occurrence, DeclFault>
-    requires attributes { refuses_attributes (plan_view plan.now) ≡ false }
-    requires place { (k : Known) × (refuses_kind k (plan_view plan.now) ≡ false) }
-    ensures taken { IfOk result (λ o. IsOccurrence (plan_view plan.now) (occurrence_view o)) }
-    ensures refused { IfErr result (λ f. f ≢ DeclFault.Memory → (f ≡ DeclFault.BadPattern)
-        × IsReadAs (plan_view plan.now) (Err fault.BadPattern)) }
-{
-    let demand = demand_of(alloc, patterns, plan)?;
-    Ok(Occurrence {
-        type_id: TypeId {
-            index: plan.type_index,
-        },
-        constraint: String::from_str(alloc, plan.constraint)?,
-        message: message_of(alloc, plan)?,
-        demand,
-    })
-}
-
-/// The uses of constraints, each at its number. Those with equal patterns share one.
-fn occurrences_for(alloc: Global, plans: &[Plan]) -> Result<Vec<Occurrence>, DeclFault>
-    requires attributes { list_any refuses_attributes (map plan_view plans.now) ≡ false }
-    requires places { (k : Known) × (list_any (refuses_kind k) (map plan_view plans.now) ≡ false) }
-    ensures taken { IfOk result (λ v. AllZip IsOccurrence (map plan_view plans.now) (map occurrence_view v.items)) }
-    ensures refused { IfErr result (λ f. f ≢ DeclFault.Memory → (f ≡ DeclFault.BadPattern)
-        × ((n : _) × (p : Planned) × (slice_get (map plan_view plans.now) n ≡ Some p)
-        × IsReadAs p (Err fault.BadPattern))) }
-{
-    let mut patterns = Patterns::new(alloc);
-    let mut occurrences = Vec::with_capacity(alloc, plans.len())?;
-    for plan in plans {
-        occurrences.push(occurrence_of(alloc, &mut patterns, plan)?)?;
-    }
-    Ok(occurrences)
+    Ok(placed)
 }
 
 fn forms_for(
@@ -192,22 +76,29 @@ fn forms_for(
     Ok(declared)
 }
 
-/// The schema that a draft without fault declares, where its patterns are built. The types are the
-/// draft's.
+/// The schema that a draft without fault declares. The types are the draft's, and the trees are those
+/// of its uses.
 pub(crate) fn build(
     alloc: Global,
     draft: &Draft,
     types: Types,
-    plans: &[Plan],
+    uses: &[Use],
+    trees: Vec<Occurrence>,
 ) -> Result<Schema, DeclFault>
     requires types { types_view types ≡ types_declared (draft_view draft.now) }
-    requires plans { map plan_view plans.now ≡ plans_of (draft_view draft.now) }
-    requires good { (k : Known) × (draft_fault k (draft_view draft.now) ≡ None) }
-    ensures taken { IfOk result (λ s. IsBuilt (draft_view draft.now) (Ok s)) }
-    ensures refused { IfErr result (λ f. f ≢ DeclFault.Memory → IsBuilt (draft_view draft.now) (Err f)) }
+    requires roots { unknown_root (types_declared (draft_view draft.now)) (draft_view draft.now).forms ≡ false }
+    requires uses { map use_view uses.now ≡ uses_in (draft_view draft.now).types }
+    requires each { length trees.items ≡ length uses.now }
+    requires few { count_nodes trees.items ≤ 1024 }
+    ensures taken { IfOk result (λ s. (ts : List (Tree Planned))
+        → AllZip (λ u o. IsReadTree u.0.place u.1 o) (zip (used_in (draft_view draft.now)) ts) trees.items
+        → IsDeclared (draft_view draft.now) ts s) }
+    ensures fits { IfOk result (λ s. (k : Known)
+        → AllZip (λ u o. tree_fits k u.place o ≡ true) (used_in (draft_view draft.now)) trees.items → fits k s ≡ true) }
+    ensures refused { IfErr result (λ f. f ≡ DeclFault.Memory) }
 {
     let forms = forms_for(alloc, &types, &draft.forms)?;
-    let occurrences = occurrences_for(alloc, plans)?;
+    let occurrences = place_all(alloc, uses, trees)?;
     Ok(Schema {
         types,
         occurrences,

@@ -1,6 +1,7 @@
 ghost use Rattle.std.specs.Prelude.{◌≡◌};
 ghost use Rattle.fv_declare.specs.FaultNames.{decl_fault_name, decl_fault_code};
 
+use fv_flatten::FlattenFault;
 use std::alloc::{AllocError, AllocFailed};
 use thiserror::Error;
 
@@ -20,8 +21,11 @@ pub enum DeclFault {
     /// A type or constraint that isn't declared or built in.
     #[error("a type or constraint that isn't declared")]
     UnknownName,
-    /// A declared constraint without a rule.
-    #[error("a constraint without a rule")]
+    /// A constraint that is composed of itself, directly or through others.
+    #[error("a constraint that is composed of itself")]
+    CyclicComposition,
+    /// A declared constraint with neither a rule nor a composing constraint.
+    #[error("a constraint with neither a rule nor a composing constraint")]
     EmptyConstraint,
     /// A limit is passed.
     #[error("too large")]
@@ -29,8 +33,9 @@ pub enum DeclFault {
     /// A rule that isn't registered for its sort.
     #[error("a rule that isn't registered")]
     UnknownRule,
-    /// An unknown, missing or wrongly kinded attribute, a value that the constraint refuses, or a
-    /// default of another kind than its attribute.
+    /// An unknown, missing or wrongly kinded attribute, a value that the constraint refuses, a
+    /// default of another kind than its attribute, or an override that isn't of an attribute by one
+    /// of its kind.
     #[error("an attribute that the constraint refuses")]
     Attribute,
     /// A constraint at a place of another sort, or of data of a kind that it doesn't take.
@@ -54,6 +59,7 @@ impl DeclFault {
             DeclFault::Shape => "Shape",
             DeclFault::BadName => "BadName",
             DeclFault::UnknownName => "UnknownName",
+            DeclFault::CyclicComposition => "CyclicComposition",
             DeclFault::EmptyConstraint => "EmptyConstraint",
             DeclFault::TooLarge => "TooLarge",
             DeclFault::UnknownRule => "UnknownRule",
@@ -73,6 +79,7 @@ impl DeclFault {
             DeclFault::Shape => "F2",
             DeclFault::BadName => "F3",
             DeclFault::UnknownName => "F4",
+            DeclFault::CyclicComposition => "F12",
             DeclFault::EmptyConstraint => "F13",
             DeclFault::TooLarge => "F14",
             DeclFault::UnknownRule => "F15",
@@ -103,5 +110,25 @@ impl<T: Drop> From<AllocFailed<T>> for DeclFault {
 
     fn from(_e: AllocFailed<T>) -> DeclFault {
         DeclFault::Memory
+    }
+}
+
+impl From<FlattenFault> for DeclFault {
+    ghost use Rattle.std.specs.Prelude.{◌≡◌};
+    ghost use Rattle.fv_declare.specs.FaultNames.{flatten_fault};
+
+    ghost from_gives = { λ f e. e ≡ flatten_fault f };
+
+    fn from(fault: FlattenFault) -> DeclFault {
+        match fault {
+            FlattenFault::CyclicComposition => DeclFault::CyclicComposition,
+            FlattenFault::EmptyConstraint => DeclFault::EmptyConstraint,
+            FlattenFault::TooLarge => DeclFault::TooLarge,
+            FlattenFault::UnknownRule => DeclFault::UnknownRule,
+            FlattenFault::Attribute => DeclFault::Attribute,
+            FlattenFault::UnexpectedType => DeclFault::UnexpectedType,
+            FlattenFault::BadPattern => DeclFault::BadPattern,
+            FlattenFault::Memory => DeclFault::Memory,
+        }
     }
 }

@@ -1,19 +1,19 @@
-//! Declarations: JSON in, a schema or the first fault out. Nothing else judges them.
+//! Declarations: JSON in, a schema or the first fault out. A schema has each use of a constraint where
+//! it stands, with all that the constraint is composed of.
 #![tactic(auto)]
 
 mod build;
-mod effect;
 mod fault;
-mod faults;
-mod meant;
-mod occurrence;
-mod plan;
-mod planning;
+mod judging;
+mod names;
+mod placed;
 mod reading;
 mod schema;
 mod types;
+mod uses;
 
 pub use fault::DeclFault;
-pub use occurrence::{Demand, FieldTest, Occurrence};
+pub use placed::Placed;
 pub use reading::read_schema;
 pub use schema::Schema;
+pub use uses::Place;

@@ -1,18 +1,18 @@
-ghost use Rattle.std.specs.Prelude.{◌≡◌, ◌≢◌, true, Ok, Err, IfOk, IfErr};
+ghost use Rattle.std.specs.Prelude.{◌≡◌, ◌≢◌, true, Some, Ok, Err, IfOk, IfErr};
 ghost use Rattle.std.specs.Option.{ok_or};
 ghost use Rattle.serde_json.specs.View.{view as json_view};
 ghost use Rattle.fv_datum.specs.Outcomes.{Gives};
 ghost use Rattle.fv_datum.specs.Parsing.{json_of};
-ghost use Rattle.fv_declare.specs.Declares.{IsDecided, Declares, Judged, draft_fault};
+ghost use Rattle.fv_declare.specs.Declares.{Declares, Judged};
 ghost use Rattle.fv_draft.specs.Drafts.{draft_of as spec_draft};
 ghost use Rattle.fv_draft.specs.DraftViews.{draft_view};
 ghost use Rattle.fv_declare.specs.Fits.{fits};
 
-use crate::build::build;
 use crate::fault::DeclFault;
-use crate::faults::judge;
-use crate::planning::planned;
+use crate::judging::composed;
+use crate::names::known_types;
 use crate::schema::Schema;
+use crate::uses::uses_in;
 use fv_datum::{JsonFault, read_json};
 use fv_draft::{Draft, draft_of};
 use fv_registry::RuleSet;
@@ -32,19 +32,20 @@ fn value_of(alloc: Global, bytes: &[u8]) -> Result<Value, DeclFault>
 
 /// The schema that a draft declares.
 fn schema_of_draft<R: RuleSet>(alloc: Global, rules: &R, draft: &Draft) -> Result<Schema, DeclFault>
-    ensures taken { IfOk result (λ s. IsDecided (draft_fault (R.known rules.now) (draft_view draft.now))
-        (draft_view draft.now) (Ok s)) }
+    ensures taken { IfOk result (λ s. Judged (R.known rules.now) (Some (draft_view draft.now)) (Ok s)) }
+    ensures fits { IfOk result (λ s. fits (R.known rules.now) s ≡ true) }
     ensures refused { IfErr result (λ f. f ≢ DeclFault.Memory
-        → IsDecided (draft_fault (R.known rules.now) (draft_view draft.now)) (draft_view draft.now) (Err f)) }
+        → Judged (R.known rules.now) (Some (draft_view draft.now)) (Err f)) }
 {
-    let plans = planned(alloc, &draft.definitions, &draft.types)?;
-    let types = judge(alloc, rules, draft, &plans)?;
-    build(alloc, draft, types, &plans)
+    let uses = uses_in(alloc, &draft.types)?;
+    let types = known_types(alloc, draft, &uses)?;
+    composed(alloc, rules, draft, &uses, types)
 }
 
 /// The schema that a JSON value declares.
 fn schema_of<R: RuleSet>(alloc: Global, rules: &R, value: &Value) -> Result<Schema, DeclFault>
     ensures taken { IfOk result (λ s. Judged (R.known rules.now) (spec_draft (json_view value.now)) (Ok s)) }
+    ensures fits { IfOk result (λ s. fits (R.known rules.now) s ≡ true) }
     ensures refused { IfErr result (λ f. f ≢ DeclFault.Memory
         → Judged (R.known rules.now) (spec_draft (json_view value.now)) (Err f)) }
 {
@@ -56,9 +57,9 @@ fn schema_of<R: RuleSet>(alloc: Global, rules: &R, value: &Value) -> Result<Sche
 
 /// The schema that a text declares, where these rules are there.
 ///
-/// Refused by the first of `NotJson`, `Shape`, `BadName`, `UnknownName`, `EmptyConstraint`,
-/// `TooLarge`, `UnknownRule`, `Attribute`, `UnexpectedType` and `BadPattern` whose condition holds;
-/// by `Memory` at any place.
+/// Refused by the first of `NotJson`, `Shape`, `BadName`, `UnknownName`, `CyclicComposition`,
+/// `EmptyConstraint`, `TooLarge`, `UnknownRule`, `Attribute`, `UnexpectedType` and `BadPattern` whose
+/// condition holds; by `Memory` at any place.
 pub fn read_schema<R: RuleSet>(alloc: Global, rules: &R, bytes: &[u8]) -> Result<Schema, DeclFault>
     ensures taken { IfOk result (λ s. Declares (R.known rules.now) bytes.now (Ok s)) }
     ensures fits { IfOk result (λ s. fits (R.known rules.now) s ≡ true) }

@@ -3,13 +3,18 @@ ghost use Rattle.std.specs.List.{list_all};
 ghost use Rattle.fv_datum.specs.Lookup.{at_name};
 ghost use Rattle.fv_model.specs.Types.{name_at};
 ghost use Rattle.fv_model.specs.Views.{types_view};
-ghost use Rattle.fv_declare.specs.OccurrenceView.{test_view, demand_view, occurrence_view};
-ghost use Rattle.fv_declare.specs.Fits.{test_fits, demand_fits, fits};
+ghost use Rattle.fv_declare.specs.Fits.{placed_fits, fits};
 ghost use Rattle.fv_declare.specs.Ordered.{AreOrdered};
+ghost use Rattle.fv_declare.specs.PlacedView.{placed_view};
+ghost use Rattle.fv_declare.specs.UseViews.{place_view};
+ghost use Rattle.fv_declare.specs.Uses.{judged_at};
+ghost use Rattle.fv_flatten.specs.Fits.{test_fits};
+ghost use Rattle.fv_occurrence.specs.Views.{test_view};
 
-use crate::occurrence::{Demand, FieldTest, Occurrence};
-use fv_datum::Kind;
+use crate::placed::Placed;
+use crate::uses::Place;
 use fv_model::{TypeId, Types};
+use fv_occurrence::Test;
 use fv_registry::RuleSet;
 use indexmap::IndexMap;
 use std::marker::Model;
@@ -20,7 +25,7 @@ pub struct Schema {
     pub(crate) types: Types,
     /// The uses of constraints, each at its number: by types, in a type those at itself and then by
     /// fields, and at a place as they are declared.
-    pub(crate) occurrences: Vec<Occurrence>,
+    pub(crate) occurrences: Vec<Placed>,
     /// The forms by their names, each with its root's type.
     pub(crate) forms: IndexMap<String, TypeId>,
 }
@@ -28,13 +33,15 @@ pub struct Schema {
 impl Model for Schema {
     ghost use Rattle.std.specs.Coded.{codes};
     ghost use Rattle.fv_builtin.specs.Codes.{pattern_code};
+    ghost use Rattle.fv_occurrence.specs.Codes.{tree_code};
+    ghost use Rattle.fv_occurrence.specs.Nodes.{Node};
     ghost use Rattle.fv_declare.specs.Declarations.{Declarations};
     ghost use Rattle.fv_declare.specs.Ordered.{AreOrdered};
     ghost use Rattle.fv_declare.specs.SchemaView.{declared_by};
 
     ghost Value = { Declarations };
 
-    ghost coded = { Prim.hlevel (codes, pattern_code) };
+    ghost coded = { Prim.hlevel (codes, tree_code {N = Node} (Prim.hlevel (codes, pattern_code))) };
 
     ghost view = { λ s. declared_by s.types s.occurrences.items s.forms };
 
@@ -50,8 +57,8 @@ impl Schema {
     }
 
     /// The uses of constraints, each at its number.
-    pub fn occurrences(&self) -> &[Occurrence]
-        ensures uses { map occurrence_view result.now ≡ self.now.occurrences }
+    pub fn occurrences(&self) -> &[Placed]
+        ensures uses { map placed_view result.now ≡ self.now.occurrences }
         ensures ordered { AreOrdered self.now }
     {
         &self.occurrences
@@ -72,31 +79,42 @@ impl Schema {
     }
 }
 
-fn all_fit<R: RuleSet>(rules: &R, occurrences: &[Occurrence]) -> bool
-    ensures { result ≡ list_all (λ u. demand_fits (R.known rules.now) u.demand) (map occurrence_view occurrences.now) }
+fn all_fit<R: RuleSet>(rules: &R, occurrences: &[Placed]) -> bool
+    ensures { result ≡ list_all (placed_fits (R.known rules.now)) (map placed_view occurrences.now) }
 {
-    for occurrence in occurrences {
-        if !demand_fits(rules, &occurrence.demand) {
+    for placed in occurrences {
+        if !placed_fits(rules, placed) {
             return false;
         }
     }
     true
 }
 
-fn demand_fits<R: RuleSet>(rules: &R, demand: &Demand) -> bool
-    ensures { result ≡ demand_fits (R.known rules.now) (demand_view demand.now) }
+/// Whether the rule that a test asks is there for what is judged at the place.
+fn test_fits<R: RuleSet>(rules: &R, place: Place, test: &Test) -> bool
+    ensures { result ≡ test_fits (R.known rules.now) (judged_at (place_view place)) (test_view test.now) }
 {
-    match demand {
-        Demand::OfField { kind, test, .. } => test_fits(rules, *kind, test),
-        Demand::OfObject { rule, .. } => rules.knows_object(*rule),
+    match (test, place) {
+        (Test::BuiltIn(_) | Test::Nothing, _) => true,
+        (Test::Rule(rule), Place::Field(_, kind)) => {
+            rules.knows_field(*rule) && rules.takes(*rule, kind)
+        }
+        (Test::ObjectRule(rule), Place::Whole) => rules.knows_object(*rule),
+        _ => false,
     }
 }
 
-fn test_fits<R: RuleSet>(rules: &R, kind: Kind, test: &FieldTest) -> bool
-    ensures { result ≡ test_fits (R.known rules.now) kind (test_view test.now) }
+/// Whether each rule that a use asks is there for what is judged at its place.
+fn placed_fits<R: RuleSet>(rules: &R, placed: &Placed) -> bool
+    ensures { result ≡ placed_fits (R.known rules.now) (placed_view placed.now) }
 {
-    match test {
-        FieldTest::BuiltIn(_) => true,
-        FieldTest::ByRule { rule, .. } => rules.knows_field(*rule) && rules.takes(*rule, kind),
+    for number in 0..placed.occurrence.size() {
+        let Some(node) = placed.occurrence.node(number) else {
+            unreachable!()
+        };
+        if !test_fits(rules, placed.place, &node.test) {
+            return false;
+        }
     }
+    true
 }

@@ -4,7 +4,8 @@ ghost use Rattle.std.specs.Prelude.{◌≡◌, map};
 ghost use Rattle.fv_model.specs.Bundles.{IsAscending};
 ghost use Rattle.fv_draft.specs.EntryNames.{names_of};
 
-use fv_datum::{Attribute, AttributeKind, Attrs};
+use fv_constraint::Definition;
+use fv_datum::Attrs;
 use fv_model::TypeUse;
 use serde_json::{Map, Value};
 use std::collections::BTreeMap;
@@ -40,29 +41,6 @@ pub struct FormDraft<'a> {
     pub root: &'a str,
 }
 
-/// An attribute of a declared constraint.
-#[derive(Drop)]
-pub struct AttributeDraft {
-    pub kind: AttributeKind,
-    pub default: Option<Attribute>,
-}
-
-/// The number of a rule.
-#[derive(Clone, Copy, Debug, PartialEq, Eq)]
-pub enum RuleDraft {
-    /// Of data.
-    Field(u32),
-    /// Of objects.
-    Object(u32),
-}
-
-/// A declared constraint: its attributes by their names, and its rule.
-#[derive(Drop)]
-pub struct DefinitionDraft {
-    pub attributes: BTreeMap<String, AttributeDraft>,
-    pub rule: Option<RuleDraft>,
-}
-
 /// Declarations, types and forms ascending by the bytes of their names.
 #[derive(Drop)]
 pub struct Draft<'a> {
@@ -71,7 +49,7 @@ pub struct Draft<'a> {
     pub types: Vec<TypeDraft<'a>>,
     pub forms: Vec<FormDraft<'a>>,
     /// The declared constraints by their names.
-    pub definitions: BTreeMap<String, DefinitionDraft>,
+    pub definitions: BTreeMap<String, Definition>,
     pub ghost named_are: { map (λ t. t.name.now) types.items ≡ names_of named.now.entries },
     pub ghost types_ascend: { IsAscending (map (λ t. t.name.now) types.items) } by { Prim.hlevel props },
     pub ghost forms_ascend: { IsAscending (map (λ f. f.name.now) forms.items) } by { Prim.hlevel props },

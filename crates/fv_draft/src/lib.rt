@@ -2,14 +2,13 @@
 #![tactic(auto)]
 
 mod attributes;
+mod composing;
 mod definitions;
 mod draft;
 mod members;
 mod shape;
 
 pub use attributes::copy_of;
-pub use draft::{
-    AttributeDraft, DefinitionDraft, Draft, FieldDraft, FormDraft, RuleDraft, TypeDraft, UseDraft,
-};
+pub use draft::{Draft, FieldDraft, FormDraft, TypeDraft, UseDraft};
 pub use members::add_last;
 pub use shape::draft_of;

@@ -7,6 +7,7 @@ pub mod Given
 pub mod Law
 pub mod Listed
 pub mod Lookups
+pub mod Made
 pub mod Plain
 pub mod Telling
 pub mod Typed

@@ -9,6 +9,7 @@ use Rattle.fv_model.specs.declared.fault.BundleFault.TheVariants.{Shape, BadName
 abbrev pub types_fault_name : TypesFault → List ℕ
 types_fault_name types.UnknownType = codes "UnknownType"
 types_fault_name types.TooLarge = codes "TooLarge"
+types_fault_name types.Memory = codes "Memory"
 
 -- the name of a fault of a bundle
 abbrev pub bundle_fault_name : BundleFault → List ℕ

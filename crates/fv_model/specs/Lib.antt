@@ -2,6 +2,7 @@ pub mod Bundles
 pub mod Conditions
 pub mod Draft
 pub mod FaultNames
+pub mod FieldViews
 pub mod Fitting
 pub mod Flaws
 pub mod Limits

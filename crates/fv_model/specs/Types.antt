@@ -114,3 +114,7 @@ number_of ts name = position (λ t. bytes_eq name t.0) ts
 -- the name of the type of a number; empty where there is none
 abbrev pub name_at : Declared → ℕ → List ℕ
 name_at ts n = unwrap_or (option_map (λ t. t.0) (slice_get ts n)) []
+
+-- the fields of the type of a number; none where there is none
+abbrev pub fields_at : Declared → ℕ → DeclaredFields
+fields_at ts n = unwrap_or (option_map (λ t. t.1) (slice_get ts n)) []

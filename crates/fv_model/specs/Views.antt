@@ -1,29 +1,23 @@
 -- The values that contracts see.
+pub use Rattle.fv_model.specs.FieldViews.{types_view, field_view, fields_left}
 pub use Rattle.fv_model.specs.PartViews.{given_view, object_types_view, part_view}
-use Rattle.std.specs.Prelude.{ℕ, List, map, String, string_bytes}
-use Rattle.fv_datum.specs.Data.{Data}
+use Rattle.std.specs.Prelude.{ℕ, List, map, zip, String, string_bytes}
+use Rattle.std.specs.Map.{keys_of}
 use Rattle.fv_datum.specs.View.{view}
 use Rattle.std.specs.declared.alloc.Global.{Global}
-use Rattle.fv_model.specs.Types.{Declared, TextMap, declared_view}
+use Rattle.fv_model.specs.Types.{TextMap, name_at, fields_at}
 use Rattle.fv_model.specs.Bundles.{Thing, Things, Bundled}
 use Rattle.fv_model.specs.Draft as spec
-use Rattle.fv_model.specs.declared.types.Types.{Types}
-use Rattle.fv_model.specs.declared.field.Field.{Field}
 use Rattle.fv_model.specs.declared.bundle.Object.{Object}
 use Rattle.fv_model.specs.declared.bundle.Bundle.{Bundle}
 use Rattle.fv_model.specs.declared.parts.Draft.{Draft}
 
--- the declared types
-abbrev pub types_view : Types → Declared
-types_view ts = declared_view ts.types
-
--- a field with its datum
-abbrev pub field_view : Field → List ℕ × Data
-field_view f = (string_bytes f.name, view f.datum)
-
--- an object
+-- an object: its type's name, and the names of the type's fields with its data
 abbrev pub object_view : Object → Thing
-object_view o = record { type_name = string_bytes o.type_name; fields = map field_view o.fields.items }
+object_view o = record {
+  type_name = name_at (types_view o.types) o.type_id.index;
+  fields = zip (keys_of (fields_at (types_view o.types) o.type_id.index)) (map view o.data.items);
+}
 
 -- an object with its name
 abbrev pub named_view : String Global × Object → List ℕ × Thing

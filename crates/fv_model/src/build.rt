@@ -1,5 +1,5 @@
 //! The bundle that a draft is, where its types are declared and its data are of their kinds.
-ghost use Rattle.std.specs.Prelude.{◌≡◌, true, false, IfOk, map, option_map, is_some};
+ghost use Rattle.std.specs.Prelude.{◌≡◌, All, true, false, IfOk, map, option_map, is_some};
 ghost use Rattle.std.specs.List.{list_any};
 ghost use Rattle.std.specs.Map.{keys_of};
 ghost use Rattle.serde_json.specs.Find.{get_member};
@@ -9,14 +9,13 @@ ghost use Rattle.fv_datum.specs.Outcomes.{Gives};
 ghost use Rattle.fv_datum.specs.View.{view};
 ghost use Rattle.fv_model.specs.Bundles.{IsAscending};
 ghost use Rattle.fv_model.specs.Types.{type_use_view, fields_view};
-ghost use Rattle.fv_model.specs.Views.{types_view, given_view, part_view, draft_view, field_view, object_view, objects_view, bundle_view};
+ghost use Rattle.fv_model.specs.Views.{types_view, given_view, part_view, draft_view, object_view, objects_view, bundle_view};
 ghost use Rattle.fv_model.specs.Reading.{object_types, unknown_type, datum_at, field_of, object_of, bundle_of};
 ghost use Rattle.fv_model.specs.Fitting.{misfits_given, field_misfits, part_misfits, unless_wrong};
 ghost use Rattle.fv_model.specs.Writing.{IsWritten};
 
 use crate::bundle::{Bundle, Object, Objects};
 use crate::fault::BundleFault;
-use crate::field::Field;
 use crate::parts::{Draft, Part};
 use crate::type_use::TypeUse;
 use crate::types::{Fields, Types};
@@ -51,35 +50,20 @@ fn datum_for(alloc: Global, type_use: &TypeUse, value: Option<&Value>) -> Result
     }
 }
 
-fn field_for(
-    alloc: Global,
-    name: &str,
-    type_use: &TypeUse,
-    given: Option<&Map<String, Value>>,
-) -> Result<Field, BundleFault>
-    ensures { Gives BundleFault.Memory field_view result (unless_wrong
-        (field_misfits (given_view given.entry) (name.now, type_use_view type_use.now))
-        (field_of (given_view given.entry) (name.now, type_use_view type_use.now))) }
-{
-    let datum = datum_for(alloc, type_use, find_given(given, name))?;
-    Ok(Field {
-        name: String::from_str(alloc, name)?,
-        datum,
-    })
-}
-
-fn fields_for(
+/// A datum for each of a type's fields, in the fields' order.
+fn data_for(
     alloc: Global,
     fields: &Fields,
     given: Option<&Map<String, Value>>,
-) -> Result<Vec<Field>, BundleFault>
-    ensures { Gives BundleFault.Memory (λ v. map field_view v.items) result (unless_wrong
+) -> Result<Vec<Datum>, BundleFault>
+    ensures exact { Gives BundleFault.Memory (λ v. map view v.items) result (unless_wrong
         (list_any (field_misfits (given_view given.entry)) (fields_view fields.now))
-        (map (field_of (given_view given.entry)) (fields_view fields.now))) }
+        (map (λ f. (field_of (given_view given.entry) f).1) (fields_view fields.now))) }
+    ensures written { IfOk result (λ v. All (λ d. IsWritten (view d)) v.items) }
 {
     let mut out = Vec::with_capacity(alloc, fields.len())?;
     for (name, type_use) in fields.iter() {
-        out.push(field_for(alloc, name.as_str(), type_use, given)?)?;
+        out.push(datum_for(alloc, type_use, find_given(given, name.as_str()))?)?;
     }
     Ok(out)
 }
@@ -90,13 +74,13 @@ fn object_for(alloc: Global, types: &Types, part: &Part) -> Result<Object, Bundl
         (part_misfits (types_view types.now) (part_view part.now))
         (object_of (types_view types.now) (part_view part.now)).1) }
 {
-    let fields = match types.fields(part.type_name) {
-        None => unreachable!(),
-        Some(fields) => fields_for(alloc, fields, part.given)?,
+    let Some((type_id, fields)) = types.find_with_fields(part.type_name) else {
+        unreachable!()
     };
     Ok(Object {
-        type_name: String::from_str(alloc, part.type_name)?,
-        fields,
+        types: types.share()?,
+        type_id,
+        data: data_for(alloc, fields, part.given)?,
     })
 }
 

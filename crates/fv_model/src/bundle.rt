@@ -1,45 +1,69 @@
-ghost use Rattle.std.specs.Prelude.{◌≡◌, map, option_map};
+ghost use Rattle.std.specs.Prelude.{◌≡◌, All, IsSome, map, option_map, slice_get};
+ghost use Rattle.std.proofs.Props.{props};
 ghost use Rattle.fv_datum.specs.Lookup.{at_name};
 ghost use Rattle.fv_datum.specs.View.{view};
-ghost use Rattle.fv_model.specs.Views.{field_view, object_view, objects_view, bundle_view};
+ghost use Rattle.fv_model.specs.FieldViews.{types_view, field_view, fields_left};
+ghost use Rattle.fv_model.specs.Types.{fields_view, fields_at};
+ghost use Rattle.fv_model.specs.Writing.{IsWritten};
 
-use crate::field::Field;
+use crate::fields::ObjectFields;
+use crate::types::{Fields, TypeId, Types};
 use fv_datum::Datum;
 use indexmap::IndexMap;
 
-/// An object: its type's name, and a datum for each field of the type, in the fields' order.
+/// An object: its type, and a datum for each field of the type, in the fields' order.
+///
+/// The names of its type and of its fields are those of the types, which it shares.
 #[derive(Drop)]
 pub struct Object {
-    pub(crate) type_name: String,
-    pub(crate) fields: Vec<Field>,
+    pub(crate) types: Types,
+    pub(crate) type_id: TypeId,
+    pub(crate) data: Vec<Datum>,
+    ghost typed: { IsSome (slice_get (types_view types) type_id.index) },
+    ghost written: { All (λ d. IsWritten (view d)) data.items },
 }
 
 impl Object {
+    ghost use Rattle.fv_model.specs.Views.{object_view};
+
     /// The name of the object's type.
     pub fn type_name(&self) -> &str
         ensures { result.now ≡ (object_view self.now).type_name }
     {
-        self.type_name.as_str()
+        self.types.name(self.type_id)
     }
 
-    /// The fields of the object's type, with their data.
-    pub fn fields(&self) -> &[Field]
-        ensures { map field_view result.now ≡ (object_view self.now).fields }
+    /// What the object's type declares.
+    fn declared(&self) -> &Fields
+        ensures { fields_view result.now ≡ fields_at (types_view self.now.types) self.now.type_id.index }
     {
-        self.fields.as_slice()
+        match self.types.fields_at(self.type_id) {
+            Some(fields) => fields,
+            None => unreachable!(),
+        }
+    }
+
+    /// The fields of the object's type, each name with its datum, in the fields' order.
+    pub fn fields(&self) -> ObjectFields<'_>
+        ensures { fields_left result ≡ (object_view self.now).fields }
+    {
+        ObjectFields::new(self.declared(), &self.data)
+    }
+
+    /// The name of the field of that number, with its datum.
+    pub fn field_at(&self, index: usize) -> Option<(&str, &Datum)>
+        ensures { option_map field_view result ≡ slice_get (object_view self.now).fields index }
+    {
+        let (name, _) = self.declared().get_index(index)?;
+        Some((name.as_str(), self.data.get(index)?))
     }
 
     /// The datum of the field of that name.
-    #[tactic(auto, using(crate::proofs::Lookups::field_turn))]
     pub fn field(&self, name: &str) -> Option<&Datum>
         ensures { option_map (λ d. view d.now) result ≡ at_name name.now (object_view self.now).fields }
     {
-        for field in &self.fields {
-            if name == field.name.as_str() {
-                return Some(&field.datum);
-            }
-        }
-        None
+        let index = self.declared().get_index_of(name)?;
+        self.data.get(index)
     }
 }
 
@@ -54,6 +78,8 @@ pub struct Bundle {
 }
 
 impl Bundle {
+    ghost use Rattle.fv_model.specs.Views.{object_view, objects_view, bundle_view};
+
     /// The name of the root.
     pub fn root(&self) -> &str
         ensures { result.now ≡ (bundle_view self.now).root }

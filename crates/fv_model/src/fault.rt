@@ -1,6 +1,7 @@
 ghost use Rattle.std.specs.Prelude.{◌≡◌};
 ghost use Rattle.fv_model.specs.FaultNames.{bundle_fault_name, bundle_fault_code, types_fault_name};
 ghost use Rattle.fv_model.specs.declared.fault.BundleFault.TheVariants.{Memory};
+ghost use Rattle.fv_model.specs.declared.fault.TypesFault.TheVariants as types;
 
 use std::alloc::{AllocError, AllocFailed};
 use thiserror::Error;
@@ -14,6 +15,9 @@ pub enum TypesFault {
     /// More than 256 types, or a type of more than 256 fields.
     #[error("too many types or fields")]
     TooLarge,
+    /// An allocation was refused.
+    #[error("out of memory")]
+    Memory,
 }
 
 impl TypesFault {
@@ -24,7 +28,16 @@ impl TypesFault {
         match self {
             TypesFault::UnknownType => "UnknownType",
             TypesFault::TooLarge => "TooLarge",
+            TypesFault::Memory => "Memory",
         }
+    }
+}
+
+impl<T: Drop> From<AllocFailed<T>> for TypesFault {
+    ghost from_gives = { λ _ e. e ≡ types.Memory };
+
+    fn from(_e: AllocFailed<T>) -> TypesFault {
+        TypesFault::Memory
     }
 }
 

@@ -7,7 +7,7 @@ mod bundle;
 mod draft;
 mod fault;
 mod faults;
-mod field;
+mod fields;
 mod flaws;
 mod parts;
 mod reading;
@@ -17,7 +17,7 @@ mod writing;
 
 pub use bundle::{Bundle, Object, Objects};
 pub use fault::{BundleFault, TypesFault};
-pub use field::Field;
+pub use fields::ObjectFields;
 pub use reading::read_bundle;
 pub use type_use::TypeUse;
 pub use types::{Fields, TypeId, Types};

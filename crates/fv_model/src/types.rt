@@ -1,11 +1,14 @@
-ghost use Rattle.std.specs.Prelude.{◌≡◌, length, option_map, MatchResult, Some, None};
+ghost use Rattle.std.specs.Prelude.{◌≡◌, ◌≢◌, length, option_map, slice_get, MatchResult, IfOk, IfSome, Some, None};
 ghost use Rattle.std.specs.Bool.{OnFalse};
 ghost use Rattle.fv_datum.specs.Lookup.{at_name};
+ghost use Rattle.fv_model.specs.declared.fault.TypesFault.TheVariants.{Memory};
 ghost use Rattle.fv_model.specs.Types.{FieldsApart, declared_view, fields_view, type_use_view, is_unknown, unknown_in, has_unknown, has_large, types_fault, name_at, number_of};
 
 use crate::fault::TypesFault;
 use crate::type_use::TypeUse;
 use indexmap::IndexMap;
+use std::alloc::{AllocError, Global};
+use std::rc::Rc;
 
 /// The most types.
 const MOST_TYPES: usize = 256;
@@ -23,24 +26,25 @@ pub struct TypeId {
 }
 
 /// The declared types by their names, each with a number. The fields of a type have names of their
-/// own.
+/// own. Objects share them.
 #[derive(Drop)]
 pub struct Types {
-    types: IndexMap<String, Fields>,
-    ghost apart: { FieldsApart (declared_view types) },
+    declared: Rc<IndexMap<String, Fields>>,
+    ghost apart: { FieldsApart (declared_view declared.value) },
 }
 
 impl Types {
-    ghost use Rattle.fv_model.specs.Views.{types_view};
+    ghost use Rattle.fv_model.specs.FieldViews.{types_view};
 
     /// The types of a map of type names to maps of field names to type uses, numbered in the map's
-    /// order. It takes no memory.
+    /// order.
     ///
     /// Refused by `UnknownType` for a reference to a type that isn't declared, else by `TooLarge`
-    /// for more than 256 types, or a type of more than 256 fields.
-    pub fn build(declared: IndexMap<String, Fields>) -> Result<Types, TypesFault>
+    /// for more than 256 types, or a type of more than 256 fields; `Memory` at any place.
+    pub fn build(alloc: Global, declared: IndexMap<String, Fields>) -> Result<Types, TypesFault>
         ensures { MatchResult result (λ ts. (types_fault (declared_view declared) ≡ None)
-            × (types_view ts ≡ declared_view declared)) (λ e. types_fault (declared_view declared) ≡ Some e) }
+            × (types_view ts ≡ declared_view declared))
+            (λ e. e ≢ Memory → types_fault (declared_view declared) ≡ Some e) }
     {
         if has_unknown(&declared) {
             return Err(TypesFault::UnknownType);
@@ -48,21 +52,32 @@ impl Types {
         if declared.len() > MOST_TYPES || has_large(&declared) {
             return Err(TypesFault::TooLarge);
         }
-        Ok(Types { types: declared })
+        Ok(Types {
+            declared: Rc::new(alloc, declared)?,
+        })
+    }
+
+    /// The same types, which are shared and not copied.
+    pub(crate) fn share(&self) -> Result<Types, AllocError>
+        ensures { IfOk result (λ ts. types_view ts ≡ types_view self.now) }
+    {
+        Ok(Types {
+            declared: self.declared.clone()?,
+        })
     }
 
     /// How many types there are.
     pub fn count(&self) -> usize
         ensures { result ≡ length (types_view self.now) }
     {
-        self.types.len()
+        self.declared.len()
     }
 
     /// The number of the type of that name.
     pub fn find(&self, name: &str) -> Option<TypeId>
         ensures { option_map (λ t. t.index) result ≡ number_of (types_view self.now) name.now }
     {
-        match self.types.get_index_of(name) {
+        match self.declared.get_index_of(name) {
             Some(index) => Some(TypeId { index }),
             None => None,
         }
@@ -72,7 +87,7 @@ impl Types {
     pub fn name(&self, id: TypeId) -> &str
         ensures { result.now ≡ name_at (types_view self.now) id.index }
     {
-        match self.types.get_index(id.index) {
+        match self.declared.get_index(id.index) {
             Some((name, _)) => name.as_str(),
             None => "",
         }
@@ -82,7 +97,26 @@ impl Types {
     pub fn fields(&self, name: &str) -> Option<&Fields>
         ensures { option_map (λ m. fields_view m.now) result ≡ at_name name.now (types_view self.now) }
     {
-        fields_in(&self.types, name)
+        fields_in(&self.declared, name)
+    }
+
+    /// The number of the type of that name, with its fields.
+    pub(crate) fn find_with_fields(&self, name: &str) -> Option<(TypeId, &Fields)>
+        ensures found { option_map (λ t. fields_view t.1.now) result ≡ at_name name.now (types_view self.now) }
+        ensures placed { IfSome result (λ t. slice_get (types_view self.now) t.0.index
+            ≡ Some (name.now, fields_view t.1.now)) }
+    {
+        let (index, _, fields) = self.declared.get_full(name)?;
+        Some((TypeId { index }, fields))
+    }
+
+    /// The fields of a type; `None` where no type has the number.
+    pub(crate) fn fields_at(&self, id: TypeId) -> Option<&Fields>
+        ensures { option_map (λ m. fields_view m.now) result
+            ≡ option_map (λ t. t.1) (slice_get (types_view self.now) id.index) }
+    {
+        let (_, fields) = self.declared.get_index(id.index)?;
+        Some(fields)
     }
 }
 

@@ -1,34 +1,35 @@
 ghost use Rattle.std.specs.Prelude.{◌≡◌, IfOk, map};
 ghost use Rattle.serde_json.specs.Data as json;
 ghost use Rattle.serde_json.specs.View.{view as json_view, members_view};
-ghost use Rattle.fv_model.specs.Views.{field_view, object_view, objects_view, bundle_view};
-ghost use Rattle.fv_model.specs.Writing.{datum_json, added, objects_added, thing_json, bundle_json};
+ghost use Rattle.fv_datum.specs.View.{view};
+ghost use Rattle.fv_model.specs.Views.{object_view, objects_view, bundle_view};
+ghost use Rattle.fv_model.specs.Writing.{IsWritten, datum_json, added, objects_added, thing_json, bundle_json};
 
 use crate::bundle::{Bundle, Object, Objects};
-use crate::field::Field;
-use fv_datum::{DatumFault, is_null, write_datum};
+use fv_datum::{Datum, DatumFault, is_null, write_datum};
 use serde_json::{Map, Value, put};
 use std::alloc::{AllocError, Global};
 
-/// A field's datum as JSON.
-fn write_field(alloc: Global, field: &Field) -> Result<Value, AllocError>
-    ensures { IfOk result (λ v. json_view v ≡ datum_json (field_view field.now).1) }
+/// A datum of an object as JSON.
+fn datum_value(alloc: Global, datum: &Datum) -> Result<Value, AllocError>
+    requires { IsWritten (view datum.now) }
+    ensures { IfOk result (λ v. json_view v ≡ datum_json (view datum.now)) }
 {
-    match write_datum(alloc, &field.datum) {
+    match write_datum(alloc, datum) {
         Ok(value) => Ok(value),
         Err(DatumFault::WrongKind) => unreachable!(),
         Err(DatumFault::Memory) => Err(AllocError),
     }
 }
 
-fn write_fields(alloc: Global, fields: &[Field]) -> Result<Map<String, Value>, AllocError>
-    ensures { IfOk result (λ m. members_view m.entries ≡ added json.no_members (map field_view fields.now)) }
+fn write_fields(alloc: Global, object: &Object) -> Result<Map<String, Value>, AllocError>
+    ensures { IfOk result (λ m. members_view m.entries ≡ added json.no_members (object_view object.now).fields) }
 {
     let mut members = Map::new(alloc);
-    for field in fields {
-        if !is_null(&field.datum) {
-            let value = write_field(alloc, field)?;
-            put(&mut members, alloc, field.name.as_str(), value)?;
+    for (name, datum) in object.fields() {
+        if !is_null(datum) {
+            let value = datum_value(alloc, datum)?;
+            put(&mut members, alloc, name, value)?;
         }
     }
     Ok(members)
@@ -42,9 +43,9 @@ fn write_object(alloc: Global, object: &Object) -> Result<Value, AllocError>
         &mut members,
         alloc,
         "type",
-        Value::String(object.type_name.clone()?),
+        Value::String(String::from_str(alloc, object.type_name())?),
     )?;
-    let fields = write_fields(alloc, &object.fields)?;
+    let fields = write_fields(alloc, object)?;
     put(&mut members, alloc, "fields", Value::Object(fields))?;
     Ok(Value::Object(members))
 }

@@ -14,7 +14,7 @@ fn types(alloc: Global) -> Result<Types, Fail> {
     let mut types: IndexMap<String, Fields> = IndexMap::new(alloc);
     types.insert(String::from_str(alloc, "Item")?, IndexMap::new(alloc))?;
     types.insert(String::from_str(alloc, "Other")?, IndexMap::new(alloc))?;
-    Ok(Types::build(types)?)
+    Ok(Types::build(alloc, types)?)
 }
 
 /// The numbers that a row's tree reports of an object of its type.

@@ -3,7 +3,7 @@ use crate::report::Report;
 use crate::table::Table;
 use crate::texts::{Names, expanded};
 use anyhow::{Context, Result};
-use fv_declare::{Demand, Occurrence, Schema, read_schema};
+use fv_declare::{Place, Placed, Schema, read_schema};
 use fv_model::{TypeId, Types};
 use fv_registry::RuleSet;
 use std::alloc::Global;
@@ -41,34 +41,31 @@ fn compare_lines(
 }
 
 /// The name of the field at which a use stands, or `-` where it stands at the type.
-fn field_of<'a>(types: &'a Types, occurrence: &Occurrence) -> Result<&'a str> {
-    let name = types.name(occurrence.type_id());
+fn field_of<'a>(types: &'a Types, placed: &Placed) -> Result<&'a str> {
+    let name = types.name(placed.type_id());
     let fields = types.fields(name).context("a type")?;
-    match occurrence.demand() {
-        Demand::OfObject { .. } => Ok("-"),
-        Demand::OfField { field, .. } => {
-            let (name, _) = fields.get_index(*field).context("a field")?;
+    match placed.place() {
+        Place::Whole => Ok("-"),
+        Place::Field(field, _) => {
+            let (name, _) = fields.get_index(field).context("a field")?;
             Ok(name.as_str())
         }
     }
 }
 
-/// A use by its number: its type, field, constraint and message.
-fn use_shown(
-    alloc: Global,
-    types: &Types,
-    number: usize,
-    occurrence: &Occurrence,
-) -> Result<String> {
-    let name = types.name(occurrence.type_id());
-    let field = field_of(types, occurrence)?;
-    let constraint = occurrence.constraint();
-    let message = occurrence.message();
+/// A constraint of a use by its number: the use's type and field, the constraint and its message.
+fn node_shown(alloc: Global, types: &Types, placed: &Placed, below: usize) -> Result<String> {
+    let name = types.name(placed.type_id());
+    let field = field_of(types, placed)?;
+    let number = placed.number().checked_add(below).context("a number")?;
+    let node = placed.occurrence().node(below).context("a node")?;
+    let constraint = node.constraint();
+    let message = node.message();
     Ok(format!(in alloc; "{number} {name} {field} {constraint} {message}")?)
 }
 
-/// Rows `NUMBER TYPE FIELD CONSTRAINT MESSAGE`: the uses of constraints of the head's declarations, by
-/// their numbers.
+/// Rows `NUMBER TYPE FIELD CONSTRAINT MESSAGE`: the constraints that the uses of the head's declarations
+/// are composed to, by their numbers.
 pub(crate) fn uses<R: RuleSet>(
     alloc: Global,
     rules: &R,
@@ -78,8 +75,10 @@ pub(crate) fn uses<R: RuleSet>(
 ) -> Result<()> {
     let schema = schema_of(alloc, rules, names, table)?;
     let mut lines = Vec::new(alloc);
-    for (number, occurrence) in schema.occurrences().iter().enumerate() {
-        lines.push(use_shown(alloc, schema.types(), number, occurrence)?)?;
+    for placed in schema.occurrences() {
+        for below in 0..placed.occurrence().size() {
+            lines.push(node_shown(alloc, schema.types(), placed, below)?)?;
+        }
     }
     compare_lines(alloc, table, &lines, report)
 }

@@ -37,5 +37,5 @@ fn declared(alloc: Global) -> Result<IndexMap<String, Fields>, Fail> {
 /// The types `Item` and `Note`, each with a text `name`, an integer `count`, and a reference `to` to a
 /// `Note`.
 pub(crate) fn item_and_note(alloc: Global) -> Result<Types, Fail> {
-    Ok(Types::build(declared(alloc)?)?)
+    Ok(Types::build(alloc, declared(alloc)?)?)
 }

@@ -1,16 +1,16 @@
 //! A bundle whose names ascend, as those of a bundle that was read do, is written as it comes. Of
 //! any other a tree of JSON is made first, which puts the names in order.
-ghost use Rattle.std.specs.Prelude.{◌≡◌, IfOk, map, string_bytes};
+ghost use Rattle.std.specs.Prelude.{◌≡◌, IfOk, string_bytes};
 ghost use Rattle.serde_json.specs.Data as json;
 ghost use Rattle.serde_json.specs.Written.{compact_text};
 ghost use Rattle.fv_datum.specs.View.{view};
-ghost use Rattle.fv_model.specs.Views.{field_view, object_view, objects_view, bundle_view};
+ghost use Rattle.fv_model.specs.Views.{object_view, objects_view, bundle_view};
 ghost use Rattle.fv_model.specs.Writing.{datum_json, added, objects_added, thing_json, bundle_json};
 ghost use Rattle.fv_text.specs.Puts.{Puts};
 ghost use Rattle.fv_text.specs.declared.text.Halt.TheVariants.{Memory};
 
 use fv_datum::{Datum, is_null};
-use fv_model::{Bundle, Field, Object, Objects, write_bundle};
+use fv_model::{Bundle, Object, Objects, write_bundle};
 use json::Writer;
 use std::alloc::{AllocError, Global};
 
@@ -50,19 +50,18 @@ fn write_datum(out: &mut Writer, datum: &Datum) -> Result<(), Halt>
 }
 
 /// An object of the fields that aren't null.
-fn write_fields(out: &mut Writer, fields: &[Field]) -> Result<(), Halt>
-    ensures { Puts result out.old out.new (json.object (added json.no_members (map field_view fields.now))) }
+fn write_fields(out: &mut Writer, object: &Object) -> Result<(), Halt>
+    ensures { Puts result out.old out.new (json.object (added json.no_members (object_view object.now).fields)) }
 {
     out.begin_object()?;
     let mut last = "";
-    for field in fields {
-        if !is_null(field.datum()) {
-            let name = field.name();
+    for (name, datum) in object.fields() {
+        if !is_null(datum) {
             if last >= name {
                 return Err(Halt::NotPlain);
             }
             out.key(name)?;
-            write_datum(out, field.datum())?;
+            write_datum(out, datum)?;
             last = name;
         }
     }
@@ -76,7 +75,7 @@ fn write_object(out: &mut Writer, object: &Object) -> Result<(), Halt>
 {
     out.begin_object()?;
     out.key("fields")?;
-    write_fields(out, object.fields())?;
+    write_fields(out, object)?;
     out.key("type")?;
     out.string(object.type_name())?;
     out.end_object()?;

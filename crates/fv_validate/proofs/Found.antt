@@ -1,225 +1,176 @@
 -- What the uses of the root's type report are all violations of a bundle.
-use Rattle.std.proofs.Common.{cond, suc, zero, map, not, length, get_or, bytes_eq, nat_lt, ◌≡◌, ◌≢◌, ◌<◌, ◌≤◌, ◌+◌, ◌&&◌, ℕ, ℤ, List, [], ◌∷◌, Bool, true, false, Option, Some, None, Result, Ok, Err, IfOk, slice_get, option_map, if◌then◌else◌, is_some, true≢false, refl, sym, ap, subst, ◌∙◌, inl, inr, arith}
-use Rattle.std.proofs.lemmas.Bool.{lt-ltb, ltb-false}
-use Rattle.std.proofs.lemmas.List.{length-map}
-use Rattle.std.proofs.lemmas.Option.{slice_get_past}
-use Rattle.std.specs.List.{All, AllByRecursion, list_all}
+use Rattle.std.proofs.Common.{cond, suc, zero, map, not, length, get_or, bytes_eq, nat_lt, ◌≡◌, ◌≢◌, ◌<◌, ◌≤◌, ◌+◌, ◌&&◌, ℕ, ℤ, List, [], ◌∷◌, ◌++◌, Bool, true, false, Option, Some, None, Result, Ok, Err, IfOk, is_some, true≢false, refl, sym, ap, subst, ◌∙◌, inl, inr, arith}
+use Rattle.std.proofs.lemmas.Bool.{lt-ltb}
+use Rattle.std.specs.List.{All, AllByRecursion, list_all, flat_map, prefix_len}
 use Rattle.std.proofs.lemmas.List.Elements.{All-from_recursion}
 use Rattle.std.proofs.lemmas.List.Kept.{AllPairs-cons}
 use Rattle.std.proofs.lemmas.Slice.Eq.{bytes_eq-Decides}
-use Rattle.fv_datum.specs.Data.{Data, reference}
 use Rattle.fv_datum.specs.Lookup.{at_name}
 use Rattle.fv_datum.specs.Name.{names}
-use Rattle.fv_datum.specs.declared.kind.Kind.{Kind}
+use Rattle.fv_declare.specs.Declarations.{Placed, Declarations, count_nodes, AreNumbered}
 use Rattle.fv_model.specs.Bundles.{Thing, Bundled}
-use Rattle.fv_model.specs.Types.{number_of}
-use Rattle.fv_registry.specs.Meanings.{Meanings}
-use Rattle.fv_declare.specs.Declarations.{FieldTest, Demand, of_field, of_object, Occurrence, Declarations}
-use Rattle.std.specs.List.{prefix_len}
-use Rattle.fv_model.specs.Types.{DeclaredFields, Declared}
+use Rattle.fv_model.specs.Types.{DeclaredFields, Declared, number_of}
 use Rattle.fv_model.specs.WellTyped.{FitsType, IsWellTyped}
-use Rattle.fv_validate.specs.Judging.{refused_field, refused_at, report_at, reported_by, reported_all, with_first, AreOccurrencesOf, AreApart, AreFound}
-use Rattle.fv_validate.specs.Violations.{Reported, holds, IsUnmet, IsViolation, IsListed}
+use Rattle.fv_occurrence.specs.Nodes.{Node}
+use Rattle.fv_occurrence.specs.Reports.{violated}
+use Rattle.fv_occurrence.specs.Trees.{size}
+use Rattle.fv_registry.specs.Meanings.{Meanings}
+use Rattle.fv_validate.specs.Judging.{told_at, reported_by, reported_all, AreOccurrencesOf, AreApart, AreFound}
+use Rattle.fv_validate.specs.Violations.{Reported, Spot, spot_at, report_at, IsViolation, IsListed}
+use Rattle.fv_validate.proofs.Reports.{Rise, rise_append, rise_from, rise_map, rises}
 
 -- what holds of an answer, by what holds
 pub if_ok : {T E : Type 0} (r : Result T E) (P Q : T → Type 0) → ((x : T) → P x → Q x) → IfOk r P → IfOk r Q
 if_ok (Ok x) P Q f p = f x p
 if_ok (Err e) P Q f p = tt
 
--- the field of a number
-pub field_at : {X Y : Type 0} (f : X → Y) (xs : List X) (i : ℕ) (x : X) → i < length xs → x ≡ get_or xs i x → slice_get (map f xs) i ≡ Some (f x)
-field_at f [] i x h is = absurd (omega arith)
-field_at f (y ∷ ys) zero x h is = ap (λ z. Some (f z)) (sym is)
-field_at f (y ∷ ys) (suc i) x h is = field_at f ys i x (omega arith) is
-
--- where there is none
-pub field_past : {X Y : Type 0} (f : X → Y) (xs : List X) (i : ℕ) → false ≡ nat_lt i (length xs) → slice_get (map f xs) i ≡ None
-field_past f xs i past = slice_get_past (map f xs) i (omega (arith, length-map xs f, ltb-false i (length xs) (sym past)))
-
 both_true : (a b : Bool) → (a && b) ≡ true → (a ≡ true) × (b ≡ true)
 both_true true b e = (refl, e)
 both_true false b e = cc
 
-true_at : (p : Occurrence → Bool) (us : List Occurrence) (n : ℕ) (u : Occurrence) → list_all p us ≡ true → slice_get us n ≡ Some u → p u ≡ true
-true_at p [] n u all e = cc
-true_at p (w ∷ us) zero u all e = let same : w ≡ u = cc in subst (λ (x : Occurrence). p x ≡ true) same (both_true (p w) (list_all p us) all).0
-true_at p (w ∷ us) (suc n) u all e = true_at p us n u (both_true (p w) (list_all p us) all).1 e
-
-seen_at : {X : Type 0} (f : X → Occurrence) (xs : List X) (k : ℕ) (d : X) → k < length xs → slice_get (map f xs) k ≡ Some (f (get_or xs k d))
-seen_at f [] k d below = absurd (omega arith)
-seen_at f (x ∷ xs) zero d below = refl
-seen_at f (x ∷ xs) (suc k) d below = seen_at f xs k d (omega arith)
-
--- what holds of all uses holds of those of a type
-pub each_fits : {X : Type 0} (p : Occurrence → Bool) (f : X → Occurrence) (xs : List X) (all : List Occurrence) (type first : ℕ) → AreOccurrencesOf all type first (map f xs) → list_all p all ≡ true → All (λ x. p (f x) ≡ true) xs
-each_fits p f xs all type first uses fit k d below = true_at p all (first + k) (f (get_or xs k d)) fit (uses.each k (f (get_or xs k d)) (seen_at f xs k d below)).1
-
 some_same : {X : Type 0} (x y : X) → Some x ≡ Some y → x ≡ y
 some_same x y e = cc
 
-module _ (m : Meanings) (now : ℤ) where
-  -- ---- where a demand isn't met
+-- ---- lists and what is one of them
 
-  chosen_field : (b : Bool) (f s : List ℕ × Data) → (if b then None else Some f) ≡ Some s → (b ≡ false) × (f ≡ s)
-  chosen_field true f s e = cc
-  chosen_field false f s e = (refl, some_same f s e)
+module _ {X Y : Type 0} (f : X → Y) where
+  listed_map : (xs : List X) (x : X) → IsListed xs x → IsListed (map f xs) (f x)
+  listed_map [] x h = absurd h
+  listed_map (y ∷ ys) x (inl e) = inl (ap f e)
+  listed_map (y ∷ ys) x (inr h) = inr (listed_map ys x h)
 
-  of_test : (test : FieldTest) (o : Option (List ℕ × Data)) (s : List ℕ × Data) → refused_field m now test o ≡ Some s → (o ≡ Some s) × (holds m now test s.1 ≡ false)
-  unfolding refused_field
-  of_test test None s e = cc
-  of_test test (Some f) s e =
-      let both = chosen_field (holds m now test f.1) f s e in
-      (ap (λ (x : List ℕ × Data). Some x) both.1, subst (λ (x : List ℕ × Data). holds m now test x.1 ≡ false) both.1 both.0)
+  -- what is one of the images is the image of one
+  from_map : (xs : List X) (y : Y) → IsListed (map f xs) y → (x : X) × IsListed xs x × (y ≡ f x)
+  from_map [] y h = absurd h
+  from_map (x ∷ xs) y (inl e) = (x, inl refl, e)
+  from_map (x ∷ xs) y (inr h) = let r = from_map xs y h in (r.0, inr r.1, r.2)
 
-  -- the demand of a field that is there asks its test
-  pub asked_there : (name : List ℕ) (object : Thing) (field : ℕ) (kind : Kind) (test : FieldTest) (f : List ℕ × Data) → slice_get object.fields field ≡ Some f
-      → refused_at m now name object (of_field field kind test) ≡ refused_field m now test (Some f)
-  unfolding refused_at
-  asked_there name object field kind test f placed = ap (refused_field m now test) placed
+module _ {X : Type 0} where
+  listed_front : (xs ys : List X) (x : X) → IsListed xs x → IsListed (xs ++ ys) x
+  listed_front [] ys x h = absurd h
+  listed_front (y ∷ xs) ys x (inl e) = inl e
+  listed_front (y ∷ xs) ys x (inr h) = inr (listed_front xs ys x h)
 
-  -- of one that isn't, nothing is asked
-  pub unasked : (name : List ℕ) (object : Thing) (field : ℕ) (kind : Kind) (test : FieldTest) → slice_get object.fields field ≡ None
-      → refused_at m now name object (of_field field kind test) ≡ None
-  unfolding refused_at refused_field
-  unasked name object field kind test none = ap (refused_field m now test) none
+  listed_behind : (xs ys : List X) (x : X) → IsListed ys x → IsListed (xs ++ ys) x
+  listed_behind [] ys x h = h
+  listed_behind (y ∷ xs) ys x h = inr (listed_behind xs ys x h)
 
-  refused_then : (name : List ℕ) (object : Thing) (d : Demand) (s : List ℕ × Data) → refused_at m now name object d ≡ Some s → IsUnmet m now name object d s.0 s.1
-  unfolding refused_at
-  refused_then name object (of_field field kind test) s e = of_test test (slice_get object.fields field) s e
-  refused_then name object (of_object rule attributes) s e =
-      let both = chosen_field (m.decides_object rule object attributes) ([], reference name) s e in
-      (ap (λ (x : List ℕ × Data). x.0) (sym both.1), ap (λ (x : List ℕ × Data). x.1) (sym both.1), both.0)
+  all_listed : (P : X → Type 0) (xs : List X) → ((x : X) → IsListed xs x → P x) → AllByRecursion P xs
+  all_listed P [] each = tt
+  all_listed P (x ∷ xs) each = (each x (inl refl), all_listed P xs (λ y h. each y (inr h)))
 
-  -- and the other way round
-  refused_there : (name : List ℕ) (object : Thing) (d : Demand) (path : List ℕ) (value : Data) → IsUnmet m now name object d path value → refused_at m now name object d ≡ Some (path, value)
-  unfolding refused_at refused_field
-  refused_there name object (of_field field kind test) path value is = rw (is.0, is.1) refl
-  refused_there name object (of_object rule attributes) path value is = rw (is.2, is.0, is.1) refl
+  all_append : (P : X → Type 0) (xs ys : List X) → AllByRecursion P xs → AllByRecursion P ys → AllByRecursion P (xs ++ ys)
+  all_append P [] ys h k = k
+  all_append P (x ∷ xs) ys h k = (h.0, all_append P xs ys h.1 k)
 
-  -- ---- what a use reports
+module _ {X Y : Type 0} (f : X → List Y) where
+  listed_flat : (xs : List X) (x : X) (y : Y) → IsListed xs x → IsListed (f x) y → IsListed (flat_map f xs) y
+  listed_flat [] x y h k = absurd h
+  listed_flat (z ∷ zs) x y (inl e) k = listed_front (f z) (flat_map f zs) y (subst (λ (w : X). IsListed (f w) y) e k)
+  listed_flat (z ∷ zs) x y (inr h) k = listed_behind (f z) (flat_map f zs) y (listed_flat zs x y h k)
 
-  -- a use reports this of the object of that name
-  record Reports (name : List ℕ) (object : Thing) (n : ℕ) (u : Occurrence) (v : Reported) : Type 0 where
-    pub spot : List ℕ × Data
-    pub refused : IsUnmet m now name object u.demand spot.0 spot.1
-    pub is : v ≡ report_at n u spot
+  all_flat : (P : Y → Type 0) (xs : List X) → ((x : X) → IsListed xs x → AllByRecursion P (f x)) → AllByRecursion P (flat_map f xs)
+  all_flat P [] each = tt
+  all_flat P (x ∷ xs) each = all_append P (f x) (flat_map f xs) (each x (inl refl)) (all_flat P xs (λ y h. each y (inr h)))
 
-  told : (n : ℕ) (u : Occurrence) (o : Option (List ℕ × Data)) (v : Reported) → option_map (report_at n u) o ≡ Some v → (s : List ℕ × Data) × (o ≡ Some s) × (v ≡ report_at n u s)
-  told n u None v e = cc
-  told n u (Some s) v e = (s, refl, sym (some_same _ _ e))
+-- ---- the uses of a type
 
-  inverted : (name : List ℕ) (object : Thing) (n : ℕ) (u : Occurrence) (v : Reported) → reported_by m now name object n u ≡ Some v → Reports name object n u v
+true_at : (p : Placed → Bool) (us : List Placed) (u : Placed) → list_all p us ≡ true → IsListed us u → p u ≡ true
+true_at p [] u all h = absurd h
+true_at p (w ∷ us) u all (inl e) = subst (λ (x : Placed). p x ≡ true) (sym e) (both_true (p w) (list_all p us) all).0
+true_at p (w ∷ us) u all (inr h) = true_at p us u (both_true (p w) (list_all p us) all).1 h
+
+listed_at : {X : Type 0} (f : X → Placed) (xs : List X) (k : ℕ) (d : X) → k < length xs → IsListed (map f xs) (f (get_or xs k d))
+listed_at f [] k d below = absurd (omega arith)
+listed_at f (x ∷ xs) zero d below = inl refl
+listed_at f (x ∷ xs) (suc k) d below = inr (listed_at f xs k d (omega arith))
+
+-- what holds of all uses holds of those of a type
+pub each_fits : {X : Type 0} (p : Placed → Bool) (f : X → Placed) (xs : List X) (all : List Placed) (type : ℕ) → AreOccurrencesOf all type (map f xs) → list_all p all ≡ true → All (λ x. p (f x) ≡ true) xs
+each_fits p f xs all type uses fit k d below = true_at p all (f (get_or xs k d)) fit (uses.each (f (get_or xs k d)) (listed_at f xs k d below)).1
+
+-- ---- the numbers of reports rise
+
+-- a report's number
+abbrev number : Reported → ℕ
+number v = v.occurrence
+
+differs : (v : Reported) (ws : List Reported) → AllByRecursion (λ w. v.occurrence + 1 ≤ number w) ws → AllByRecursion (λ w. v.occurrence ≢ w.occurrence) ws
+differs v [] all = tt
+differs v (w ∷ ws) all = let later : v.occurrence + 1 ≤ w.occurrence = all.0 in (λ e. absurd (omega arith), differs v ws all.1)
+
+apart : (m e : ℕ) (vs : List Reported) → Rise number m e vs → AreApart vs
+apart m e [] up = λ j k d below within. absurd (omega arith)
+apart m e (v ∷ vs) up =
+    AllPairs-cons (λ v w. v.occurrence ≢ w.occurrence) v vs
+    (All-from_recursion (λ w. v.occurrence ≢ w.occurrence) vs (differs v vs (rise_from number (v.occurrence + 1) e (v.occurrence + 1) vs (omega arith) up.1)))
+    (apart (v.occurrence + 1) e vs up.1)
+
+module _ (m : Meanings) (now : ℤ) (name : List ℕ) (object : Thing) where
+  told_rise : (u : Placed) (o : Option Spot) → Rise number u.number (u.number + size u.tree) (told_at m now u o)
+  told_rise u None = omega arith
+  told_rise u (Some s) = rise_map number (report_at s) u.number (u.number + size u.tree) (violated m now s.subject u.number u.tree) (rises _ _ u.number u.tree)
+
+  use_rises : (u : Placed) → Rise number u.number (u.number + size u.tree) (reported_by m now name object u)
   unfolding reported_by
-  inverted name object n u v e =
-      let found = told n u (refused_at m now name object u.demand) v e in
-      record { spot = found.0; refused = refused_then name object u.demand found.0 found.1; is = found.2 }
+  use_rises u = told_rise u (spot_at name object u.place)
 
-  -- and the other way round
-  reported : (name : List ℕ) (object : Thing) (n : ℕ) (u : Occurrence) (path : List ℕ) (value : Data) → IsUnmet m now name object u.demand path value
-      → reported_by m now name object n u ≡ Some (report_at n u (path, value))
+  all_rise : (n : ℕ) (us : List Placed) → AreNumbered n us → Rise number n (n + count_nodes (map (λ u. u.tree) us)) (reported_all m now name object us)
+  all_rise n [] numbered = omega arith
+  all_rise n (u ∷ us) numbered =
+      let same : n + size u.tree + count_nodes (map (λ (w : Placed). w.tree) us) ≡ n + (size u.tree + count_nodes (map (λ (w : Placed). w.tree) us)) = omega arith in
+      let here : Rise number n (n + size u.tree) (reported_by m now name object u) = subst (λ (k : ℕ). Rise number k (k + size u.tree) (reported_by m now name object u)) numbered.0 (use_rises u) in
+      let later = subst (λ (e : ℕ). Rise number (n + size u.tree) e (reported_all m now name object us)) same (all_rise (n + size u.tree) us numbered.1) in
+      rise_append number n (n + size u.tree) _ (reported_by m now name object u) (reported_all m now name object us) here later
+
+-- ---- in the root, by the uses of its type
+
+module _ (m : Meanings) (now : ℤ) (ds : Declarations) (b : Bundled) (root : Thing) (type : ℕ) (rooted : at_name b.root b.objects ≡ Some root) (typed : number_of ds.types root.type_name ≡ Some type) where
+  violation_in : (u : Placed) (s : Spot) (v : Reported) → IsListed ds.occurrences u → u.type ≡ type → spot_at b.root root u.place ≡ Some s
+      → IsListed (map (report_at s) (violated m now s.subject u.number u.tree)) v → IsViolation m ds now b v
+  violation_in u s v declared of_type stands listed =
+      let found = from_map (report_at s) (violated m now s.subject u.number u.tree) v listed in
+      record {
+        used = u;
+        root = root;
+        spot = s;
+        node = found.0;
+        declared = declared;
+        rooted = rooted;
+        typed = typed ∙ ap (λ (t : ℕ). Some t) (sym of_type);
+        stands = stands;
+        violated = found.1;
+        is = found.2;
+      }
+
+  told_sound : (u : Placed) (o : Option Spot) → IsListed ds.occurrences u → u.type ≡ type → spot_at b.root root u.place ≡ o → (v : Reported) → IsListed (told_at m now u o) v → IsViolation m ds now b v
+  told_sound u None declared of_type stands v listed = absurd listed
+  told_sound u (Some s) declared of_type stands v listed = violation_in u s v declared of_type stands listed
+
+  use_sound : (u : Placed) → IsListed ds.occurrences u → u.type ≡ type → (v : Reported) → IsListed (reported_by m now b.root root u) v → IsViolation m ds now b v
   unfolding reported_by
-  reported name object n u path value refused = ap (option_map (report_at n u)) (refused_there name object u.demand path value refused)
+  use_sound u declared of_type v listed = told_sound u (spot_at b.root root u.place) declared of_type refl v listed
 
-  -- ---- what uses report
+  use_complete : (u : Placed) (s : Spot) (n : ℕ × Node) → spot_at b.root root u.place ≡ Some s → IsListed (violated m now s.subject u.number u.tree) n → IsListed (reported_by m now b.root root u) (report_at s n)
+  unfolding reported_by
+  use_complete u s n stands listed = rw stands (listed_map (report_at s) (violated m now s.subject u.number u.tree) n listed)
 
-  all_first : (P : Reported → Type 0) (o : Option Reported) (rest : List Reported) → ((v : Reported) → o ≡ Some v → P v) → AllByRecursion P rest → AllByRecursion P (with_first o rest)
-  all_first P None rest one more = more
-  all_first P (Some v) rest one more = (one v refl, more)
+  complete : (us : List Placed) → AreOccurrencesOf ds.occurrences type us → (v : Reported) → IsViolation m ds now b v → IsListed (reported_all m now b.root root us) v
+  complete us uses v is =
+      let same_root : is.root ≡ root = let e : Some is.root ≡ Some root = sym is.rooted ∙ rooted in some_same _ _ e in
+      let same_type : is.used.type ≡ type = let e : Some is.used.type ≡ Some type = sym is.typed ∙ ap (λ (t : Thing). number_of ds.types t.type_name) same_root ∙ typed in some_same _ _ e in
+      let stands : spot_at b.root root is.used.place ≡ Some is.spot = ap (λ (t : Thing). spot_at b.root t is.used.place) (sym same_root) ∙ is.stands in
+      let here = use_complete is.used is.spot is.node stands is.violated in
+      listed_flat (reported_by m now b.root root) us is.used v (uses.none_left is.used is.declared same_type)
+      (subst (λ (w : Reported). IsListed (reported_by m now b.root root is.used) w) (sym is.is) here)
 
-  listed_first : (o : Option Reported) (rest : List Reported) (v : Reported) → o ≡ Some v → IsListed (with_first o rest) v
-  listed_first None rest v e = cc
-  listed_first (Some w) rest v e = inl (sym (some_same w v e))
-
-  listed_later : (o : Option Reported) (rest : List Reported) (v : Reported) → IsListed rest v → IsListed (with_first o rest) v
-  listed_later None rest v h = h
-  listed_later (Some w) rest v h = inr h
-
-  listed : (name : List ℕ) (object : Thing) (first i : ℕ) (us : List Occurrence) (v : Reported) (j : ℕ) (u : Occurrence) → slice_get us j ≡ Some u
-      → reported_by m now name object (first + (i + j)) u ≡ Some v → IsListed (reported_all m now name object first i us) v
-  listed name object first i [] v j u at e = cc
-  listed name object first i (w ∷ us) v zero u at e =
-      let same : w ≡ u = cc in
-      let here : first + (i + 0) ≡ first + i = omega arith in
-      listed_first _ _ v (subst (λ (x : Occurrence). reported_by m now name object (first + i) x ≡ Some v) (sym same) (subst (λ (k : ℕ). reported_by m now name object k u ≡ Some v) here e))
-  listed name object first i (w ∷ us) v (suc j) u at e =
-      let same : first + (i + suc j) ≡ first + (i + 1 + j) = omega arith in
-      listed_later _ _ v (listed name object first (i + 1) us v j u at (subst (λ (k : ℕ). reported_by m now name object k u ≡ Some v) same e))
-
-  -- the numbers of the uses rise
-  numbers_from : (name : List ℕ) (object : Thing) (first i : ℕ) (us : List Occurrence) (k : ℕ) → k ≤ first + i → AllByRecursion (λ v. k ≤ v.occurrence) (reported_all m now name object first i us)
-  numbers_from name object first i [] k le = tt
-  numbers_from name object first i (u ∷ us) k le =
-      all_first (λ v. k ≤ v.occurrence) (reported_by m now name object (first + i) u) _
-      (λ v e. let r = inverted name object (first + i) u v e in let same : v.occurrence ≡ first + i = ap (λ (w : Reported). w.occurrence) r.is in omega arith)
-      (numbers_from name object first (i + 1) us k (omega arith))
-
-  differs : (n : ℕ) (v : Reported) → v.occurrence ≡ n → (vs : List Reported) → AllByRecursion (λ w. n + 1 ≤ w.occurrence) vs → AllByRecursion (λ w. v.occurrence ≢ w.occurrence) vs
-  differs n v same [] all = tt
-  differs n v same (w ∷ ws) all = let later : n + 1 ≤ w.occurrence = all.0 in (λ e. absurd (omega arith), differs n v same ws all.1)
-
-  apart_first : (o : Option Reported) (rest : List Reported) → ((v : Reported) → o ≡ Some v → AllByRecursion (λ w. v.occurrence ≢ w.occurrence) rest) → AreApart rest → AreApart (with_first o rest)
-  apart_first None rest one more = more
-  apart_first (Some v) rest one more = AllPairs-cons (λ v w. v.occurrence ≢ w.occurrence) v rest (All-from_recursion (λ w. v.occurrence ≢ w.occurrence) rest (one v refl)) more
-
-  apart : (name : List ℕ) (object : Thing) (first i : ℕ) (us : List Occurrence) → AreApart (reported_all m now name object first i us)
-  apart name object first i [] = λ j k d below within. absurd (omega arith)
-  apart name object first i (u ∷ us) =
-      apart_first (reported_by m now name object (first + i) u) _
-      (λ v e. let r = inverted name object (first + i) u v e in
-      differs (first + i) v (ap (λ (w : Reported). w.occurrence) r.is) _ (numbers_from name object first (i + 1) us (first + i + 1) (omega arith)))
-      (apart name object first (i + 1) us)
-
-  -- ---- in the root, by the uses of its type
-
-  module _ (ds : Declarations) (b : Bundled) (root : Thing) (type : ℕ) (rooted : at_name b.root b.objects ≡ Some root) (typed : number_of ds.types root.type_name ≡ Some type) where
-    violation_at : (n : ℕ) (u : Occurrence) → slice_get ds.occurrences n ≡ Some u → u.type ≡ type → (v : Reported) → Reports b.root root n u v → IsViolation m ds now b v
-    violation_at n u numbered of_type v r =
-        let V : Reported → Type 0 = IsViolation m ds now b in
-        subst V (sym r.is) (record {
-          used = u;
-          root = root;
-          numbered = numbered;
-          rooted = rooted;
-          typed = typed ∙ ap (λ t. Some t) (sym of_type);
-          refused = r.refused;
-          named = refl;
-          worded = refl;
-        })
-
-    sound_all : (first i : ℕ) (us : List Occurrence) → ((j : ℕ) (u : Occurrence) → slice_get us j ≡ Some u → (u.type ≡ type) × (slice_get ds.occurrences (first + (i + j)) ≡ Some u))
-        → AllByRecursion (IsViolation m ds now b) (reported_all m now b.root root first i us)
-    sound_all first i [] each = tt
-    sound_all first i (u ∷ us) each =
-        let here = each 0 u refl in
-        let numbered : slice_get ds.occurrences (first + i) ≡ Some u = let same : first + (i + 0) ≡ first + i = omega arith in subst (λ (k : ℕ). slice_get ds.occurrences k ≡ Some u) same here.1 in
-        let later : (j : ℕ) (w : Occurrence) → slice_get us j ≡ Some w → (w.type ≡ type) × (slice_get ds.occurrences (first + (i + 1 + j)) ≡ Some w)
-        = λ j w e. let one = each (suc j) w e in let same : first + (i + suc j) ≡ first + (i + 1 + j) = omega arith in (one.0, subst (λ (k : ℕ). slice_get ds.occurrences k ≡ Some w) same one.1) in
-        all_first (IsViolation m ds now b) (reported_by m now b.root root (first + i) u) _
-        (λ v e. violation_at (first + i) u numbered here.0 v (inverted b.root root (first + i) u v e))
-        (sound_all first (i + 1) us later)
-
-    same_report : (v : Reported) (u : Occurrence) → v.constraint ≡ u.constraint → v.message ≡ u.message → report_at v.occurrence u (v.path, v.value) ≡ v
-    same_report v u named worded =
-        let R : List ℕ → List ℕ → Reported = λ c w. record { path = v.path; constraint = c; occurrence = v.occurrence; message = w; value = v.value } in
-        ap (λ (c : List ℕ). R c u.message) (sym named) ∙ ap (λ (w : List ℕ). R v.constraint w) (sym worded)
-
-    complete_all : (first : ℕ) (us : List Occurrence) → AreOccurrencesOf ds.occurrences type first us → (v : Reported) → IsViolation m ds now b v → IsListed (reported_all m now b.root root first 0 us) v
-    complete_all first us uses v is =
-        let same_root : is.root ≡ root = let e : Some is.root ≡ Some root = sym is.rooted ∙ rooted in some_same _ _ e in
-        let same_type : is.used.type ≡ type = let e : Some is.used.type ≡ Some type = sym is.typed ∙ ap (λ (t : Thing). number_of ds.types t.type_name) same_root ∙ typed in some_same _ _ e in
-        let refused : IsUnmet m now b.root root is.used.demand v.path v.value = subst (λ (t : Thing). IsUnmet m now b.root t is.used.demand v.path v.value) same_root is.refused in
-        let here = reported b.root root v.occurrence is.used v.path v.value refused ∙ ap (λ (w : Reported). Some w) (same_report v is.used is.named is.worded) in
-        let place = uses.none_left v.occurrence is.used is.numbered same_type in
-        let start : v.occurrence ≡ first + (0 + place.0) = let is : v.occurrence ≡ first + place.0 = place.1 in omega arith in
-        listed b.root root first 0 us v place.0 is.used place.2 (subst (λ (k : ℕ). reported_by m now b.root root k is.used ≡ Some v) start here)
-
-    -- all violations are found
-    pub all_found : (first : ℕ) (us : List Occurrence) → AreOccurrencesOf ds.occurrences type first us → AreFound m ds now b (reported_all m now b.root root first 0 us)
-    all_found first us uses = record {
-      sound = sound_all first 0 us (λ j u e. let one = uses.each j u e in let same : first + j ≡ first + (0 + j) = omega arith in (one.0, subst (λ (k : ℕ). slice_get ds.occurrences k ≡ Some u) same one.1));
-      complete = complete_all first us uses;
-      apart = apart b.root root first 0 us;
-    }
+  -- all violations are found
+  pub all_found : (us : List Placed) → AreOccurrencesOf ds.occurrences type us → AreFound m ds now b (reported_all m now b.root root us)
+  all_found us uses = record {
+    sound = all_flat (reported_by m now b.root root) (IsViolation m ds now b) us (λ u h. let one = uses.each u h in all_listed (IsViolation m ds now b) (reported_by m now b.root root u) (use_sound u one.1 one.0));
+    complete = complete us uses;
+    apart = apart uses.few.0 _ (reported_all m now b.root root us) (all_rise m now b.root root uses.few.0 us uses.few.1);
+  }
 
 -- ---- the root
 

@@ -1,62 +1,46 @@
 -- What is found on the way to a listing, for private clauses.
-use Rattle.std.specs.Prelude.{◌≡◌, ◌≢◌, ◌≤◌, ℕ, ℤ, ◌+◌, List, [], ◌∷◌, length, Option, Some, None, option_map, slice_get, Bool, true, string_bytes, if◌then◌else◌}
-use Rattle.std.specs.List.{AllByRecursion, AllPairs}
+use Rattle.std.specs.Prelude.{◌≡◌, ◌≢◌, ◌≤◌, ℕ, ℤ, ◌+◌, List, [], map, Option, Some, None}
+use Rattle.std.specs.List.{AllByRecursion, AllPairs, flat_map}
 use Rattle.std.specs.Ordering.{nat_cmp, is_lt, ordering_then}
 use Rattle.std.specs.Cmp.Lexicographic.{slice_cmp}
+use Rattle.std.specs.Prelude.{Bool, get_or}
 use Rattle.std.specs.declared.cmp.Ordering.{Ordering}
-use Rattle.fv_datum.specs.Data.{Data, reference}
-use Rattle.fv_datum.specs.View.{view}
+use Rattle.fv_declare.specs.Declarations.{Placed, Declarations, count_nodes, AreNumbered}
 use Rattle.fv_model.specs.Bundles.{Thing, Bundled}
+use Rattle.fv_occurrence.specs.Preorder.{nodes}
+use Rattle.fv_occurrence.specs.Reports.{violated}
+use Rattle.fv_occurrence.specs.Trees.{root}
 use Rattle.fv_registry.specs.Meanings.{Meanings}
-use Rattle.fv_registry.specs.Rules.{Known, knows_field}
-use Rattle.fv_declare.specs.Declarations.{FieldTest, built_in, by_rule, Demand, of_field, of_object, Occurrence, Declarations}
-use Rattle.fv_validate.specs.Violations.{Reported, holds, IsViolation, IsListed}
-use Rattle.fv_validate.specs.declared.unmet.Spot.{Spot}
+use Rattle.fv_validate.specs.Violations.{Reported, Spot, spot_at, report_at, IsViolation, IsListed}
 
--- a path with the value there
-abbrev pub spot_view : Spot → List ℕ × Data
-spot_view s = (string_bytes s.path, view s.value)
+-- the report of the node of a use's tree that has a number in the tree
+abbrev pub report_numbered : Spot → Placed → ℕ → Reported
+report_numbered s u n = report_at s (u.number + n, get_or (nodes u.tree) n (root u.tree))
 
--- the rule that a test asks is there
-abbrev pub is_there : Known → FieldTest → Bool
-is_there k (built_in r) = true
-is_there k (by_rule rule attributes) = knows_field rule k
+-- what a use tells of what stands at its place
+abbrev pub told_at : Meanings → ℤ → Placed → Option Spot → List Reported
+told_at m now u None = []
+told_at m now u (Some s) = map (report_at s) (violated m now s.subject u.number u.tree)
 
--- the field, where the test doesn't hold of its datum
-unfoldable pub refused_field : Meanings → ℤ → FieldTest → Option (List ℕ × Data) → Option (List ℕ × Data)
-refused_field m now test None = None
-refused_field m now test (Some f) = if holds m now test f.1 then None else Some f
+-- what a use reports of the object of that name
+unfoldable pub reported_by : Meanings → ℤ → List ℕ → Thing → Placed → List Reported
+reported_by m now name object u = told_at m now u (spot_at name object u.place)
 
--- the path and the value where a demand isn't met by the object of that name
-unfoldable pub refused_at : Meanings → ℤ → List ℕ → Thing → Demand → Option (List ℕ × Data)
-refused_at m now name object (of_field field kind test) = refused_field m now test (slice_get object.fields field)
-refused_at m now name object (of_object rule attributes) = if m.decides_object rule object attributes then None else Some ([], reference name)
+-- what uses report, one after another
+abbrev pub reported_all : Meanings → ℤ → List ℕ → Thing → List Placed → List Reported
+reported_all m now name object us = flat_map (reported_by m now name object) us
 
--- the report of the use of that number, of a value at a path
-abbrev pub report_at : ℕ → Occurrence → List ℕ × Data → Reported
-report_at n u f = record { path = f.0; constraint = u.constraint; occurrence = n; message = u.message; value = f.1 }
+-- these numbers run on through the trees of uses, and there are at most 1,024 of them
+abbrev pub AreFew : List Placed → Type 0
+AreFew us = (n : ℕ) × AreNumbered n us × (n + count_nodes (map (λ u. u.tree) us) ≤ 1024)
 
--- what the use of that number reports of the object of that name
-unfoldable pub reported_by : Meanings → ℤ → List ℕ → Thing → ℕ → Occurrence → Option Reported
-reported_by m now name object n u = option_map (report_at n u) (refused_at m now name object u.demand)
+-- among all uses, these are those of the type of that number
+pub record AreOccurrencesOf (all : List Placed) (type : ℕ) (us : List Placed) : Type 0 where
+  pub each : (u : Placed) → IsListed us u → (u.type ≡ type) × IsListed all u
+  pub none_left : (u : Placed) → IsListed all u → u.type ≡ type → IsListed us u
+  pub few : AreFew us
 
--- a report, if there is one, before the others
-abbrev pub with_first : Option Reported → List Reported → List Reported
-with_first None vs = vs
-with_first (Some v) vs = v ∷ vs
-
--- what the uses report, of which the first stands that many places behind the use of a number
-abbrev pub reported_all : Meanings → ℤ → List ℕ → Thing → ℕ → ℕ → List Occurrence → List Reported
-reported_all m now name object first i [] = []
-reported_all m now name object first i (u ∷ us) = with_first (reported_by m now name object (first + i) u) (reported_all m now name object first (i + 1) us)
-
--- among all uses, these are those of the type of that number, and the first of them has this number
-pub record AreOccurrencesOf (all : List Occurrence) (type first : ℕ) (us : List Occurrence) : Type 0 where
-  pub room : first + length us ≤ length all
-  pub each : (i : ℕ) (u : Occurrence) → slice_get us i ≡ Some u → (u.type ≡ type) × (slice_get all (first + i) ≡ Some u)
-  pub none_left : (n : ℕ) (u : Occurrence) → slice_get all n ≡ Some u → u.type ≡ type → (i : ℕ) × (n ≡ first + i) × (slice_get us i ≡ Some u)
-
--- no two at different places are of one use
+-- no two at different places have one number
 abbrev pub AreApart : List Reported → Type 0
 AreApart vs = AllPairs (λ v w. v.occurrence ≢ w.occurrence) vs
 
@@ -66,7 +50,7 @@ pub record AreFound (m : Meanings) (ds : Declarations) (now : ℤ) (b : Bundled)
   pub complete : (v : Reported) → IsViolation m ds now b v → IsListed vs v
   pub apart : AreApart vs
 
--- by the bytes of the path, then by the number of the use
+-- by the bytes of the path, then by the number of the constraint
 abbrev pub order : Reported → Reported → Ordering
 order v w = ordering_then (slice_cmp nat_cmp v.path w.path) (nat_cmp v.occurrence w.occurrence)
 

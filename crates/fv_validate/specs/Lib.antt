@@ -1,3 +1,4 @@
 pub mod Judging
+pub mod SpotView
 pub mod ViolationView
 pub mod Violations

@@ -1,17 +1,20 @@
 -- The violations of a bundle's declared constraints.
-use Rattle.std.specs.Prelude.{◌≡◌, ◌⊎◌, ◌<◌, ℕ, ℤ, List, [], ◌∷◌, Bool, true, false, Some, slice_get}
+use Rattle.std.specs.Prelude.{◌≡◌, ◌⊎◌, ◌<◌, ℕ, ℤ, List, [], ◌∷◌, Option, Some, option_map, slice_get, true}
 use Rattle.std.specs.List.{AllByRecursion}
 use Rattle.std.specs.Ordering.{nat_cmp, is_lt}
 use Rattle.std.specs.Cmp.Lexicographic.{slice_cmp}
 use Rattle.fv_datum.specs.Data.{Data, reference}
 use Rattle.fv_datum.specs.Lookup.{at_name}
-use Rattle.fv_builtin.specs.Says.{says}
-use Rattle.fv_registry.specs.Meanings.{Meanings}
-use Rattle.fv_declare.specs.Declarations.{FieldTest, built_in, by_rule, Demand, of_field, of_object, Occurrence, Declarations}
+use Rattle.fv_declare.specs.Declarations.{Placed, Declarations}
+use Rattle.fv_declare.specs.Uses.{Place, whole, field}
 use Rattle.fv_model.specs.Bundles.{Thing, Bundled}
 use Rattle.fv_model.specs.Types.{number_of}
+use Rattle.fv_occurrence.specs.Nodes.{Node}
+use Rattle.fv_occurrence.specs.Reports.{violated}
+use Rattle.fv_occurrence.specs.Says.{Subject, of_datum, of_object}
+use Rattle.fv_registry.specs.Meanings.{Meanings}
 
--- a reported constraint: the path of the value, the constraint's name, the number of the use, the message and the value
+-- a reported constraint: the path of the value, the constraint's name, its number over the whole declarations, the message and the value
 pub record Reported : Type 0 where
   pub path : List ℕ
   pub constraint : List ℕ
@@ -19,29 +22,46 @@ pub record Reported : Type 0 where
   pub message : List ℕ
   pub value : Data
 
--- whether a test holds of a datum at a moment
-abbrev pub holds : Meanings → ℤ → FieldTest → Data → Bool
-holds m now (built_in r) d = says r d now
-holds m now (by_rule rule attributes) d = m.decides rule d attributes
+-- what stands at a place of an object: the path there, what is judged, and the value that is told
+pub record Spot : Type 0 where
+  pub path : List ℕ
+  pub subject : Subject
+  pub value : Data
 
--- a demand isn't met by the object of that name at a moment, told by a path and a value: a field's name and its datum, of which the test
--- doesn't hold; or the empty path and a reference to the object, of which the rule doesn't hold
-abbrev pub IsUnmet : Meanings → ℤ → List ℕ → Thing → Demand → List ℕ → Data → Type 0
-IsUnmet m now name object (of_field field kind test) path value = (slice_get object.fields field ≡ Some (path, value)) × (holds m now test value ≡ false)
-IsUnmet m now name object (of_object rule attributes) path value = (path ≡ []) × (value ≡ reference name) × (m.decides_object rule object attributes ≡ false)
+-- a field by its name, with its datum
+abbrev pub field_spot : List ℕ × Data → Spot
+field_spot f = record { path = f.0; subject = of_datum f.1; value = f.1 }
 
--- v is a violation at a moment: the use of its number is of the root's type, and its demand isn't met there
+-- what stands at a place of the object of that name: the field of that number, if it is there, or the object itself, whose path is empty
+-- and which is told by its name
+abbrev pub spot_at : List ℕ → Thing → Place → Option Spot
+spot_at name object (field number kind) = option_map field_spot (slice_get object.fields number)
+spot_at name object whole = Some (record { path = []; subject = of_object object; value = reference name })
+
+-- the report of a constraint with its number, at what stands there
+abbrev pub report_at : Spot → ℕ × Node → Reported
+report_at s n = record { path = s.path; constraint = n.1.constraint; occurrence = n.0; message = n.1.message; value = s.value }
+
+-- x is one of the list
+abbrev pub IsListed : {X : Type 0} → List X → X → Type 0
+IsListed [] x = ⊥
+IsListed (y ∷ ys) x = (x ≡ y) ⊎ IsListed ys x
+
+-- v is a violation at a moment: it reports one of the constraints that the tree of a use at the root's type reports, with its number, of
+-- what stands at the use's place in the root
 pub record IsViolation (m : Meanings) (ds : Declarations) (now : ℤ) (b : Bundled) (v : Reported) : Type 0 where
-  pub used : Occurrence
+  pub used : Placed
   pub root : Thing
-  pub numbered : slice_get ds.occurrences v.occurrence ≡ Some used
+  pub spot : Spot
+  pub node : ℕ × Node
+  pub declared : IsListed ds.occurrences used
   pub rooted : at_name b.root b.objects ≡ Some root
   pub typed : number_of ds.types root.type_name ≡ Some used.type
-  pub refused : IsUnmet m now b.root root used.demand v.path v.value
-  pub named : v.constraint ≡ used.constraint
-  pub worded : v.message ≡ used.message
+  pub stands : spot_at b.root root used.place ≡ Some spot
+  pub violated : IsListed (violated m now spot.subject used.number used.tree) node
+  pub is : v ≡ report_at spot node
 
--- by the bytes of the path, then by the number of the use
+-- by the bytes of the path, then by the number of the constraint
 abbrev pub Precedes : Reported → Reported → Type 0
 Precedes v w = (is_lt (slice_cmp nat_cmp v.path w.path) ≡ true) ⊎ ((v.path ≡ w.path) × (v.occurrence < w.occurrence))
 
@@ -49,11 +69,6 @@ Precedes v w = (is_lt (slice_cmp nat_cmp v.path w.path) ≡ true) ⊎ ((v.path �
 abbrev pub IsAscending : List Reported → Type 0
 IsAscending [] = Unit {0}
 IsAscending (v ∷ vs) = AllByRecursion (Precedes v) vs × IsAscending vs
-
--- v is one of the list
-abbrev pub IsListed : List Reported → Reported → Type 0
-IsListed [] v = ⊥
-IsListed (w ∷ ws) v = (v ≡ w) ⊎ IsListed ws v
 
 -- all violations of a bundle at a moment, each once, in order
 pub record IsListing (m : Meanings) (ds : Declarations) (now : ℤ) (b : Bundled) (vs : List Reported) : Type 0 where

@@ -1,9 +1,10 @@
-//! Judging: the violations of a bundle's declared constraints at a moment.
+//! Judging: the violations of a bundle's declared constraints at a moment. Each is a constraint that
+//! the tree of a use reports.
 #![tactic(auto)]
 
 mod listing;
 mod rulebook;
-mod unmet;
+mod spot;
 mod uses;
 mod validate;
 mod violation;

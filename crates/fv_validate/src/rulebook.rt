@@ -28,10 +28,12 @@ impl<R: RuleSet> Model for Rulebook<R> {
     ghost use Rattle.fv_builtin.specs.Codes.{pattern_code};
     ghost use Rattle.fv_declare.specs.Declarations.{Declarations};
     ghost use Rattle.fv_declare.specs.Fits.{fits};
+    ghost use Rattle.fv_occurrence.specs.Codes.{tree_code};
+    ghost use Rattle.fv_occurrence.specs.Nodes.{Node};
 
     ghost Value = { Declarations };
 
-    ghost coded = { Prim.hlevel (codes, pattern_code) };
+    ghost coded = { Prim.hlevel (codes, tree_code {N = Node} (Prim.hlevel (codes, pattern_code))) };
 
     ghost view = { λ b. b.schema };
 

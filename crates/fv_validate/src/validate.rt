@@ -1,88 +1,115 @@
 //! The violations of a bundle.
-ghost use Rattle.std.specs.Prelude.{◌≡◌, ◌+◌, ◌≤◌, true, length, Some, IfOk, map, option_map};
-ghost use Rattle.std.specs.List.{All};
+ghost use Rattle.std.specs.Prelude.{◌≡◌, ◌+◌, ◌<◌, ◌≤◌, ◌++◌, true, OnOk, IfOk, map};
+ghost use Rattle.std.specs.List.{All, AllByRecursion};
 ghost use Rattle.fv_datum.specs.Moments.{IsMoment};
 ghost use Rattle.fv_datum.specs.Name.{names};
-ghost use Rattle.fv_declare.specs.Fits.{demand_fits, fits};
-ghost use Rattle.fv_declare.specs.OccurrenceView.{occurrence_view};
+ghost use Rattle.fv_declare.specs.Fits.{fits, placed_fits};
+ghost use Rattle.fv_declare.specs.PlacedView.{placed_view};
 ghost use Rattle.fv_model.specs.Views.{object_view, bundle_view};
 ghost use Rattle.fv_model.specs.WellTyped.{IsWellTyped};
-ghost use Rattle.fv_validate.specs.Judging.{spot_view, report_at, reported_by, reported_all, AreFound};
+ghost use Rattle.fv_occurrence.specs.Trees.{size};
+ghost use Rattle.fv_validate.specs.Judging.{report_numbered, reported_by, reported_all, AreFew, AreFound};
+ghost use Rattle.fv_validate.specs.SpotView.{spot_view, IsNamed};
 ghost use Rattle.fv_validate.specs.ViolationView.{violation_view};
 ghost use Rattle.fv_validate.specs.Violations.{IsListing};
 
 use crate::listing::sort;
-use crate::unmet::{Spot, refused};
+use crate::spot::{Spot, spot_at};
 use crate::uses::uses_of;
 use crate::violation::Violation;
-use fv_declare::{Occurrence, Schema};
+use fv_declare::{Placed, Schema};
 use fv_model::{Bundle, Object};
 use fv_registry::{RuleSet, Ruled};
 use std::alloc::{AllocError, Global};
 
+/// The violation of the constraint that has a number in a use's tree, at what stands there.
 fn violation_of(
     alloc: Global,
+    placed: &Placed,
     number: usize,
-    occurrence: &Occurrence,
     spot: Spot,
 ) -> Result<Violation, AllocError>
-    ensures { IfOk result (λ v. violation_view v ≡ report_at number (occurrence_view occurrence.now) (spot_view spot)) }
+    requires named { IsNamed spot }
+    requires there { number < size (placed_view placed.now).tree }
+    requires room { (placed_view placed.now).number + number ≤ 18446744073709551615 }
+    ensures { IfOk result (λ v. violation_view v ≡ report_numbered (spot_view spot.entry) (placed_view placed.now) number) }
 {
+    let Some(node) = placed.occurrence().node(number) else {
+        unreachable!()
+    };
     Ok(Violation {
-        path: spot.path,
-        constraint: String::from_str(alloc, occurrence.constraint())?,
-        occurrence: number,
-        message: String::from_str(alloc, occurrence.message())?,
-        value: spot.value,
+        path: String::from_str(alloc, spot.path())?,
+        constraint: String::from_str(alloc, node.constraint())?,
+        occurrence: placed.number() + number,
+        message: String::from_str(alloc, node.message())?,
+        value: spot.value(alloc)?,
     })
 }
 
-/// The violation of the use of that number, where the object of that name doesn't meet it.
-#[tactic(auto, unfolding(crate::specs::Judging::reported_by))]
-fn judged<R: RuleSet>(
+/// Adds the violations of the constraints that have these numbers in a use's tree.
+fn add_reports(
     alloc: Global,
+    violations: &mut Vec<Violation>,
+    placed: &Placed,
+    numbers: &[usize],
+    spot: Spot,
+) -> Result<(), AllocError>
+    requires named { IsNamed spot }
+    requires there { AllByRecursion (λ n. n < size (placed_view placed.now).tree) numbers.now }
+    requires room { (placed_view placed.now).number + size (placed_view placed.now).tree ≤ 1024 }
+    ensures { OnOk result (map violation_view violations.new.items ≡ map violation_view violations.old.items
+        ++ map (report_numbered (spot_view spot.entry) (placed_view placed.now)) numbers.now) }
+{
+    for number in numbers {
+        violations.push(violation_of(alloc, placed, *number, spot)?)?;
+    }
+    Ok(())
+}
+
+/// Adds what a use reports of the object of that name.
+#[tactic(auto, unfolding(crate::specs::Judging::reported_by))]
+fn add_violations<R: RuleSet>(
+    alloc: Global,
+    violations: &mut Vec<Violation>,
     rules: &Ruled<R>,
-    number: usize,
-    occurrence: &Occurrence,
+    placed: &Placed,
     name: &str,
     object: &Object,
     now: i64,
-) -> Result<Option<Violation>, AllocError>
+) -> Result<(), AllocError>
     requires moment { IsMoment now }
     requires named { names name.now ≡ true }
-    requires fits { demand_fits (R.known rules.now.rules) (occurrence_view occurrence.now).demand ≡ true }
-    ensures { IfOk result (λ o. option_map violation_view o
-        ≡ reported_by R.meaning now name.now (object_view object.now) number (occurrence_view occurrence.now)) }
+    requires fits { placed_fits (R.known rules.now.rules) (placed_view placed.now) ≡ true }
+    requires room { (placed_view placed.now).number + size (placed_view placed.now).tree ≤ 1024 }
+    ensures { OnOk result (map violation_view violations.new.items ≡ map violation_view violations.old.items
+        ++ reported_by R.meaning now name.now (object_view object.now) (placed_view placed.now)) }
 {
-    match refused(alloc, rules, occurrence.demand(), name, object, now)? {
-        None => Ok(None),
-        Some(spot) => Ok(Some(violation_of(alloc, number, occurrence, spot)?)),
-    }
+    let Some(spot) = spot_at(placed.place(), name, object) else {
+        return Ok(());
+    };
+    let numbers = spot.reported(alloc, rules, placed.occurrence(), now)?;
+    add_reports(alloc, violations, placed, &numbers, spot)
 }
 
-/// The violations of these uses in the object of that name, in the order of the uses, of which the
-/// first has that number.
+/// The violations of these uses in the object of that name, in the order of the uses.
 fn violations_in<R: RuleSet>(
     alloc: Global,
     rules: &Ruled<R>,
-    first: usize,
-    uses: &[Occurrence],
+    uses: &[Placed],
     name: &str,
     object: &Object,
     now: i64,
 ) -> Result<Vec<Violation>, AllocError>
     requires moment { IsMoment now }
     requires named { names name.now ≡ true }
-    requires numbered { first + length uses.now ≤ 18446744073709551615 }
-    requires fits { All (λ o. demand_fits (R.known rules.now.rules) (occurrence_view o).demand ≡ true) uses.now }
+    requires few { AreFew (map placed_view uses.now) }
+    requires fits { All (λ o. placed_fits (R.known rules.now.rules) (placed_view o) ≡ true) uses.now }
     ensures { IfOk result (λ v. map violation_view v.items
-        ≡ reported_all R.meaning now name.now (object_view object.now) first 0 (map occurrence_view uses.now)) }
+        ≡ reported_all R.meaning now name.now (object_view object.now) (map placed_view uses.now)) }
 {
     let mut violations = Vec::new(alloc);
-    for (i, occurrence) in uses.iter().enumerate() {
-        if let Some(violation) = judged(alloc, rules, first + i, occurrence, name, object, now)? {
-            violations.push(violation)?;
-        }
+    for placed in uses {
+        add_violations(alloc, &mut violations, rules, placed, name, object, now)?;
     }
     Ok(violations)
 }
@@ -108,12 +135,12 @@ fn violations_of<R: RuleSet>(
     let Some(type_id) = schema.types().find(root.type_name()) else {
         return Ok(Vec::new(alloc));
     };
-    let (first, uses) = uses_of(schema.occurrences(), type_id);
-    violations_in(alloc, rules, first, uses, name, root, now)
+    let uses = uses_of(schema.occurrences(), type_id);
+    violations_in(alloc, rules, uses, name, root, now)
 }
 
 /// The violations of a bundle at a moment, each once, ascending by the bytes of the path, then by the
-/// number of the use.
+/// number of the constraint.
 pub(crate) fn validate<R: RuleSet>(
     alloc: Global,
     rules: &Ruled<R>,

@@ -7,7 +7,7 @@ pub struct Violation {
     pub path: String,
     /// The constraint's name.
     pub constraint: String,
-    /// The number of the use over the whole declarations.
+    /// The number of the constraint over the whole declarations.
     pub occurrence: usize,
     pub message: String,
     /// The datum that was refused, or the name of the object that was.

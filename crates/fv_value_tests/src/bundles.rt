@@ -15,13 +15,13 @@ fn shown(alloc: Global, bundle: &Bundle) -> Result<String, Fail> {
     for (name, object) in bundle.objects().iter() {
         let type_name = object.type_name();
         text.push_str(format!(in alloc; "; {name} {type_name}")?.as_str())?;
-        for field in object.fields() {
-            text.push_str(if matches!(field.datum(), Datum::Null) {
+        for (name, datum) in object.fields() {
+            text.push_str(if matches!(datum, Datum::Null) {
                 " 0"
             } else {
                 " "
             })?;
-            text.push_str(field.name())?;
+            text.push_str(name)?;
         }
     }
     text.push_str(" => ")?;

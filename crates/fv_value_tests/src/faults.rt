@@ -44,7 +44,8 @@ fn faults_of_types_have_texts(rt: HostRuntime) -> Result<(), Fail> {
         rt.alloc(),
         &TypesFault::TooLarge,
         "too many types or fields",
-    )
+    )?;
+    check_text(&rt, rt.alloc(), &TypesFault::Memory, "out of memory")
 }
 
 #[test]
@@ -117,7 +118,14 @@ fn faults_of_declarations_have_texts(rt: HostRuntime) -> Result<(), Fail> {
             DeclFault::UnknownName,
             "a type or constraint that isn't declared",
         ),
-        (DeclFault::EmptyConstraint, "a constraint without a rule"),
+        (
+            DeclFault::CyclicComposition,
+            "a constraint that is composed of itself",
+        ),
+        (
+            DeclFault::EmptyConstraint,
+            "a constraint with neither a rule nor a composing constraint",
+        ),
         (DeclFault::TooLarge, "too large"),
         (DeclFault::UnknownRule, "a rule that isn't registered"),
         (

@@ -115,5 +115,5 @@ fn declared(alloc: Global, table: &str) -> Result<IndexMap<String, Fields>, Fail
 
 /// The same, built.
 pub(crate) fn built(alloc: Global, table: &str) -> Result<Types, Fail> {
-    Ok(Types::build(declared(alloc, table)?)?)
+    Ok(Types::build(alloc, declared(alloc, table)?)?)
 }

@@ -76,7 +76,7 @@ fn fault_of(alloc: Global, given: &str) -> Result<String, Fail> {
     let (count, rest) = given.split_once(' ').ok_or("fields")?;
     let (fields, last) = rest.split_once(' ').ok_or("a last one")?;
     let declared = with_wide(alloc, count.parse::<u32>()?, fields.parse::<u32>()?, last)?;
-    match Types::build(declared) {
+    match Types::build(alloc, declared) {
         Ok(_) => Ok(String::from_str(alloc, "-")?),
         Err(fault) => Ok(String::from_str(alloc, fault.name())?),
     }

@@ -1,13 +1,7 @@
-use Rattle.std.proofs.lemmas.Result.{IfOk-weaker}
-use Rattle.serde_json.specs.View.{view as json_view}
 use Rattle.fv_datum.specs.Parsing.{json_of}
-use Rattle.fv_draft.specs.Drafts.{draft_of}
-use Rattle.fv_declare.proofs.Fits.{judged_fit}
+use Rattle.serde_json.specs.View.{view as json_view}
 use Rattle.fv_declare.proofs.Steps.{ok_found}
 use Rattle.fv_declare.proofs.reading.read_schema.Goals as goal
 
 pub returns-clause-refused : goal.returns-clause-refused
 returns-clause-refused g c = rw (ok_found (json_of c.args.bytes.now) (json_view c.in_ok-value.value) c.in_ok-value.ensures) c.schema_of.ensures.refused
-
-pub returns-clause-fits : goal.returns-clause-fits
-returns-clause-fits g c = IfOk-weaker c.schema_of.result _ _ (λ s. judged_fit (g.R.RuleSet.known c.args.rules.now) (draft_of (json_view c.in_ok-value.value)) s) c.schema_of.ensures.taken

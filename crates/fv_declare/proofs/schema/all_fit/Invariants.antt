@@ -1,10 +1,10 @@
 use Rattle.std.proofs.Common.{◌≡◌, map, drop}
 use Rattle.std.specs.List.{list_all}
-use Rattle.fv_declare.specs.Fits.{demand_fits}
-use Rattle.fv_declare.specs.OccurrenceView.{occurrence_view}
+use Rattle.fv_declare.specs.Fits.{placed_fits}
+use Rattle.fv_declare.specs.PlacedView.{placed_view}
 use Rattle.fv_declare.proofs.schema.all_fit.Given as goal
 
-abbrev pub invariant-loop-occurrence : goal.invariant-loop-occurrence
-invariant-loop-occurrence g l =
-    list_all (λ u. demand_fits (g.R.RuleSet.known l.rules) u.demand) (map occurrence_view (drop l.occurrence-index l.occurrences))
-    ≡ list_all (λ u. demand_fits (g.R.RuleSet.known l.rules) u.demand) (map occurrence_view l.occurrences)
+abbrev pub invariant-loop-placed : goal.invariant-loop-placed
+invariant-loop-placed g l =
+    list_all (placed_fits (g.R.RuleSet.known l.rules)) (map placed_view (drop l.placed-index l.occurrences))
+    ≡ list_all (placed_fits (g.R.RuleSet.known l.rules)) (map placed_view l.occurrences)

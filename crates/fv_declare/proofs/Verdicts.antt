@@ -1,0 +1,72 @@
+-- The answers to declarations in which no constraint is composed of itself, by what flattening answers.
+use Rattle.std.proofs.Common.{◌≡◌, List, [], ◌∷◌, zip, Bool, true, false, Ok, Err, refl, ap}
+use Rattle.std.specs.List.{AllZip}
+use Rattle.fv_constraint.specs.Composed.{Planned}
+use Rattle.fv_datum.specs.Outcomes.{first}
+use Rattle.fv_draft.specs.Drafts.{Drafted}
+use Rattle.fv_flatten.specs.Flattening as flat
+use Rattle.fv_flatten.specs.Read.{IsReadTree}
+use Rattle.fv_flatten.specs.declared.fault.FlattenFault.{FlattenFault}
+use Rattle.fv_flatten.specs.declared.fault.FlattenFault.TheVariants as fault
+use Rattle.fv_occurrence.specs.Nodes.{Node}
+use Rattle.fv_occurrence.specs.Trees.{Tree}
+use Rattle.fv_registry.specs.Rules.{Known}
+use Rattle.fv_declare.specs.Declarations.{Declarations}
+use Rattle.fv_declare.specs.Declares.{used_in, too_large, tree_conditions, IsDeclared, IsBuilt, IsDecided}
+use Rattle.fv_declare.specs.FaultNames.{flatten_fault}
+use Rattle.fv_declare.specs.declared.fault.DeclFault.TheVariants.{EmptyConstraint, TooLarge, UnknownRule, Attribute, UnexpectedType}
+
+module _ (d : Drafted) (ts : List (Tree Planned)) where
+  unbuilt : (f : FlattenFault) → flat.AreRead (used_in d) ts (Err f) → IsBuilt d ts (Err (flatten_fault f))
+  unbuilt fault.CyclicComposition is = absurd is
+  unbuilt fault.EmptyConstraint is = absurd is
+  unbuilt fault.TooLarge is = absurd is
+  unbuilt fault.UnknownRule is = absurd is
+  unbuilt fault.Attribute is = absurd is
+  unbuilt fault.UnexpectedType is = absurd is
+  unbuilt fault.BadPattern is = is
+  unbuilt fault.Memory is = absurd is
+
+  told : (a b c : Bool) (f : FlattenFault) → flat.IsDecided (first ((a, fault.UnknownRule) ∷ (b, fault.Attribute) ∷ (c, fault.UnexpectedType) ∷ [])) (used_in d) ts (Err f)
+      → IsDecided (first ((a, UnknownRule) ∷ (b, Attribute) ∷ (c, UnexpectedType) ∷ [])) d ts (Err (flatten_fault f))
+  told true b c f is = let same : f ≡ fault.UnknownRule = cc in ap (λ g. Err (flatten_fault g)) same
+  told false true c f is = let same : f ≡ fault.Attribute = cc in ap (λ g. Err (flatten_fault g)) same
+  told false false true f is = let same : f ≡ fault.UnexpectedType = cc in ap (λ g. Err (flatten_fault g)) same
+  told false false false f is = unbuilt f is
+
+  -- what flattening refuses is refused, where no constraint is empty and no limit is passed
+  pub refused : (k : Known) (f : FlattenFault) → flat.is_empty_in d.definitions ≡ false → too_large d ts ≡ false
+      → flat.IsDecided (first (flat.tree_conditions k d.definitions (used_in d) ts)) (used_in d) ts (Err f) → IsDecided (first (tree_conditions k d ts)) d ts (Err (flatten_fault f))
+  refused k f empty large is = rw (empty, large) (told _ _ _ f is)
+
+  read_if : (a b c : Bool) (os : List (Tree Node)) → flat.IsDecided (first ((a, fault.UnknownRule) ∷ (b, fault.Attribute) ∷ (c, fault.UnexpectedType) ∷ [])) (used_in d) ts (Ok os)
+      → AllZip (λ u o. IsReadTree u.0.place u.1 o) (zip (used_in d) ts) os
+  read_if true b c os is = cc
+  read_if false true c os is = cc
+  read_if false false true os is = cc
+  read_if false false false os is = is
+
+  -- what is flattened is read
+  pub read : (k : Known) (os : List (Tree Node)) → flat.IsDecided (first (flat.tree_conditions k d.definitions (used_in d) ts)) (used_in d) ts (Ok os)
+      → AllZip (λ u o. IsReadTree u.0.place u.1 o) (zip (used_in d) ts) os
+  read k os is = read_if _ _ _ os is
+
+  taken_if : (a b c : Bool) (os : List (Tree Node)) (ds : Declarations) → flat.IsDecided (first ((a, fault.UnknownRule) ∷ (b, fault.Attribute) ∷ (c, fault.UnexpectedType) ∷ [])) (used_in d) ts (Ok os)
+      → IsDeclared d ts ds → IsDecided (first ((a, UnknownRule) ∷ (b, Attribute) ∷ (c, UnexpectedType) ∷ [])) d ts (Ok ds)
+  taken_if true b c os ds is declared = cc
+  taken_if false true c os ds is declared = cc
+  taken_if false false true os ds is declared = cc
+  taken_if false false false os ds is declared = declared
+
+  -- and is taken, where no constraint is empty and no limit is passed
+  pub taken : (k : Known) (os : List (Tree Node)) (ds : Declarations) → flat.is_empty_in d.definitions ≡ false → too_large d ts ≡ false
+      → flat.IsDecided (first (flat.tree_conditions k d.definitions (used_in d) ts)) (used_in d) ts (Ok os) → IsDeclared d ts ds → IsDecided (first (tree_conditions k d ts)) d ts (Ok ds)
+  taken k os ds empty large is declared = rw (empty, large) (taken_if _ _ _ os ds is declared)
+
+  -- an empty constraint is told
+  pub empty : (k : Known) → flat.is_empty_in d.definitions ≡ true → IsDecided (first (tree_conditions k d ts)) d ts (Err EmptyConstraint)
+  empty k is = rw is refl
+
+  -- and then a limit that is passed
+  pub large : (k : Known) → flat.is_empty_in d.definitions ≡ false → too_large d ts ≡ true → IsDecided (first (tree_conditions k d ts)) d ts (Err TooLarge)
+  large k none is = rw (none, is) refl

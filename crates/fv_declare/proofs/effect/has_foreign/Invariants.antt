@@ -1,8 +1,0 @@
-use Rattle.std.proofs.Common.{◌≡◌, map}
-use Rattle.fv_datum.specs.Attributes.{entry_view}
-use Rattle.fv_draft.specs.DraftViews.{attribute_entry}
-use Rattle.fv_declare.specs.Planned.{has_foreign}
-use Rattle.fv_declare.proofs.effect.has_foreign.Given as goal
-
-abbrev pub invariant-loop-name : goal.invariant-loop-name
-invariant-loop-name l = has_foreign (map attribute_entry l.attributes.entries) (map entry_view l.name-iterator) ≡ has_foreign (map attribute_entry l.attributes.entries) l.given

@@ -1,7 +1,0 @@
-use Rattle.std.proofs.Common.{◌∙◌}
-use Rattle.fv_model.specs.Types.{fields_view}
-use Rattle.fv_declare.proofs.Lookups.{has_name}
-use Rattle.fv_declare.proofs.faults.is_declared.Goals as goal
-
-pub returns : goal.returns
-returns c = c.contains_key.ensures ∙ has_name fields_view c.args.name.now c.args.declared.now.entries

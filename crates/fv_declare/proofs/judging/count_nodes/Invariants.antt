@@ -1,0 +1,16 @@
+use Rattle.std.proofs.Common.{◌≡◌, List, map, min, not, is_some, false, take, drop}
+use Rattle.std.specs.List.{list_any}
+use Rattle.fv_constraint.specs.Composed.{Planned}
+use Rattle.fv_constraint.specs.Definitions.{meant_by}
+use Rattle.fv_flatten.specs.Flattening.{AreTreesOfUses}
+use Rattle.fv_occurrence.specs.Trees.{Tree}
+use Rattle.fv_declare.specs.Declarations.{count_nodes}
+use Rattle.fv_declare.specs.Uses.{used}
+use Rattle.fv_declare.specs.UseViews.{use_view}
+use Rattle.fv_declare.proofs.judging.count_nodes.Given as goal
+
+abbrev pub invariant-loop-given : goal.invariant-loop-given
+invariant-loop-given l = record {
+  counted : (ts : List (Tree Planned)) × AreTreesOfUses l.composition (map used (map use_view (take l.given-index l.uses))) ts × (l.count ≡ min 1025 (count_nodes ts));
+  known : list_any (λ u. not (is_some (meant_by l.composition u.constraint))) (map use_view (drop l.given-index l.uses)) ≡ false;
+}

@@ -1,0 +1,14 @@
+-- The uses at their places that contracts see.
+use Rattle.fv_declare.specs.Uses as spec
+use Rattle.fv_declare.specs.declared.uses.Place.{Place}
+use Rattle.fv_declare.specs.declared.uses.Place.TheVariants as place
+use Rattle.fv_declare.specs.declared.uses.Use.{Use}
+
+-- where a use stands
+abbrev pub place_view : Place → spec.Place
+place_view place.Whole = spec.whole
+place_view (place.Field number kind) = spec.field number kind
+
+-- a use at its place
+abbrev pub use_view : Use → spec.Use
+use_view u = record { type = u.type_index; place = place_view u.place; constraint = u.constraint.now; given = u.given.now }

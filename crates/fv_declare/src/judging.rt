@@ -1,0 +1,118 @@
+//! Declarations whose names are known: the trees that their uses are composed to, and the schema, or
+//! the first fault.
+ghost use Rattle.std.specs.Prelude.{◌≡◌, ◌≢◌, ◌||◌, List, nat_lt, None, Ok, Err, IfOk, IfErr, map, min, is_some, not, true, false, option_map};
+ghost use Rattle.std.specs.List.{list_any};
+ghost use Rattle.fv_constraint.specs.Composed.{Planned, IsCyclic};
+ghost use Rattle.fv_constraint.specs.Definitions.{meant_by};
+ghost use Rattle.fv_datum.specs.Outcomes.{first};
+ghost use Rattle.fv_draft.specs.DraftViews.{draft_view};
+ghost use Rattle.fv_flatten.specs.Flattening.{AreTreesOfUses};
+ghost use Rattle.fv_flatten.specs.UseViews.{use_view as flat_use_view};
+ghost use Rattle.fv_model.specs.Views.{types_view};
+ghost use Rattle.fv_occurrence.specs.Trees.{Tree};
+ghost use Rattle.fv_declare.specs.Declarations.{count_nodes};
+ghost use Rattle.fv_declare.specs.Declares.{types_declared, name_conditions, has_many, IsFlattened, IsComposed};
+ghost use Rattle.fv_declare.specs.Fits.{fits};
+ghost use Rattle.fv_declare.specs.Judging.{unless_many};
+ghost use Rattle.fv_declare.specs.Uses.{used, uses_in};
+ghost use Rattle.fv_declare.specs.UseViews.{use_view};
+
+use crate::build::build;
+use crate::fault::DeclFault;
+use crate::schema::Schema;
+use crate::uses::{Use, used_in};
+use fv_constraint::Composition;
+use fv_draft::Draft;
+use fv_flatten::{flatten_all, has_empty, trees_are_unique};
+use fv_model::Types;
+use fv_registry::RuleSet;
+use std::alloc::Global;
+
+/// The most forms and declared constraints, of each.
+const MOST_DECLARED: usize = 256;
+
+/// The most nodes of all trees.
+const MOST_NODES: usize = 1024;
+
+/// Too many forms or declared constraints.
+fn has_many(draft: &Draft) -> bool
+    ensures { result ≡ has_many (draft_view draft.now) }
+{
+    draft.forms.len() > MOST_DECLARED || draft.definitions.len() > MOST_DECLARED
+}
+
+/// Too many forms or declared constraints, or nodes of all trees.
+fn is_large(draft: &Draft, nodes: usize) -> bool
+    ensures { result ≡ (has_many (draft_view draft.now) || nat_lt 1024 nodes) }
+{
+    has_many(draft) || nodes > MOST_NODES
+}
+
+/// How many nodes the trees of the uses have, but no more than 1,025. No tree is made.
+fn count_nodes(composition: &Composition, uses: &[Use]) -> usize
+    requires { list_any (λ u. not (is_some (meant_by composition.now u.constraint))) (map use_view uses.now) ≡ false }
+    ensures { (ts : List (Tree Planned)) × AreTreesOfUses composition.now (map used (map use_view uses.now)) ts
+        × (result ≡ min 1025 (count_nodes ts)) }
+{
+    let mut count = 0;
+    for given in uses {
+        count = (count + composition.size_of(given.constraint)).min(MOST_NODES + 1);
+    }
+    count
+}
+
+/// The schema of declarations in which no constraint is composed of itself, or their first fault.
+/// `types` are the draft's, `None` where there are too many.
+fn flattened<'a, R: RuleSet>(
+    alloc: Global,
+    rules: &R,
+    draft: &Draft,
+    uses: &[Use<'a>],
+    types: Option<Types>,
+    composition: &Composition<'a>,
+) -> Result<Schema, DeclFault>
+    requires named { first (name_conditions (draft_view draft.now)) ≡ None }
+    requires types { option_map types_view types ≡ unless_many (types_declared (draft_view draft.now)) }
+    requires uses { map use_view uses.now ≡ uses_in (draft_view draft.now).types }
+    requires composed { composition.now ≡ (draft_view draft.now).definitions }
+    ensures taken { IfOk result (λ s. IsFlattened (R.known rules.now) (draft_view draft.now) (Ok s)) }
+    ensures fits { IfOk result (λ s. fits (R.known rules.now) s ≡ true) }
+    ensures refused { IfErr result (λ f. f ≢ DeclFault.Memory → IsFlattened (R.known rules.now) (draft_view draft.now) (Err f)) }
+{
+    trees_are_unique();
+    let nodes = count_nodes(composition, uses);
+    if has_empty(&draft.definitions) {
+        return Err(DeclFault::EmptyConstraint);
+    }
+    let Some(types) = types else {
+        return Err(DeclFault::TooLarge);
+    };
+    if is_large(draft, nodes) {
+        return Err(DeclFault::TooLarge);
+    }
+    let used = used_in(alloc, uses)?;
+    let trees = flatten_all(alloc, rules, composition, &used)?;
+    build(alloc, draft, types, uses, trees)
+}
+
+/// The schema of declarations whose names are known, or their first fault. `types` are the draft's,
+/// `None` where there are too many.
+pub(crate) fn composed<'a, R: RuleSet>(
+    alloc: Global,
+    rules: &R,
+    draft: &'a Draft<'a>,
+    uses: &[Use<'a>],
+    types: Option<Types>,
+) -> Result<Schema, DeclFault>
+    requires named { first (name_conditions (draft_view draft.now)) ≡ None }
+    requires types { option_map types_view types ≡ unless_many (types_declared (draft_view draft.now)) }
+    requires uses { map use_view uses.now ≡ uses_in (draft_view draft.now).types }
+    ensures taken { IfOk result (λ s. IsComposed (R.known rules.now) (draft_view draft.now) (Ok s)) }
+    ensures fits { IfOk result (λ s. fits (R.known rules.now) s ≡ true) }
+    ensures refused { IfErr result (λ f. f ≢ DeclFault.Memory → IsComposed (R.known rules.now) (draft_view draft.now) (Err f)) }
+{
+    match Composition::new(alloc, &draft.definitions)? {
+        None => Err(DeclFault::CyclicComposition),
+        Some(composition) => flattened(alloc, rules, draft, uses, types, &composition),
+    }
+}

@@ -1,0 +1,47 @@
+ghost use Rattle.std.specs.Prelude.{◌≡◌};
+ghost use Rattle.fv_declare.specs.PlacedView.{placed_view};
+ghost use Rattle.fv_declare.specs.UseViews.{place_view};
+
+use crate::uses::Place;
+use fv_model::TypeId;
+use fv_occurrence::Occurrence;
+
+/// A use of a constraint where it stands: at a field of a type, or at the type itself.
+#[derive(Drop)]
+pub struct Placed {
+    pub(crate) type_id: TypeId,
+    pub(crate) place: Place,
+    pub(crate) number: usize,
+    pub(crate) occurrence: Occurrence,
+}
+
+impl Placed {
+    /// The type.
+    pub fn type_id(&self) -> TypeId
+        ensures { result.index ≡ (placed_view self.now).type }
+    {
+        self.type_id
+    }
+
+    /// The place in the type.
+    pub fn place(&self) -> Place
+        ensures { place_view result ≡ (placed_view self.now).place }
+    {
+        self.place
+    }
+
+    /// The number of the constraint over the whole declarations. Those that it is composed of have
+    /// the numbers behind it, in preorder.
+    pub fn number(&self) -> usize
+        ensures { result ≡ (placed_view self.now).number }
+    {
+        self.number
+    }
+
+    /// The constraint and those that it is composed of.
+    pub fn occurrence(&self) -> &Occurrence
+        ensures { result.now ≡ (placed_view self.now).tree }
+    {
+        &self.occurrence
+    }
+}

@@ -1,0 +1,82 @@
+-- What the constraints of a tree are read as at a place: constraints with their attributes in effect, their tests and their messages.
+use Rattle.std.specs.Prelude.{◌≡◌, ℕ, List, ◌++◌, Bool, false, Option, Some, None, slice_get, Result, Ok, codes}
+use Rattle.fv_builtin.specs.BuiltIns.{BuiltIn}
+use Rattle.fv_builtin.specs.Given.{drafted, IsRead}
+use Rattle.fv_builtin.specs.Interpolation.{message_with}
+use Rattle.fv_builtin.specs.Table.{takes}
+use Rattle.fv_builtin.specs.declared.fault.BuiltinFault.{BuiltinFault}
+use Rattle.fv_builtin.specs.declared.name.BuiltinName.{BuiltinName}
+use Rattle.fv_datum.specs.Attributes.{Attributes}
+use Rattle.fv_datum.specs.declared.kind.Kind.{Kind}
+use Rattle.fv_registry.specs.Rules.{Known}
+use Rattle.fv_constraint.specs.Composed.{Planned}
+use Rattle.fv_constraint.specs.Definitions.{Rule, of_data, of_objects, Meant, builtin, declared}
+use Rattle.fv_flatten.specs.Refusals.{Place, on_data, in_effect, refuses_given, refuses_place}
+use Rattle.fv_occurrence.specs.Nodes.{Test, built_in, by_rule, by_object_rule, nothing, Node}
+use Rattle.fv_occurrence.specs.Trees.{Tree, tree, Trees, none, more}
+
+-- a built-in's message has its attributes in effect put in; that of a declared constraint is a parameter named after it
+abbrev pub worded : Meant → List ℕ → Attributes → List ℕ
+worded (builtin which) name given = message_with which given
+worded (declared d) name given = codes "{" ++ (name ++ codes ".message}")
+
+-- a constraint reports as one: only a declared one can
+abbrev pub is_single : Meant → Bool
+is_single (builtin which) = false
+is_single (declared d) = d.single
+
+-- what a declared constraint asks itself, by its rule
+abbrev pub asked : Option Rule → Test
+asked None = nothing
+asked (Some (of_data rule)) = by_rule rule
+asked (Some (of_objects rule)) = by_object_rule rule
+
+-- what a constraint asks at a place, with the attributes that are given: its attributes in effect, and its own test. A built-in puts in its own
+-- defaults itself
+abbrev pub Asks : Meant → Place → Attributes → Attributes → Test → Type 0
+Asks (builtin which) (on_data kind) given attributes test =
+    (attributes ≡ given) × ((b : BuiltIn) × (test ≡ built_in b) × IsRead (drafted which given) (takes which kind) (Ok b))
+Asks (declared d) place given attributes test = (in_effect d.attributes given ≡ Some attributes) × (test ≡ asked d.rule)
+Asks _ _ given attributes test = ⊥
+
+-- a planned constraint is read as a constraint at a place
+pub record IsNode (place : Place) (p : Planned) (n : Node) : Type 0 where
+  pub constraint : n.constraint ≡ p.constraint
+  pub asks : Asks p.meant place p.given n.attributes n.test
+  pub single : n.single ≡ is_single p.meant
+  pub message : n.message ≡ worded p.meant p.constraint p.given
+
+-- an entry of a planned tree's preorder is read as an entry of a tree's: its constraint at the place, with as many below it
+abbrev pub IsEntry : Place → Planned × ℕ → Node × ℕ → Type 0
+IsEntry place e f = IsNode place e.0 f.0 × (f.1 ≡ e.1)
+
+abbrev mutual
+  -- a planned tree is read as a tree of the same shape, each of its constraints at the place
+  pub IsReadTree : Place → Tree Planned → Tree Node → Type 0
+  IsReadTree place (tree p below) (tree n others) = IsNode place p n × AreReadTrees place below others
+
+  -- the same of trees, one after another
+  pub AreReadTrees : Place → Trees Planned → Trees Node → Type 0
+  AreReadTrees place none none = Unit {0}
+  AreReadTrees place (more t ts) (more u us) = IsReadTree place t u × AreReadTrees place ts us
+  AreReadTrees place _ _ = ⊥
+
+-- the answer is what the built-in that a planned constraint stands for makes of its attributes, at data of a kind
+pub record IsReadAs (place : Place) (p : Planned) (answer : Result BuiltIn BuiltinFault) : Type 0 where
+  pub which : BuiltinName
+  pub kind : Kind
+  pub named : p.meant ≡ builtin which
+  pub placed : place ≡ on_data kind
+  pub read : IsRead (drafted which p.given) (takes which kind) answer
+
+-- one of the planned constraints is read as that answer
+abbrev pub OneIsReadAs : Place → List Planned → Result BuiltIn BuiltinFault → Type 0
+OneIsReadAs place ps answer = (number : ℕ) × (p : Planned) × (slice_get ps number ≡ Some p) × IsReadAs place p answer
+
+-- a planned constraint refuses its attributes
+abbrev pub refuses_its_given : Planned → Bool
+refuses_its_given p = refuses_given p.meant p.given
+
+-- a planned constraint's own test isn't on the place
+abbrev pub refuses_at : Known → Place → Planned → Bool
+refuses_at k place p = refuses_place k p.meant place

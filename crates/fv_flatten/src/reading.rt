@@ -1,0 +1,208 @@
+//! Planned trees as they are used: each constraint read at its place.
+ghost use Rattle.std.specs.Prelude.{◌≡◌, ◌≢◌, false, true, Err, IfOk, IfErr, map, is_some, option_map, string_bytes};
+ghost use Rattle.std.specs.List.{AllZip, list_any};
+ghost use Rattle.fv_builtin.specs.Given.{drafted};
+ghost use Rattle.fv_builtin.specs.declared.fault.BuiltinFault.TheVariants as fault;
+ghost use Rattle.fv_registry.specs.Rules.{Known};
+ghost use Rattle.fv_constraint.specs.Composed as spec;
+ghost use Rattle.fv_constraint.specs.Definitions.{builtin, declared};
+ghost use Rattle.fv_constraint.specs.DefinitionViews.{definition_view, meant_view, rule_view};
+ghost use Rattle.fv_flatten.specs.PlaceViews.{place_view};
+ghost use Rattle.fv_constraint.specs.PlannedViews.{planned_view, planned_entry};
+ghost use Rattle.fv_flatten.specs.Read.{worded, is_single, asked, Asks, IsEntry, IsReadTree, IsReadAs, OneIsReadAs, refuses_its_given, refuses_at};
+ghost use Rattle.fv_flatten.specs.Refusals.{in_effect, refuses_place};
+ghost use Rattle.fv_occurrence.specs.Preorder.{preorder, IsPreorder};
+ghost use Rattle.fv_occurrence.specs.Trees.{Tree};
+ghost use Rattle.fv_occurrence.specs.Views.{test_view, entry_view};
+
+use crate::effect::in_effect;
+use crate::fault::FlattenFault;
+use crate::place::Place;
+use fv_builtin::{Builtin, BuiltinFault, BuiltinName, Patterns, message};
+use fv_constraint::{Definition, Meant, Planned, Rule, copy_entries};
+use fv_datum::Attrs;
+use fv_graph::Spot;
+use fv_occurrence::{Node, Occurrence, Test};
+use std::alloc::{AllocError, Global};
+
+/// A constraint's attributes in effect, and what it asks itself.
+#[derive(Drop)]
+struct Demand {
+    attributes: Attrs,
+    test: Test,
+}
+
+/// What a built-in constraint asks at a place, its pattern built.
+fn builtin_demand(
+    alloc: Global,
+    patterns: &mut Patterns,
+    which: BuiltinName,
+    given: &Attrs,
+    place: Place,
+) -> Result<Demand, FlattenFault>
+    requires attributes { is_some (drafted which given.now) ≡ true }
+    requires place { (k : Known) × (refuses_place k (builtin which) (place_view place) ≡ false) }
+    ensures taken { IfOk result (λ a. Asks (builtin which) (place_view place) given.now a.attributes (test_view a.test)) }
+    ensures refused { IfErr result (λ f. f ≢ FlattenFault.Memory → (f ≡ FlattenFault.BadPattern)
+        × ((p : spec.Planned) → p.meant ≡ builtin which → p.given ≡ given.now → IsReadAs (place_view place) p (Err fault.BadPattern))) }
+{
+    let Place::Data(kind) = place else {
+        unreachable!()
+    };
+    match Builtin::read_named(alloc, patterns, which, given, kind) {
+        Ok(builtin) => Ok(Demand {
+            attributes: Attrs::new(copy_entries(alloc, given.entries())?),
+            test: Test::BuiltIn(builtin),
+        }),
+        Err(BuiltinFault::Attribute) => unreachable!(),
+        Err(BuiltinFault::UnexpectedType) => unreachable!(),
+        Err(BuiltinFault::BadPattern) => Err(FlattenFault::BadPattern),
+        Err(BuiltinFault::Memory) => Err(FlattenFault::Memory),
+    }
+}
+
+/// What a declared constraint asks itself, by its rule.
+fn asked(rule: Option<Rule>) -> Test
+    ensures { test_view result ≡ asked (option_map rule_view rule) }
+{
+    match rule {
+        None => Test::Nothing,
+        Some(Rule::Data(number)) => Test::Rule(number),
+        Some(Rule::Objects(number)) => Test::ObjectRule(number),
+    }
+}
+
+/// What a declared constraint asks at a place.
+fn declared_demand(
+    alloc: Global,
+    definition: &Definition,
+    given: &Attrs,
+    place: Place,
+) -> Result<Demand, AllocError>
+    requires { is_some (in_effect (definition_view definition.now).attributes given.now) ≡ true }
+    ensures { IfOk result (λ a. Asks (declared (definition_view definition.now)) (place_view place) given.now
+        a.attributes (test_view a.test)) }
+{
+    let Some(attributes) = in_effect(alloc, &definition.attributes, given)? else {
+        unreachable!()
+    };
+    Ok(Demand {
+        attributes,
+        test: asked(definition.rule),
+    })
+}
+
+/// What a planned constraint asks at a place, its pattern built.
+fn demand_of(
+    alloc: Global,
+    patterns: &mut Patterns,
+    planned: &Planned,
+    place: Place,
+) -> Result<Demand, FlattenFault>
+    requires attributes { refuses_its_given (planned_view planned.now) ≡ false }
+    requires place { (k : Known) × (refuses_at k (place_view place) (planned_view planned.now) ≡ false) }
+    ensures taken { IfOk result (λ a. Asks (planned_view planned.now).meant (place_view place) planned.now.with
+        a.attributes (test_view a.test)) }
+    ensures refused { IfErr result (λ f. f ≢ FlattenFault.Memory → (f ≡ FlattenFault.BadPattern)
+        × IsReadAs (place_view place) (planned_view planned.now) (Err fault.BadPattern)) }
+{
+    match planned.meant {
+        Meant::BuiltIn(which) => builtin_demand(alloc, patterns, which, &planned.with, place),
+        Meant::Declared(definition) => {
+            Ok(declared_demand(alloc, definition, &planned.with, place)?)
+        }
+    }
+}
+
+/// The message of a planned constraint.
+fn message_of(alloc: Global, planned: &Planned) -> Result<String, AllocError>
+    ensures { IfOk result (λ s. string_bytes s
+        ≡ worded (planned_view planned.now).meant planned.now.constraint.now planned.now.with) }
+{
+    match planned.meant {
+        Meant::BuiltIn(which) => message(alloc, which, &planned.with),
+        Meant::Declared(_) => format!(in alloc; "{{{}.message}}", planned.constraint),
+    }
+}
+
+/// Whether a constraint reports as one.
+fn is_single(meant: Meant) -> bool
+    ensures { result ≡ is_single (meant_view meant.entry) }
+{
+    match meant {
+        Meant::BuiltIn(_) => false,
+        Meant::Declared(definition) => definition.single,
+    }
+}
+
+/// A planned constraint read at a place, with the number of those below it.
+fn node_of(
+    alloc: Global,
+    patterns: &mut Patterns,
+    spot: &Spot<Planned>,
+    place: Place,
+) -> Result<Node, FlattenFault>
+    requires attributes { refuses_its_given (planned_view spot.now.value) ≡ false }
+    requires place { (k : Known) × (refuses_at k (place_view place) (planned_view spot.now.value) ≡ false) }
+    ensures taken { IfOk result (λ n. IsEntry (place_view place) (planned_entry spot.now) (entry_view n)) }
+    ensures refused { IfErr result (λ f. f ≢ FlattenFault.Memory → (f ≡ FlattenFault.BadPattern)
+        × IsReadAs (place_view place) (planned_view spot.now.value) (Err fault.BadPattern)) }
+{
+    let planned = &spot.value;
+    let demand = demand_of(alloc, patterns, planned, place)?;
+    Ok(Node {
+        constraint: String::from_str(alloc, planned.constraint)?,
+        attributes: demand.attributes,
+        test: demand.test,
+        single: is_single(planned.meant),
+        message: message_of(alloc, planned)?,
+        below: spot.below,
+    })
+}
+
+/// Planned constraints read at a place, one after another.
+fn nodes_of(
+    alloc: Global,
+    patterns: &mut Patterns,
+    spots: &[Spot<Planned>],
+    place: Place,
+) -> Result<Vec<Node>, FlattenFault>
+    requires attributes { list_any refuses_its_given (map (λ s. planned_view s.value) spots.now) ≡ false }
+    requires places { (k : Known) × (list_any (refuses_at k (place_view place)) (map (λ s. planned_view s.value) spots.now) ≡ false) }
+    ensures taken { IfOk result (λ v. AllZip (IsEntry (place_view place)) (map planned_entry spots.now) (map entry_view v.items)) }
+    ensures refused { IfErr result (λ f. f ≢ FlattenFault.Memory → (f ≡ FlattenFault.BadPattern)
+        × OneIsReadAs (place_view place) (map (λ s. planned_view s.value) spots.now) (Err fault.BadPattern)) }
+{
+    let mut nodes = Vec::with_capacity(alloc, spots.len())?;
+    for spot in spots {
+        nodes.push(node_of(alloc, patterns, spot, place)?)?;
+    }
+    Ok(nodes)
+}
+
+/// The occurrence at a place of a planned tree, given in preorder: each of its constraints read
+/// there. Those with equal patterns share one among `patterns`; one that isn't there yet is built
+/// and added.
+///
+/// `BadPattern` where the pattern of one of them isn't built.
+pub(crate) fn read(
+    alloc: Global,
+    patterns: &mut Patterns,
+    spots: &[Spot<Planned>],
+    place: Place,
+) -> Result<Occurrence, FlattenFault>
+    requires planned { IsPreorder (map planned_entry spots.now) }
+    requires attributes { list_any refuses_its_given (map (λ s. planned_view s.value) spots.now) ≡ false }
+    requires places { (k : Known) × (list_any (refuses_at k (place_view place)) (map (λ s. planned_view s.value) spots.now) ≡ false) }
+    ensures taken { IfOk result (λ o. (t : Tree spec.Planned) → preorder t ≡ map planned_entry spots.now
+        → IsReadTree (place_view place) t o) }
+    ensures refused { IfErr result (λ f. f ≢ FlattenFault.Memory → (f ≡ FlattenFault.BadPattern)
+        × OneIsReadAs (place_view place) (map (λ s. planned_view s.value) spots.now) (Err fault.BadPattern)) }
+{
+    let Some((first, behind)) = spots.split_first() else {
+        unreachable!()
+    };
+    let root = node_of(alloc, patterns, first, place)?;
+    let below = nodes_of(alloc, patterns, behind, place)?;
+    Ok(Occurrence::new(root, below))
+}

@@ -1,0 +1,11 @@
+use crate::place::Place;
+use fv_datum::Attrs;
+
+/// A use of a constraint.
+#[derive(Clone, Copy)]
+pub struct Use<'a> {
+    pub constraint: &'a str,
+    /// The attributes that are given.
+    pub given: &'a Attrs,
+    pub place: Place,
+}

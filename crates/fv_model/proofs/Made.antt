@@ -1,0 +1,46 @@
+-- An object: names with its data.
+use Rattle.std.proofs.Common.{◌≡◌, ℕ, List, [], ◌∷◌, map, zip, false, Some, Ok, String, string_bytes, slice_get, length, refl, sym, ap, arith}
+use Rattle.std.specs.List.{All, AllByRecursion, list_any}
+use Rattle.std.specs.Map.{keys_of}
+use Rattle.std.specs.declared.alloc.Global.{Global}
+use Rattle.std.proofs.lemmas.List.Elements.{All-head, All-tail}
+use Rattle.fv_datum.specs.Data.{Data}
+use Rattle.fv_datum.specs.Lookup.{at_name}
+use Rattle.fv_datum.specs.View.{view}
+use Rattle.fv_datum.specs.declared.datum.Datum.{Datum}
+use Rattle.fv_model.specs.Bundles.{Thing}
+use Rattle.fv_model.specs.Draft.{Part}
+use Rattle.fv_model.specs.Fitting.{field_misfits, part_misfits, unless_wrong}
+use Rattle.fv_model.specs.Reading.{field_of, object_of}
+use Rattle.fv_model.specs.Types.{DeclaredFields, Declared, use_view, name_at, fields_at}
+use Rattle.fv_model.specs.Writing.{IsWritten}
+use Rattle.fv_model.specs.declared.type_use.TypeUse.{TypeUse}
+
+-- each element's images by two functions, side by side
+zip-maps : {X Y Z : Type 0} (f : X → Y) (g : X → Z) (xs : List X) → zip (map f xs) (map g xs) ≡ map (λ x. (f x, g x)) xs
+zip-maps f g [] = refl
+zip-maps f g (x ∷ xs) = ap (λ rest. (f x, g x) ∷ rest) (zip-maps f g xs)
+
+-- an object of the type of a number, whose data are those of its fields
+pub object_made : (ts : Declared) (p : Part) (n : ℕ) (fs : DeclaredFields) (ds : List Data) → at_name p.type_name ts ≡ Some fs → slice_get ts n ≡ Some (p.type_name, fs) → list_any (field_misfits p.given) fs ≡ false → map (λ f. (field_of p.given f).1) fs ≡ ds
+    → unless_wrong (part_misfits ts p) (object_of ts p).1 ≡ Ok (record { type_name = name_at ts n; fields = zip (keys_of (fields_at ts n)) ds })
+object_made ts p n fs ds known placed fit made =
+    let with_fields : List (List ℕ × Data) → Thing = λ xs. record { type_name = p.type_name; fields = xs } in
+    rw (known, placed, fit, ← made) (ap (λ xs. Ok (with_fields xs)) (sym (zip-maps (λ f. f.0) (λ f. (field_of p.given f).1) fs)))
+
+-- the names of fields, as they are declared and as they are seen
+pub field_names : (es : List (String Global × TypeUse)) → map string_bytes (keys_of es) ≡ keys_of (map use_view es)
+field_names [] = refl
+field_names (e ∷ es) = ap (λ ns. string_bytes e.0 ∷ ns) (field_names es)
+
+-- no data are left
+pub none_left : (ns : List (List ℕ)) (ds : List Datum) → length ds ≡ 0 → zip ns (map view ds) ≡ []
+none_left [] ds none = refl
+none_left (n ∷ ns) [] none = refl
+none_left (n ∷ ns) (d ∷ ds) none = absurd (omega arith)
+
+-- data that can be written, with their names
+pub written_fields : (ns : List (List ℕ)) (ds : List Datum) → All (λ d. IsWritten (view d)) ds → AllByRecursion (λ f. IsWritten f.1) (zip ns (map view ds))
+written_fields [] ds all = tt
+written_fields (n ∷ ns) [] all = tt
+written_fields (n ∷ ns) (d ∷ ds) all = (All-head (λ x. IsWritten (view x)) d ds all, written_fields ns ds (All-tail (λ x. IsWritten (view x)) d ds all))

@@ -1,0 +1,5 @@
+pub mod Nodes
+pub mod Paths
+pub mod Reading
+pub mod Texts
+pub mod Views
