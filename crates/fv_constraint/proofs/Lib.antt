@@ -5,3 +5,4 @@ pub mod Putting
 pub mod Lookups
 pub mod Anys
 pub mod Unique
+pub mod Placing

@@ -12,11 +12,16 @@ step : {X Y : Type 0} (f : X → Y) (b : Bool) (x : X) (rest : Option X) (o : Op
 step f true x rest o e = refl
 step f false x rest o e = e
 
--- what a map that is ordered has at a text
+-- what a map that is ordered has at a text, by its keys' bytes
+pub keyed-at_name : {K X Y : Type 0} (bytes : K → List ℕ) (f : X → Y) (name : List ℕ) (es : List (K × X))
+    → option_map f (lookup (is_at (λ k. slice_cmp nat_cmp name (bytes k))) es) ≡ at_name name (map (λ e. (bytes e.0, f e.1)) es)
+keyed-at_name bytes f name [] = refl
+keyed-at_name bytes f name (e ∷ es) = rw (is_eq-slice_cmp name (bytes e.0)) (step f (bytes_eq name (bytes e.0)) e.1 _ _ (keyed-at_name bytes f name es))
+
+-- the same at texts
 pub tree-at_name : {X Y : Type 0} (f : X → Y) (name : List ℕ) (es : List (String Global × X))
     → option_map f (lookup (is_at (λ k. slice_cmp nat_cmp name (string_bytes k))) es) ≡ at_name name (map (λ e. (string_bytes e.0, f e.1)) es)
-tree-at_name f name [] = refl
-tree-at_name f name (e ∷ es) = rw (is_eq-slice_cmp name (string_bytes e.0)) (step f (bytes_eq name (string_bytes e.0)) e.1 _ _ (tree-at_name f name es))
+tree-at_name f name es = keyed-at_name (λ (k : String Global). string_bytes k) f name es
 
 pub option_map-copied : {X Y : Type 0} (f : X → Y) (found : Option (Bor X)) → option_map (λ x. f x.now) found ≡ option_map f (option_copied found)
 option_map-copied f None = refl

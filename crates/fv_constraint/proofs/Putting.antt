@@ -17,6 +17,24 @@ use Rattle.fv_constraint.specs.Effect.{with_value, overridden}
 abbrev pub names_of : {X : Type 0} → List (List ℕ × X) → List (List ℕ)
 names_of = map (λ e. e.0)
 
+module _ {K X Y : Type 0} (bytes : K → List ℕ) (view : X → Y) where
+  -- an entry by its key's bytes
+  abbrev pub keyed : K × X → List ℕ × Y
+  keyed e = (bytes e.0, view e.1)
+
+  -- what is put into a map by its keys' bytes is put into what the map is seen as
+  pub put_keyed : (es : List (K × X)) (k : K) (x : X)
+      → map keyed (insert_entry (λ a b. slice_cmp nat_cmp (bytes a) (bytes b)) es k x) ≡ insert_entry (slice_cmp nat_cmp) (map keyed es) (bytes k) (view x)
+  put_keyed [] k x = refl
+  put_keyed (e ∷ es) k x = go (slice_cmp nat_cmp (bytes k) (bytes e.0)) (put_keyed es k x)
+    where
+      go : (o : Ordering) → map keyed (insert_entry (λ a b. slice_cmp nat_cmp (bytes a) (bytes b)) es k x) ≡ insert_entry (slice_cmp nat_cmp) (map keyed es) (bytes k) (view x)
+          → map keyed (match_ordering o ((k, x) ∷ e ∷ es) ((e.0, x) ∷ es) (e ∷ insert_entry (λ a b. slice_cmp nat_cmp (bytes a) (bytes b)) es k x))
+          ≡ match_ordering o (keyed (k, x) ∷ map keyed (e ∷ es)) ((bytes e.0, view x) ∷ map keyed es) (keyed e ∷ insert_entry (slice_cmp nat_cmp) (map keyed es) (bytes k) (view x))
+      go Less ih = refl
+      go Equal ih = refl
+      go Greater ih = ap (λ rest. keyed e ∷ rest) ih
+
 module _ {X Y : Type 0} (view : X → Y) where
   -- an entry as it is seen
   abbrev pub seen : String Global × X → List ℕ × Y
@@ -24,15 +42,7 @@ module _ {X Y : Type 0} (view : X → Y) where
 
   -- what is put into a map is put into what it is seen as
   pub put_seen : (es : List (String Global × X)) (k : String Global) (x : X) → map seen (insert_entry string_cmp es k x) ≡ insert_entry (slice_cmp nat_cmp) (map seen es) (string_bytes k) (view x)
-  put_seen [] k x = refl
-  put_seen (e ∷ es) k x = go (slice_cmp nat_cmp (string_bytes k) (string_bytes e.0)) (put_seen es k x)
-    where
-      go : (o : Ordering) → map seen (insert_entry string_cmp es k x) ≡ insert_entry (slice_cmp nat_cmp) (map seen es) (string_bytes k) (view x)
-          → map seen (match_ordering o ((k, x) ∷ e ∷ es) ((e.0, x) ∷ es) (e ∷ insert_entry string_cmp es k x))
-          ≡ match_ordering o (seen (k, x) ∷ map seen (e ∷ es)) ((string_bytes e.0, view x) ∷ map seen es) (seen e ∷ insert_entry (slice_cmp nat_cmp) (map seen es) (string_bytes k) (view x))
-      go Less ih = refl
-      go Equal ih = refl
-      go Greater ih = ap (λ rest. seen e ∷ rest) ih
+  put_seen es k x = put_keyed (λ (t : String Global). string_bytes t) view es k x
 
   below_names : (k : String Global) (es : List (String Global × X)) → AllByRecursion (λ y. string_cmp k y ≡ Less) (keys_of es) → AllByRecursion (λ y. slice_cmp nat_cmp (string_bytes k) y ≡ Less) (names_of (map seen es))
   below_names k [] h = tt

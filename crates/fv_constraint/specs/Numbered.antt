@@ -1,5 +1,6 @@
 -- Definitions as a graph: the nodes are the definitions in order, and one more that stands for all other constraints.
 use Rattle.std.specs.Prelude.{◌≡◌, ℕ, suc, List, [], ◌∷◌, ◌++◌, map, length, cond, false, min, slice_index, Option, Some, None}
+use Rattle.std.specs.Borrow.{Bor}
 use Rattle.std.specs.Option.{unwrap_or}
 use Rattle.std.specs.Str.{bytes_eq}
 use Rattle.fv_datum.specs.Attributes.{Attributes}
@@ -17,6 +18,15 @@ place_of name (d ∷ ds) = cond (bytes_eq name d.0) 0 (suc (place_of name ds))
 -- the node of a constraint
 abbrev pub number_of : Definitions → List ℕ → ℕ
 number_of ds name = cond (is_builtin name) (length ds) (place_of name ds)
+
+-- the names of definitions, each with its place, counted from a number on
+abbrev pub placed : ℕ → Definitions → List (List ℕ × ℕ)
+placed first [] = []
+placed first (d ∷ ds) = (d.0, first) ∷ placed (suc first) ds
+
+-- a name with its place, as the code keeps it
+abbrev pub place_entry : Bor (List ℕ) × ℕ → List ℕ × ℕ
+place_entry e = (e.0.now, e.1)
 
 -- the nodes of composing constraints
 abbrev pub numbers_of : Definitions → List Composing → List ℕ

@@ -5,16 +5,15 @@ ghost use Rattle.fv_constraint.specs.Composed.{IsTreeOf, IsCyclic};
 ghost use Rattle.fv_constraint.specs.Composed as spec;
 ghost use Rattle.fv_constraint.specs.PlannedViews.{planned_entry};
 ghost use Rattle.fv_constraint.specs.Definitions.{composes_unknown, meant_by};
-ghost use Rattle.fv_constraint.specs.DefinitionViews.{composing_view, definition_entry};
-ghost use Rattle.fv_constraint.specs.Numbered.{number_of, numbers_of, edges_of};
+ghost use Rattle.fv_constraint.specs.DefinitionViews.{definition_entry};
 ghost use Rattle.fv_occurrence.specs.Preorder.{preorder};
 ghost use Rattle.fv_occurrence.specs.Trees.{Tree, size};
 
 use crate::copying::copy_entries;
-use crate::definition::{Composing, Definition};
+use crate::definition::Definition;
 use crate::meant::meant_by;
+use crate::numbers::{Numbers, edges_of};
 use crate::planning::{Handing, Planned};
-use fv_builtin::is_builtin;
 use fv_datum::Attrs;
 use fv_graph::{Spot, preorder, weigh_all};
 use std::alloc::{AllocError, Global};
@@ -27,24 +26,21 @@ const MOST: usize = 1025;
 /// Definitions in which no constraint is composed of itself. Contracts see them as the definitions.
 #[derive(Drop)]
 pub struct Composition<'a> {
-    definitions: &'a BTreeMap<String, Definition>,
+    numbers: Numbers<'a>,
     edges: Vec<Vec<usize>>,
     sizes: Vec<usize>,
 }
 
 impl<'a> Model for Composition<'a> {
-    ghost use Rattle.std.specs.Prelude.{◌≡◌, false, map, length};
-    ghost use Rattle.fv_constraint.specs.Composed.{IsCyclic};
-    ghost use Rattle.fv_constraint.specs.Definitions.{Definitions, composes_unknown};
-    ghost use Rattle.fv_constraint.specs.DefinitionViews.{definition_entry};
+    ghost use Rattle.std.specs.Prelude.{map};
+    ghost use Rattle.fv_constraint.specs.Definitions.{Definitions};
     ghost use Rattle.fv_constraint.specs.Numbered.{IsNumbered};
 
     ghost Value = { Definitions };
 
-    ghost view = { λ c. map definition_entry c.definitions.now.entries };
+    ghost view = { λ c. c.numbers };
 
-    ghost invariant = { λ c. IsNumbered (map definition_entry c.definitions.now.entries)
-        (map (λ nodes. nodes.items) c.edges.items) c.sizes.items };
+    ghost invariant = { λ c. IsNumbered c.numbers (map (λ nodes. nodes.items) c.edges.items) c.sizes.items };
 }
 
 impl<'a> Composition<'a> {
@@ -58,13 +54,14 @@ impl<'a> Composition<'a> {
         ensures { let ds = map definition_entry definitions.now.entries in IfOk result (λ found.
             MatchOption found (IsCyclic ds) (λ c. (c ≡ ds) × (IsCyclic ds → ⊥))) }
     {
-        let edges = edges_of(alloc, definitions)?;
+        let numbers = Numbers::new(alloc, definitions)?;
+        let edges = edges_of(alloc, &numbers)?;
         let own = vec![in alloc; 1; edges.len()]?;
         let Some(sizes) = weigh_all(alloc, &edges, &own, MOST)? else {
             return Ok(None);
         };
         Ok(Some(Composition {
-            definitions,
+            numbers,
             edges,
             sizes,
         }))
@@ -74,7 +71,7 @@ impl<'a> Composition<'a> {
     pub fn definitions(&self) -> &'a BTreeMap<String, Definition>
         ensures { map definition_entry result.now.entries ≡ self.now }
     {
-        self.definitions
+        self.numbers.definitions()
     }
 
     /// How many nodes the tree of a constraint has, whatever attributes it is given, but no more
@@ -85,7 +82,7 @@ impl<'a> Composition<'a> {
             → result ≡ min 1025 (size t) }
         ensures tree { (given : Attributes) → ((t : Tree spec.Planned) × IsTreeOf self.now name.now given t) }
     {
-        self.sizes[number_of(self.definitions, name)]
+        self.sizes[self.numbers.number_of(name)]
     }
 
     /// The tree of a constraint with the attributes that it is given, in preorder.
@@ -99,7 +96,8 @@ impl<'a> Composition<'a> {
         ensures { IfOk result (λ spots. (t : Tree spec.Planned) × IsTreeOf self.now name.now given.now t
             × (map planned_entry spots.items ≡ preorder t)) }
     {
-        let Some(meant) = meant_by(self.definitions, name) else {
+        let definitions = self.numbers.definitions();
+        let Some(meant) = meant_by(definitions, name) else {
             unreachable!()
         };
         let root = Planned {
@@ -107,66 +105,13 @@ impl<'a> Composition<'a> {
             meant,
             with: Attrs::new(copy_entries(alloc, given.entries())?),
         };
-        let handing = Handing {
-            definitions: self.definitions,
-        };
+        let handing = Handing { definitions };
         preorder(
             alloc,
             &self.edges,
             &handing,
-            number_of(self.definitions, name),
+            self.numbers.number_of(name),
             root,
         )
     }
-}
-
-/// The node of a constraint: the place of its definition, and the number of definitions where it is
-/// built in or not declared.
-fn number_of(definitions: &BTreeMap<String, Definition>, name: &str) -> usize
-    ensures { result ≡ number_of (map definition_entry definitions.now.entries) name.now }
-{
-    let count = definitions.len();
-    if is_builtin(name) {
-        return count;
-    }
-    let mut number = 0;
-    for (declared, _) in definitions.iter() {
-        if name == declared.as_str() {
-            return number;
-        }
-        number += 1;
-    }
-    number
-}
-
-/// The nodes of composing constraints.
-fn numbers_of(
-    alloc: Global,
-    definitions: &BTreeMap<String, Definition>,
-    composing: &[Composing],
-) -> Result<Vec<usize>, AllocError>
-    ensures { IfOk result (λ nodes. nodes.items
-        ≡ numbers_of (map definition_entry definitions.now.entries) (map composing_view composing.now)) }
-{
-    let mut numbers = Vec::with_capacity(alloc, composing.len())?;
-    for constraint in composing {
-        numbers.push(number_of(definitions, constraint.constraint.as_str()))?;
-    }
-    Ok(numbers)
-}
-
-/// The nodes that each node's edges lead to: the definitions in order, and one more.
-fn edges_of(
-    alloc: Global,
-    definitions: &BTreeMap<String, Definition>,
-) -> Result<Vec<Vec<usize>>, AllocError>
-    ensures { IfOk result (λ edges. map (λ nodes. nodes.items) edges.items
-        ≡ edges_of (map definition_entry definitions.now.entries)) }
-{
-    let mut edges = Vec::new(alloc);
-    for (_, definition) in definitions.iter() {
-        edges.push(numbers_of(alloc, definitions, &definition.composing)?)?;
-    }
-    edges.push(Vec::new(alloc))?;
-    Ok(edges)
 }

@@ -6,6 +6,7 @@ mod copying;
 mod definition;
 mod effect;
 mod meant;
+mod numbers;
 mod planning;
 mod uniqueness;
 mod unknown;

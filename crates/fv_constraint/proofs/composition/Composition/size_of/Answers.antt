@@ -1,21 +1,20 @@
-use Rattle.std.proofs.Common.{◌≡◌, ◌<◌, ◌∙◌, true, map, subst, sym, ap, arith, get_or, length}
+use Rattle.std.proofs.Common.{◌≡◌, ◌<◌, ◌∙◌, true, subst, sym, ap, arith, get_or, length}
 use Rattle.std.specs.Option.{is_some}
 use Rattle.std.proofs.lemmas.List.{get_or_read}
 use Rattle.fv_constraint.specs.Composed.{Planned, IsTreeOf}
 use Rattle.fv_constraint.specs.Definitions.{Definitions, meant_by}
-use Rattle.fv_constraint.specs.DefinitionViews.{definition_entry}
 use Rattle.fv_occurrence.specs.Trees.{Tree}
 use Rattle.fv_constraint.proofs.Unfolded.{node_within, kept_tree}
 use Rattle.fv_constraint.proofs.composition.Composition.size_of.Goals as goal
 
 pub index-requires : goal.index-requires
 index-requires c =
-    let within = node_within (map definition_entry c.self.inside.definitions.now.entries) c.self.inside.edges.items c.self.inside.sizes.items c.self.invariant c.args.name.now in
+    let within = node_within c.self.inside.numbers c.self.inside.edges.items c.self.inside.sizes.items c.self.invariant c.args.name.now in
     omega (arith, within, c.number_of.ensures)
 
 pub returns-clause-size : goal.returns-clause-size
 returns-clause-size c = λ given t is.
-    let ds : Definitions = map definition_entry c.self.inside.definitions.now.entries in
+    let ds : Definitions = c.self.inside.numbers in
     let sizes = c.self.inside.sizes.items in
     let within = node_within ds c.self.inside.edges.items sizes c.self.invariant c.args.name.now in
     let less : c.number_of.result < length sizes = omega (arith, within, c.number_of.ensures) in
@@ -25,4 +24,4 @@ returns-clause-size c = λ given t is.
 pub returns-clause-tree : goal.returns-clause-tree
 returns-clause-tree c = λ given.
     subst (λ (es : Definitions). is_some (meant_by es c.args.name.now) ≡ true → (t : Tree Planned) × IsTreeOf es c.args.name.now given t) c.self.view_is
-    (kept_tree (map definition_entry c.self.inside.definitions.now.entries) c.self.inside.edges.items c.self.inside.sizes.items c.self.invariant c.args.name.now given) c.requires
+    (kept_tree c.self.inside.numbers c.self.inside.edges.items c.self.inside.sizes.items c.self.invariant c.args.name.now given) c.requires

@@ -1,9 +1,0 @@
-use Rattle.std.proofs.Common.{◌≡◌, ◌++◌, map}
-use Rattle.fv_constraint.specs.DefinitionViews.{definition_entry}
-use Rattle.fv_constraint.specs.Numbered.{numbers_of}
-use Rattle.fv_constraint.proofs.composition.edges_of.Given as goal
-
-abbrev pub invariant-loop-definition : goal.invariant-loop-definition
-invariant-loop-definition l =
-    map (λ nodes. nodes.items) l.edges.items ++ map (λ d. numbers_of (map definition_entry l.definitions.entries) d.1.composing) (map definition_entry l.definition-iterator)
-    ≡ map (λ d. numbers_of (map definition_entry l.definitions.entries) d.1.composing) (map definition_entry l.definitions.entries)
