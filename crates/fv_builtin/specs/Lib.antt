@@ -3,6 +3,7 @@ pub mod Codes
 pub mod FaultNames
 pub mod Given
 pub mod Interpolation
+pub mod Maps
 pub mod Matches
 pub mod Messages
 pub mod Names

@@ -5,6 +5,7 @@
 mod blank;
 mod bound;
 mod builtin;
+mod defaults;
 mod digits;
 mod draft;
 mod fault;
@@ -20,6 +21,7 @@ mod time;
 mod truth;
 
 pub use builtin::Builtin;
+pub use defaults::put_defaults;
 pub use draft::takes_attributes;
 pub use fault::BuiltinFault;
 pub use interpolate::message;

@@ -12,8 +12,9 @@ use Rattle.fv_constraint.specs.Definitions.{Definitions}
 use Rattle.fv_constraint.specs.DefinitionViews.{definition_entry, definition_view}
 use Rattle.fv_constraint.specs.Numbered.{place_of, placed, place_entry}
 use Rattle.fv_constraint.specs.declared.definition.Definition.{Definition}
-use Rattle.fv_constraint.proofs.Lookups.{option_map-copied, keyed-at_name}
-use Rattle.fv_constraint.proofs.Putting.{names_of, names-ascend, put_keyed, put_last}
+use Rattle.fv_builtin.proofs.Lookups.{option_map-copied, keyed-at_name}
+use Rattle.fv_builtin.proofs.Maps.{put_keyed}
+use Rattle.fv_constraint.proofs.Putting.{names_of, names-ascend, put_last}
 
 placed_names : (first : ℕ) (ds : Definitions) → names_of (placed first ds) ≡ names_of ds
 placed_names first [] = refl

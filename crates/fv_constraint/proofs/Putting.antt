@@ -1,55 +1,27 @@
 -- Attributes that are put into a map.
-use Rattle.std.proofs.Common.{◌≡◌, ℕ, List, [], ◌∷◌, ◌++◌, map, String, Ordering, Less, Equal, Greater, Option, Some, None, string_bytes, string_cmp, nat_cmp, refl, sym, ap, ◌∙◌, append_assoc}
+use Rattle.std.proofs.Common.{◌≡◌, ℕ, List, [], ◌∷◌, ◌++◌, map, String, Less, Greater, string_bytes, string_cmp, nat_cmp, refl, sym, ap, ◌∙◌, append_assoc}
 use Rattle.std.specs.declared.alloc.Global.{Global}
 use Rattle.std.specs.BTreeMap.{insert_entry}
 use Rattle.std.specs.Cmp.Lexicographic.{slice_cmp}
 use Rattle.std.specs.List.{AllByRecursion}
 use Rattle.std.specs.List.Sorted.{IsStrictlySortedBy}
 use Rattle.std.specs.Map.{keys_of}
-use Rattle.std.specs.Ordering.{ordering_reverse, match_ordering}
+use Rattle.std.specs.Ordering.{ordering_reverse}
 use Rattle.std.proofs.lemmas.Cmp.{nat_list_cmp_total}
 use Rattle.std.proofs.lemmas.List.{map-append}
-use Rattle.fv_datum.specs.Attributes.{AttributeValue, Attributes}
-use Rattle.fv_constraint.specs.DefinitionViews.{override_entry}
-use Rattle.fv_constraint.specs.Effect.{with_value, overridden}
+use Rattle.fv_builtin.proofs.Maps.{seen, put_seen}
 
 -- the names of entries
 abbrev pub names_of : {X : Type 0} → List (List ℕ × X) → List (List ℕ)
 names_of = map (λ e. e.0)
 
-module _ {K X Y : Type 0} (bytes : K → List ℕ) (view : X → Y) where
-  -- an entry by its key's bytes
-  abbrev pub keyed : K × X → List ℕ × Y
-  keyed e = (bytes e.0, view e.1)
-
-  -- what is put into a map by its keys' bytes is put into what the map is seen as
-  pub put_keyed : (es : List (K × X)) (k : K) (x : X)
-      → map keyed (insert_entry (λ a b. slice_cmp nat_cmp (bytes a) (bytes b)) es k x) ≡ insert_entry (slice_cmp nat_cmp) (map keyed es) (bytes k) (view x)
-  put_keyed [] k x = refl
-  put_keyed (e ∷ es) k x = go (slice_cmp nat_cmp (bytes k) (bytes e.0)) (put_keyed es k x)
-    where
-      go : (o : Ordering) → map keyed (insert_entry (λ a b. slice_cmp nat_cmp (bytes a) (bytes b)) es k x) ≡ insert_entry (slice_cmp nat_cmp) (map keyed es) (bytes k) (view x)
-          → map keyed (match_ordering o ((k, x) ∷ e ∷ es) ((e.0, x) ∷ es) (e ∷ insert_entry (λ a b. slice_cmp nat_cmp (bytes a) (bytes b)) es k x))
-          ≡ match_ordering o (keyed (k, x) ∷ map keyed (e ∷ es)) ((bytes e.0, view x) ∷ map keyed es) (keyed e ∷ insert_entry (slice_cmp nat_cmp) (map keyed es) (bytes k) (view x))
-      go Less ih = refl
-      go Equal ih = refl
-      go Greater ih = ap (λ rest. keyed e ∷ rest) ih
-
 module _ {X Y : Type 0} (view : X → Y) where
-  -- an entry as it is seen
-  abbrev pub seen : String Global × X → List ℕ × Y
-  seen e = (string_bytes e.0, view e.1)
-
-  -- what is put into a map is put into what it is seen as
-  pub put_seen : (es : List (String Global × X)) (k : String Global) (x : X) → map seen (insert_entry string_cmp es k x) ≡ insert_entry (slice_cmp nat_cmp) (map seen es) (string_bytes k) (view x)
-  put_seen es k x = put_keyed (λ (t : String Global). string_bytes t) view es k x
-
-  below_names : (k : String Global) (es : List (String Global × X)) → AllByRecursion (λ y. string_cmp k y ≡ Less) (keys_of es) → AllByRecursion (λ y. slice_cmp nat_cmp (string_bytes k) y ≡ Less) (names_of (map seen es))
+  below_names : (k : String Global) (es : List (String Global × X)) → AllByRecursion (λ y. string_cmp k y ≡ Less) (keys_of es) → AllByRecursion (λ y. slice_cmp nat_cmp (string_bytes k) y ≡ Less) (names_of (map (seen view) es))
   below_names k [] h = tt
   below_names k (e ∷ es) h = (h.0, below_names k es h.1)
 
   -- the keys of a map ascend, so their bytes do
-  pub names-ascend : (es : List (String Global × X)) → IsStrictlySortedBy string_cmp (keys_of es) → IsStrictlySortedBy (slice_cmp nat_cmp) (names_of (map seen es))
+  pub names-ascend : (es : List (String Global × X)) → IsStrictlySortedBy string_cmp (keys_of es) → IsStrictlySortedBy (slice_cmp nat_cmp) (names_of (map (seen view) es))
   unfolding IsStrictlySortedBy
   names-ascend [] h = tt
   names-ascend (e ∷ es) h = (below_names e.0 es h.0, names-ascend es h.1)
@@ -83,18 +55,3 @@ copied_more {X} {Y} view all it rest copies new k key x v sorted steps same agai
     ∙ ap (insert_entry (slice_cmp nat_cmp) (map (seen view) copies) (string_bytes k)) again
     ∙ put_last (map (seen view) copies) (string_bytes k) (view x) (names_of (map (seen view) rest)) ascends in
     ap (λ es. es ++ map (seen view) rest) last ∙ append_assoc (map (seen view) copies) ((string_bytes k, view x) ∷ []) (map (seen view) rest) ∙ whole
-
-module _ (above : List ℕ → Option AttributeValue) (it rest : List (String Global × String Global)) (name outer : String Global) (es : Attributes) (whole : Attributes)
-    (steps : it ≡ (name, outer) ∷ rest) (done : overridden above (map override_entry it) es ≡ whole) where
-  turn : overridden above (map override_entry rest) (with_value (string_bytes name) (above (string_bytes outer)) es) ≡ whole
-  turn = ap (λ os. overridden above (map override_entry os) es) (sym steps) ∙ done
-
-  -- an attribute without a value in effect overrides nothing
-  pub override_none : above (string_bytes outer) ≡ None → overridden above (map override_entry rest) es ≡ whole
-  override_none is = ap (λ o. overridden above (map override_entry rest) (with_value (string_bytes name) o es)) (sym is) ∙ turn
-
-  -- an overridden attribute gets the value in effect
-  pub override_some : (y : AttributeValue) (new : Attributes) → above (string_bytes outer) ≡ Some y → new ≡ insert_entry (slice_cmp nat_cmp) es (string_bytes name) y
-      → overridden above (map override_entry rest) new ≡ whole
-  override_some y new is put =
-      ap (overridden above (map override_entry rest)) put ∙ ap (λ o. overridden above (map override_entry rest) (with_value (string_bytes name) o es)) (sym is) ∙ turn

@@ -20,11 +20,12 @@ use Rattle.fv_graph.proofs.Unfolding.{unfolds}
 use Rattle.fv_graph.proofs.Growth.{tree_is}
 use Rattle.fv_constraint.specs.Composed.{Planned, IsTreeOf, AreTreesOf}
 use Rattle.fv_constraint.specs.Definitions.{Composing, Definition, Definitions, Meant, builtin, declared, either_meant, meant_by, composing_of, composes_unknown}
-use Rattle.fv_constraint.specs.Effect.{effective, handed}
-use Rattle.fv_constraint.specs.Numbered.{number_of, numbers_of, edges_of, composing_at, IsNumbered}
+use Rattle.fv_constraint.specs.Effect.{effective}
+use Rattle.fv_constraint.specs.Numbered.{number_of, numbers_of, edges_of, handed_map, composing_at, IsNumbered}
 use Rattle.fv_occurrence.specs.Preorder.{preorder, preorders}
 use Rattle.fv_occurrence.specs.Trees.{Tree, tree, Trees, none, more, size, sizes}
 use Rattle.fv_constraint.proofs.Cycles.{cyclic_in, cyclic_out}
+use Rattle.fv_constraint.proofs.Handed.{handed_map_is}
 use Rattle.fv_constraint.proofs.Numbering.{next_is, number_within}
 
 -- ---- the graph
@@ -114,7 +115,7 @@ module _ (ds : Definitions) (edges : List (Vec ℕ Global)) (are : map (λ nodes
       trees_size none (c ∷ cs) above are_trees = absurd are_trees
       trees_size (more t ts) [] above are_trees = absurd are_trees
       trees_size (more t ts) (c ∷ cs) above are_trees =
-          let first = tree_size t c.constraint (handed c above) are_trees.0 in
+          let first = tree_size t c.constraint are_trees.0.0 are_trees.0.2 in
           let others = trees_size ts cs above are_trees.1 in
           let both = sum_by-cons (λ x. x) (weight own (next_of edges) (length edges) (number_of ds c.constraint)) (map (weight own (next_of edges) (length edges)) (map (number_of ds) (map (λ d. d.constraint) cs))) in
           omega (arith, first, others, both)
@@ -198,10 +199,10 @@ module _ (ds : Definitions) (edges : List (Vec ℕ Global)) (are : map (λ nodes
 
   -- what is handed to a composing constraint that is known
   handed_is : (node k : ℕ) (p : Planned) (c : Composing) (m : Meant) → slice_get (composing_of p.meant) k ≡ Some c → meant_by ds c.constraint ≡ Some m
-      → hands_of ds node k p ≡ record { constraint = c.constraint; meant = m; given = handed c (effective p.meant p.given) }
+      → hands_of ds node k p ≡ record { constraint = c.constraint; meant = m; given = handed_map c (effective p.meant p.given) }
   handed_is node k p c m here is =
       ap (composing_at ds p) here
-      ∙ ap (λ o. record { constraint = c.constraint; meant = unwrap_or o p.meant; given = handed c (effective p.meant p.given) }) is
+      ∙ ap (λ o. record { constraint = c.constraint; meant = unwrap_or o p.meant; given = handed_map c (effective p.meant p.given) }) is
 
   mutual
     -- the tree that a constraint's node unfolds to is the constraint's
@@ -221,11 +222,11 @@ module _ (ds : Definitions) (edges : List (Vec ℕ Global)) (are : map (λ nodes
     are_trees (unfolded.tree_and t ts) p node (c ∷ cs) k here all e =
         let parts = or_parts (is_unknown ds c) (list_any (is_unknown ds) cs) all in
         let m = some_of (meant_by ds c.constraint) parts.0 in
-        let q : Planned = record { constraint = c.constraint; meant = m.0; given = handed c (effective p.meant p.given) } in
+        let q : Planned = record { constraint = c.constraint; meant = m.0; given = handed_map c (effective p.meant p.given) } in
         let made : t ≡ unfolded.tree_of (hands_of ds) (next_of edges) (length edges) (number_of ds c.constraint) (hands_of ds node k p) = cc in
         let first = made ∙ ap (unfolded.tree_of (hands_of ds) (next_of edges) (length edges) (number_of ds c.constraint)) (handed_is node k p c m.0 (get_first (composing_of p.meant) k c cs here) m.1) in
         let others : ts ≡ trees_at node p (k + 1) cs = cc in
-        (is_tree t q m.1 first, are_trees ts p node cs (k + 1) (drop_next (composing_of p.meant) k c cs here) parts.1 others)
+        ((q.given, handed_map_is c (effective p.meant p.given), is_tree t q m.1 first), are_trees ts p node cs (k + 1) (drop_next (composing_of p.meant) k c cs here) parts.1 others)
 
   -- there is a tree of each constraint that is known
   pub tree_exists : (name : List ℕ) (given : Attributes) → is_some (meant_by ds name) ≡ true → (t : Tree Planned) × IsTreeOf ds name given t

@@ -1,12 +1,14 @@
 -- A constraint has one tree alone.
 use Rattle.std.proofs.Common.{◌≡◌, ℕ, List, [], ◌∷◌, Option, refl, sym, ap, subst, ◌∙◌}
+use Rattle.fv_builtin.proofs.Maps.{same_map}
 use Rattle.fv_datum.specs.Attributes.{AttributeValue, Attributes}
 use Rattle.fv_constraint.specs.Composed.{Planned, IsTreeOf, AreTreesOf}
 use Rattle.fv_constraint.specs.Definitions.{Composing, Definitions, Meant, composing_of}
 use Rattle.fv_constraint.specs.Effect.{effective, handed}
 use Rattle.fv_occurrence.specs.Trees.{Tree, tree, Trees, none, more}
 
-planned_same : (a b : List ℕ) (m n : Meant) (g h : Attributes) → a ≡ b → m ≡ n → g ≡ h
+-- planned constraints with the same parts
+pub planned_same : (a b : List ℕ) (m n : Meant) (g h : Attributes) → a ≡ b → m ≡ n → g ≡ h
     → ◌≡◌ {A = Planned} (record { constraint = a; meant = m; given = g }) (record { constraint = b; meant = n; given = h })
 planned_same a b m n g h x y z = rw (x, y, z) refl
 
@@ -27,4 +29,6 @@ mutual
   uniques ds (c ∷ cs) above none us x y = absurd x
   uniques ds (c ∷ cs) above (more t ts) none x y = absurd y
   uniques ds (c ∷ cs) above (more t ts) (more u us) x y =
-      ap (λ r. more r ts) (unique ds c.constraint (handed c above) t u x.0 y.0) ∙ ap (more u) (uniques ds cs above ts us x.1 y.1)
+      let same : x.0.0 ≡ y.0.0 = same_map (handed c above) x.0.0 y.0.0 x.0.1 y.0.1 in
+      let first = unique ds c.constraint x.0.0 t u x.0.2 (subst (λ (given : Attributes). IsTreeOf ds c.constraint given u) (sym same) y.0.2) in
+      ap (λ r. more r ts) first ∙ ap (more u) (uniques ds cs above ts us x.1 y.1)

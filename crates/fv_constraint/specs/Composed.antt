@@ -2,6 +2,7 @@
 use Rattle.std.specs.Prelude.{◌≡◌, ℕ, zero, suc, List, [], ◌∷◌, map, Option, Some}
 use Rattle.std.specs.Option.{option_map_or}
 use Rattle.fv_graph.specs.Graph.{IsIn}
+use Rattle.fv_builtin.specs.Maps.{IsMapOf}
 use Rattle.fv_datum.specs.Attributes.{AttributeValue, Attributes}
 use Rattle.fv_constraint.specs.Definitions.{Composing, Definitions, Meant, meant_by, composing_of}
 use Rattle.fv_constraint.specs.Effect.{effective, handed}
@@ -19,10 +20,12 @@ abbrev mutual
   IsTreeOf ds name given (tree p below) =
       (p.constraint ≡ name) × (meant_by ds name ≡ Some p.meant) × (p.given ≡ given) × AreTreesOf ds (composing_of p.meant) (effective p.meant given) below
 
-  -- the trees of composing constraints, in order, by the values in effect of the constraint that they compose
+  -- the trees of composing constraints, in order, by the values in effect of the constraint that they compose: each is given the one map of the
+  -- values that it is handed
   pub AreTreesOf : Definitions → List Composing → (List ℕ → Option AttributeValue) → Trees Planned → Type 0
   AreTreesOf ds [] above none = Unit {0}
-  AreTreesOf ds (c ∷ cs) above (more t ts) = IsTreeOf ds c.constraint (handed c above) t × AreTreesOf ds cs above ts
+  AreTreesOf ds (c ∷ cs) above (more t ts) =
+      ((given : Attributes) × IsMapOf (handed c above) given × IsTreeOf ds c.constraint given t) × AreTreesOf ds cs above ts
   AreTreesOf ds _ above _ = ⊥
 
 -- the names of the constraints that a constraint is composed of

@@ -1,9 +1,13 @@
 -- Definitions as a graph: the nodes are the definitions in order, and one more that stands for all other constraints.
 use Rattle.std.specs.Prelude.{◌≡◌, ℕ, suc, List, [], ◌∷◌, ◌++◌, map, length, cond, false, min, slice_index, Option, Some, None}
+use Rattle.std.specs.BTreeMap.{insert_entry}
 use Rattle.std.specs.Borrow.{Bor}
+use Rattle.std.specs.Cmp.Lexicographic.{slice_cmp}
+use Rattle.std.specs.Map.{keys_of}
 use Rattle.std.specs.Option.{unwrap_or}
+use Rattle.std.specs.Ordering.{nat_cmp}
 use Rattle.std.specs.Str.{bytes_eq}
-use Rattle.fv_datum.specs.Attributes.{Attributes}
+use Rattle.fv_datum.specs.Attributes.{AttributeValue, Attributes}
 use Rattle.fv_builtin.specs.Names.{is_builtin}
 use Rattle.fv_constraint.specs.Composed.{Planned, IsTreeOf, IsCyclic}
 use Rattle.fv_constraint.specs.Definitions.{Composing, Definitions, meant_by, composes_unknown}
@@ -49,11 +53,25 @@ pub record IsNumbered (ds : Definitions) (edges : List (List ℕ)) (sizes : List
   pub each : length sizes ≡ length edges
   pub sized : AreSizes ds 1025 sizes
 
+-- attributes with a value put in at a name, where there is one
+abbrev pub with_value : List ℕ → Option AttributeValue → Attributes → Attributes
+with_value name None attributes = attributes
+with_value name (Some v) attributes = insert_entry (slice_cmp nat_cmp) attributes name v
+
+-- the map of the values that there are at these names
+abbrev pub tabulated : (List ℕ → Option AttributeValue) → List (List ℕ) → Attributes
+tabulated value [] = []
+tabulated value (n ∷ ns) = with_value n (value n) (tabulated value ns)
+
+-- the map of the values that a composing constraint is handed: it has them at the names that are given or overridden
+abbrev pub handed_map : Composing → (List ℕ → Option AttributeValue) → Attributes
+handed_map c above = tabulated (handed c above) (keys_of c.given ++ keys_of c.overrides)
+
 -- what stands below a constraint at a composing constraint
 abbrev pub composing_at : Definitions → Planned → Option Composing → Planned
 composing_at ds p None = record { constraint = p.constraint; meant = p.meant; given = [] }
 composing_at ds p (Some c) = record {
   constraint = c.constraint;
   meant = unwrap_or (meant_by ds c.constraint) p.meant;
-  given = handed c (effective p.meant p.given);
+  given = handed_map c (effective p.meant p.given);
 }

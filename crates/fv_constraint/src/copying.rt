@@ -1,7 +1,8 @@
 //! Copies of attributes.
-ghost use Rattle.std.specs.Prelude.{◌≡◌, IfOk, OnOk, map, string_bytes};
+ghost use Rattle.std.specs.Prelude.{◌≡◌, true, IfOk, OnOk, map, string_bytes};
 ghost use Rattle.std.specs.BTreeMap.{insert_entry};
 ghost use Rattle.std.specs.String.{string_cmp};
+ghost use Rattle.fv_builtin.specs.Maps.{ascends};
 ghost use Rattle.fv_datum.specs.Attributes.{attribute_view, entry_view};
 
 use fv_datum::Attribute;
@@ -19,7 +20,7 @@ fn copy_texts(alloc: Global, texts: &[String]) -> Result<Vec<String>, AllocError
 }
 
 /// Another attribute of the same value.
-pub fn copy_of(alloc: Global, attribute: &Attribute) -> Result<Attribute, AllocError>
+pub(crate) fn copy_of(alloc: Global, attribute: &Attribute) -> Result<Attribute, AllocError>
     ensures { IfOk result (λ a. attribute_view a ≡ attribute_view attribute.now) }
 {
     match attribute {
@@ -31,7 +32,7 @@ pub fn copy_of(alloc: Global, attribute: &Attribute) -> Result<Attribute, AllocE
 }
 
 /// Puts a value in at a name, in place of one that stands there.
-pub fn put<V: Drop>(
+pub(crate) fn put<V: Drop>(
     entries: &mut BTreeMap<String, V>,
     name: &String,
     value: V,
@@ -44,11 +45,12 @@ pub fn put<V: Drop>(
 }
 
 /// The same attributes again.
-pub fn copy_entries(
+pub(crate) fn copy_entries(
     alloc: Global,
     entries: &BTreeMap<String, Attribute>,
 ) -> Result<BTreeMap<String, Attribute>, AllocError>
-    ensures { IfOk result (λ m. map entry_view m.entries ≡ map entry_view entries.now.entries) }
+    ensures same { IfOk result (λ m. map entry_view m.entries ≡ map entry_view entries.now.entries) }
+    ensures ascending { IfOk result (λ m. ascends (map entry_view m.entries) ≡ true) }
 {
     let mut copies = BTreeMap::new(alloc);
     for (name, attribute) in entries.iter() {

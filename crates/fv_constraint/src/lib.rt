@@ -12,9 +12,8 @@ mod uniqueness;
 mod unknown;
 
 pub use composition::Composition;
-pub use copying::{copy_entries, copy_of, put};
 pub use definition::{AttributeDefinition, Composing, Definition, Rule};
-pub use effect::value_of;
+pub use effect::{in_effect, value_of};
 pub use meant::{Meant, meant_by};
 pub use planning::Planned;
 pub use uniqueness::tree_is_unique;

@@ -1,8 +1,8 @@
 ghost use Rattle.std.specs.Prelude.{◌≡◌, map, option_map};
-ghost use Rattle.fv_constraint.specs.Definitions.{meant_by, composing_of};
-ghost use Rattle.fv_constraint.specs.DefinitionViews.{composing_view, definition_entry, meant_view};
+ghost use Rattle.fv_constraint.specs.Definitions.{meant_by};
+ghost use Rattle.fv_constraint.specs.DefinitionViews.{definition_entry, meant_view};
 
-use crate::definition::{Composing, Definition};
+use crate::definition::Definition;
 use fv_builtin::{BuiltinName, builtin_named};
 use std::collections::BTreeMap;
 
@@ -11,18 +11,6 @@ use std::collections::BTreeMap;
 pub enum Meant<'a> {
     BuiltIn(BuiltinName),
     Declared(&'a Definition),
-}
-
-impl<'a> Meant<'a> {
-    /// The constraints that the constraint is composed of, in order.
-    pub fn composing(self) -> &'a [Composing]
-        ensures { map composing_view result.now ≡ composing_of (meant_view self.entry) }
-    {
-        match self {
-            Meant::BuiltIn(_) => &[],
-            Meant::Declared(definition) => &definition.composing,
-        }
-    }
 }
 
 /// What a constraint's name stands for, if it is built in or declared: built-in constraints come

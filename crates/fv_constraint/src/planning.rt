@@ -1,7 +1,7 @@
 //! The constraints of a tree, each by what stands above it.
-ghost use Rattle.std.specs.Prelude.{◌≡◌, IfOk, map, slice_get};
+ghost use Rattle.std.specs.Prelude.{◌≡◌, None, IfOk, map, slice_get};
 ghost use Rattle.fv_constraint.specs.PlannedViews.{planned_view};
-ghost use Rattle.fv_constraint.specs.Definitions.{composing_of};
+ghost use Rattle.fv_constraint.specs.Definitions.{Definitions, composing_of};
 ghost use Rattle.fv_constraint.specs.DefinitionViews.{definition_entry};
 ghost use Rattle.fv_constraint.specs.Numbered.{composing_at};
 
@@ -57,6 +57,17 @@ impl<'a> Hand for Handing<'a> {
     }
 }
 
+/// What is planned at an edge that isn't there: the constraint above, with no attributes.
+fn nowhere<'a>(alloc: Global, above: &Planned<'a>) -> Planned<'a>
+    ensures { (ds : Definitions) → planned_view result ≡ composing_at ds (planned_view above.now) None }
+{
+    Planned {
+        constraint: above.constraint,
+        meant: above.meant,
+        with: Attrs::new(BTreeMap::new(alloc)),
+    }
+}
+
 /// What stands below a constraint at a composing constraint, told by its place among them.
 fn plan_below<'a>(
     alloc: Global,
@@ -67,17 +78,16 @@ fn plan_below<'a>(
     ensures { IfOk result (λ made. planned_view made ≡ composing_at (map definition_entry definitions.now.entries)
         (planned_view above.now) (slice_get (composing_of (planned_view above.now).meant) edge)) }
 {
-    let meant = above.meant;
-    let Some(composing) = meant.composing().get(edge) else {
-        return Ok(Planned {
-            constraint: above.constraint,
-            meant,
-            with: Attrs::new(BTreeMap::new(alloc)),
-        });
+    let Meant::Declared(definition) = above.meant else {
+        return Ok(nowhere(alloc, above));
     };
+    let Some(composing) = definition.composing.get(edge) else {
+        return Ok(nowhere(alloc, above));
+    };
+    let name = composing.constraint.as_str();
     Ok(Planned {
-        constraint: composing.constraint.as_str(),
-        meant: meant_by(definitions, composing.constraint.as_str()).unwrap_or(meant),
-        with: handed(alloc, composing, meant, &above.with)?,
+        constraint: name,
+        meant: meant_by(definitions, name).unwrap_or(above.meant),
+        with: handed(alloc, composing, definition, &above.with)?,
     })
 }

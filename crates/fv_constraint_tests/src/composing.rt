@@ -73,6 +73,7 @@ Card : Size max=3
 Open most : Size min=1 max<most & NotNull
 Both a=1 b=2 : Size min<a max<b & Both2 c=8
 Both2 c=3 d : Size min=4 max<c
+Given a=5 : Size max=3 max<a min<a
 ";
 
 const LEVEL_ROWS: &str = "
@@ -84,6 +85,7 @@ Whole => 4: Whole/3 Outer top=7/2 Inner limit=7/1 Size max=7/0
 Card => 2: Card/1 Size max=3/0
 Open most=6 => 3: Open most=6/2 Size max=6 min=1/0 NotNull/0
 Open => 3: Open/2 Size min=1/0 NotNull/0
+Given a=2 => 2: Given a=2/1 Size max=3 min=2/0
 Both b=5 => 4: Both b=5/3 Size max=5 min=1/0 Both2 c=8/1 Size max=8 min=4/0
 NotNull => 1: NotNull/0
 Size max=3 => 1: Size max=3/0

@@ -41,6 +41,7 @@ fn attribute_text(alloc: Global, name: &str, value: &Attribute) -> Result<String
     match value {
         Attribute::Integer(number) => Ok(format!(in alloc; " {name}={number}")?),
         Attribute::Text(text) => Ok(format!(in alloc; " {name}={text}")?),
+        Attribute::Boolean(flag) => Ok(format!(in alloc; " {name}={flag}")?),
         _ => Ok(String::new(alloc)),
     }
 }
@@ -120,12 +121,15 @@ Odd p~ : Pattern regexp<p
 ";
 
 const LEVEL_ROWS: &str = "
-Whole all=4 at text => Whole all=4 #100/4 Outer top=4 -/3 Inner limit=4 -/1 Size max=4/0 NotNull/0
-Whole at text => Whole all=7 #100/4 Outer top=7 -/3 Inner limit=7 -/1 Size max=7/0 NotNull/0
-Outer at text => Outer top=5 -/3 Inner limit=5 -/1 Size max=5/0 NotNull/0
-Inner at text => Inner limit=9 -/1 Size max=9/0
+Whole all=4 at text => Whole all=4 #100/4 Outer top=4 -/3 Inner limit=4 -/1 Size max=4 min=0/0 NotNull/0
+Whole at text => Whole all=7 #100/4 Outer top=7 -/3 Inner limit=7 -/1 Size max=7 min=0/0 NotNull/0
+Outer at text => Outer top=5 -/3 Inner limit=5 -/1 Size max=5 min=0/0 NotNull/0
+Inner at text => Inner limit=9 -/1 Size max=9 min=0/0
 Thing at object => Thing @300/0
 Odd p=a+ at text => Odd p=a+ -/1 Pattern regexp=a+/0
+Size at text => Size max=2147483647 min=0/0
+Size min=3 at text => Size max=2147483647 min=3/0
+DecimalMin value=1.5 at integer => DecimalMin inclusive=true value=1.5/0
 NotNull at date => NotNull/0
 Whole all=x at text => Attribute
 Whole more=1 at text => Attribute

@@ -7,7 +7,7 @@ use Rattle.fv_builtin.specs.Names.{builtin_named}
 use Rattle.fv_builtin.specs.declared.name.BuiltinName.{BuiltinName}
 use Rattle.fv_constraint.specs.Composed.{Planned, IsTreeOf, AreTreesOf}
 use Rattle.fv_constraint.specs.Definitions.{Rule, of_data, of_objects, Composing, Definition, Definitions, Meant, builtin, declared, either_meant, composing_of}
-use Rattle.fv_constraint.specs.Effect.{effective, handed}
+use Rattle.fv_constraint.specs.Effect.{effective}
 use Rattle.fv_datum.specs.Attributes.{AttributeValue, Attributes}
 use Rattle.fv_datum.specs.Lookup.{at_name}
 use Rattle.fv_flatten.proofs.Spots.{or_left, or_right, not_false}
@@ -53,11 +53,11 @@ rule_fits k (Some (of_data rule)) (on_data kind) known taken = rw (not_false _ k
 rule_fits k (Some (of_objects rule)) on_object known taken = not_false _ known
 rule_fits k (Some (of_objects rule)) (on_data kind) known taken = absurd (true≢false taken)
 
-node_fits : (k : Known) (m : Meant) (place : Place) (given attributes : Attributes) (test : Test) → Asks m place given attributes test → meant_unknown k m ≡ false → refuses_place k m place ≡ false
+node_fits : (k : Known) (m : Meant) (place : Place) (given : Attributes) (test : Test) → Asks m place given test → meant_unknown k m ≡ false → refuses_place k m place ≡ false
     → test_fits k place test ≡ true
-node_fits k (builtin which) on_object given attributes test asks known taken = absurd asks
-node_fits k (builtin which) (on_data kind) given attributes test asks known taken = ap (test_fits k (on_data kind)) asks.1.1
-node_fits k (declared d) place given attributes test asks known taken = ap (test_fits k place) asks.1 ∙ rule_fits k d.rule place known taken
+node_fits k (builtin which) on_object given test asks known taken = absurd asks
+node_fits k (builtin which) (on_data kind) given test asks known taken = ap (test_fits k (on_data kind)) asks.1
+node_fits k (declared d) place given test asks known taken = ap (test_fits k place) asks ∙ rule_fits k d.rule place known taken
 
 -- a planned tree's own tests aren't refused at a place
 abbrev pub PassAt : Known → Place → List (Planned × ℕ) → Type 0
@@ -84,7 +84,7 @@ mutual
   fits_tree : (k : Known) (ds : Definitions) (place : Place) (name : List ℕ) (given : Attributes) (t : Tree Planned) (o : Tree Node) → unknown_rule k ds ≡ false
       → IsTreeOf ds name given t → IsReadTree place t o → PassAt k place (preorder t) → FitAt k place (preorder o)
   fits_tree k ds place name given (tree p below) (tree n others) known is read pass =
-      let here = node_fits k p.meant place p.given n.attributes n.test read.0.asks (known_here k ds name (builtin_named name) p.meant known is.1) (or_left _ _ pass) in
+      let here = node_fits k p.meant place p.given n.test read.0.asks (known_here k ds name (builtin_named name) p.meant known is.1) (or_left _ _ pass) in
       both_hold _ _ here (fits_trees k ds place (composing_of p.meant) (effective p.meant given) below others known is.3 read.1 (or_right (refuses_at k place p) _ pass))
 
   fits_trees : (k : Known) (ds : Definitions) (place : Place) (cs : List Composing) (above : List ℕ → Option AttributeValue) (ts : Trees Planned) (os : Trees Node) → unknown_rule k ds ≡ false
@@ -95,7 +95,7 @@ mutual
   fits_trees k ds place [] above (more t ts) (more o os) known are read pass = absurd are
   fits_trees k ds place (c ∷ cs) above (more t ts) (more o os) known are read pass =
       let parts = pass_parts k place (preorder t) (preorders ts) pass in
-      fit_parts k place (preorder o) (preorders os) (fits_tree k ds place c.constraint (handed c above) t o known are.0 read.0 parts.0)
+      fit_parts k place (preorder o) (preorders os) (fits_tree k ds place c.constraint are.0.0 t o known are.0.2 read.0 parts.0)
       (fits_trees k ds place cs above ts os known are.1 read.1 parts.1)
 
 -- what the trees of uses are read as fits the uses' places

@@ -1,6 +1,5 @@
 pub mod Deciding
 pub mod Fitting
-pub mod Fronts
 pub mod Gathered
 pub mod Readings
 pub mod Shapes

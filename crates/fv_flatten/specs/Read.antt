@@ -3,6 +3,7 @@ use Rattle.std.specs.Prelude.{◌≡◌, ℕ, List, ◌++◌, Bool, false, Optio
 use Rattle.fv_builtin.specs.BuiltIns.{BuiltIn}
 use Rattle.fv_builtin.specs.Given.{drafted, IsRead}
 use Rattle.fv_builtin.specs.Interpolation.{message_with}
+use Rattle.fv_builtin.specs.Maps.{IsMapOf}
 use Rattle.fv_builtin.specs.Table.{takes}
 use Rattle.fv_builtin.specs.declared.fault.BuiltinFault.{BuiltinFault}
 use Rattle.fv_builtin.specs.declared.name.BuiltinName.{BuiltinName}
@@ -11,7 +12,8 @@ use Rattle.fv_datum.specs.declared.kind.Kind.{Kind}
 use Rattle.fv_registry.specs.Rules.{Known}
 use Rattle.fv_constraint.specs.Composed.{Planned}
 use Rattle.fv_constraint.specs.Definitions.{Rule, of_data, of_objects, Meant, builtin, declared}
-use Rattle.fv_flatten.specs.Refusals.{Place, on_data, in_effect, refuses_given, refuses_place}
+use Rattle.fv_constraint.specs.Effect.{effective}
+use Rattle.fv_flatten.specs.Refusals.{Place, on_data, refuses_given, refuses_place}
 use Rattle.fv_occurrence.specs.Nodes.{Test, built_in, by_rule, by_object_rule, nothing, Node}
 use Rattle.fv_occurrence.specs.Trees.{Tree, tree, Trees, none, more}
 
@@ -31,18 +33,17 @@ asked None = nothing
 asked (Some (of_data rule)) = by_rule rule
 asked (Some (of_objects rule)) = by_object_rule rule
 
--- what a constraint asks at a place, with the attributes that are given: its attributes in effect, and its own test. A built-in puts in its own
--- defaults itself
-abbrev pub Asks : Meant → Place → Attributes → Attributes → Test → Type 0
-Asks (builtin which) (on_data kind) given attributes test =
-    (attributes ≡ given) × ((b : BuiltIn) × (test ≡ built_in b) × IsRead (drafted which given) (takes which kind) (Ok b))
-Asks (declared d) place given attributes test = (in_effect d.attributes given ≡ Some attributes) × (test ≡ asked d.rule)
-Asks _ _ given attributes test = ⊥
+-- what a constraint asks itself at a place, with the attributes that are given: its own test
+abbrev pub Asks : Meant → Place → Attributes → Test → Type 0
+Asks (builtin which) (on_data kind) given test = (b : BuiltIn) × (test ≡ built_in b) × IsRead (drafted which given) (takes which kind) (Ok b)
+Asks (declared d) place given test = test ≡ asked d.rule
+Asks _ _ given test = ⊥
 
--- a planned constraint is read as a constraint at a place
+-- a planned constraint is read as a constraint at a place, with the one map of its values in effect
 pub record IsNode (place : Place) (p : Planned) (n : Node) : Type 0 where
   pub constraint : n.constraint ≡ p.constraint
-  pub asks : Asks p.meant place p.given n.attributes n.test
+  pub attributes : IsMapOf (effective p.meant p.given) n.attributes
+  pub asks : Asks p.meant place p.given n.test
   pub single : n.single ≡ is_single p.meant
   pub message : n.message ≡ worded p.meant p.constraint p.given
 

@@ -1,12 +1,11 @@
 -- What is refused of definitions, of the constraints in their trees, and of the places where these stand.
-use Rattle.std.specs.Prelude.{ℕ, List, [], ◌∷◌, ◌||◌, ◌&&◌, Bool, true, false, not, Option, Some, None, option_map, is_some}
+use Rattle.std.specs.Prelude.{ℕ, List, [], ◌∷◌, ◌||◌, ◌&&◌, Bool, true, false, not, Option, Some, None, is_some}
 use Rattle.std.specs.List.{list_any}
 use Rattle.fv_builtin.specs.Given.{drafted, given_or, is_same}
 use Rattle.fv_builtin.specs.Table.{takes}
 use Rattle.fv_datum.specs.AttributeKinds.{attribute_kind}
 use Rattle.fv_datum.specs.Attributes.{AttributeValue, Attributes}
 use Rattle.fv_datum.specs.Lookup.{at_name}
-use Rattle.fv_datum.specs.Members.{each_some}
 use Rattle.fv_datum.specs.declared.attribute_kind.AttributeKind.{AttributeKind}
 use Rattle.fv_datum.specs.declared.kind.Kind.{Kind}
 use Rattle.fv_registry.specs.Rules.{Known, knows_field, knows_object, takes as rule_takes}
@@ -41,18 +40,14 @@ bad_default d = list_any (λ a. is_other_kind a.1.kind a.1.default) d.attributes
 
 -- ---- the attributes that are given
 
--- the value in effect: that which is given, else the default
-abbrev pub value_of : Attributes → List ℕ × AttributeDefinition → Option (List ℕ × AttributeValue)
-value_of given a = option_map (λ v. (a.0, v)) (given_or (at_name a.0 given) a.1.default)
-
--- the attributes in effect, none where one has no value
-abbrev pub in_effect : List (List ℕ × AttributeDefinition) → Attributes → Option Attributes
-in_effect attributes given = each_some (value_of given) attributes
+-- an attribute has no value in effect: it is neither given nor has it a default
+abbrev pub lacks_value : List (List ℕ × AttributeDefinition) → Attributes → Bool
+lacks_value attributes given = list_any (λ a. not (is_some (given_or (at_name a.0 given) a.1.default))) attributes
 
 -- a constraint refuses the attributes that are given
 abbrev pub refuses_given : Meant → Attributes → Bool
 refuses_given (builtin which) given = not (is_some (drafted which given))
-refuses_given (declared d) given = has_foreign (attributes_of (declared d)) given || not (is_some (in_effect d.attributes given))
+refuses_given (declared d) given = has_foreign (attributes_of (declared d)) given || lacks_value d.attributes given
 
 -- ---- the place where a constraint stands
 

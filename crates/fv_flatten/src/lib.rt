@@ -4,7 +4,6 @@
 
 mod composing;
 mod definitions;
-mod effect;
 mod fault;
 mod flattening;
 mod place;

@@ -5,44 +5,36 @@ ghost use Rattle.fv_builtin.specs.Given.{drafted};
 ghost use Rattle.fv_builtin.specs.declared.fault.BuiltinFault.TheVariants as fault;
 ghost use Rattle.fv_registry.specs.Rules.{Known};
 ghost use Rattle.fv_constraint.specs.Composed as spec;
-ghost use Rattle.fv_constraint.specs.Definitions.{builtin, declared};
-ghost use Rattle.fv_constraint.specs.DefinitionViews.{definition_view, meant_view, rule_view};
+ghost use Rattle.fv_constraint.specs.Definitions.{builtin};
+ghost use Rattle.fv_constraint.specs.DefinitionViews.{meant_view, rule_view};
 ghost use Rattle.fv_flatten.specs.PlaceViews.{place_view};
 ghost use Rattle.fv_constraint.specs.PlannedViews.{planned_view, planned_entry};
 ghost use Rattle.fv_flatten.specs.Read.{worded, is_single, asked, Asks, IsEntry, IsReadTree, IsReadAs, OneIsReadAs, refuses_its_given, refuses_at};
-ghost use Rattle.fv_flatten.specs.Refusals.{in_effect, refuses_place};
+ghost use Rattle.fv_flatten.specs.Refusals.{refuses_place};
 ghost use Rattle.fv_occurrence.specs.Preorder.{preorder, IsPreorder};
 ghost use Rattle.fv_occurrence.specs.Trees.{Tree};
 ghost use Rattle.fv_occurrence.specs.Views.{test_view, entry_view};
 
-use crate::effect::in_effect;
 use crate::fault::FlattenFault;
 use crate::place::Place;
 use fv_builtin::{Builtin, BuiltinFault, BuiltinName, Patterns, message};
-use fv_constraint::{Definition, Meant, Planned, Rule, copy_entries};
+use fv_constraint::{Meant, Planned, Rule, in_effect};
 use fv_datum::Attrs;
 use fv_graph::Spot;
 use fv_occurrence::{Node, Occurrence, Test};
 use std::alloc::{AllocError, Global};
 
-/// A constraint's attributes in effect, and what it asks itself.
-#[derive(Drop)]
-struct Demand {
-    attributes: Attrs,
-    test: Test,
-}
-
 /// What a built-in constraint asks at a place, its pattern built.
-fn builtin_demand(
+fn builtin_test(
     alloc: Global,
     patterns: &mut Patterns,
     which: BuiltinName,
     given: &Attrs,
     place: Place,
-) -> Result<Demand, FlattenFault>
+) -> Result<Test, FlattenFault>
     requires attributes { is_some (drafted which given.now) ≡ true }
     requires place { (k : Known) × (refuses_place k (builtin which) (place_view place) ≡ false) }
-    ensures taken { IfOk result (λ a. Asks (builtin which) (place_view place) given.now a.attributes (test_view a.test)) }
+    ensures taken { IfOk result (λ test. Asks (builtin which) (place_view place) given.now (test_view test)) }
     ensures refused { IfErr result (λ f. f ≢ FlattenFault.Memory → (f ≡ FlattenFault.BadPattern)
         × ((p : spec.Planned) → p.meant ≡ builtin which → p.given ≡ given.now → IsReadAs (place_view place) p (Err fault.BadPattern))) }
 {
@@ -50,10 +42,7 @@ fn builtin_demand(
         unreachable!()
     };
     match Builtin::read_named(alloc, patterns, which, given, kind) {
-        Ok(builtin) => Ok(Demand {
-            attributes: Attrs::new(copy_entries(alloc, given.entries())?),
-            test: Test::BuiltIn(builtin),
-        }),
+        Ok(builtin) => Ok(Test::BuiltIn(builtin)),
         Err(BuiltinFault::Attribute) => unreachable!(),
         Err(BuiltinFault::UnexpectedType) => unreachable!(),
         Err(BuiltinFault::BadPattern) => Err(FlattenFault::BadPattern),
@@ -72,45 +61,22 @@ fn asked(rule: Option<Rule>) -> Test
     }
 }
 
-/// What a declared constraint asks at a place.
-fn declared_demand(
-    alloc: Global,
-    definition: &Definition,
-    given: &Attrs,
-    place: Place,
-) -> Result<Demand, AllocError>
-    requires { is_some (in_effect (definition_view definition.now).attributes given.now) ≡ true }
-    ensures { IfOk result (λ a. Asks (declared (definition_view definition.now)) (place_view place) given.now
-        a.attributes (test_view a.test)) }
-{
-    let Some(attributes) = in_effect(alloc, &definition.attributes, given)? else {
-        unreachable!()
-    };
-    Ok(Demand {
-        attributes,
-        test: asked(definition.rule),
-    })
-}
-
 /// What a planned constraint asks at a place, its pattern built.
-fn demand_of(
+fn test_of(
     alloc: Global,
     patterns: &mut Patterns,
     planned: &Planned,
     place: Place,
-) -> Result<Demand, FlattenFault>
+) -> Result<Test, FlattenFault>
     requires attributes { refuses_its_given (planned_view planned.now) ≡ false }
     requires place { (k : Known) × (refuses_at k (place_view place) (planned_view planned.now) ≡ false) }
-    ensures taken { IfOk result (λ a. Asks (planned_view planned.now).meant (place_view place) planned.now.with
-        a.attributes (test_view a.test)) }
+    ensures taken { IfOk result (λ test. Asks (planned_view planned.now).meant (place_view place) planned.now.with (test_view test)) }
     ensures refused { IfErr result (λ f. f ≢ FlattenFault.Memory → (f ≡ FlattenFault.BadPattern)
         × IsReadAs (place_view place) (planned_view planned.now) (Err fault.BadPattern)) }
 {
     match planned.meant {
-        Meant::BuiltIn(which) => builtin_demand(alloc, patterns, which, &planned.with, place),
-        Meant::Declared(definition) => {
-            Ok(declared_demand(alloc, definition, &planned.with, place)?)
-        }
+        Meant::BuiltIn(which) => builtin_test(alloc, patterns, which, &planned.with, place),
+        Meant::Declared(definition) => Ok(asked(definition.rule)),
     }
 }
 
@@ -149,11 +115,11 @@ fn node_of(
         × IsReadAs (place_view place) (planned_view spot.now.value) (Err fault.BadPattern)) }
 {
     let planned = &spot.value;
-    let demand = demand_of(alloc, patterns, planned, place)?;
+    let test = test_of(alloc, patterns, planned, place)?;
     Ok(Node {
         constraint: String::from_str(alloc, planned.constraint)?,
-        attributes: demand.attributes,
-        test: demand.test,
+        attributes: in_effect(alloc, planned.meant, &planned.with)?,
+        test,
         single: is_single(planned.meant),
         message: message_of(alloc, planned)?,
         below: spot.below,

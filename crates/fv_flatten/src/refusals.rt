@@ -1,10 +1,10 @@
 //! What is refused of definitions, of the constraints in their trees, and of the places where these
 //! stand.
-ghost use Rattle.std.specs.Prelude.{◌≡◌, map, not, is_some, option_map};
+ghost use Rattle.std.specs.Prelude.{◌≡◌, map, option_map};
 ghost use Rattle.fv_datum.specs.Attributes.{attribute_view};
 ghost use Rattle.fv_constraint.specs.DefinitionViews.{attribute_entry, definition_view, meant_view, rule_view};
 ghost use Rattle.fv_flatten.specs.PlaceViews.{place_view};
-ghost use Rattle.fv_flatten.specs.Refusals.{is_empty, is_unknown_rule, is_other_kind, bad_default, in_effect, refuses_given, rule_refuses, refuses_place};
+ghost use Rattle.fv_flatten.specs.Refusals.{is_empty, is_unknown_rule, is_other_kind, bad_default, lacks_value, refuses_given, rule_refuses, refuses_place};
 
 use crate::composing::{has_foreign, has_kind};
 use crate::place::Place;
@@ -56,7 +56,7 @@ fn is_other_kind(kind: AttributeKind, default: Option<&Attribute>) -> bool
 
 /// Whether an attribute has no value in effect.
 fn lacks_value(attributes: &BTreeMap<String, AttributeDefinition>, given: &Attrs) -> bool
-    ensures { result ≡ not (is_some (in_effect (map attribute_entry attributes.now.entries) given.now)) }
+    ensures { result ≡ lacks_value (map attribute_entry attributes.now.entries) given.now }
 {
     for (name, attribute) in attributes.iter() {
         if value_of(attribute, given, name.as_str()).is_none() {

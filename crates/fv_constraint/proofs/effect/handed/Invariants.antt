@@ -1,10 +1,20 @@
-use Rattle.std.proofs.Common.{◌≡◌, map}
+use Rattle.std.proofs.Common.{◌≡◌, ℕ, List, map, true, option_and_then, string_cmp}
+use Rattle.std.specs.List.Sorted.{IsStrictlySortedBy}
+use Rattle.std.specs.Map.{keys_of}
+use Rattle.fv_builtin.specs.Given.{given_or}
+use Rattle.fv_builtin.specs.Maps.{ascends}
 use Rattle.fv_datum.specs.Attributes.{entry_view}
-use Rattle.fv_constraint.specs.DefinitionViews.{meant_view, override_entry, composing_view}
-use Rattle.fv_constraint.specs.Effect.{effective, overridden, handed}
+use Rattle.fv_datum.specs.Lookup.{at_name}
+use Rattle.fv_constraint.specs.Definitions.{declared}
+use Rattle.fv_constraint.specs.DefinitionViews.{definition_view, override_entry, composing_view}
+use Rattle.fv_constraint.specs.Effect.{effective, handed}
 use Rattle.fv_constraint.proofs.effect.handed.Given as goal
 
 abbrev pub invariant-loop-name : goal.invariant-loop-name
-invariant-loop-name l =
-    overridden (effective (meant_view l.meant) l.given) (map override_entry l.name-iterator) (map entry_view l.entries.entries)
-    ≡ handed (composing_view l.composing) (effective (meant_view l.meant) l.given)
+invariant-loop-name l = record {
+  each : (name : List ℕ)
+      → given_or (at_name name (map entry_view l.entries.entries)) (option_and_then (effective (declared (definition_view l.definition)) l.given) (at_name name (map override_entry l.name-iterator)))
+      ≡ handed (composing_view l.composing) (effective (declared (definition_view l.definition)) l.given) name;
+  ascending : ascends (map entry_view l.entries.entries) ≡ true;
+  left : IsStrictlySortedBy string_cmp (keys_of l.name-iterator);
+}

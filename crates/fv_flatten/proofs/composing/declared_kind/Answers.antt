@@ -1,5 +1,5 @@
 use Rattle.std.proofs.Common.{map, option_map, is_some, sym, ap, ◌∙◌}
-use Rattle.fv_constraint.proofs.Lookups.{found_at}
+use Rattle.fv_builtin.proofs.Lookups.{found_at}
 use Rattle.fv_constraint.specs.DefinitionViews.{attribute_definition_view, attribute_entry}
 use Rattle.fv_flatten.proofs.Signatures.{kind_seen}
 use Rattle.fv_flatten.proofs.composing.declared_kind.Goals as goal

@@ -1,5 +1,5 @@
 use Rattle.std.proofs.Common.{◌≡◌, false, is_some, string_bytes, sym, ap, ◌∙◌}
-use Rattle.fv_constraint.proofs.Lookups.{tree-at_name}
+use Rattle.fv_builtin.proofs.Lookups.{tree-at_name}
 use Rattle.fv_datum.specs.Attributes.{attribute_view}
 use Rattle.fv_datum.specs.Lookup.{at_name}
 use Rattle.fv_flatten.proofs.Signatures.{is_some-map}

@@ -40,7 +40,7 @@ returns c =
     let p : spec.Planned = record { constraint = c.args.name.now; meant = meant_view c.in-Some.meant; given = c.new.result } in
     let edges = c.self.inside.edges.items in
     let is : meant_by ds c.args.name.now ≡ Some p.meant = ap (λ (es : Definitions). meant_by es c.args.name.now) (sym same) ∙ sym c.meant_by.ensures ∙ ap (option_map meant_view) c.in-Some.is in
-    let given_is : p.given ≡ c.args.given.now = c.new.ensures ∙ c.in_ok-copy_entries.ensures ∙ sym c.entries.ensures in
+    let given_is : p.given ≡ c.args.given.now = c.new.ensures ∙ c.in_ok-copy_entries.ensures.same ∙ sym c.entries.ensures in
     IfOk-weaker c.preorder.result
     (λ (spots : Vec (Spot Planned) Global). map (unfolded.shown planned_view) spots.items ≡ unfolded.listed (unfolded.tree_of (hands_of kept) (next_of c.deref.result.now) (length c.deref.result.now) c.number_of.result p))
     (λ (spots : Vec (Spot Planned) Global). (t : Tree spec.Planned) × IsTreeOf c.args.self.now c.args.name.now c.args.given.now t × (map planned_entry spots.items ≡ preorder t))

@@ -6,7 +6,7 @@ use Rattle.fv_flatten.proofs.Readings.{not_other, refused_as}
 use Rattle.fv_flatten.proofs.Spots.{not_false}
 use Rattle.fv_flatten.specs.PlaceViews.{place_view}
 use Rattle.fv_flatten.specs.Refusals.{refuses_place}
-use Rattle.fv_flatten.proofs.reading.builtin_demand.Goals as goal
+use Rattle.fv_flatten.proofs.reading.builtin_test.Goals as goal
 
 pub unreachable-requires-in-Err-Attribute : goal.unreachable-requires-in-Err-Attribute
 unreachable-requires-in-Err-Attribute c =
