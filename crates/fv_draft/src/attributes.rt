@@ -46,28 +46,6 @@ pub(crate) fn attribute_of(alloc: Global, value: &Value) -> Result<Option<Attrib
     }
 }
 
-fn copy_texts(alloc: Global, texts: &[String]) -> Result<Vec<String>, AllocError>
-    ensures { IfOk result (λ v. map string_bytes v.items ≡ map string_bytes texts.now) }
-{
-    let mut copies = Vec::with_capacity(alloc, texts.len())?;
-    for text in texts {
-        copies.push(text.clone()?)?;
-    }
-    Ok(copies)
-}
-
-/// Another attribute of the same value.
-pub fn copy_of(alloc: Global, attribute: &Attribute) -> Result<Attribute, AllocError>
-    ensures { IfOk result (λ a. attribute_view a ≡ attribute_view attribute.now) }
-{
-    match attribute {
-        Attribute::Integer(number) => Ok(Attribute::Integer(*number)),
-        Attribute::Text(text) => Ok(Attribute::Text(text.clone()?)),
-        Attribute::Boolean(flag) => Ok(Attribute::Boolean(*flag)),
-        Attribute::Texts(texts) => Ok(Attribute::Texts(copy_texts(alloc, texts)?)),
-    }
-}
-
 fn attrs_in(alloc: Global, members: &Map<String, Value>) -> Result<Option<Attrs>, AllocError>
     ensures { IfOk result (λ o. o ≡ each_some attr_of (pairs (members_view members.now.entries))) }
 {

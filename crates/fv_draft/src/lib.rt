@@ -8,7 +8,6 @@ mod draft;
 mod members;
 mod shape;
 
-pub use attributes::copy_of;
 pub use draft::{Draft, FieldDraft, FormDraft, TypeDraft, UseDraft};
 pub use members::add_last;
 pub use shape::draft_of;
