@@ -7,7 +7,7 @@ ghost use Rattle.fv_validate.specs.ViolationView.{violation_view};
 use crate::violation::Violation;
 use std::cmp::Ordering;
 
-/// By the bytes of the path, then by the number of the use.
+/// By the bytes of the path, then by the number of the constraint.
 fn compare(a: &Violation, b: &Violation) -> Ordering
     ensures { result ≡ order (violation_view a.now) (violation_view b.now) }
 {

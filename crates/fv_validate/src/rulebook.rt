@@ -61,8 +61,8 @@ impl<R: RuleSet> Rulebook<R> {
     }
 
     /// The violations of a bundle at a moment, in whole seconds since 1970-01-01T00:00:00Z: each
-    /// once, ascending by the bytes of the path, then by the number of the use. The root alone is
-    /// validated.
+    /// once, ascending by the bytes of the path, then by the number of the constraint. The root
+    /// alone is validated.
     pub fn validate(
         &self,
         alloc: Global,
