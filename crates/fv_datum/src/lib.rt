@@ -28,4 +28,4 @@ pub use moment::{LAST_MOMENT, moment_ok};
 pub use name::{Name, is_name};
 pub use parsing::{JsonFault, read_json};
 pub use reading::{read_datum, spells_datum};
-pub use writing::{is_null, write_datum};
+pub use writing::{is_null, key_of, keys_fit, write_datum};

@@ -74,8 +74,8 @@ fn write_entries(
     Ok(out)
 }
 
-/// The text of a key.
-fn key_of(key: &Datum) -> &str
+/// The text of a map's key; empty where the key is no text.
+pub fn key_of(key: &Datum) -> &str
     ensures { result.now ≡ key_of (view key.now) }
 {
     match key {
@@ -84,8 +84,8 @@ fn key_of(key: &Datum) -> &str
     }
 }
 
-/// Whether each key is a text, below the next.
-fn keys_fit(entries: &[(Datum, Datum)]) -> bool
+/// Whether each key is a text, below the next by its bytes.
+pub fn keys_fit(entries: &[(Datum, Datum)]) -> bool
     ensures { result ≡ keys_fit (entries_view entries.now) }
 {
     for i in 0..entries.len() {

@@ -3,12 +3,12 @@ use Rattle.std.proofs.Common.{◌≡◌, ℕ, ◌+◌, ◌<◌, List, length, ge
 use Rattle.std.specs.List.{list_any}
 use Rattle.fv_draft.specs.Drafts as spec
 use Rattle.fv_draft.specs.DraftViews.{field_view, type_view, form_view}
-use Rattle.fv_declare.specs.UseViews.{use_view}
-use Rattle.fv_declare.specs.Uses as uses
+use Rattle.fv_uses.specs.UseViews.{use_view}
+use Rattle.fv_uses.specs.Uses as uses
 use Rattle.fv_draft.specs.declared.draft.FieldDraft.{FieldDraft}
 use Rattle.fv_draft.specs.declared.draft.TypeDraft.{TypeDraft}
 use Rattle.fv_draft.specs.declared.draft.FormDraft.{FormDraft}
-use Rattle.fv_declare.specs.declared.uses.Use.{Use}
+use Rattle.fv_uses.specs.declared.uses.Use.{Use}
 
 turn : {X Y : Type 0} (view : X → Y) (test : Y → Bool) (xs : List X) (i : ℕ) (x : X) → i < length xs → x ≡ get_or xs i x
     → list_any test (map view (drop i xs)) ≡ (test (view x) || list_any test (map view (drop (i + 1) xs)))

@@ -7,9 +7,9 @@ use Rattle.std.specs.List.{AllZip}
 use Rattle.fv_constraint.specs.Composed.{Planned, IsTreeOf}
 use Rattle.fv_constraint.specs.Definitions.{Definitions}
 use Rattle.fv_flatten.specs.Flattening.{Use, AreTreesOfUses}
-use Rattle.fv_declare.specs.Uses.{used}
-use Rattle.fv_declare.specs.UseViews.{use_view}
-use Rattle.fv_declare.specs.declared.uses.Use as code
+use Rattle.fv_uses.specs.Uses.{used}
+use Rattle.fv_uses.specs.UseViews.{use_view}
+use Rattle.fv_uses.specs.declared.uses.Use as code
 use Rattle.fv_flatten.specs.Read.{IsReadTree, AreReadTrees}
 use Rattle.fv_flatten.specs.Refusals.{Place}
 use Rattle.fv_occurrence.specs.Nodes.{Node}

@@ -7,7 +7,7 @@ use Rattle.std.proofs.lemmas.Map.Made.{is_some-lookup}
 use Rattle.std.proofs.lemmas.Option.{unwrap_or-slice_get}
 use Rattle.std.proofs.lemmas.Slice.Eq.{bytes_eq-Decides}
 use Rattle.fv_datum.specs.Lookup.{at_name}
-use Rattle.fv_model.specs.Types.{DeclaredFields, Declared, number_of, name_at, has_unknown}
+use Rattle.fv_types.specs.Types.{DeclaredFields, Declared, number_of, name_at, has_unknown}
 use Rattle.fv_constraint.specs.Definitions.{composes_unknown}
 use Rattle.fv_datum.specs.Outcomes.{first}
 use Rattle.fv_draft.specs.Drafts as spec
@@ -41,6 +41,9 @@ nor_later false e rest h = h
 
 pub good_names : (d : spec.Drafted) → first (name_conditions d) ≡ None → unknown_name d ≡ false
 good_names d e = not_here (unknown_name d) UnknownName None (nor_later (bad_name d) BadName _ e)
+
+pub names_good : (d : spec.Drafted) → first (name_conditions d) ≡ None → bad_name d ≡ false
+names_good d e = not_here (bad_name d) BadName _ e
 
 -- ---- the roots
 

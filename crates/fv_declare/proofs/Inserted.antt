@@ -7,7 +7,7 @@ use Rattle.std.specs.Cmp.Lexicographic.{slice_cmp}
 use Rattle.std.specs.List.Sorted.{IsStrictlySortedBy}
 use Rattle.std.specs.String.{string_eq}
 use Rattle.indexmap.specs.IndexMap as indexed
-use Rattle.fv_model.specs.Bundles.{IsAscending}
+use Rattle.fv_types.specs.Names.{IsAscending}
 use Rattle.fv_draft.specs.EntryNames.{names_of}
 use Rattle.fv_draft.proofs.Sorted.{above_middle, above}
 

@@ -11,7 +11,7 @@ use Rattle.fv_flatten.specs.Flattening.{AreTreesOfUses, is_empty_in, FlattensAll
 use Rattle.fv_flatten.specs.Flattening as flat
 use Rattle.fv_flatten.specs.Read.{IsReadTree}
 use Rattle.fv_flatten.specs.declared.fault.FlattenFault.{FlattenFault}
-use Rattle.fv_model.specs.Types.{Declared, too_many}
+use Rattle.fv_types.specs.Types.{Declared, too_many}
 use Rattle.fv_occurrence.specs.Nodes.{Node}
 use Rattle.fv_occurrence.specs.Trees.{Tree}
 use Rattle.fv_registry.specs.Rules.{Known}
@@ -19,7 +19,7 @@ use Rattle.fv_declare.specs.Declarations.{Declarations, count_nodes}
 use Rattle.fv_declare.specs.Declares.{types_declared, used_in, has_many, too_large, IsDeclared, IsFlattened}
 use Rattle.fv_declare.specs.FaultNames.{flatten_fault}
 use Rattle.fv_declare.specs.Judging.{unless_many}
-use Rattle.fv_declare.specs.Uses.{Use, used, uses_in}
+use Rattle.fv_uses.specs.Uses.{Use, used, uses_in}
 use Rattle.fv_declare.specs.declared.fault.DeclFault.TheVariants.{EmptyConstraint, TooLarge}
 use Rattle.fv_declare.proofs.Counts.{zip_long, zipped_long, same_count}
 use Rattle.fv_declare.proofs.Verdicts as verdict

@@ -1,10 +1,14 @@
+pub mod Alls
 pub mod Anys
 pub mod Counts
 pub mod Found
 pub mod Inserted
 pub mod Judged
+pub mod Led
 pub mod Lookups
 pub mod Nodes
 pub mod Ordered
+pub mod Rising
 pub mod Steps
+pub mod There
 pub mod Verdicts

@@ -26,11 +26,11 @@ module _ (p : Node → Bool) (t : Tree Node) where
     turn : list_all p (drop i (nodes t)) ≡ (p e.0 && list_all p (drop (i + 1) (nodes t)))
     turn = rw add-one (ap (list_all p) (drop_at (λ (n : Node × ℕ). n.0) (preorder t) i e at))
 
-    pub refused : p e.0 ≡ false → list_all p (drop i (nodes t)) ≡ list_all p (nodes t) → false ≡ list_all p (nodes t)
-    refused fails so_far = sym (turn ∙ ap (λ b. b && list_all p (drop (i + 1) (nodes t))) fails) ∙ so_far
+    pub refused : false ≡ p e.0 → list_all p (drop i (nodes t)) ≡ list_all p (nodes t) → false ≡ list_all p (nodes t)
+    refused fails so_far = sym (turn ∙ ap (λ b. b && list_all p (drop (i + 1) (nodes t))) (sym fails)) ∙ so_far
 
-    pub passed : p e.0 ≡ true → list_all p (drop i (nodes t)) ≡ list_all p (nodes t) → list_all p (drop (i + 1) (nodes t)) ≡ list_all p (nodes t)
-    passed holds so_far = sym (turn ∙ ap (λ b. b && list_all p (drop (i + 1) (nodes t))) holds) ∙ so_far
+    pub passed : true ≡ p e.0 → list_all p (drop i (nodes t)) ≡ list_all p (nodes t) → list_all p (drop (i + 1) (nodes t)) ≡ list_all p (nodes t)
+    passed holds so_far = sym (turn ∙ ap (λ b. b && list_all p (drop (i + 1) (nodes t))) (sym holds)) ∙ so_far
 
   pub all_passed : (i : ℕ) → size t ≤ i → list_all p (drop i (nodes t)) ≡ list_all p (nodes t) → true ≡ list_all p (nodes t)
   all_passed i past so_far = sym (at_drop_all (list_all p) (nodes t) i (omega (arith, length-map (preorder t) (λ (n : Node × ℕ). n.0), length-preorder t))) ∙ so_far

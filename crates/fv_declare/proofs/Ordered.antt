@@ -1,161 +1,32 @@
 -- The declarations of a draft are ordered.
-use Rattle.std.proofs.Common.{◌≡◌, ℕ, suc, ◌+◌, ◌<◌, ◌≤◌, ◌⊎◌, inl, inr, List, [], ◌∷◌, ◌++◌, length, map, zip, slice_get, Some, true, refl, sym, ap, ◌∙◌, arith}
-use Rattle.std.specs.List.{AllByRecursion, AllZip, flat_map, enumerate_from, list_all}
+use Rattle.std.proofs.Common.{◌≡◌, ℕ, ◌+◌, ◌≤◌, List, [], ◌∷◌, length, map, zip, slice_get, true, false, not, ◌||◌, codes, refl, ap, arith}
+use Rattle.std.specs.List.{AllByRecursion, AllZip, list_all, list_any}
+use Rattle.std.specs.Str.{bytes_eq}
 use Rattle.fv_constraint.specs.Composed.{Planned}
-use Rattle.fv_flatten.specs.Fits.{tree_fits}
-use Rattle.fv_flatten.specs.Read.{IsReadTree}
-use Rattle.fv_registry.specs.Rules.{Known}
-use Rattle.fv_declare.specs.Fits.{placed_fits}
-use Rattle.fv_model.specs.Bundles.{IsAscending}
-use Rattle.fv_model.specs.Types.{DeclaredFields, Declared, kind_of}
+use Rattle.fv_datum.specs.Name.{names}
 use Rattle.fv_draft.specs.Drafts as spec
-use Rattle.fv_draft.specs.DraftViews.{field_view, type_view, form_view}
+use Rattle.fv_draft.specs.DraftViews.{field_view, type_view, form_view, draft_view}
 use Rattle.fv_draft.specs.declared.draft.FieldDraft.{FieldDraft}
 use Rattle.fv_draft.specs.declared.draft.TypeDraft.{TypeDraft}
 use Rattle.fv_draft.specs.declared.draft.FormDraft.{FormDraft}
 use Rattle.fv_draft.specs.declared.draft.Draft.{Draft}
+use Rattle.fv_flatten.specs.Fits.{tree_fits}
+use Rattle.fv_flatten.specs.Read.{IsReadTree}
 use Rattle.fv_occurrence.specs.Nodes.{Node}
 use Rattle.fv_occurrence.specs.Trees.{Tree, size}
+use Rattle.fv_registry.specs.Rules.{Known}
+use Rattle.fv_types.proofs.Bools.{not_false, or_left, or_right}
+use Rattle.fv_types.proofs.Lists.{none_each}
+use Rattle.fv_types.specs.Names.{IsAscending}
+use Rattle.fv_uses.specs.Uses.{Use, uses_in, used}
 use Rattle.fv_declare.specs.Declarations.{Placed, Declarations, count_nodes, AreNumbered}
-use Rattle.fv_declare.specs.Declares.{field_declared, type_declared, form_declared, IsPlacedAs}
-use Rattle.fv_declare.specs.Judging.{placed_from}
-use Rattle.fv_declare.specs.Ordered.{place_number, Precedes, IsRising, IsAmong, IsPlaced, AreOrdered}
-use Rattle.fv_declare.specs.Uses.{Place, whole, field, Use, use_at, field_uses, type_uses, uses_in, used}
-
--- ---- lists of uses
-
-all_append : {X : Type 0} (P : X → Type 0) (xs ys : List X) → AllByRecursion P xs → AllByRecursion P ys → AllByRecursion P (xs ++ ys)
-all_append P [] ys h k = k
-all_append P (x ∷ xs) ys h k = (h.0, all_append P xs ys h.1 k)
-
-all_weaker : {X : Type 0} (P Q : X → Type 0) (xs : List X) → ((x : X) → P x → Q x) → AllByRecursion P xs → AllByRecursion Q xs
-all_weaker P Q [] f h = tt
-all_weaker P Q (x ∷ xs) f h = (f x h.0, all_weaker P Q xs f h.1)
-
--- in an earlier type, or in the same type and at no later place
-abbrev Before : Use → Use → Type 0
-Before p q = (p.type < q.type) ⊎ ((p.type ≡ q.type) × (place_number p.place ≤ place_number q.place))
-
-abbrev Rises : List Use → Type 0
-Rises [] = Unit {0}
-Rises (p ∷ ps) = AllByRecursion (Before p) ps × Rises ps
-
-rises_append : (ps qs : List Use) → Rises ps → Rises qs → AllByRecursion (λ p. AllByRecursion (Before p) qs) ps → Rises (ps ++ qs)
-rises_append [] qs h k cross = k
-rises_append (p ∷ ps) qs h k cross = (all_append (Before p) ps qs h.0 cross.0, rises_append ps qs h.1 k cross.1)
-
--- in the type, from a place on and below an end
-abbrev IsIn : ℕ → ℕ → ℕ → Use → Type 0
-IsIn type from end p = (p.type ≡ type) × (from ≤ place_number p.place) × (place_number p.place < end)
-
--- ---- at one place
-
-abbrev IsAt : ℕ → Place → Use → Type 0
-IsAt type place p = (p.type ≡ type) × (p.place ≡ place)
-
-abbrev IsThere : Declared → Use → Type 0
-IsThere ts p = (t : List ℕ × DeclaredFields) × (slice_get ts p.type ≡ Some t) × IsAmong t.1 p.place
-
--- in the type of that number, at a place among these fields
-abbrev IsOf : ℕ → DeclaredFields → Use → Type 0
-IsOf type fs p = (p.type ≡ type) × IsAmong fs p.place
-
-all_at : (type : ℕ) (place : Place) (us : List spec.UseDraft) → AllByRecursion (IsAt type place) (map (use_at type place) us)
-all_at type place [] = tt
-all_at type place (u ∷ us) = ((refl, refl), all_at type place us)
-
-same_rises : (type : ℕ) (place : Place) (ps : List Use) → AllByRecursion (IsAt type place) ps → Rises ps
-same_rises type place [] h = tt
-same_rises type place (p ∷ ps) h = (
-  all_weaker (IsAt type place) (Before p) ps (λ q k. let same : place_number p.place ≡ place_number q.place = ap place_number (h.0.1 ∙ sym k.1) in inr (h.0.0 ∙ sym k.0, omega arith)) h.1,
-  same_rises type place ps h.1,
-)
-
-at_in : (type from end : ℕ) (place : Place) (p : Use) → from ≤ place_number place → place_number place < end → IsAt type place p → IsIn type from end p
-at_in type from end place p low high h = let same : place_number p.place ≡ place_number place = ap place_number h.1 in (h.0, omega arith, omega arith)
-
--- ---- in one type
-
-fields_in : (type from : ℕ) (fs : List spec.FieldDraft) → AllByRecursion (IsIn type (from + 1) (from + 1 + length fs)) (flat_map (field_uses type) (enumerate_from from fs))
-fields_in type from [] = tt
-fields_in type from (f ∷ fs) =
-    let place = field from (kind_of f.type) in
-    all_append (IsIn type (from + 1) (from + 1 + length (f ∷ fs))) (field_uses type (from, f)) _
-    (all_weaker (IsAt type place) (IsIn type (from + 1) (from + 1 + length (f ∷ fs))) (field_uses type (from, f)) (λ u h. at_in type _ _ place u (omega arith) (omega arith) h) (all_at type place f.uses))
-    (all_weaker (IsIn type (from + 1 + 1) (from + 1 + 1 + length fs)) (IsIn type (from + 1) (from + 1 + length (f ∷ fs))) _ (λ u h. (h.0, omega arith, omega arith)) (fields_in type (from + 1) fs))
-
-fields_rise : (type from : ℕ) (fs : List spec.FieldDraft) → Rises (flat_map (field_uses type) (enumerate_from from fs))
-fields_rise type from [] = tt
-fields_rise type from (f ∷ fs) =
-    let place = field from (kind_of f.type) in
-    let here = all_at type place f.uses in
-    let rest = flat_map (field_uses type) (enumerate_from (from + 1) fs) in
-    rises_append (field_uses type (from, f)) rest (same_rises type place (field_uses type (from, f)) here) (fields_rise type (from + 1) fs)
-    (all_weaker (IsAt type place) (λ u. AllByRecursion (Before u) rest) (field_uses type (from, f))
-    (λ u h. let same : place_number u.place ≡ from + 1 = ap place_number h.1 in
-    all_weaker (IsIn type (from + 1 + 1) (from + 1 + 1 + length fs)) (Before u) rest (λ v k. inr (h.0 ∙ sym k.0, omega arith)) (fields_in type (from + 1) fs)) here)
-
-type_in : (t : ℕ × spec.TypeDraft) → AllByRecursion (IsIn t.0 0 (1 + length t.1.fields)) (type_uses t)
-type_in t =
-    all_append (IsIn t.0 0 (1 + length t.1.fields)) (map (use_at t.0 whole) t.1.uses) _
-    (all_weaker (IsAt t.0 whole) (IsIn t.0 0 (1 + length t.1.fields)) _ (λ u h. at_in t.0 _ _ whole u (omega arith) (omega arith) h) (all_at t.0 whole t.1.uses))
-    (all_weaker (IsIn t.0 (0 + 1) (0 + 1 + length t.1.fields)) (IsIn t.0 0 (1 + length t.1.fields)) _ (λ u h. (h.0, omega arith, omega arith)) (fields_in t.0 0 t.1.fields))
-
-type_rises : (t : ℕ × spec.TypeDraft) → Rises (type_uses t)
-type_rises t =
-    let rest = flat_map (field_uses t.0) (enumerate_from 0 t.1.fields) in
-    let here = all_at t.0 whole t.1.uses in
-    rises_append (map (use_at t.0 whole) t.1.uses) rest (same_rises t.0 whole _ here) (fields_rise t.0 0 t.1.fields)
-    (all_weaker (IsAt t.0 whole) (λ u. AllByRecursion (Before u) rest) _
-    (λ u h. let same : place_number u.place ≡ 0 = ap place_number h.1 in
-    all_weaker (IsIn t.0 (0 + 1) (0 + 1 + length t.1.fields)) (Before u) rest (λ v k. inr (h.0 ∙ sym k.0, omega arith)) (fields_in t.0 0 t.1.fields)) here)
-
--- ---- in all types
-
-types_from : (from : ℕ) (ts : List spec.TypeDraft) → AllByRecursion (λ u. from ≤ u.type) (flat_map type_uses (enumerate_from from ts))
-types_from from [] = tt
-types_from from (t ∷ ts) =
-    all_append (λ u. from ≤ u.type) (type_uses (from, t)) _
-    (all_weaker (IsIn from 0 (1 + length t.fields)) (λ u. from ≤ u.type) (type_uses (from, t)) (λ u h. omega arith) (type_in (from, t)))
-    (all_weaker (λ u. from + 1 ≤ u.type) (λ u. from ≤ u.type) _ (λ u h. omega arith) (types_from (from + 1) ts))
-
-types_rise : (from : ℕ) (ts : List spec.TypeDraft) → Rises (flat_map type_uses (enumerate_from from ts))
-types_rise from [] = tt
-types_rise from (t ∷ ts) =
-    let rest = flat_map type_uses (enumerate_from (from + 1) ts) in
-    rises_append (type_uses (from, t)) rest (type_rises (from, t)) (types_rise (from + 1) ts)
-    (all_weaker (IsIn from 0 (1 + length t.fields)) (λ u. AllByRecursion (Before u) rest) (type_uses (from, t))
-    (λ u h. all_weaker (λ v. from + 1 ≤ v.type) (Before u) rest (λ v k. inl (omega arith)) (types_from (from + 1) ts)) (type_in (from, t)))
-
--- ---- the places are there
-
-fields_there : (type : ℕ) (all : DeclaredFields) (from : ℕ) (fs : List spec.FieldDraft) → ((j : ℕ) → slice_get all (from + j) ≡ slice_get (map field_declared fs) j)
-    → AllByRecursion (IsOf type all) (flat_map (field_uses type) (enumerate_from from fs))
-fields_there type all from [] same = tt
-fields_there type all from (f ∷ fs) same =
-    let place = field from (kind_of f.type) in
-    let start : from ≡ from + 0 = omega arith in
-    let found : slice_get all from ≡ Some (field_declared f) = ap (slice_get all) start ∙ same 0 in
-    let there : IsAmong all place = (field_declared f, found, refl) in
-    all_append (IsOf type all) (field_uses type (from, f)) _
-    (all_weaker (IsAt type place) (IsOf type all) (field_uses type (from, f)) (λ u h. let at : IsAmong all u.place = rw h.1 there in (h.0, at)) (all_at type place f.uses))
-    (fields_there type all (from + 1) fs (λ j. let next : from + 1 + j ≡ from + suc j = omega arith in ap (slice_get all) next ∙ same (suc j)))
-
-type_there : (t : ℕ × spec.TypeDraft) → AllByRecursion (IsOf t.0 (type_declared t.1).1) (type_uses t)
-type_there t =
-    let all = (type_declared t.1).1 in
-    all_append (IsOf t.0 all) (map (use_at t.0 whole) t.1.uses) _
-    (all_weaker (IsAt t.0 whole) (IsOf t.0 all) _ (λ u h. let at : IsAmong all u.place = rw h.1 tt in (h.0, at)) (all_at t.0 whole t.1.uses))
-    (fields_there t.0 all 0 t.1.fields (λ j. let same : 0 + j ≡ j = omega arith in ap (slice_get all) same))
-
-types_there : (all : Declared) (from : ℕ) (ts : List spec.TypeDraft) → ((j : ℕ) → slice_get all (from + j) ≡ slice_get (map type_declared ts) j) → AllByRecursion (IsThere all) (flat_map type_uses (enumerate_from from ts))
-types_there all from [] same = tt
-types_there all from (t ∷ ts) same =
-    let start : from ≡ from + 0 = omega arith in
-    let found : slice_get all from ≡ Some (type_declared t) = ap (slice_get all) start ∙ same 0 in
-    all_append (IsThere all) (type_uses (from, t)) _
-    (all_weaker (IsOf from (type_declared t).1) (IsThere all) (type_uses (from, t)) (λ u h. (type_declared t, ap (slice_get all) h.0 ∙ found, h.1)) (type_there (from, t)))
-    (types_there all (from + 1) ts (λ j. let next : from + 1 + j ≡ from + suc j = omega arith in ap (slice_get all) next ∙ same (suc j)))
+use Rattle.fv_declare.specs.Declares.{field_declared, type_declared, form_declared, is_bad_type, is_bad_definition, bad_name, IsPlacedAs}
+use Rattle.fv_declare.specs.Fits.{placed_fits}
+use Rattle.fv_declare.specs.Judging.{AreLed, placed_from}
+use Rattle.fv_declare.specs.Ordered.{Precedes, IsRising, IsPlaced, AreOrdered}
+use Rattle.fv_declare.proofs.Alls.{all_mapped_by}
+use Rattle.fv_declare.proofs.Rising.{Before, Rises, types_rise}
+use Rattle.fv_declare.proofs.There.{IsThere, types_there}
 
 -- ---- the uses with their trees stand where they do
 
@@ -226,9 +97,22 @@ form_names : (fs : List FormDraft) → map (λ f. f.name.now) fs ≡ map (λ f. 
 form_names [] = refl
 form_names (f ∷ fs) = ap (λ ns. f.name.now ∷ ns) (form_names fs)
 
+-- no name of a field is bad, so each is a name
+fields_named : (fs : List spec.FieldDraft) → list_any (λ f. not (names f.name)) fs ≡ false → AllByRecursion (λ f. names f.0 ≡ true) (map field_declared fs)
+fields_named fs good = all_mapped_by (λ f. not (names f.name) ≡ false) (λ f. names f.0 ≡ true) field_declared fs (λ f k. not_false (names f.name) k) (none_each (λ f. not (names f.name)) fs good)
+
+types_named : (ts : List spec.TypeDraft) → list_any is_bad_type ts ≡ false → AllByRecursion (λ t. AllByRecursion (λ f. names f.0 ≡ true) t.1) (map type_declared ts)
+types_named ts good =
+    all_mapped_by (λ t. is_bad_type t ≡ false) (λ t. AllByRecursion (λ f. names f.0 ≡ true) t.1) type_declared ts
+    (λ t k. fields_named t.fields (or_right (not (names t.name) || bytes_eq t.name (codes "Default")) _ k)) (none_each is_bad_type ts good)
+
+all_named : (d : spec.Drafted) → bad_name d ≡ false → AllByRecursion (λ t. AllByRecursion (λ f. names f.0 ≡ true) t.1) (map type_declared d.types)
+unfolding bad_name
+all_named d good = types_named d.types (or_left (list_any is_bad_type d.types) _ (or_left _ (list_any is_bad_definition d.definitions) good))
+
 pub ordered : (d : Draft) (ds : Declarations) (ts : List (Tree Node)) → ds.types ≡ map type_declared (map type_view d.types.items) → ds.occurrences ≡ placed_from 0 (uses_in (map type_view d.types.items)) ts
-    → ds.forms ≡ map form_declared (map form_view d.forms.items) → length ts ≡ length (uses_in (map type_view d.types.items)) → count_nodes ts ≤ 1024 → AreOrdered ds
-ordered d ds ts types uses forms each few =
+    → ds.forms ≡ map form_declared (map form_view d.forms.items) → length ts ≡ length (uses_in (map type_view d.types.items)) → count_nodes ts ≤ 1024 → bad_name (draft_view d) ≡ false → AreLed (draft_view d) → AreOrdered ds
+ordered d ds ts types uses forms each few named led =
     let drafts = map type_view d.types.items in
     let us = uses_in drafts in
     let all = map type_declared drafts in
@@ -236,8 +120,9 @@ ordered d ds ts types uses forms each few =
       types = rw (types, ← type_names d.types.items) d.types_ascend;
       forms = rw (forms, ← form_names d.forms.items) d.forms_ascend;
       fields = rw types (fields_ascend d.types.items);
+      named = rw types (all_named (draft_view d) named);
       uses = rw uses (rising 0 us ts (types_rise 0 drafts));
-      there = rw (types, uses) (placed_all (IsThere all) (IsPlaced all) 0 us ts (λ u n t k. k) (types_there all 0 drafts (λ j. let same : 0 + j ≡ j = omega arith in ap (slice_get all) same)));
+      there = rw (types, uses) (placed_all (IsThere all) (IsPlaced all) 0 us ts (λ u n t k. k) (types_there all 0 drafts led (λ j. let same : 0 + j ≡ j = omega arith in ap (slice_get all) same)));
       numbered = rw uses (numbered 0 us ts);
       few = rw (uses, trees 0 us ts each) few;
     }

@@ -7,7 +7,7 @@ use Rattle.std.specs.String.{string_eq}
 use Rattle.indexmap.specs.IndexMap as indexed
 use Rattle.fv_declare.specs.declared.fault.DeclFault.{DeclFault}
 use Rattle.fv_declare.specs.declared.fault.DeclFault.TheVariants.{NotJson}
-use Rattle.fv_model.specs.Bundles.{IsAscending}
+use Rattle.fv_types.specs.Names.{IsAscending}
 use Rattle.fv_draft.specs.EntryNames.{names_of}
 use Rattle.fv_declare.proofs.Inserted.{entries_insert}
 

@@ -1,9 +1,9 @@
 -- What declarations declare.
 use Rattle.std.specs.Prelude.{◌≡◌, ℕ, ◌+◌, List, [], ◌∷◌}
-use Rattle.fv_model.specs.Types.{Declared}
+use Rattle.fv_types.specs.Types.{Declared}
 use Rattle.fv_occurrence.specs.Nodes.{Node}
 use Rattle.fv_occurrence.specs.Trees.{Tree, size}
-use Rattle.fv_declare.specs.Uses.{Place}
+use Rattle.fv_uses.specs.Uses.{Place}
 
 -- a use of a constraint where it stands: the number of its type, its place there, its tree, and the number of the tree's root over the
 -- whole declarations, from which the numbers of the nodes run on in preorder

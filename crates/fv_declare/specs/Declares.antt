@@ -8,7 +8,7 @@ use Rattle.fv_datum.specs.Lookup.{at_name}
 use Rattle.fv_datum.specs.Name.{names}
 use Rattle.fv_datum.specs.Parsing.{json_of}
 use Rattle.fv_builtin.specs.Names.{is_builtin}
-use Rattle.fv_model.specs.Types.{TypeUse, DeclaredFields, Declared, has_unknown, too_many}
+use Rattle.fv_types.specs.Types.{TypeUse, DeclaredFields, Declared, has_unknown, too_many}
 use Rattle.fv_registry.specs.Rules.{Known}
 use Rattle.fv_constraint.specs.Composed.{Planned, IsCyclic}
 use Rattle.fv_constraint.specs.Definitions.{Definition, composes_unknown, meant_by}
@@ -19,7 +19,7 @@ use Rattle.fv_flatten.specs.Read.{IsReadTree}
 use Rattle.fv_occurrence.specs.Trees.{Tree}
 use Rattle.fv_declare.specs.Declarations.{Placed, Declarations, count_nodes}
 use Rattle.fv_declare.specs.Ordered.{AreOrdered}
-use Rattle.fv_declare.specs.Uses.{Use, used, uses_in, judged_at}
+use Rattle.fv_uses.specs.Uses.{Use, used, uses_in, judged_at}
 use Rattle.fv_declare.specs.declared.fault.DeclFault.{DeclFault}
 use Rattle.fv_declare.specs.declared.fault.DeclFault.TheVariants.{NotJson, Shape, BadName, UnknownName, CyclicComposition, EmptyConstraint, TooLarge, UnknownRule, Attribute, UnexpectedType, BadPattern}
 
@@ -77,7 +77,8 @@ used_in d = map used (uses_in d.types)
 abbrev pub has_many : Drafted → Bool
 has_many d = nat_lt 256 (length d.forms) || nat_lt 256 (length d.definitions)
 
--- more than 256 types, fields of a type, forms or declared constraints, or more than 1,024 nodes of all trees
+-- more than 256 types, fields of a type, forms or declared constraints, more than four containers one in another, or more than 1,024
+-- nodes of all trees
 unfoldable pub too_large : Drafted → List (Tree Planned) → Bool
 too_large d ts = too_many (types_declared d) || has_many d || nat_lt 1024 (count_nodes ts)
 

@@ -4,7 +4,7 @@ use Rattle.std.specs.List.{list_all}
 use Rattle.fv_flatten.specs.Fits.{tree_fits}
 use Rattle.fv_registry.specs.Rules.{Known}
 use Rattle.fv_declare.specs.Declarations.{Placed, Declarations}
-use Rattle.fv_declare.specs.Uses.{judged_at}
+use Rattle.fv_uses.specs.Uses.{judged_at}
 
 -- each rule that a use's tree asks is there for its sort, and takes the kind of the use's place
 abbrev pub placed_fits : Known → Placed → Bool

@@ -1,3 +1,4 @@
+pub mod Codes
 pub mod Declarations
 pub mod Declares
 pub mod FaultNames
@@ -6,5 +7,3 @@ pub mod Judging
 pub mod Ordered
 pub mod PlacedView
 pub mod SchemaView
-pub mod UseViews
-pub mod Uses

@@ -1,15 +1,17 @@
 -- The order of declarations.
-use Rattle.std.specs.Prelude.{◌≡◌, ℕ, ◌+◌, ◌<◌, ◌≤◌, ◌⊎◌, List, [], ◌∷◌, map, slice_get, Some}
+use Rattle.std.specs.Prelude.{◌≡◌, ℕ, ◌+◌, ◌<◌, ◌≤◌, ◌⊎◌, List, [], ◌∷◌, map, true, slice_get, Option, Some, None, option_map, option_and_then}
 use Rattle.std.specs.List.{AllByRecursion}
-use Rattle.fv_model.specs.Bundles.{IsAscending}
-use Rattle.fv_model.specs.Types.{TypeUse, DeclaredFields, Declared, kind_of}
+use Rattle.fv_datum.specs.Name.{names}
+use Rattle.fv_types.specs.Names.{IsAscending}
+use Rattle.fv_extract.specs.Places.{Step, element, key, value, content}
+use Rattle.fv_types.specs.Types.{TypeUse, texts, lists, maps, optionals, DeclaredFields, Declared, kind_of}
 use Rattle.fv_declare.specs.Declarations.{Placed, Declarations, count_nodes, AreNumbered}
-use Rattle.fv_declare.specs.Uses.{Place, whole, field}
+use Rattle.fv_uses.specs.Uses.{Place, whole, field}
 
--- where a use stands in its type: the object first, then the fields
+-- where a use stands in its type: at the object first, then in the fields
 abbrev pub place_number : Place → ℕ
 place_number whole = 0
-place_number (field number kind) = number + 1
+place_number (field number steps kind) = number + 1
 
 -- in an earlier type, or in the same type and at no later place
 abbrev pub Precedes : Placed → Placed → Type 0
@@ -20,21 +22,37 @@ abbrev pub IsRising : List Placed → Type 0
 IsRising [] = Unit {0}
 IsRising (u ∷ us) = AllByRecursion (Precedes u) us × IsRising us
 
--- among a type's fields, the one of that number is there, with data of the kind
+-- what a type use holds one step inside: the keys of a map are texts
+abbrev pub held_after : Step → TypeUse → Option TypeUse
+held_after element (lists held) = Some held
+held_after key (maps held) = Some texts
+held_after value (maps held) = Some held
+held_after content (optionals held) = Some held
+held_after _ _ = None
+
+-- what it holds these steps inside
+abbrev pub held_inside : List Step → TypeUse → Option TypeUse
+held_inside [] type = Some type
+held_inside (step ∷ steps) type = option_and_then (held_inside steps) (held_after step type)
+
+-- among a type's fields, the one of that number is there, and the steps lead in it to data of the kind
 abbrev pub IsAmong : DeclaredFields → Place → Type 0
 IsAmong fs whole = Unit {0}
-IsAmong fs (field number kind) = (f : List ℕ × TypeUse) × (slice_get fs number ≡ Some f) × (kind_of f.1 ≡ kind)
+IsAmong fs (field number steps kind) =
+    (f : List ℕ × TypeUse) × (slice_get fs number ≡ Some f) × (option_map kind_of (held_inside steps f.1) ≡ Some kind)
 
 -- the type of that number is declared, and the place is there among its fields
 abbrev pub IsPlaced : Declared → Placed → Type 0
 IsPlaced ts u = (t : List ℕ × DeclaredFields) × (slice_get ts u.type ≡ Some t) × IsAmong t.1 u.place
 
--- types, forms and the fields of each type ascend by their names, and the uses by their types and places, which are there; the numbers of
--- the nodes run on through all trees, of which there are at most 1,024
+-- types, forms and the fields of each type ascend by their names, fields are named as names, and the uses ascend by their types, in a type
+-- by their fields, behind those at the object itself, and their places are there; the numbers of the nodes, of which there are at most
+-- 1,024, run on through all trees
 pub record AreOrdered (d : Declarations) : Type 0 where
   pub types : IsAscending (map (λ t. t.0) d.types)
   pub forms : IsAscending (map (λ f. f.0) d.forms)
   pub fields : AllByRecursion (λ t. IsAscending (map (λ f. f.0) t.1)) d.types
+  pub named : AllByRecursion (λ t. AllByRecursion (λ f. names f.0 ≡ true) t.1) d.types
   pub uses : IsRising d.occurrences
   pub there : AllByRecursion (IsPlaced d.types) d.occurrences
   pub numbered : AreNumbered 0 d.occurrences

@@ -1,6 +1,6 @@
 -- The use that a placed occurrence is.
 use Rattle.fv_declare.specs.Declarations as spec
-use Rattle.fv_declare.specs.UseViews.{place_view}
+use Rattle.fv_uses.specs.UseViews.{place_view}
 use Rattle.fv_declare.specs.declared.placed.Placed.{Placed}
 
 -- the use that a placed occurrence is

@@ -1,10 +1,10 @@
 -- The declarations that a schema stands for.
 use Rattle.std.specs.Prelude.{ℕ, List, map, String, string_bytes}
 use Rattle.std.specs.declared.alloc.Global.{Global}
-use Rattle.fv_model.specs.Types.{Declared, TextMap, name_at}
-use Rattle.fv_model.specs.Views.{types_view}
-use Rattle.fv_model.specs.declared.types.TypeId.{TypeId}
-use Rattle.fv_model.specs.declared.types.Types.{Types}
+use Rattle.fv_types.specs.Types.{Declared, TextMap, name_at}
+use Rattle.fv_types.specs.TypesView.{types_view}
+use Rattle.fv_types.specs.declared.types.TypeId.{TypeId}
+use Rattle.fv_types.specs.declared.types.Types.{Types}
 use Rattle.fv_declare.specs.Declarations.{Declarations}
 use Rattle.fv_declare.specs.PlacedView.{placed_view}
 use Rattle.fv_declare.specs.declared.placed.Placed.{Placed}

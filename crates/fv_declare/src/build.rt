@@ -6,26 +6,26 @@ ghost use Rattle.fv_datum.specs.Outcomes.{Gives};
 ghost use Rattle.fv_draft.specs.DraftViews.{form_view, draft_view};
 ghost use Rattle.fv_flatten.specs.Fits.{tree_fits};
 ghost use Rattle.fv_flatten.specs.Read.{IsReadTree};
-ghost use Rattle.fv_model.specs.Bundles.{IsAscending};
-ghost use Rattle.fv_model.specs.Views.{types_view};
+ghost use Rattle.fv_types.specs.Names.{IsAscending};
+ghost use Rattle.fv_types.specs.TypesView.{types_view};
 ghost use Rattle.fv_occurrence.specs.Trees.{Tree};
 ghost use Rattle.fv_registry.specs.Rules.{Known};
 ghost use Rattle.fv_declare.specs.Declarations.{count_nodes};
-ghost use Rattle.fv_declare.specs.Declares.{types_declared, unknown_root, form_declared, used_in, IsDeclared};
+ghost use Rattle.fv_declare.specs.Declares.{types_declared, bad_name, unknown_root, form_declared, used_in, IsDeclared};
 ghost use Rattle.fv_declare.specs.Fits.{fits};
-ghost use Rattle.fv_declare.specs.Judging.{placed_from};
+ghost use Rattle.fv_declare.specs.Judging.{AreLed, placed_from};
 ghost use Rattle.fv_declare.specs.PlacedView.{placed_view};
 ghost use Rattle.fv_declare.specs.SchemaView.{forms_view};
-ghost use Rattle.fv_declare.specs.Uses.{uses_in};
-ghost use Rattle.fv_declare.specs.UseViews.{use_view};
+ghost use Rattle.fv_uses.specs.Uses.{uses_in};
+ghost use Rattle.fv_uses.specs.UseViews.{use_view};
 
 use crate::fault::DeclFault;
 use crate::placed::Placed;
 use crate::schema::Schema;
-use crate::uses::Use;
 use fv_draft::{Draft, FormDraft};
 use fv_model::{TypeId, Types};
 use fv_occurrence::Occurrence;
+use fv_uses::Use;
 use indexmap::IndexMap;
 use std::alloc::{AllocError, Global};
 
@@ -47,7 +47,7 @@ fn place_all(alloc: Global, uses: &[Use], trees: Vec<Occurrence>) -> Result<Vec<
             type_id: TypeId {
                 index: given.type_index,
             },
-            place: given.place,
+            place: given.place.copy()?,
             number,
             occurrence,
         })?;
@@ -86,6 +86,8 @@ pub(crate) fn build(
     trees: Vec<Occurrence>,
 ) -> Result<Schema, DeclFault>
     requires types { types_view types ≡ types_declared (draft_view draft.now) }
+    requires named { bad_name (draft_view draft.now) ≡ false }
+    requires led { AreLed (draft_view draft.now) }
     requires roots { unknown_root (types_declared (draft_view draft.now)) (draft_view draft.now).forms ≡ false }
     requires uses { map use_view uses.now ≡ uses_in (draft_view draft.now).types }
     requires each { length trees.items ≡ length uses.now }

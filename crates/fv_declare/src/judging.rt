@@ -8,24 +8,24 @@ ghost use Rattle.fv_datum.specs.Outcomes.{first};
 ghost use Rattle.fv_draft.specs.DraftViews.{draft_view};
 ghost use Rattle.fv_flatten.specs.Flattening.{AreTreesOfUses};
 ghost use Rattle.fv_flatten.specs.UseViews.{use_view as flat_use_view};
-ghost use Rattle.fv_model.specs.Views.{types_view};
+ghost use Rattle.fv_types.specs.TypesView.{types_view};
 ghost use Rattle.fv_occurrence.specs.Trees.{Tree};
 ghost use Rattle.fv_declare.specs.Declarations.{count_nodes};
 ghost use Rattle.fv_declare.specs.Declares.{types_declared, name_conditions, has_many, IsFlattened, IsComposed};
 ghost use Rattle.fv_declare.specs.Fits.{fits};
-ghost use Rattle.fv_declare.specs.Judging.{unless_many};
-ghost use Rattle.fv_declare.specs.Uses.{used, uses_in};
-ghost use Rattle.fv_declare.specs.UseViews.{use_view};
+ghost use Rattle.fv_declare.specs.Judging.{AreLed, unless_many};
+ghost use Rattle.fv_uses.specs.Uses.{used, uses_in};
+ghost use Rattle.fv_uses.specs.UseViews.{use_view};
 
 use crate::build::build;
 use crate::fault::DeclFault;
 use crate::schema::Schema;
-use crate::uses::{Use, used_in};
 use fv_constraint::Composition;
 use fv_draft::Draft;
 use fv_flatten::{flatten_all, has_empty, trees_are_unique};
 use fv_model::Types;
 use fv_registry::RuleSet;
+use fv_uses::{Use, used_in};
 use std::alloc::Global;
 
 /// The most forms and declared constraints, of each.
@@ -62,7 +62,7 @@ fn count_nodes(composition: &Composition, uses: &[Use]) -> usize
 }
 
 /// The schema of declarations in which no constraint is composed of itself, or their first fault.
-/// `types` are the draft's, `None` where there are too many.
+/// `types` are the draft's, `None` where one of their limits is passed.
 fn flattened<'a, R: RuleSet>(
     alloc: Global,
     rules: &R,
@@ -73,6 +73,7 @@ fn flattened<'a, R: RuleSet>(
 ) -> Result<Schema, DeclFault>
     requires named { first (name_conditions (draft_view draft.now)) ≡ None }
     requires types { option_map types_view types ≡ unless_many (types_declared (draft_view draft.now)) }
+    requires led { AreLed (draft_view draft.now) }
     requires uses { map use_view uses.now ≡ uses_in (draft_view draft.now).types }
     requires composed { composition.now ≡ (draft_view draft.now).definitions }
     ensures taken { IfOk result (λ s. IsFlattened (R.known rules.now) (draft_view draft.now) (Ok s)) }
@@ -96,7 +97,7 @@ fn flattened<'a, R: RuleSet>(
 }
 
 /// The schema of declarations whose names are known, or their first fault. `types` are the draft's,
-/// `None` where there are too many.
+/// `None` where one of their limits is passed.
 pub(crate) fn composed<'a, R: RuleSet>(
     alloc: Global,
     rules: &R,
@@ -106,6 +107,7 @@ pub(crate) fn composed<'a, R: RuleSet>(
 ) -> Result<Schema, DeclFault>
     requires named { first (name_conditions (draft_view draft.now)) ≡ None }
     requires types { option_map types_view types ≡ unless_many (types_declared (draft_view draft.now)) }
+    requires led { AreLed (draft_view draft.now) }
     requires uses { map use_view uses.now ≡ uses_in (draft_view draft.now).types }
     ensures taken { IfOk result (λ s. IsComposed (R.known rules.now) (draft_view draft.now) (Ok s)) }
     ensures fits { IfOk result (λ s. fits (R.known rules.now) s ≡ true) }

@@ -10,10 +10,9 @@ mod placed;
 mod reading;
 mod schema;
 mod types;
-mod uses;
 
 pub use fault::DeclFault;
+pub use fv_uses::Place;
 pub use placed::Placed;
 pub use reading::read_schema;
 pub use schema::Schema;
-pub use uses::Place;

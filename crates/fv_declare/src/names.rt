@@ -7,21 +7,21 @@ ghost use Rattle.fv_datum.specs.Lookup.{at_name};
 ghost use Rattle.fv_datum.specs.Name.{names};
 ghost use Rattle.fv_datum.specs.Outcomes.{Gives, first, unless_fault};
 ghost use Rattle.fv_draft.specs.DraftViews.{field_view, type_view, form_view, draft_view};
-ghost use Rattle.fv_model.specs.Types.{declared_view};
-ghost use Rattle.fv_model.specs.Views.{types_view};
+ghost use Rattle.fv_types.specs.Types.{declared_view};
+ghost use Rattle.fv_types.specs.TypesView.{types_view};
 ghost use Rattle.fv_declare.specs.Declares.{types_declared, is_bad_type, is_bad_definition, bad_name, unknown_root, name_conditions};
 ghost use Rattle.fv_declare.specs.Judging.{unless_many};
-ghost use Rattle.fv_declare.specs.Uses.{uses_in};
-ghost use Rattle.fv_declare.specs.UseViews.{use_view};
+ghost use Rattle.fv_uses.specs.Uses.{uses_in};
+ghost use Rattle.fv_uses.specs.UseViews.{use_view};
 
 use crate::fault::DeclFault;
 use crate::types::types_for;
-use crate::uses::Use;
 use fv_builtin::is_builtin;
 use fv_constraint::{AttributeDefinition, Definition, composes_unknown, meant_by};
 use fv_datum::is_name;
 use fv_draft::{Draft, FieldDraft, FormDraft, TypeDraft};
 use fv_model::{Fields, Types, TypesFault};
+use fv_uses::Use;
 use indexmap::IndexMap;
 use std::alloc::Global;
 use std::collections::BTreeMap;
@@ -140,7 +140,7 @@ fn has_unknown_root(declared: &IndexMap<String, Fields>, forms: &[FormDraft]) ->
 }
 
 /// The types, unless a declared name is bad or a name is unknown; `None` where there are more than
-/// 256 of them, or a type has more than 256 fields.
+/// 256 of them, a type has more than 256 fields, or more than four containers stand one in another.
 #[tactic(auto, unfolding(crate::specs::Declares::unknown_name))]
 pub(crate) fn known_types(
     alloc: Global,

@@ -1,12 +1,12 @@
 ghost use Rattle.std.specs.Prelude.{◌≡◌};
 ghost use Rattle.fv_declare.specs.PlacedView.{placed_view};
-ghost use Rattle.fv_declare.specs.UseViews.{place_view};
+ghost use Rattle.fv_uses.specs.UseViews.{place_view};
 
-use crate::uses::Place;
 use fv_model::TypeId;
 use fv_occurrence::Occurrence;
+use fv_uses::Place;
 
-/// A use of a constraint where it stands: at a field of a type, or at the type itself.
+/// A use of a constraint where it stands: at the type itself, or at a field or inside it.
 #[derive(Drop)]
 pub struct Placed {
     pub(crate) type_id: TypeId,
@@ -24,10 +24,10 @@ impl Placed {
     }
 
     /// The place in the type.
-    pub fn place(&self) -> Place
-        ensures { place_view result ≡ (placed_view self.now).place }
+    pub fn place(&self) -> &Place
+        ensures { place_view result.now ≡ (placed_view self.now).place }
     {
-        self.place
+        &self.place
     }
 
     /// The number of the constraint over the whole declarations. Those that it is composed of have

@@ -7,15 +7,16 @@ ghost use Rattle.fv_declare.specs.Declares.{Declares, Judged};
 ghost use Rattle.fv_draft.specs.Drafts.{draft_of as spec_draft};
 ghost use Rattle.fv_draft.specs.DraftViews.{draft_view};
 ghost use Rattle.fv_declare.specs.Fits.{fits};
+ghost use Rattle.fv_declare.specs.Judging.{AreLed};
 
 use crate::fault::DeclFault;
 use crate::judging::composed;
 use crate::names::known_types;
 use crate::schema::Schema;
-use crate::uses::uses_in;
 use fv_datum::{JsonFault, read_json};
 use fv_draft::{Draft, draft_of};
 use fv_registry::RuleSet;
+use fv_uses::uses_in;
 use serde_json::Value;
 use std::alloc::Global;
 
@@ -32,6 +33,7 @@ fn value_of(alloc: Global, bytes: &[u8]) -> Result<Value, DeclFault>
 
 /// The schema that a draft declares.
 fn schema_of_draft<R: RuleSet>(alloc: Global, rules: &R, draft: &Draft) -> Result<Schema, DeclFault>
+    requires { AreLed (draft_view draft.now) }
     ensures taken { IfOk result (λ s. Judged (R.known rules.now) (Some (draft_view draft.now)) (Ok s)) }
     ensures fits { IfOk result (λ s. fits (R.known rules.now) s ≡ true) }
     ensures refused { IfErr result (λ f. f ≢ DeclFault.Memory

@@ -1,21 +1,21 @@
 ghost use Rattle.std.specs.Prelude.{◌≡◌, map, option_map};
 ghost use Rattle.std.specs.List.{list_all};
 ghost use Rattle.fv_datum.specs.Lookup.{at_name};
-ghost use Rattle.fv_model.specs.Types.{name_at};
-ghost use Rattle.fv_model.specs.Views.{types_view};
+ghost use Rattle.fv_types.specs.Types.{name_at};
+ghost use Rattle.fv_types.specs.TypesView.{types_view};
 ghost use Rattle.fv_declare.specs.Fits.{placed_fits, fits};
 ghost use Rattle.fv_declare.specs.Ordered.{AreOrdered};
 ghost use Rattle.fv_declare.specs.PlacedView.{placed_view};
-ghost use Rattle.fv_declare.specs.UseViews.{place_view};
-ghost use Rattle.fv_declare.specs.Uses.{judged_at};
+ghost use Rattle.fv_uses.specs.UseViews.{place_view};
+ghost use Rattle.fv_uses.specs.Uses.{judged_at};
 ghost use Rattle.fv_flatten.specs.Fits.{test_fits};
 ghost use Rattle.fv_occurrence.specs.Views.{test_view};
 
 use crate::placed::Placed;
-use crate::uses::Place;
 use fv_model::{TypeId, Types};
 use fv_occurrence::Test;
 use fv_registry::RuleSet;
+use fv_uses::Place;
 use indexmap::IndexMap;
 use std::marker::Model;
 
@@ -24,7 +24,7 @@ use std::marker::Model;
 pub struct Schema {
     pub(crate) types: Types,
     /// The uses of constraints, each at its number: by types, in a type those at itself and then by
-    /// fields, and at a place as they are declared.
+    /// fields, in a field those at it and then those inside it.
     pub(crate) occurrences: Vec<Placed>,
     /// The forms by their names, each with its root's type.
     pub(crate) forms: IndexMap<String, TypeId>,
@@ -35,13 +35,14 @@ impl Model for Schema {
     ghost use Rattle.fv_builtin.specs.Codes.{pattern_code};
     ghost use Rattle.fv_occurrence.specs.Codes.{tree_code};
     ghost use Rattle.fv_occurrence.specs.Nodes.{Node};
+    ghost use Rattle.fv_declare.specs.Codes.{type_use_code};
     ghost use Rattle.fv_declare.specs.Declarations.{Declarations};
     ghost use Rattle.fv_declare.specs.Ordered.{AreOrdered};
     ghost use Rattle.fv_declare.specs.SchemaView.{declared_by};
 
     ghost Value = { Declarations };
 
-    ghost coded = { Prim.hlevel (codes, tree_code {N = Node} (Prim.hlevel (codes, pattern_code))) };
+    ghost coded = { Prim.hlevel (codes, type_use_code, tree_code {N = Node} (Prim.hlevel (codes, pattern_code))) };
 
     ghost view = { λ s. declared_by s.types s.occurrences.items s.forms };
 
@@ -91,13 +92,13 @@ fn all_fit<R: RuleSet>(rules: &R, occurrences: &[Placed]) -> bool
 }
 
 /// Whether the rule that a test asks is there for what is judged at the place.
-fn test_fits<R: RuleSet>(rules: &R, place: Place, test: &Test) -> bool
-    ensures { result ≡ test_fits (R.known rules.now) (judged_at (place_view place)) (test_view test.now) }
+fn test_fits<R: RuleSet>(rules: &R, place: &Place, test: &Test) -> bool
+    ensures { result ≡ test_fits (R.known rules.now) (judged_at (place_view place.now)) (test_view test.now) }
 {
     match (test, place) {
         (Test::BuiltIn(_) | Test::Nothing, _) => true,
-        (Test::Rule(rule), Place::Field(_, kind)) => {
-            rules.knows_field(*rule) && rules.takes(*rule, kind)
+        (Test::Rule(rule), Place::Field(_, _, kind)) => {
+            rules.knows_field(*rule) && rules.takes(*rule, *kind)
         }
         (Test::ObjectRule(rule), Place::Whole) => rules.knows_object(*rule),
         _ => false,
@@ -112,7 +113,7 @@ fn placed_fits<R: RuleSet>(rules: &R, placed: &Placed) -> bool
         let Some(node) = placed.occurrence.node(number) else {
             unreachable!()
         };
-        if !test_fits(rules, placed.place, &node.test) {
+        if !test_fits(rules, &placed.place, &node.test) {
             return false;
         }
     }

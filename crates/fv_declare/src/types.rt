@@ -1,7 +1,7 @@
 //! The types of a draft by their names, before they are judged.
 ghost use Rattle.std.specs.Prelude.{◌≡◌, IfOk, map};
-ghost use Rattle.fv_model.specs.Bundles.{IsAscending};
-ghost use Rattle.fv_model.specs.Types.{fields_view, declared_view};
+ghost use Rattle.fv_types.specs.Names.{IsAscending};
+ghost use Rattle.fv_types.specs.Types.{fields_view, declared_view};
 ghost use Rattle.fv_declare.specs.Declares.{field_declared, type_declared};
 ghost use Rattle.fv_draft.specs.DraftViews.{field_view, type_view};
 

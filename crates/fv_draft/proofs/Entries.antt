@@ -5,7 +5,7 @@ use Rattle.std.specs.declared.alloc.Global.{Global}
 use Rattle.std.specs.List.Sorted.{IsStrictlySortedBy}
 use Rattle.std.specs.Map.{keys_of}
 use Rattle.fv_datum.specs.Members.{each_some}
-use Rattle.fv_model.specs.Bundles.{IsAscending}
+use Rattle.fv_types.specs.Names.{IsAscending}
 use Rattle.fv_draft.specs.EntryNames.{names_of}
 use Rattle.fv_draft.proofs.Fronts.{with_front, front_more}
 use Rattle.fv_draft.proofs.Sorted.{names-ascend}

@@ -3,26 +3,21 @@ use Rattle.std.specs.Prelude.{ℕ, ℤ, pos, List, [], ◌∷◌, false, Option,
 use Rattle.std.specs.Option.{option_or}
 use Rattle.serde_json.specs.Data as json
 use Rattle.serde_json.specs.Find.{as_bool, as_str}
-use Rattle.fv_datum.specs.Attributes.{AttributeValue, integer, text, boolean, texts, Attributes}
 use Rattle.fv_datum.specs.Forms.{only, required, optional, maybe, each_member, each_item, map2, map3}
 use Rattle.fv_datum.specs.Json.{whole_of}
 use Rattle.fv_datum.specs.Lookup.{at_name}
 use Rattle.fv_datum.specs.declared.attribute_kind.AttributeKind.{AttributeKind}
 use Rattle.fv_datum.specs.declared.attribute_kind.AttributeKind.TheVariants as attribute
-use Rattle.fv_datum.specs.Members.{listed, each_some}
 use Rattle.fv_constraint.specs.Definitions.{Rule, of_data, of_objects, AttributeDefinition, Composing, Definition, Definitions}
-use Rattle.fv_model.specs.Types.{TypeUse, texts as text_field, integers as integer_field, decimals as decimal_field, booleans as boolean_field, dates as date_field, instants as instant_field, references}
+use Rattle.fv_draft.specs.Places.{PlacedUse, place_of}
+use Rattle.fv_draft.specs.Uses.{UseDraft, attr_of, attribute_of, uses_of}
+use Rattle.fv_types.specs.Types.{TypeUse}
 
--- a use of a constraint, with the attributes that it gives
-pub record UseDraft : Type 0 where
-  pub constraint : List ℕ
-  pub given : Attributes
-
--- a field: its name, what it holds and the uses at it
+-- a field: its name, what it holds, and the uses at it and inside it
 pub record FieldDraft : Type 0 where
   pub name : List ℕ
   pub type : TypeUse
-  pub uses : List UseDraft
+  pub uses : List PlacedUse
 
 -- a type, with the uses at the type itself
 pub record TypeDraft : Type 0 where
@@ -41,55 +36,15 @@ pub record Drafted : Type 0 where
   pub forms : List FormDraft
   pub definitions : Definitions
 
--- an attribute's value: a 64-bit whole number, a text, a boolean or a list of texts
-abbrev pub attribute_of : json.Data → Option AttributeValue
-attribute_of (json.number n) = option_map integer (whole_of n)
-attribute_of (json.string s) = Some (text s)
-attribute_of (json.boolean b) = Some (boolean b)
-attribute_of (json.array js) = option_map texts (each_some as_str (listed js))
-attribute_of _ = None
-
--- an attribute's value with its name
-abbrev pub attr_of : List ℕ × json.Data → Option (List ℕ × AttributeValue)
-attr_of m = option_map (λ a. (m.0, a)) (attribute_of m.1)
-
--- `{"constraint":NAME,"with":{..}}`, `with` may be missing
-abbrev pub use_of : json.Data → Option UseDraft
-use_of = only (codes "constraint" ∷ codes "with" ∷ []) (λ j.
-    map2 (λ name given. record { constraint = name; given = given })
-    (required as_str (codes "constraint") j) (optional [] (each_member attr_of) (codes "with") j))
-
--- the plain kinds by their names
-abbrev pub plain_kinds : List (List ℕ × TypeUse)
-plain_kinds =
-    (codes "text", text_field)
-    ∷ (codes "integer", integer_field)
-    ∷ (codes "decimal", decimal_field)
-    ∷ (codes "boolean", boolean_field)
-    ∷ (codes "date", date_field)
-    ∷ (codes "instant", instant_field)
-    ∷ []
-
--- `{"ref":TYPE}`
-abbrev pub reference_of : json.Data → Option TypeUse
-reference_of = only (codes "ref" ∷ []) (λ j. option_map references (required as_str (codes "ref") j))
-
--- what a field holds: a plain kind by its name, or references
-abbrev pub type_use_of : json.Data → Option TypeUse
-type_use_of (json.string name) = at_name name plain_kinds
-type_use_of j = reference_of j
-
--- `{"type":T,"constraints":[..]}`, `constraints` may be missing
+-- a field with its place
 abbrev pub field_of : List ℕ × json.Data → Option FieldDraft
-field_of m = only (codes "type" ∷ codes "constraints" ∷ []) (λ j.
-    map2 (λ type uses. record { name = m.0; type = type; uses = uses })
-    (required type_use_of (codes "type") j) (optional [] (each_item use_of) (codes "constraints") j)) m.1
+field_of m = option_map (λ held. record { name = m.0; type = held.type; uses = held.uses }) (place_of [] m.1)
 
 -- `{"fields":{..},"constraints":[..]}`, `constraints` may be missing
 abbrev pub type_of : List ℕ × json.Data → Option TypeDraft
 type_of m = only (codes "fields" ∷ codes "constraints" ∷ []) (λ j.
     map2 (λ fields uses. record { name = m.0; fields = fields; uses = uses })
-    (required (each_member field_of) (codes "fields") j) (optional [] (each_item use_of) (codes "constraints") j)) m.1
+    (required (each_member field_of) (codes "fields") j) (uses_of (codes "constraints") j)) m.1
 
 -- `{"root":TYPE}`
 abbrev pub form_of : List ℕ × json.Data → Option FormDraft

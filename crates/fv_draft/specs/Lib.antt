@@ -1,3 +1,5 @@
 pub mod DraftViews
 pub mod Drafts
 pub mod EntryNames
+pub mod Places
+pub mod Uses

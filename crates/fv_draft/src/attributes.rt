@@ -7,7 +7,7 @@ ghost use Rattle.serde_json.specs.View.{view as json_view, items_view, members_v
 ghost use Rattle.fv_datum.specs.Attributes.{attribute_view};
 ghost use Rattle.fv_datum.specs.Forms.{each_member};
 ghost use Rattle.fv_datum.specs.Members.{pairs, listed, each_some};
-ghost use Rattle.fv_draft.specs.Drafts.{attribute_of, attr_of};
+ghost use Rattle.fv_draft.specs.Uses.{attribute_of, attr_of};
 
 use crate::members::add_last;
 use fv_datum::{Attribute, Attrs};

@@ -8,7 +8,8 @@ ghost use Rattle.fv_datum.specs.Attributes.{attribute_view};
 ghost use Rattle.fv_datum.specs.Forms.{each_member};
 ghost use Rattle.fv_datum.specs.Lookup.{at_name};
 ghost use Rattle.fv_datum.specs.Members.{pairs, each_some};
-ghost use Rattle.fv_draft.specs.Drafts.{attribute_of as spec_attribute, attribute_kinds, attribute_definition_of, number_in, rule_number_of, rule_number_at, rule_of as spec_rule, definition_of as spec_definition};
+ghost use Rattle.fv_draft.specs.Uses.{attribute_of as spec_attribute};
+ghost use Rattle.fv_draft.specs.Drafts.{attribute_kinds, attribute_definition_of, number_in, rule_number_of, rule_number_at, rule_of as spec_rule, definition_of as spec_definition};
 ghost use Rattle.fv_constraint.specs.DefinitionViews.{attribute_definition_view, attribute_entry, rule_view, definition_view, definition_entry};
 
 use crate::attributes::attribute_of;

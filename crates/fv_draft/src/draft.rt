@@ -1,12 +1,13 @@
 //! Declarations by their names, before any of them is judged.
 ghost use Rattle.std.proofs.Props.{props};
 ghost use Rattle.std.specs.Prelude.{◌≡◌, map};
-ghost use Rattle.fv_model.specs.Bundles.{IsAscending};
+ghost use Rattle.fv_types.specs.Names.{IsAscending};
 ghost use Rattle.fv_draft.specs.EntryNames.{names_of};
 
 use fv_constraint::Definition;
-use fv_datum::Attrs;
-use fv_model::TypeUse;
+use fv_datum::{Attrs, Kind};
+use fv_extract::Step;
+use fv_types::TypeUse;
 use serde_json::{Map, Value};
 use std::collections::BTreeMap;
 
@@ -17,12 +18,22 @@ pub struct UseDraft<'a> {
     pub with: Attrs,
 }
 
-/// A field of a type.
+/// A use of a constraint at a place in a field.
+#[derive(Drop)]
+pub struct PlacedUse<'a> {
+    /// The steps from the field to the place.
+    pub steps: Vec<Step>,
+    /// The kind of what stands there.
+    pub kind: Kind,
+    pub draft: UseDraft<'a>,
+}
+
+/// A field of a type, with the uses at it and inside it in the order of their numbers.
 #[derive(Drop)]
 pub struct FieldDraft<'a> {
     pub name: &'a str,
     pub type_use: TypeUse,
-    pub uses: Vec<UseDraft<'a>>,
+    pub uses: Vec<PlacedUse<'a>>,
 }
 
 /// A type, its fields ascending by the bytes of their names, and the uses at itself.

@@ -6,8 +6,10 @@ mod composing;
 mod definitions;
 mod draft;
 mod members;
+mod places;
 mod shape;
+mod uses;
 
-pub use draft::{Draft, FieldDraft, FormDraft, TypeDraft, UseDraft};
+pub use draft::{Draft, FieldDraft, FormDraft, PlacedUse, TypeDraft, UseDraft};
 pub use members::add_last;
 pub use shape::draft_of;

@@ -1,6 +1,6 @@
 //! Maps that are made entry by entry.
 ghost use Rattle.std.specs.Prelude.{◌≡◌, ◌++◌, ◌∷◌, ℕ, List, [], OnOk, string_bytes};
-ghost use Rattle.fv_model.specs.Bundles.{IsAscending};
+ghost use Rattle.fv_types.specs.Names.{IsAscending};
 ghost use Rattle.fv_draft.specs.EntryNames.{names_of};
 
 use std::alloc::AllocError;

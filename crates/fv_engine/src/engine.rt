@@ -69,13 +69,14 @@ impl<R: RuleSet, S: Alter> Model for Engine<R, S> {
     ghost use Rattle.std.specs.Coded.{codes};
     ghost use Rattle.sqlite.specs.Held.{Held, held_code, state};
     ghost use Rattle.fv_builtin.specs.Codes.{pattern_code};
+    ghost use Rattle.fv_declare.specs.Codes.{type_use_code};
     ghost use Rattle.fv_engine.specs.Machines.{Machine, over};
     ghost use Rattle.fv_occurrence.specs.Codes.{tree_code};
     ghost use Rattle.fv_occurrence.specs.Nodes.{Node};
 
     ghost Value = { Machine (Held S) };
 
-    ghost coded = { Prim.hlevel (codes, tree_code {N = Node} (Prim.hlevel (codes, pattern_code)), held_code S.code) };
+    ghost coded = { Prim.hlevel (codes, type_use_code, tree_code {N = Node} (Prim.hlevel (codes, pattern_code)), held_code S.code) };
 
     ghost view = { λ e. over (state S.Store) e.book e.store };
 }

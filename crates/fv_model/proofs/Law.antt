@@ -1,5 +1,5 @@
 -- What was written of a well-typed bundle is read as that bundle.
-use Rattle.std.proofs.Common.{◌≡◌, ◌≢◌, ℕ, ◌≤◌, List, [], ◌∷◌, ◌++◌, map, length, cond, Bool, true, false, not, nat_lt, Option, Some, None, Ok, Ordering, Less, Equal, Greater, nat_cmp, bytes_eq, is_some, option_map, ◌⊎◌, inl, inr, refl, sym, ap, subst, ◌∙◌, true≢false, append_assoc, append-nil}
+use Rattle.std.proofs.Common.{◌≡◌, ◌≢◌, ℕ, List, [], ◌∷◌, ◌++◌, map, length, cond, Bool, true, false, not, nat_lt, Option, Some, None, Ok, Ordering, Less, Equal, Greater, nat_cmp, bytes_eq, is_some, option_map, option_and_then, refl, sym, ap, subst, ◌∙◌, true≢false, append_assoc, append-nil}
 use Rattle.std.specs.List.{list_any, AllByRecursion}
 use Rattle.std.specs.Map.{keys_of}
 use Rattle.std.specs.Option.{ForSome}
@@ -12,62 +12,28 @@ use Rattle.std.proofs.lemmas.Map.Keys.{sorted_head, sorted_tail}
 use Rattle.std.proofs.lemmas.Map.Lookups.{exact_bytes}
 use Rattle.std.proofs.lemmas.Slice.Eq.{bytes_eq-Decides}
 use Rattle.serde_json.specs.Data as json
-use Rattle.serde_json.specs.Find.{get_member, as_str}
+use Rattle.serde_json.specs.Find.{get_member}
 use Rattle.serde_json.proofs.Views.{get_member-put, get_member-put_other}
 use Rattle.fv_datum.specs.Outcomes.{first, unless_fault}
 use Rattle.fv_datum.specs.Data.{Data, null}
-use Rattle.fv_datum.specs.Json.{spelled}
-use Rattle.fv_datum.specs.Kinds.{FitsKind, IsOfKind}
 use Rattle.fv_datum.specs.Lookup.{at_name}
 use Rattle.fv_datum.specs.Name.{names}
-use Rattle.fv_datum.specs.Written.{is_null, datum_written}
-use Rattle.fv_datum.specs.declared.kind.Kind.{Kind}
-use Rattle.fv_datum.specs.declared.kind.Kind.TheVariants as kind
-use Rattle.fv_datum.proofs.Spelled.{spelled-written}
+use Rattle.fv_datum.specs.Written.{is_null}
+use Rattle.fv_types.specs.Flaws.{Flaw, flaw_among, undeclared, misfits, is_missing, dangles, is_other, strays, is_large}
+use Rattle.fv_types.specs.Names.{ObjectTypes}
+use Rattle.fv_types.proofs.Back.{read_back, none_large, none_refers}
 use Rattle.fv_model.specs.Bundles.{IsAscending, Thing, Things, Bundled}
 use Rattle.fv_datum.specs.Members.{pairs, each_some}
 use Rattle.fv_model.specs.Draft.{Part, part_of, draft_of}
-use Rattle.fv_model.specs.Reading.{ObjectTypes, object_types, root_missing, Flaw, flaw_among, has_flaw, undeclared, misfits, dangles, strays, is_long_text, is_long, long_text, root_type, conditions, draft_fault, datum_at, field_of, object_of, bundle_of, judged, bundle_read}
-use Rattle.fv_model.specs.Types.{TypeUse, texts, references, DeclaredFields, Declared, AreApart, FieldsApart, kind_of, name_at}
-use Rattle.fv_model.specs.WellTyped.{NamesObject, RefersTo, IsWithinLimits, FitsUse, FieldsFit, FitsType, IsWellTyped, HasRootType}
+use Rattle.fv_model.specs.Reading.{object_types, root_missing, has_flaw, large_datum, root_type, conditions, draft_fault, datum_at, field_of, object_of, bundle_of, judged, bundle_read}
+use Rattle.fv_types.specs.Types.{TypeUse, DeclaredFields, Declared, AreApart, FieldsApart, name_at}
+use Rattle.fv_model.specs.WellTyped.{NamesObject, FitsUse, FieldsFit, FitsType, IsWellTyped, HasRootType}
 use Rattle.fv_model.specs.Writing.{datum_json, added, thing_json, objects_added, bundle_json}
-use Rattle.fv_model.specs.declared.types.TypeId.{TypeId}
-use Rattle.fv_model.proofs.Apart.{apart-head, apart-tail, found_apart}
-use Rattle.fv_model.proofs.Listed.{below_middle}
-use Rattle.fv_model.proofs.Bools.{or_false, or_left, or_right}
-
--- ---- one datum
-
-plain_json : (k : Kind) (d : Data) → IsOfKind k d → datum_written d ≡ Ok (datum_json d)
-plain_json kind.Text d (s, it) = rw it refl
-plain_json kind.Integer d (n, fits, it) = rw it refl
-plain_json kind.Decimal d (s, passes, it) = rw it refl
-plain_json kind.Boolean d (b, it) = rw it refl
-plain_json kind.Date d (s, passes, it) = rw it refl
-plain_json kind.Instant d (n, passes, it) = rw it refl
-plain_json kind.Ref d (s, passes, it) = rw it refl
-plain_json _ d none = absurd none
-
-has_json : (k : Kind) (d : Data) → FitsKind k d → datum_written d ≡ Ok (datum_json d)
-has_json k d (inl is) = rw is refl
-has_json k d (inr of) = plain_json k d of
-
-again : (os : Things) (type : TypeUse) (d : Data) → FitsUse os type d → spelled (kind_of type) (datum_json d) ≡ Some d
-again os type d fits = spelled-written (kind_of type) d (datum_json d) fits.0 (has_json (kind_of type) d fits.0)
-
-short : (n : ℕ) → n ≤ 65536 → nat_lt 65536 n ≡ false
-short n h = le-ltb 65536 n h
-
-short_text : (d : Data) → FitsKind kind.Text d → IsWithinLimits d → is_long_text (as_str (datum_json d)) ≡ false
-short_text d (inl is) within = rw is refl
-short_text d (inr (s, it)) within =
-    let bound : length s ≤ 65536 = rw it at within in
-    rw it (short (length s) bound)
-
--- only a text field's datum can be too long
-not_long : (type : TypeUse) (d : Data) → FitsKind (kind_of type) d → IsWithinLimits d → is_long (Some type) (datum_json d) ≡ false
-not_long texts d fits within = short_text d fits within
-not_long _ d fits within = refl
+use Rattle.fv_types.specs.declared.types.TypeId.{TypeId}
+use Rattle.fv_types.proofs.Apart.{apart-head, apart-tail, found_apart}
+use Rattle.fv_types.proofs.Lists.{each_of, none_made}
+use Rattle.fv_types.proofs.Orders.{below_middle}
+use Rattle.fv_types.proofs.Bools.{or_false, or_left, or_right}
 
 -- ---- the fields
 
@@ -94,7 +60,7 @@ is_null_null _ e = absurd (true≢false (sym e))
 at_put : (os : Things) (b : Bool) (type : TypeUse) (k : List ℕ) (d : Data) (ms : json.Members) → b ≡ is_null d → FitsUse os type d → get_member k ms ≡ None
     → datum_at type (get_member k (cond b ms (json.put k (datum_json d) ms))) ≡ d
 at_put os true type k d ms e fit none = rw none (sym (is_null_null d (sym e)))
-at_put os false type k d ms e fit none = rw (get_member-put k (datum_json d) ms, again os type d fit) refl
+at_put os false type k d ms e fit none = rw (get_member-put k (datum_json d) ms, read_back (NamesObject os) type d fit) refl
 
 none_put : (b : Bool) (k : List ℕ) (d : json.Data) (ms : json.Members) (ds : DeclaredFields) → AllByRecursion (λ e. e.0 ≢ k) ds → AllByRecursion (λ e. get_member e.0 ms ≡ None) ds
     → AllByRecursion (λ e. get_member e.0 (cond b ms (json.put k d ms)) ≡ None) ds
@@ -166,27 +132,27 @@ Agree types os = (name : List ℕ) → at_name name types ≡ option_map (λ t. 
 known_type : (os : Things) (types : ObjectTypes) (type name : List ℕ) → Agree types os → NamesObject os type name → at_name name types ≡ Some type
 known_type os types type name agree (t, found, same) = agree name ∙ ap (option_map (λ (u : Thing). u.type_name)) found ∙ ap (λ n. Some n) same
 
--- a reference is null, or a name whose object has the type
-referred : (os : Things) (types : ObjectTypes) (type : List ℕ) (d : Data) → Agree types os → FitsKind kind.Ref d → RefersTo os (references type) d
-    → (as_str (datum_json d) ≡ None) ⊎ ((name : List ℕ) × (as_str (datum_json d) ≡ Some name) × (at_name name types ≡ Some type))
-referred os types type d agree (inl is) refers = inl (rw is refl)
-referred os types type d agree (inr (s, passes, it)) refers = inr (s, rw it refl, known_type os types type s agree (refers s it))
+missing_not : (types : ObjectTypes) (type name : List ℕ) → at_name name types ≡ Some type → is_missing types (Some name) ≡ false
+missing_not types type name found = rw found refl
 
-not_dangling : (os : Things) (types : ObjectTypes) (type : TypeUse) (d : Data) → Agree types os → FitsKind (kind_of type) d → RefersTo os type d → dangles types (Some type) (datum_json d) ≡ false
-not_dangling os types (references type) d agree fits refers = elim (referred os types type d agree fits refers) [ inl none ↦ rw none refl | inr some ↦ rw (some.1, some.2) refl ]
-not_dangling os types _ d agree fits refers = refl
+not_dangling : (os : Things) (types : ObjectTypes) (type : TypeUse) (d : Data) → Agree types os → FitsUse os type d → dangles types (Some type) (datum_json d) ≡ false
+not_dangling os types type d agree fits =
+    none_refers (NamesObject os) (λ own name. is_missing types name) (λ own. refl) (λ own name is. missing_not types own name (known_type os types own name agree is)) type d fits
 
-not_stray : (os : Things) (types : ObjectTypes) (type : TypeUse) (d : Data) → Agree types os → FitsKind (kind_of type) d → RefersTo os type d → strays types (Some type) (datum_json d) ≡ false
-not_stray os types (references type) d agree fits refers = elim (referred os types type d agree fits refers) [ inl none ↦ rw none refl | inr some ↦ rw (some.1, some.2, same_bytes type) refl ]
-not_stray os types _ d agree fits refers = refl
+other_not : (types : ObjectTypes) (type name : List ℕ) → at_name name types ≡ Some type → is_other type (option_and_then (λ n. at_name n types) (Some name)) ≡ false
+other_not types type name found = rw (found, same_bytes type) refl
 
--- no field is undeclared, of another kind, refers wrongly or is too long
+not_stray : (os : Things) (types : ObjectTypes) (type : TypeUse) (d : Data) → Agree types os → FitsUse os type d → strays types (Some type) (datum_json d) ≡ false
+not_stray os types type d agree fits =
+    none_refers (NamesObject os) (λ own name. is_other own (option_and_then (λ n. at_name n types) name)) (λ own. refl) (λ own name is. other_not types own name (known_type os types own name agree is)) type d fits
+
+-- no field is undeclared, of another kind, refers wrongly or is too large
 record Taken (types : ObjectTypes) (all : DeclaredFields) (fs : List (List ℕ × Data)) : Type 0 where
   declared : AllByRecursion (λ f. not (is_some (at_name f.0 all)) ≡ false) fs
   fits : AllByRecursion (λ f. misfits (at_name f.0 all) (datum_json f.1) ≡ false) fs
   there : AllByRecursion (λ f. dangles types (at_name f.0 all) (datum_json f.1) ≡ false) fs
   own : AllByRecursion (λ f. strays types (at_name f.0 all) (datum_json f.1) ≡ false) fs
-  lengths : AllByRecursion (λ f. is_long (at_name f.0 all) (datum_json f.1) ≡ false) fs
+  lengths : AllByRecursion (λ f. is_large (at_name f.0 all) (datum_json f.1) ≡ false) fs
 
 taken : (os : Things) (types : ObjectTypes) (all ds : DeclaredFields) (fs : List (List ℕ × Data)) → Agree types os → FieldsFit os ds fs → AllByRecursion (λ e. at_name e.0 all ≡ Some e.1) ds → Taken types all fs
 taken os types all [] [] agree fit known = record { declared = tt; fits = tt; there = tt; own = tt; lengths = tt }
@@ -195,10 +161,10 @@ taken os types all (d ∷ ds) (f ∷ fs) agree fit known =
     let more = taken os types all ds fs agree fit.2 known.1 in
     record {
       declared = (rw found refl, more.declared);
-      fits = (rw (found, again os d.1 f.1 fit.1) refl, more.fits);
-      there = (rw found (not_dangling os types d.1 f.1 agree fit.1.0 fit.1.2), more.there);
-      own = (rw found (not_stray os types d.1 f.1 agree fit.1.0 fit.1.2), more.own);
-      lengths = (rw found (not_long d.1 f.1 fit.1.0 fit.1.1), more.lengths);
+      fits = (rw (found, read_back (NamesObject os) d.1 f.1 fit.1) refl, more.fits);
+      there = (rw found (not_dangling os types d.1 f.1 agree fit.1), more.there);
+      own = (rw found (not_stray os types d.1 f.1 agree fit.1), more.own);
+      lengths = (rw found (none_large (NamesObject os) d.1 f.1 fit.1), more.lengths);
     }
 taken os types all [] (f ∷ fs) agree fit known = absurd fit
 taken os types all (d ∷ ds) [] agree fit known = absurd fit
@@ -228,7 +194,7 @@ record IsBack (ts : Declared) (types : ObjectTypes) (o : List ℕ × Thing) : Ty
   fits : has_flaw misfits ts (part_for o) ≡ false
   there : has_flaw (dangles types) ts (part_for o) ≡ false
   own : has_flaw (strays types) ts (part_for o) ≡ false
-  short : has_flaw is_long ts (part_for o) ≡ false
+  short : has_flaw is_large ts (part_for o) ≡ false
   back : object_of ts (part_for o) ≡ o
 
 object_back : (ts : Declared) (os : Things) (types : ObjectTypes) (o : List ℕ × Thing) → FieldsApart ts → Agree types os → FitsType ts os o.1 → IsBack ts types o
@@ -246,20 +212,11 @@ object_back ts os types o ts_apart agree fits_type =
       fits = flaw_known misfits ts part ds is ∙ any_added (λ g. misfits (at_name g.0 ds) g.1) fs json.no_members all.fits refl;
       there = flaw_known (dangles types) ts part ds is ∙ any_added (λ g. dangles types (at_name g.0 ds) g.1) fs json.no_members all.there refl;
       own = flaw_known (strays types) ts part ds is ∙ any_added (λ g. strays types (at_name g.0 ds) g.1) fs json.no_members all.own refl;
-      short = flaw_known is_long ts part ds is ∙ any_added (λ g. is_long (at_name g.0 ds) g.1) fs json.no_members all.lengths refl;
+      short = flaw_known is_large ts part ds is ∙ any_added (λ g. is_large (at_name g.0 ds) g.1) fs json.no_members all.lengths refl;
       back = rw is (ap (λ (xs : List (List ℕ × Data)). (o.0, the_thing o.1.type_name xs)) back);
     }
 
 -- ---- the objects
-
--- where each is as said, none is otherwise
-none_of : {X Y : Type 0} (t : Y → Bool) (f : X → Y) (P : X → Type 0) (xs : List X) → ((x : X) → P x → t (f x) ≡ false) → AllByRecursion P xs → list_any t (map f xs) ≡ false
-none_of t f P [] each all = refl
-none_of t f P (x ∷ xs) each all = or_false (t (f x)) _ (each x all.0) (none_of t f P xs each all.1)
-
-each_of : {X : Type 0} (P Q : X → Type 0) (xs : List X) → ((x : X) → P x → Q x) → AllByRecursion P xs → AllByRecursion Q xs
-each_of P Q [] turn all = tt
-each_of P Q (x ∷ xs) turn all = (turn x all.0, each_of P Q xs turn all.1)
 
 all_back : (ts : Declared) (types : ObjectTypes) (os : Things) → AllByRecursion (IsBack ts types) os → map (object_of ts) (map part_for os) ≡ os
 all_back ts types [] all = refl
@@ -334,23 +291,23 @@ law ts asked b apart well rooted =
     let types = object_types ps in
     let all : AllByRecursion (IsBack ts types) os = each_of (λ o. FitsType ts os o.1) (IsBack ts types) os (λ o fits. object_back ts os types o apart (types_agree os) fits) well.typed in
     let few : nat_lt 256 (length ps) ≡ false = rw length-map (le-ltb 256 (length os) well.few) in
-    let long : long_text ts ps ≡ false = none_of (has_flaw is_long ts) part_for (IsBack ts types) os (λ o back. back.short) all in
+    let long : large_datum ts ps ≡ false = none_made (has_flaw is_large ts) part_for (IsBack ts types) os (λ o back. back.short) all in
     let there : root_missing b.root ps ≡ false = rw (types_agree os b.root) (is_there (at_name b.root os) well.rooted) in
     let none : draft_fault ts asked (record { root = b.root; objects = ps }) ≡ None =
     no_first (conditions ts asked (record { root = b.root; objects = ps })) (
-      none_of (λ p. not (names p.name)) part_for (λ o. names o.0 ≡ true) os (λ o named. rw named refl) well.named,
+      none_made (λ p. not (names p.name)) part_for (λ o. names o.0 ≡ true) os (λ o named. rw named refl) well.named,
       (
         there,
         (
-          none_of (λ p. not (is_some (at_name p.type_name ts))) part_for (IsBack ts types) os (λ o back. back.typed) all,
+          none_made (λ p. not (is_some (at_name p.type_name ts))) part_for (IsBack ts types) os (λ o back. back.typed) all,
           (
-            none_of (has_flaw undeclared ts) part_for (IsBack ts types) os (λ o back. back.declared) all,
+            none_made (has_flaw undeclared ts) part_for (IsBack ts types) os (λ o back. back.declared) all,
             (
-              none_of (has_flaw misfits ts) part_for (IsBack ts types) os (λ o back. back.fits) all,
+              none_made (has_flaw misfits ts) part_for (IsBack ts types) os (λ o back. back.fits) all,
               (
-                none_of (has_flaw (dangles types) ts) part_for (IsBack ts types) os (λ o back. back.there) all,
+                none_made (has_flaw (dangles types) ts) part_for (IsBack ts types) os (λ o back. back.there) all,
                 (
-                  none_of (has_flaw (strays types) ts) part_for (IsBack ts types) os (λ o back. back.own) all,
+                  none_made (has_flaw (strays types) ts) part_for (IsBack ts types) os (λ o back. back.own) all,
                   (or_false _ _ few long, (root_asked asked b.root os rooted, tt)),
                 ),
               ),

@@ -1,14 +1,9 @@
 pub mod Anys
-pub mod Apart
-pub mod Bools
 pub mod Firsts
-pub mod Fronts
 pub mod Given
 pub mod Law
 pub mod Listed
-pub mod Lookups
 pub mod Made
-pub mod Plain
-pub mod Telling
 pub mod Typed
+pub mod Values
 pub mod Wrong

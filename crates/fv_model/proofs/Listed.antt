@@ -1,7 +1,6 @@
 -- Names in order: an entry with a new name goes last.
-use Rattle.std.proofs.Common.{◌≡◌, ℕ, List, [], ◌∷◌, ◌++◌, map, Bool, true, false, cond, Option, Some, None, option_map, option_and_then, String, Global, string_bytes, Ordering, Less, Equal, nat_cmp, bytes_eq, refl, sym, ap, subst, ◌∙◌}
+use Rattle.std.proofs.Common.{◌≡◌, ℕ, List, [], ◌∷◌, ◌++◌, map, Bool, true, false, cond, Option, Some, None, option_map, option_and_then, String, Global, Ordering, Less, Equal, nat_cmp, bytes_eq, refl, sym, ap, subst, ◌∙◌}
 use Rattle.std.specs.Cmp.Lexicographic.{slice_cmp}
-use Rattle.std.specs.List.{AllByRecursion}
 use Rattle.std.specs.List.Sorted.{IsStrictlySortedBy}
 use Rattle.std.specs.Map.{keys_of}
 use Rattle.std.specs.String.{string_cmp}
@@ -12,17 +11,14 @@ use Rattle.indexmap.specs.IndexMap.{insert_entry}
 use Rattle.serde_json.specs.Data as json
 use Rattle.serde_json.specs.View.{members_view}
 use Rattle.serde_json.specs.declared.value.Value.{Value}
-use Rattle.fv_model.specs.Bundles.{IsAscending}
+use Rattle.fv_types.specs.Names.{IsAscending}
+use Rattle.fv_types.proofs.Lists.{both_some}
+use Rattle.fv_types.proofs.Orders.{below_middle, members_ascend}
 use Rattle.fv_datum.specs.Forms.{map2}
 use Rattle.fv_datum.specs.Members.{pairs, each_some}
 use Rattle.fv_model.specs.Draft.{Part, part_of}
 use Rattle.fv_model.specs.Reading.{object_types, object_of}
-use Rattle.fv_model.specs.Types.{Declared}
-
--- a name that is below those that follow is below one in their midst
-pub below_middle : {X : Type 0} (l k : List ℕ) (x : X) (front more : List (List ℕ × X)) → AllByRecursion (λ y. slice_cmp nat_cmp l y ≡ Less) (keys_of (front ++ (k, x) ∷ more)) → slice_cmp nat_cmp l k ≡ Less
-below_middle l k x [] more h = h.0
-below_middle l k x (e ∷ es) more h = below_middle l k x es more h.1
+use Rattle.fv_types.specs.Types.{Declared}
 
 less_differs : (o : Ordering) → o ≡ Less → o ≡ Equal → true ≡ false
 less_differs o less equal = cc
@@ -44,17 +40,6 @@ insert_last name view (e ∷ es) k v more h =
     let below = below_middle (name e.0) (name k) (view v) (map (λ f. (name f.0, view f.1)) es) more (sorted_head (slice_cmp nat_cmp) (name e.0) (keys_of rest) h) in
     rw (other_name _ (name k) (name e.0) refl below) (ap (λ xs. (name e.0, view e.1) ∷ xs) (insert_last name view es k v more (sorted_tail (slice_cmp nat_cmp) (name e.0) (keys_of rest) h)))
 
--- ---- the members of a value
-
-all_below : (k : List ℕ) (es : List (String Global × Value)) → AllByRecursion (λ y. slice_cmp nat_cmp k (string_bytes y) ≡ Less) (keys_of es) → AllByRecursion (λ y. slice_cmp nat_cmp k y ≡ Less) (keys_of (pairs (members_view es)))
-all_below k [] h = tt
-all_below k (e ∷ es) h = (h.0, all_below k es h.1)
-
-pub members_ascend : (es : List (String Global × Value)) → IsStrictlySortedBy string_cmp (keys_of es) → IsAscending (keys_of (pairs (members_view es)))
-unfolding IsStrictlySortedBy
-members_ascend [] h = tt
-members_ascend (e ∷ es) h = (all_below (string_bytes e.0) es h.0, members_ascend es h.1)
-
 -- ---- the objects that are given
 
 built : (b : Bool) (name : List ℕ) (type : Option (List ℕ)) (given : Option json.Members) (p : Part)
@@ -68,11 +53,6 @@ built false name type given p e = cc
 
 part_named : (m : List ℕ × json.Data) (p : Part) → part_of m ≡ Some p → p.name ≡ m.0
 part_named m p e = built _ m.0 _ _ p e
-
-both_some : {X : Type 0} (o : Option X) (rest : Option (List X)) (xs : List X) → option_and_then (λ y. option_map (λ ys. y ∷ ys) rest) o ≡ Some xs → (x : X) × (ys : List X) × (o ≡ Some x) × (rest ≡ Some ys) × (x ∷ ys ≡ xs)
-both_some (Some x) (Some ys) xs e = (x, ys, refl, refl, cc)
-both_some (Some x) None xs e = cc
-both_some None rest xs e = cc
 
 -- objects have the names of the members that they are read from
 pub parts_named : (ms : List (List ℕ × json.Data)) (ps : List Part) → each_some part_of ms ≡ Some ps → keys_of (object_types ps) ≡ keys_of ms

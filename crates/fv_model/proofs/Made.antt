@@ -12,9 +12,11 @@ use Rattle.fv_model.specs.Bundles.{Thing}
 use Rattle.fv_model.specs.Draft.{Part}
 use Rattle.fv_model.specs.Fitting.{field_misfits, part_misfits, unless_wrong}
 use Rattle.fv_model.specs.Reading.{field_of, object_of}
-use Rattle.fv_model.specs.Types.{DeclaredFields, Declared, use_view, name_at, fields_at}
+use Rattle.fv_types.specs.Types.{DeclaredFields, Declared, use_view, name_at, fields_at}
+use Rattle.fv_model.specs.Views.{types_view, named_view}
 use Rattle.fv_model.specs.Writing.{IsWritten}
-use Rattle.fv_model.specs.declared.type_use.TypeUse.{TypeUse}
+use Rattle.fv_model.specs.declared.bundle.Object.{Object}
+use Rattle.fv_types.specs.declared.type_use.TypeUse.{TypeUse}
 
 -- each element's images by two functions, side by side
 zip-maps : {X Y Z : Type 0} (f : X → Y) (g : X → Z) (xs : List X) → zip (map f xs) (map g xs) ≡ map (λ x. (f x, g x)) xs
@@ -44,3 +46,11 @@ pub written_fields : (ns : List (List ℕ)) (ds : List Datum) → All (λ d. IsW
 written_fields [] ds all = tt
 written_fields (n ∷ ns) [] all = tt
 written_fields (n ∷ ns) (d ∷ ds) all = (All-head (λ x. IsWritten (view x)) d ds all, written_fields ns ds (All-tail (λ x. IsWritten (view x)) d ds all))
+
+-- an object, with its name, whose data can be written
+abbrev pub AreWritten : List ℕ × Thing → Type 0
+AreWritten o = AllByRecursion (λ f. IsWritten f.1) o.1.fields
+
+pub objects_written : (es : List (String Global × Object)) → AllByRecursion AreWritten (map named_view es)
+objects_written [] = tt
+objects_written (e ∷ es) = (written_fields (keys_of (fields_at (types_view e.1.types) e.1.type_id.index)) e.1.data.items e.1.written, objects_written es)

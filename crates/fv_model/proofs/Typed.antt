@@ -1,5 +1,5 @@
 -- What is read is well-typed, and its root of the asked type.
-use Rattle.std.proofs.Common.{◌≡◌, ◌⊎◌, ℕ, ◌≤◌, List, [], ◌∷◌, map, length, cond, Bool, true, false, not, nat_lt, Option, Some, None, Result, Ok, Err, IfOk, option_map, option_and_then, unwrap_or, Ordering, Less, Equal, Greater, nat_cmp, bytes_eq, is_some, inl, inr, refl, sym, ap, subst, ◌∙◌}
+use Rattle.std.proofs.Common.{◌≡◌, ◌⊎◌, ℕ, ◌≤◌, List, [], ◌∷◌, map, length, cond, Bool, true, false, not, nat_lt, Option, Some, None, Result, Ok, Err, IfOk, option_map, option_and_then, Ordering, Less, Equal, Greater, nat_cmp, bytes_eq, is_some, inl, inr, refl, sym, subst, ◌∙◌}
 use Rattle.std.specs.List.{list_any, AllByRecursion}
 use Rattle.std.specs.Map.{keys_of}
 use Rattle.std.specs.Option.{ForSome}
@@ -12,64 +12,34 @@ use Rattle.std.proofs.lemmas.Slice.Eq.{bytes_eq-Decides}
 use Rattle.serde_json.specs.Data as json
 use Rattle.serde_json.specs.Find.{get_member, as_str}
 use Rattle.fv_datum.specs.Outcomes.{Gives, first, unless_fault}
-use Rattle.fv_datum.specs.Data.{Data, null, text, reference}
-use Rattle.fv_datum.specs.Json.{spelled}
-use Rattle.fv_datum.specs.Kinds.{FitsKind, IsOfKind}
 use Rattle.fv_datum.specs.Lookup.{at_name}
 use Rattle.fv_datum.specs.Name.{names}
-use Rattle.fv_datum.specs.declared.kind.Kind.TheVariants as kind
-use Rattle.fv_datum.proofs.Spelled.{spelled-fits}
-use Rattle.fv_model.specs.Bundles.{IsAscending, Things, Bundled}
+use Rattle.fv_types.specs.Flaws.{flaw_among, misfits, referring, is_missing, dangles, is_other, strays, is_large}
+use Rattle.fv_types.specs.Names.{ObjectTypes}
+use Rattle.fv_types.specs.Spelled.{datum_of}
+use Rattle.fv_types.proofs.Fitted.{IsFree, spelled_fits}
+use Rattle.fv_model.specs.Bundles.{IsAscending, Bundled}
 use Rattle.fv_datum.specs.Members.{pairs}
 use Rattle.fv_model.specs.Draft.{Part, Drafted, draft_of}
-use Rattle.fv_model.specs.Reading.{bad_name, root_missing, unknown_type, flaw_among, has_flaw, some_flawed, misfits, wrong_kind, ObjectTypes, object_types, is_missing, dangles, dangling_ref, is_other, strays, ref_type, is_long, long_text, too_large, root_type, conditions, draft_fault, datum_at, field_of, object_of, bundle_of, judged, bundle_read}
-use Rattle.fv_model.specs.Types.{TypeUse, texts, integers, decimals, booleans, dates, instants, references, DeclaredFields, Declared, FieldsApart, kind_of, name_at}
+use Rattle.fv_model.specs.Reading.{bad_name, root_missing, unknown_type, has_flaw, some_flawed, wrong_kind, object_types, dangling_ref, ref_type, large_datum, too_large, root_type, conditions, draft_fault, datum_at, field_of, object_of, bundle_of, judged, bundle_read}
+use Rattle.fv_types.specs.Types.{TypeUse, DeclaredFields, Declared, FieldsApart, name_at}
 use Rattle.fv_model.specs.Views.{bundle_view}
-use Rattle.fv_model.specs.WellTyped.{NamesObject, RefersTo, IsWithinLimits, FitsUse, FieldsFit, FitsType, IsWellTyped, HasRootType}
+use Rattle.fv_model.specs.WellTyped.{NamesObject, FitsUse, FieldsFit, FitsType, IsWellTyped, HasRootType}
+use Rattle.fv_model.specs.Writing.{IsWritten}
+use Rattle.fv_model.proofs.Made.{AreWritten, objects_written}
 use Rattle.fv_model.specs.declared.bundle.Bundle.{Bundle}
 use Rattle.fv_model.specs.declared.fault.BundleFault.{BundleFault}
 use Rattle.fv_model.specs.declared.fault.BundleFault.TheVariants.{Memory}
-use Rattle.fv_model.specs.declared.types.TypeId.{TypeId}
-use Rattle.fv_model.proofs.Apart.{found_apart}
-use Rattle.fv_model.proofs.Bools.{not_false, or_left, or_right}
+use Rattle.fv_types.specs.declared.types.TypeId.{TypeId}
+use Rattle.fv_types.proofs.Apart.{found_apart}
+use Rattle.fv_types.proofs.Bools.{not_false, or_left, or_right}
 use Rattle.fv_model.proofs.Law.{found_each, flaw_known}
 
--- ---- one datum
-
-string_of : (j : json.Data) (s : List ℕ) → spelled kind.Text j ≡ Some (text s) → as_str j ≡ Some s
-string_of (json.string r) s e = let same : text r ≡ text s = cc in let bytes : r ≡ s = cc in ap (λ x. Some x) bytes
-string_of _ s e = cc
-
-text_within : (j : json.Data) (d : Data) → IsOfKind kind.Text d → spelled kind.Text j ≡ Some d → is_long (Some texts) j ≡ false → IsWithinLimits d
-text_within j d (s, it) e short =
-    let found : as_str j ≡ Some s = string_of j s (rw it at e) in
-    let limit : nat_lt 65536 (length s) ≡ false = rw found at short in
-    rw it (ltb-false 65536 (length s) limit)
-
-plain_within : (type : TypeUse) (j : json.Data) (d : Data) → IsOfKind (kind_of type) d → spelled (kind_of type) j ≡ Some d → is_long (Some type) j ≡ false → IsWithinLimits d
-plain_within texts j d of e short = text_within j d of e short
-plain_within integers j d (n, fits, it) e short = rw it tt
-plain_within decimals j d (s, passes, it) e short = rw it tt
-plain_within booleans j d (b, it) e short = rw it tt
-plain_within dates j d (s, passes, it) e short = rw it tt
-plain_within instants j d (n, passes, it) e short = rw it tt
-plain_within (references to) j d (s, passes, it) e short = rw it tt
-
-within : (type : TypeUse) (j : json.Data) (d : Data) → FitsKind (kind_of type) d → spelled (kind_of type) j ≡ Some d → is_long (Some type) j ≡ false → IsWithinLimits d
-within type j d (inl it) e short = rw it tt
-within type j d (inr of) e short = plain_within type j d of e short
+-- ---- references
 
 some_of : {X : Type 0} (o : Option X) → not (is_some o) ≡ false → (x : X) × (o ≡ Some x)
 some_of (Some x) e = (x, refl)
 some_of None e = cc
-
-fits_some : (type : TypeUse) (j : json.Data) → misfits (Some type) j ≡ false → is_long (Some type) j ≡ false → FitsKind (kind_of type) (datum_at type (Some j)) × IsWithinLimits (datum_at type (Some j))
-fits_some type j fits short =
-    let found = some_of (spelled (kind_of type) j) fits in
-    let kind_fits = spelled-fits (kind_of type) j found.0 found.1 in
-    rw found.1 (kind_fits, within type j found.0 kind_fits found.1 short)
-
--- ---- references
 
 pub chosen : {X : Type 0} (b : Bool) (x : X) (rest : Option X) (y : X) → cond b (Some x) rest ≡ Some y → ((b ≡ true) × (x ≡ y)) ⊎ ((b ≡ false) × (rest ≡ Some y))
 chosen true x rest y e = inl (refl, cc)
@@ -83,15 +53,6 @@ named_object ts (p ∷ ps) name type e = elim (chosen (bytes_eq name p.name) p.t
   | inr more ↦ (let found = named_object ts ps name type more.1 in (found.0, rw more.0 found.1, found.2))
 ]
 
-passing_name : (b : Bool) (s name : List ℕ) → unwrap_or (option_map reference (cond b (Some s) None)) null ≡ reference name → s ≡ name
-passing_name true s name e = let same : reference s ≡ reference name = e in cc
-passing_name false s name e = let no : null ≡ reference name = e in cc
-
--- the name that a reference is read as is the string
-read_name : (type name : List ℕ) (j : json.Data) → datum_at (references type) (Some j) ≡ reference name → as_str j ≡ Some name
-read_name type name (json.string s) e = ap (λ x. Some x) (passing_name (names s) s name e)
-read_name type name _ e = cc
-
 same_name : (x y : List ℕ) → not (bytes_eq x y) ≡ false → x ≡ y
 same_name x y e = (bytes_eq-Decides x y).0 (not_false (bytes_eq x y) e)
 
@@ -103,14 +64,6 @@ refers_at ts ps type name (Some s) there own is =
     let other : not (bytes_eq type found.0) ≡ false = rw found.1 at own in
     let same_type : type ≡ found.0 = same_name type found.0 other in
     subst (λ (n : List ℕ). NamesObject (map (object_of ts) ps) type n) same (named_object ts ps s type (rw same_type found.1))
-
-refers_some : (ts : Declared) (ps : List Part) (type : TypeUse) (j : json.Data) → dangles (object_types ps) (Some type) j ≡ false → strays (object_types ps) (Some type) j ≡ false → RefersTo (map (object_of ts) ps) type (datum_at type (Some j))
-refers_some ts ps (references type) j there own = λ name is. refers_at ts ps type name (as_str j) there own (read_name type name j is)
-refers_some ts ps _ j there own = tt
-
-refers_null : (os : Things) (type : TypeUse) → RefersTo os type null
-refers_null os (references type) = λ name is. cc
-refers_null os _ = tt
 
 -- ---- the fields of an object
 
@@ -134,34 +87,46 @@ record IsSound (types : ObjectTypes) (type : Option TypeUse) (j : json.Data) : T
   fits : misfits type j ≡ false
   there : dangles types type j ≡ false
   own : strays types type j ≡ false
-  short : is_long type j ≡ false
+  short : is_large type j ≡ false
 
-fits_at : (ts : Declared) (ps : List Part) (type : TypeUse) (o : Option json.Data) → ((j : json.Data) → o ≡ Some j → IsSound (object_types ps) (Some type) j) → FitsUse (map (object_of ts) ps) type (datum_at type o)
-fits_at ts ps type None h = (inl refl, tt, refers_null (map (object_of ts) ps) type)
-fits_at ts ps type (Some j) h =
-    let sound = h j refl in
-    let fits = fits_some type j sound.fits sound.short in
-    (fits.0, fits.1, refers_some ts ps type j sound.there sound.own)
+-- a reference to no object, and one to an object of another type
+abbrev missing : ObjectTypes → TypeUse → json.Data → Bool
+missing types = referring (λ type name. is_missing types name)
+
+abbrev other : ObjectTypes → TypeUse → json.Data → Bool
+other types = referring (λ type name. is_other type (option_and_then (λ n. at_name n types) name))
+
+fits_some : (ts : Declared) (ps : List Part) (type : TypeUse) (j : json.Data) → IsSound (object_types ps) (Some type) j → IsWritten (datum_at type (Some j)) → FitsUse (map (object_of ts) ps) type (datum_at type (Some j))
+fits_some ts ps type j sound can =
+    let found = some_of (datum_of type j) sound.fits in
+    let free : IsFree (missing (object_types ps)) (other (object_types ps)) type j = record { first = sound.there; second = sound.own; small = sound.short } in
+    let written : IsWritten found.0 = rw found.1 at can in
+    rw found.1 (spelled_fits (NamesObject (map (object_of ts) ps)) (missing (object_types ps)) (other (object_types ps)) type j found.0 (λ of name k is there own. refers_at ts ps of name (as_str k) there own is) found.1 written free)
+
+fits_at : (ts : Declared) (ps : List Part) (type : TypeUse) (o : Option json.Data) → ((j : json.Data) → o ≡ Some j → IsSound (object_types ps) (Some type) j) → IsWritten (datum_at type o) → FitsUse (map (object_of ts) ps) type (datum_at type o)
+fits_at ts ps type None h can = inl refl
+fits_at ts ps type (Some j) h can = fits_some ts ps type j (h j refl) can
 
 -- no fault among the given data
 record AreSound (types : ObjectTypes) (all : DeclaredFields) (given : List (List ℕ × json.Data)) : Type 0 where
   fits : flaw_among misfits all given ≡ false
   there : flaw_among (dangles types) all given ≡ false
   own : flaw_among (strays types) all given ≡ false
-  short : flaw_among is_long all given ≡ false
+  short : flaw_among is_large all given ≡ false
 
-fits_found : (ts : Declared) (ps : List Part) (all : DeclaredFields) (given : json.Members) (f : List ℕ × TypeUse) → AreSound (object_types ps) all (pairs given) → at_name f.0 all ≡ Some f.1 → FitsUse (map (object_of ts) ps) f.1 (datum_at f.1 (get_member f.0 given))
-fits_found ts ps all given f sound found =
+fits_found : (ts : Declared) (ps : List Part) (all : DeclaredFields) (given : json.Members) (f : List ℕ × TypeUse) → AreSound (object_types ps) all (pairs given) → at_name f.0 all ≡ Some f.1 → IsWritten (datum_at f.1 (get_member f.0 given)) → FitsUse (map (object_of ts) ps) f.1 (datum_at f.1 (get_member f.0 given))
+fits_found ts ps all given f sound found can =
     fits_at ts ps f.1 (get_member f.0 given) (λ j is. record {
       fits = rw found at (none_at (λ g. misfits (at_name g.0 all) g.1) f.0 given j is sound.fits);
       there = rw found at (none_at (λ g. dangles (object_types ps) (at_name g.0 all) g.1) f.0 given j is sound.there);
       own = rw found at (none_at (λ g. strays (object_types ps) (at_name g.0 all) g.1) f.0 given j is sound.own);
-      short = rw found at (none_at (λ g. is_long (at_name g.0 all) g.1) f.0 given j is sound.short);
-    })
+      short = rw found at (none_at (λ g. is_large (at_name g.0 all) g.1) f.0 given j is sound.short);
+    }) can
 
-fields_fit : (ts : Declared) (ps : List Part) (all ds : DeclaredFields) (given : json.Members) → AreSound (object_types ps) all (pairs given) → AllByRecursion (λ e. at_name e.0 all ≡ Some e.1) ds → FieldsFit (map (object_of ts) ps) ds (map (field_of given) ds)
-fields_fit ts ps all [] given sound known = tt
-fields_fit ts ps all (d ∷ ds) given sound known = (refl, fits_found ts ps all given d sound known.0, fields_fit ts ps all ds given sound known.1)
+fields_fit : (ts : Declared) (ps : List Part) (all ds : DeclaredFields) (given : json.Members) → AreSound (object_types ps) all (pairs given) → AllByRecursion (λ e. at_name e.0 all ≡ Some e.1) ds → AllByRecursion (λ f. IsWritten f.1) (map (field_of given) ds)
+    → FieldsFit (map (object_of ts) ps) ds (map (field_of given) ds)
+fields_fit ts ps all [] given sound known can = tt
+fields_fit ts ps all (d ∷ ds) given sound known can = (refl, fits_found ts ps all given d sound known.0 can.0, fields_fit ts ps all ds given sound known.1 can.1)
 
 -- ---- the object
 
@@ -171,22 +136,22 @@ record IsSoundPart (ts : Declared) (types : ObjectTypes) (p : Part) : Type 0 whe
   fits : has_flaw misfits ts p ≡ false
   there : has_flaw (dangles types) ts p ≡ false
   own : has_flaw (strays types) ts p ≡ false
-  short : has_flaw is_long ts p ≡ false
+  short : has_flaw is_large ts p ≡ false
 
-fits_known : (ts : Declared) (ps : List Part) (p : Part) (ds : DeclaredFields) → FieldsApart ts → at_name p.type_name ts ≡ Some ds → AreSound (object_types ps) ds (pairs p.given) → FitsType ts (map (object_of ts) ps) (object_of ts p).1
-fits_known ts ps p ds apart is given =
-    let fit = fields_fit ts ps ds ds p.given given (found_each ds (found_apart p.type_name ts ds apart is)) in
+fits_known : (ts : Declared) (ps : List Part) (p : Part) (ds : DeclaredFields) → FieldsApart ts → at_name p.type_name ts ≡ Some ds → AreSound (object_types ps) ds (pairs p.given) → AreWritten (object_of ts p) → FitsType ts (map (object_of ts) ps) (object_of ts p).1
+fits_known ts ps p ds apart is given can =
+    let fit = fields_fit ts ps ds ds p.given given (found_each ds (found_apart p.type_name ts ds apart is)) (rw is at can) in
     record { fields = ds; declared = is; fit = rw is fit }
 
-fits_type : (ts : Declared) (ps : List Part) (p : Part) → FieldsApart ts → IsSoundPart ts (object_types ps) p → FitsType ts (map (object_of ts) ps) (object_of ts p).1
-fits_type ts ps p apart sound =
+fits_type : (ts : Declared) (ps : List Part) (p : Part) → FieldsApart ts → IsSoundPart ts (object_types ps) p → AreWritten (object_of ts p) → FitsType ts (map (object_of ts) ps) (object_of ts p).1
+fits_type ts ps p apart sound can =
     let found = some_of (at_name p.type_name ts) sound.typed in
     fits_known ts ps p found.0 apart found.1 (record {
       fits = sym (flaw_known misfits ts p found.0 found.1) ∙ sound.fits;
       there = sym (flaw_known (dangles (object_types ps)) ts p found.0 found.1) ∙ sound.there;
       own = sym (flaw_known (strays (object_types ps)) ts p found.0 found.1) ∙ sound.own;
-      short = sym (flaw_known is_long ts p found.0 found.1) ∙ sound.short;
-    })
+      short = sym (flaw_known is_large ts p found.0 found.1) ∙ sound.short;
+    }) can
 
 -- ---- the bundle
 
@@ -229,25 +194,25 @@ all_of : {X Y : Type 0} (t : X → Bool) (f : X → Y) (P : Y → Type 0) (xs : 
 all_of t f P [] each none = tt
 all_of t f P (x ∷ xs) each none = (each x (or_left (t x) (list_any t xs) none), all_of t f P xs each (or_right (t x) (list_any t xs) none))
 
-typed_all : (ts : Declared) (all ps : List Part) → FieldsApart ts → unknown_type ts ps ≡ false → wrong_kind ts ps ≡ false → some_flawed (dangles (object_types all)) ts ps ≡ false → some_flawed (strays (object_types all)) ts ps ≡ false → long_text ts ps ≡ false
-    → AllByRecursion (λ o. FitsType ts (map (object_of ts) all) o.1) (map (object_of ts) ps)
-typed_all ts all [] apart typed fits there own short = tt
-typed_all ts all (p ∷ ps) apart typed fits there own short =
+typed_all : (ts : Declared) (all ps : List Part) → FieldsApart ts → unknown_type ts ps ≡ false → wrong_kind ts ps ≡ false → some_flawed (dangles (object_types all)) ts ps ≡ false → some_flawed (strays (object_types all)) ts ps ≡ false → large_datum ts ps ≡ false
+    → AllByRecursion AreWritten (map (object_of ts) ps) → AllByRecursion (λ o. FitsType ts (map (object_of ts) all) o.1) (map (object_of ts) ps)
+typed_all ts all [] apart typed fits there own short can = tt
+typed_all ts all (p ∷ ps) apart typed fits there own short can =
     let sound : IsSoundPart ts (object_types all) p = record {
       typed = or_left _ (unknown_type ts ps) typed;
       fits = or_left _ (wrong_kind ts ps) fits;
       there = or_left _ (some_flawed (dangles (object_types all)) ts ps) there;
       own = or_left _ (some_flawed (strays (object_types all)) ts ps) own;
-      short = or_left _ (long_text ts ps) short;
+      short = or_left _ (large_datum ts ps) short;
     } in (
-      fits_type ts all p apart sound,
+      fits_type ts all p apart sound can.0,
       typed_all ts all ps apart (or_right (not (is_some (at_name p.type_name ts))) _ typed) (or_right (has_flaw misfits ts p) _ fits) (or_right (has_flaw (dangles (object_types all)) ts p) _ there)
-          (or_right (has_flaw (strays (object_types all)) ts p) _ own) (or_right (has_flaw is_long ts p) _ short),
+          (or_right (has_flaw (strays (object_types all)) ts p) _ own) (or_right (has_flaw is_large ts p) _ short) can.1,
     )
 
-well_typed_of : (ts : Declared) (asked : Option (List ℕ)) (root : List ℕ) (ps : List Part) → FieldsApart ts → IsFaultless ts asked root ps → IsAscending (keys_of (map (object_of ts) ps)) → IsWellTyped ts (record { root = root; objects = map (object_of ts) ps })
-well_typed_of ts asked root ps apart ok ascending =
-    let few : length ps ≤ 256 = ltb-false 256 (length ps) (or_left (nat_lt 256 (length ps)) (long_text ts ps) ok.small) in
+well_typed_of : (ts : Declared) (asked : Option (List ℕ)) (root : List ℕ) (ps : List Part) → FieldsApart ts → IsFaultless ts asked root ps → IsAscending (keys_of (map (object_of ts) ps)) → AllByRecursion AreWritten (map (object_of ts) ps) → IsWellTyped ts (record { root = root; objects = map (object_of ts) ps })
+well_typed_of ts asked root ps apart ok ascending can =
+    let few : length ps ≤ 256 = ltb-false 256 (length ps) (or_left (nat_lt 256 (length ps)) (large_datum ts ps) ok.small) in
     let root_is = some_of (at_name root (object_types ps)) ok.rooted in
     let found = named_object ts ps root root_is.0 root_is.1 in
     record {
@@ -255,7 +220,7 @@ well_typed_of ts asked root ps apart ok ascending =
       ascending = ascending;
       named = all_of (λ p. not (names p.name)) (object_of ts) (λ o. names o.0 ≡ true) ps (λ p e. not_false (names p.name) e) ok.named;
       rooted = rw found.1 refl;
-      typed = typed_all ts ps ps apart ok.typed ok.fits ok.there ok.own (or_right (nat_lt 256 (length ps)) (long_text ts ps) ok.small);
+      typed = typed_all ts ps ps apart ok.typed ok.fits ok.there ok.own (or_right (nat_lt 256 (length ps)) (large_datum ts ps) ok.small) can;
     }
 
 root_of : (ts : Declared) (type root : List ℕ) (ps : List Part) → IsFaultless ts (Some type) root ps → HasRootType type (record { root = root; objects = map (object_of ts) ps })
@@ -264,10 +229,11 @@ root_of ts type root ps ok =
     let own : not (bytes_eq type root_is.0) ≡ false = rw root_is.1 at ok.type in
     named_object ts ps root type (rw (same_name type root_is.0 own) root_is.1)
 
-pub read_well_typed : (ts : Declared) (asked : Option (List ℕ)) (j : json.Data) (b : Bundled) → FieldsApart ts → IsAscending (keys_of b.objects) → bundle_read ts asked j ≡ Ok b → IsWellTyped ts b
-read_well_typed ts asked j b apart ascending e =
+pub read_well_typed : (ts : Declared) (asked : Option (List ℕ)) (j : json.Data) (b : Bundled) → FieldsApart ts → IsAscending (keys_of b.objects) → AllByRecursion AreWritten b.objects → bundle_read ts asked j ≡ Ok b → IsWellTyped ts b
+read_well_typed ts asked j b apart ascending can e =
     let found = judged_ok ts asked (draft_of j) b e in
-    subst (λ (c : Bundled). IsWellTyped ts c) found.2 (well_typed_of ts asked found.0.root found.0.objects apart found.1 (subst (λ (c : Bundled). IsAscending (keys_of c.objects)) (sym found.2) ascending))
+    subst (λ (c : Bundled). IsWellTyped ts c) found.2 (well_typed_of ts asked found.0.root found.0.objects apart found.1 (subst (λ (c : Bundled). IsAscending (keys_of c.objects)) (sym found.2) ascending)
+    (subst (λ (c : Bundled). AllByRecursion AreWritten c.objects) (sym found.2) can))
 
 pub read_root : (ts : Declared) (type : List ℕ) (j : json.Data) (b : Bundled) → bundle_read ts (Some type) j ≡ Ok b → HasRootType type b
 read_root ts type j b e =
@@ -277,7 +243,7 @@ read_root ts type j b e =
 -- ---- what the call answers
 
 pub gives_well_typed : (r : Result Bundle BundleFault) (ts : Declared) (asked : Option (List ℕ)) (j : json.Data) → FieldsApart ts → IfOk r (λ b. IsAscending (keys_of (bundle_view b).objects)) → Gives Memory bundle_view r (bundle_read ts asked j) → IfOk r (λ b. IsWellTyped ts (bundle_view b))
-gives_well_typed (Ok b) ts asked j apart ascending given = read_well_typed ts asked j (bundle_view b) apart ascending given
+gives_well_typed (Ok b) ts asked j apart ascending given = read_well_typed ts asked j (bundle_view b) apart ascending (objects_written b.objects.entries) given
 gives_well_typed (Err e) ts asked j apart ascending given = tt
 
 pub gives_root : (r : Result Bundle BundleFault) (ts : Declared) (asked : Option TypeId) (j : json.Data) → Gives Memory bundle_view r (bundle_read ts (option_map (λ t. name_at ts t.index) asked) j) → IfOk r (λ b. ForSome asked (λ t. HasRootType (name_at ts t.index) (bundle_view b)))

@@ -1,13 +1,7 @@
 -- Bundles of objects.
+pub use Rattle.fv_types.specs.Names.{IsAscending}
 use Rattle.std.specs.Prelude.{ℕ, List}
-use Rattle.std.specs.Cmp.Lexicographic.{slice_cmp}
-use Rattle.std.specs.List.Sorted.{IsStrictlySortedBy}
-use Rattle.std.specs.Ordering.{nat_cmp}
 use Rattle.fv_datum.specs.Data.{Data}
-
--- names that ascend by their bytes: each is below those after it
-abbrev pub IsAscending : List (List ℕ) → Type 0
-IsAscending = IsStrictlySortedBy (slice_cmp nat_cmp)
 
 -- an object: its type's name, and a finite map from the type's fields to data, in the order of the fields
 pub record Thing : Type 0 where

@@ -1,15 +1,7 @@
 -- The names and codes of faults.
 use Rattle.std.specs.Prelude.{ℕ, List, [], codes}
-use Rattle.fv_model.specs.declared.fault.TypesFault.{TypesFault}
-use Rattle.fv_model.specs.declared.fault.TypesFault.TheVariants as types
 use Rattle.fv_model.specs.declared.fault.BundleFault.{BundleFault}
 use Rattle.fv_model.specs.declared.fault.BundleFault.TheVariants.{Shape, BadName, RootMissing, UnknownType, UnknownField, WrongKind, DanglingRef, RefType, TooLarge, RootType, Memory}
-
--- the name of a fault of declared types
-abbrev pub types_fault_name : TypesFault → List ℕ
-types_fault_name types.UnknownType = codes "UnknownType"
-types_fault_name types.TooLarge = codes "TooLarge"
-types_fault_name types.Memory = codes "Memory"
 
 -- the name of a fault of a bundle
 abbrev pub bundle_fault_name : BundleFault → List ℕ

@@ -1,17 +1,12 @@
 -- The values of declared types and of a field.
+pub use Rattle.fv_types.specs.TypesView.{types_view}
 use Rattle.std.specs.Prelude.{ℕ, List, map, zip, string_bytes}
 use Rattle.std.specs.Borrow.{Bor}
 use Rattle.std.specs.Slice.Iter.{iter_rest}
 use Rattle.fv_datum.specs.Data.{Data}
 use Rattle.fv_datum.specs.View.{view}
 use Rattle.fv_datum.specs.declared.datum.Datum.{Datum}
-use Rattle.fv_model.specs.Types.{Declared, declared_view}
 use Rattle.fv_model.specs.declared.fields.ObjectFields.{ObjectFields}
-use Rattle.fv_model.specs.declared.types.Types.{Types}
-
--- the declared types
-abbrev pub types_view : Types → Declared
-types_view ts = declared_view ts.declared.value
 
 -- a field's name with its datum
 abbrev pub field_view : Bor (List ℕ) × Bor Datum → List ℕ × Data

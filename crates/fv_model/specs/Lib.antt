@@ -1,10 +1,10 @@
+pub mod Ascents
 pub mod Bundles
 pub mod Conditions
 pub mod Draft
 pub mod FaultNames
 pub mod FieldViews
 pub mod Fitting
-pub mod Flaws
 pub mod Limits
 pub mod PartViews
 pub mod Reading

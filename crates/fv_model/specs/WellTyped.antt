@@ -2,31 +2,25 @@
 use Rattle.std.specs.Prelude.{◌≡◌, ◌≤◌, ℕ, List, [], ◌∷◌, length, true, Some, is_some}
 use Rattle.std.specs.List.{AllByRecursion}
 use Rattle.std.specs.Map.{keys_of}
-use Rattle.fv_datum.specs.Data.{Data, text, reference}
-use Rattle.fv_datum.specs.Kinds.{FitsKind}
+use Rattle.fv_datum.specs.Data.{Data}
 use Rattle.fv_datum.specs.Lookup.{at_name}
 use Rattle.fv_datum.specs.Name.{names}
-use Rattle.fv_model.specs.Limits.{most_objects, longest_text}
-use Rattle.fv_model.specs.Types.{TypeUse, references, DeclaredFields, Declared, kind_of}
+use Rattle.fv_types.specs.Fits.{Fits}
+use Rattle.fv_types.specs.Types.{TypeUse, DeclaredFields, Declared}
+use Rattle.fv_model.specs.Limits.{most_objects}
 use Rattle.fv_model.specs.Bundles.{IsAscending, Thing, Things, Bundled}
-
--- no text of more than 65,536 bytes
-abbrev pub IsWithinLimits : Data → Type 0
-IsWithinLimits (text s) = length s ≤ longest_text
-IsWithinLimits _ = Unit {0}
 
 -- the name is that of an object of the type
 abbrev pub NamesObject : Things → List ℕ → List ℕ → Type 0
 NamesObject os type name = (t : Thing) × (at_name name os ≡ Some t) × (t.type_name ≡ type)
 
--- where the field holds references, a name that the datum is names an object of their type
-abbrev pub RefersTo : Things → TypeUse → Data → Type 0
-RefersTo os (references type) d = (name : List ℕ) → d ≡ reference name → NamesObject os type name
-RefersTo os _ d = Unit {0}
+-- any name of any type
+abbrev pub AnyName : List ℕ → List ℕ → Type 0
+AnyName type name = Unit {0}
 
--- null, or a datum of the field's kind, within the limits; a reference names an object of its type
+-- null, or a datum of the field's type use, within the limits; each reference in it names an object of its type
 abbrev pub FitsUse : Things → TypeUse → Data → Type 0
-FitsUse os type_use d = FitsKind (kind_of type_use) d × IsWithinLimits d × RefersTo os type_use d
+FitsUse os = Fits (NamesObject os)
 
 -- each field of a type, in order, with a datum that fits
 abbrev pub FieldsFit : Things → DeclaredFields → List (List ℕ × Data) → Type 0

@@ -1,17 +1,10 @@
 -- The JSON that a bundle is written as.
-use Rattle.std.specs.Prelude.{◌≡◌, ℕ, List, [], ◌∷◌, codes, if◌then◌else◌, true, is_some, unwrap_or}
+pub use Rattle.fv_types.specs.Writing.{IsWritten, datum_json}
+use Rattle.std.specs.Prelude.{ℕ, List, [], ◌∷◌, codes, if◌then◌else◌}
 use Rattle.serde_json.specs.Data as json
 use Rattle.fv_datum.specs.Data.{Data}
-use Rattle.fv_datum.specs.Written.{is_null, written}
+use Rattle.fv_datum.specs.Written.{is_null}
 use Rattle.fv_model.specs.Bundles.{Thing, Bundled}
-
--- a datum that can be written: the keys of each map in it are texts in order
-abbrev pub IsWritten : Data → Type 0
-IsWritten d = is_some (written d) ≡ true
-
--- a datum's JSON; null for one that can't be written, which no bundle holds
-abbrev pub datum_json : Data → json.Data
-datum_json d = unwrap_or (written d) json.null
 
 -- the members with each field that isn't null put in
 abbrev pub added : json.Members → List (List ℕ × Data) → json.Members

@@ -8,7 +8,7 @@ ghost use Rattle.fv_datum.specs.Lookup.{at_name};
 ghost use Rattle.fv_datum.specs.Outcomes.{Gives};
 ghost use Rattle.fv_datum.specs.View.{view};
 ghost use Rattle.fv_model.specs.Bundles.{IsAscending};
-ghost use Rattle.fv_model.specs.Types.{type_use_view, fields_view};
+ghost use Rattle.fv_types.specs.Types.{type_use_view, fields_view};
 ghost use Rattle.fv_model.specs.Views.{types_view, given_view, part_view, draft_view, object_view, objects_view, bundle_view};
 ghost use Rattle.fv_model.specs.Reading.{object_types, unknown_type, datum_at, field_of, object_of, bundle_of};
 ghost use Rattle.fv_model.specs.Fitting.{misfits_given, field_misfits, part_misfits, unless_wrong};
@@ -17,9 +17,9 @@ ghost use Rattle.fv_model.specs.Writing.{IsWritten};
 use crate::bundle::{Bundle, Object, Objects};
 use crate::fault::BundleFault;
 use crate::parts::{Draft, Part};
-use crate::type_use::TypeUse;
-use crate::types::{Fields, Types};
-use fv_datum::{Datum, DatumFault, read_datum};
+use crate::value::spelled_datum;
+use fv_datum::Datum;
+use fv_types::{Fields, TypeUse, Types};
 use indexmap::IndexMap;
 use serde_json::{Map, Value};
 use std::alloc::Global;
@@ -42,11 +42,7 @@ fn datum_for(alloc: Global, type_use: &TypeUse, value: Option<&Value>) -> Result
 {
     match value {
         None => Ok(Datum::Null),
-        Some(value) => match read_datum(alloc, type_use.kind(), value) {
-            Ok(datum) => Ok(datum),
-            Err(DatumFault::WrongKind) => Err(BundleFault::WrongKind),
-            Err(DatumFault::Memory) => Err(BundleFault::Memory),
-        },
+        Some(value) => spelled_datum(alloc, type_use, value),
     }
 }
 

@@ -15,6 +15,7 @@ ghost use Rattle.fv_model.specs.Views.{given_view, object_types_view, part_view,
 
 use crate::parts::{Draft, Part};
 use fv_datum::has_only;
+use fv_types::TypeNames;
 use indexmap::IndexMap;
 use serde_json::{Map, Value};
 use std::alloc::{AllocError, Global};
@@ -49,7 +50,7 @@ fn part_of<'a>(name: &'a str, value: &'a Value) -> Option<Part<'a>>
     })
 }
 
-#[tactic(auto, using(crate::proofs::Fronts::front_more))]
+#[tactic(auto, using(fv_types::proofs::Fronts::front_more))]
 fn parts_of<'a>(
     alloc: Global,
     objects: &'a Map<String, Value>,
@@ -69,10 +70,7 @@ fn parts_of<'a>(
 }
 
 /// The names of objects' types by the objects' names, each name once.
-fn object_types_of<'a>(
-    alloc: Global,
-    parts: &[Part<'a>],
-) -> Result<IndexMap<&'a str, &'a str>, AllocError>
+fn object_types_of<'a>(alloc: Global, parts: &[Part<'a>]) -> Result<TypeNames<'a>, AllocError>
     requires { IsAscending (keys_of (object_types (map part_view parts.now))) }
     ensures { IfOk result (λ m. object_types_view m ≡ object_types (map part_view parts.now)) }
 {

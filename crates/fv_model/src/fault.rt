@@ -1,45 +1,9 @@
 ghost use Rattle.std.specs.Prelude.{◌≡◌};
-ghost use Rattle.fv_model.specs.FaultNames.{bundle_fault_name, bundle_fault_code, types_fault_name};
+ghost use Rattle.fv_model.specs.FaultNames.{bundle_fault_name, bundle_fault_code};
 ghost use Rattle.fv_model.specs.declared.fault.BundleFault.TheVariants.{Memory};
-ghost use Rattle.fv_model.specs.declared.fault.TypesFault.TheVariants as types;
 
 use std::alloc::{AllocError, AllocFailed};
 use thiserror::Error;
-
-/// Why declared types weren't taken.
-#[derive(Clone, Copy, Debug, PartialEq, Eq, Error)]
-pub enum TypesFault {
-    /// A field refers to a type that isn't declared.
-    #[error("a reference to a type that isn't declared")]
-    UnknownType,
-    /// More than 256 types, or a type of more than 256 fields.
-    #[error("too many types or fields")]
-    TooLarge,
-    /// An allocation was refused.
-    #[error("out of memory")]
-    Memory,
-}
-
-impl TypesFault {
-    /// The fault's name.
-    pub fn name(&self) -> &str
-        ensures { result.now ≡ types_fault_name self.now }
-    {
-        match self {
-            TypesFault::UnknownType => "UnknownType",
-            TypesFault::TooLarge => "TooLarge",
-            TypesFault::Memory => "Memory",
-        }
-    }
-}
-
-impl<T: Drop> From<AllocFailed<T>> for TypesFault {
-    ghost from_gives = { λ _ e. e ≡ types.Memory };
-
-    fn from(_e: AllocFailed<T>) -> TypesFault {
-        TypesFault::Memory
-    }
-}
 
 /// Why a JSON value is no bundle.
 #[derive(Clone, Copy, Debug, PartialEq, Eq, Error)]

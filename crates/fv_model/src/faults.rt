@@ -2,17 +2,16 @@
 //! (`name_fault`), and after (`late_fault`).
 ghost use Rattle.std.specs.Prelude.{◌≡◌, map, option_map, Some};
 ghost use Rattle.fv_datum.specs.Outcomes.{first};
-ghost use Rattle.fv_model.specs.Types.{name_at};
+ghost use Rattle.fv_types.specs.Types.{name_at};
 ghost use Rattle.fv_model.specs.Views.{types_view, part_view, draft_view};
-ghost use Rattle.fv_model.specs.Flaws.{Tells};
+ghost use Rattle.fv_types.specs.Tells.{Tells};
 ghost use Rattle.fv_model.specs.Conditions.{name_conditions, late_conditions};
 ghost use Rattle.fv_model.specs.Reading.{bad_name, root_missing, unknown_type, some_flawed, object_types, root_type};
 
 use crate::fault::BundleFault;
-use crate::flaws::{Flaws, is_other};
 use crate::parts::{Draft, Part};
-use crate::types::{TypeId, Types};
 use fv_datum::is_name;
+use fv_types::{Flaws, TypeId, Types, is_other};
 
 /// The most objects.
 const MOST_OBJECTS: usize = 256;
@@ -91,7 +90,7 @@ pub(crate) fn late_fault(
     if flaws.stray {
         return Some(BundleFault::RefType);
     }
-    if draft.objects.len() > MOST_OBJECTS || flaws.long_text {
+    if draft.objects.len() > MOST_OBJECTS || flaws.large {
         return Some(BundleFault::TooLarge);
     }
     match asked {

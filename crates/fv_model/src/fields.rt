@@ -4,12 +4,11 @@ ghost use Rattle.std.specs.Iterator.{at_most};
 ghost use Rattle.std.specs.Map.{keys_of};
 ghost use Rattle.std.specs.Map.Iter.{TakesFirst};
 ghost use Rattle.fv_datum.specs.View.{view};
-ghost use Rattle.fv_model.specs.Types.{fields_view};
+ghost use Rattle.fv_types.specs.Types.{fields_view};
 ghost use Rattle.fv_model.specs.FieldViews.{field_view, fields_left};
 
-use crate::type_use::TypeUse;
-use crate::types::Fields;
 use fv_datum::Datum;
+use fv_types::{Fields, TypeUse};
 use indexmap::map::Keys;
 use std::slice;
 

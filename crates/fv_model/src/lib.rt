@@ -1,5 +1,5 @@
-//! The types of a form's objects, and bundles: named objects of those types, read from JSON and
-//! written as JSON.
+//! Bundles: named objects of declared types, read from JSON and written as JSON; and data by
+//! themselves.
 #![tactic(auto)]
 
 mod build;
@@ -11,14 +11,13 @@ mod fields;
 mod flaws;
 mod parts;
 mod reading;
-mod type_use;
-mod types;
+mod value;
 mod writing;
 
 pub use bundle::{Bundle, Object, Objects};
-pub use fault::{BundleFault, TypesFault};
+pub use fault::BundleFault;
 pub use fields::ObjectFields;
+pub use fv_types::{Fields, TypeId, TypeUse, Types, TypesFault};
 pub use reading::read_bundle;
-pub use type_use::TypeUse;
-pub use types::{Fields, TypeId, Types};
+pub use value::read_value;
 pub use writing::write_bundle;

@@ -3,11 +3,11 @@ ghost use Rattle.std.specs.Prelude.{◌≡◌, map, option_map};
 ghost use Rattle.std.specs.Map.{keys_of};
 ghost use Rattle.std.proofs.Props.{props};
 ghost use Rattle.fv_datum.specs.Lookup.{at_name};
-ghost use Rattle.fv_model.specs.Bundles.{IsAscending};
+ghost use Rattle.fv_types.specs.Names.{IsAscending, object_types_view};
 ghost use Rattle.fv_model.specs.Reading.{object_types};
-ghost use Rattle.fv_model.specs.PartViews.{object_types_view, part_view};
+ghost use Rattle.fv_model.specs.PartViews.{part_view};
 
-use indexmap::IndexMap;
+use fv_types::{TypeNames, type_at};
 use serde_json::{Map, Value};
 
 /// An object as it is given.
@@ -25,7 +25,7 @@ pub(crate) struct Draft<'a> {
     pub(crate) root: &'a str,
     pub(crate) objects: Vec<Part<'a>>,
     /// The names of the objects' types, each by its object's name.
-    pub(crate) type_names: IndexMap<&'a str, &'a str>,
+    pub(crate) type_names: TypeNames<'a>,
     ghost ascending: { IsAscending (keys_of (object_types (map part_view objects.items))) } by { Prim.hlevel props },
     ghost known: { object_types_view type_names ≡ object_types (map part_view objects.items) },
 }
@@ -37,6 +37,6 @@ impl<'a> Draft<'a> {
     pub(crate) fn type_at(&self, name: &str) -> Option<&'a str>
         ensures { option_map (λ s. s.now) result ≡ at_name name.now (object_types (draft_view self.now).objects) }
     {
-        self.type_names.get(name).copied()
+        type_at(&self.type_names, name)
     }
 }

@@ -101,8 +101,22 @@ key_text k r = simp append_assoc
 first_of-key : (k r : List ℕ) → first_of (node_text (key k) ++ r) ≡ key k
 first_of-key k r = ap first_of (key_text k r) ∙ ap (λ o. key (unwrap_or o [])) (content-escape k (93 ∷ r))
 
+-- what a node's text tells it by: a field has a name, an index 32 bits
+abbrev pub is_told : PathNode → Bool
+is_told (field n) = names n
+is_told (index i) = nat_lt i (2 ^ 32)
+is_told _ = true
+
+pub told_node : (n : PathNode) → is_node n ≡ true → is_told n ≡ true
+told_node (field n) sound = sound
+told_node (index i) sound = sound
+told_node (key k) sound = refl
+told_node list_element sound = refl
+told_node map_key sound = refl
+told_node map_value sound = refl
+
 -- a node is told from the text that it begins
-pub first_of-node : (n : PathNode) (r : List ℕ) → is_node n ≡ true → closes n r ≡ true → first_of (node_text n ++ r) ≡ n
+pub first_of-node : (n : PathNode) (r : List ℕ) → is_told n ≡ true → closes n r ≡ true → first_of (node_text n ++ r) ≡ n
 first_of-node (field n) r sound closed = first_of-field n r (named n sound) closed
 first_of-node (index i) r sound closed = first_of-index i r (ltb-true i (2 ^ 32) sound)
 first_of-node (key k) r sound closed = first_of-key k r
@@ -111,7 +125,7 @@ first_of-node map_key r sound closed = refl
 first_of-node map_value r sound closed = refl
 
 -- two nodes that a text begins with are one
-pub determined : (a b : PathNode) (s t : List ℕ) → is_node a ≡ true → is_node b ≡ true → closes a s ≡ true → closes b t ≡ true
+pub determined : (a b : PathNode) (s t : List ℕ) → is_told a ≡ true → is_told b ≡ true → closes a s ≡ true → closes b t ≡ true
     → node_text a ++ s ≡ node_text b ++ t → (a ≡ b) × (s ≡ t)
 determined a b s t one two here there e =
     let same : a ≡ b = sym (first_of-node a s one here) ∙ ap first_of e ∙ first_of-node b t two there in

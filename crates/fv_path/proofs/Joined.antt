@@ -1,12 +1,12 @@
 -- The texts of lists of nodes, and that a path has a text of its own.
 use Rattle.std.proofs.Common.{◌≡◌, ℕ, true, List, [], ◌∷◌, ◌++◌, drop, Some, None, refl, sym, ap, ap₂, ◌∙◌, arith}
 use Rattle.std.specs.List.{list_all}
-use Rattle.std.proofs.lemmas.Bool.{and_parts, false≢true}
+use Rattle.std.proofs.lemmas.Bool.{and_parts, and_from, false≢true}
 use Rattle.fv_path.specs.Nodes.{PathNode, field, index, key, list_element, map_key, map_value, is_node, is_field}
 use Rattle.fv_path.specs.Paths.{is_chain, IsPath}
 use Rattle.fv_path.specs.Texts.{node_text, nodes_text, text_of}
 use Rattle.fv_path.specs.Reading.{stops, closes}
-use Rattle.fv_path.proofs.Determined.{named, determined}
+use Rattle.fv_path.proofs.Determined.{named, is_told, told_node, determined}
 
 -- a node's text is never empty
 pub node_some : (n : PathNode) (r : List ℕ) → node_text n ++ r ≡ [] → ⊥
@@ -36,15 +36,21 @@ closes_nodes map_key ns = refl
 closes_nodes map_value ns = refl
 
 -- the nodes of a text are told from it
-pub nodes_same : (ns ms : List PathNode) → list_all is_node ns ≡ true → list_all is_node ms ≡ true → nodes_text ns ≡ nodes_text ms → ns ≡ ms
+pub nodes_same : (ns ms : List PathNode) → list_all is_told ns ≡ true → list_all is_told ms ≡ true → nodes_text ns ≡ nodes_text ms → ns ≡ ms
 nodes_same [] [] one two e = refl
 nodes_same [] (m ∷ ms) one two e = absurd (node_some m (nodes_text ms) (sym e))
 nodes_same (n ∷ ns) [] one two e = absurd (node_some n (nodes_text ns) e)
 nodes_same (n ∷ ns) (m ∷ ms) one two e =
-    let left = and_parts (is_node n) (list_all is_node ns) one in
-    let right = and_parts (is_node m) (list_all is_node ms) two in
+    let left = and_parts (is_told n) (list_all is_told ns) one in
+    let right = and_parts (is_told m) (list_all is_told ms) two in
     let same = determined n m (nodes_text ns) (nodes_text ms) left.0 right.0 (closes_nodes n ns) (closes_nodes m ms) e in
     ap₂ (λ x xs. x ∷ xs) same.0 (nodes_same ns ms left.1 right.1 same.1)
+
+all_told : (ns : List PathNode) → list_all is_node ns ≡ true → list_all is_told ns ≡ true
+all_told [] sound = refl
+all_told (n ∷ ns) sound =
+    let parts = and_parts (is_node n) (list_all is_node ns) sound in
+    and_from (is_told n) (list_all is_told ns) (told_node n parts.0) (all_told ns parts.1)
 
 -- what a path's first node and its others are
 pub record Starts (n : PathNode) (ns : List PathNode) : Type 0 where
@@ -91,4 +97,4 @@ text_same (n ∷ ns) [] one two e = absurd (text_some n ns one e)
 text_same (n ∷ ns) (m ∷ ms) one two e =
     let left = and_parts (is_chain None (n ∷ ns)) (list_all is_node (n ∷ ns)) one in
     let right = and_parts (is_chain None (m ∷ ms)) (list_all is_node (m ∷ ms)) two in
-    nodes_same (n ∷ ns) (m ∷ ms) left.1 right.1 (dotted n ns one ∙ ap (λ l. 46 ∷ l) e ∙ sym (dotted m ms two))
+    nodes_same (n ∷ ns) (m ∷ ms) (all_told (n ∷ ns) left.1) (all_told (m ∷ ms) right.1) (dotted n ns one ∙ ap (λ l. 46 ∷ l) e ∙ sym (dotted m ms two))

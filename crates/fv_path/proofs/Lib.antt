@@ -1,8 +1,8 @@
-mod Chains
-mod Determined
+pub mod Chains
+pub mod Determined
 mod Fronts
-mod Joined
+pub mod Joined
 mod KeyNodes
 mod Keys
 mod Strings
-mod Turns
+pub mod Turns

@@ -10,7 +10,7 @@ use Rattle.fv_path.specs.Nodes.{PathNode, is_node, is_field}
 use Rattle.fv_path.specs.Paths.{may_stand, is_chain, is_path, IsPath}
 use Rattle.fv_path.specs.Texts.{node_text, nodes_text, text_of}
 use Rattle.fv_path.specs.Reading.{Begins, BeginsWithNone}
-use Rattle.fv_path.proofs.Determined.{determined}
+use Rattle.fv_path.proofs.Determined.{told_node, determined}
 use Rattle.fv_path.proofs.Joined.{closes_nodes, starts, dotted}
 
 -- further nodes whose text is what is left, behind those read so far
@@ -46,7 +46,7 @@ sound_front (x ∷ xs) ys h =
     let p = and_parts (is_node x) (list_all is_node (xs ++ ys)) h in
     and_from (is_node x) (list_all is_node xs) p.0 (sound_front xs ys p.1)
 
-chain_front : (before : Option PathNode) (xs ys : List PathNode) → is_chain before (xs ++ ys) ≡ true → is_chain before xs ≡ true
+pub chain_front : (before : Option PathNode) (xs ys : List PathNode) → is_chain before (xs ++ ys) ≡ true → is_chain before xs ≡ true
 chain_front before [] ys h = refl
 chain_front before (x ∷ xs) ys h =
     let p = and_parts (may_stand before x) (is_chain (Some x) (xs ++ ys)) h in
@@ -90,7 +90,7 @@ none_begins begun path rest text read some none ms whole e =
 -- the node that is read is the next
 pub next_is : (path all : List PathNode) (rest after : List ℕ) (n : PathNode) → Begins rest n after → (m : Next path all rest) → (m.node ≡ n) × (nodes_text m.more ≡ after)
 next_is path all rest after n b m =
-    determined m.node n (nodes_text m.more) after m.begins.node b.node m.begins.closed b.closed (sym m.begins.split ∙ b.split)
+    determined m.node n (nodes_text m.more) after (told_node m.node m.begins.node) (told_node n b.node) m.begins.closed b.closed (sym m.begins.split ∙ b.split)
 
 -- nor where the node that was read can't stand there
 pub none_stands : (begun path : List PathNode) (rest text after : List ℕ) (n : PathNode) → Read begun path rest text → (rest ≡ [] → ⊥) → Begins rest n after
@@ -142,7 +142,7 @@ pub none_behind : (text rest : List ℕ) (n : PathNode) → (text ≡ [] → ⊥
 none_behind text rest n some b none [] path e = some (sym e)
 none_behind text rest n some b none (m ∷ ms) path e =
     let c = first_begins m ms text path e in
-    let same = determined m n (nodes_text ms) rest c.1.node b.node c.1.closed b.closed (sym c.1.split ∙ b.split) in
+    let same = determined m n (nodes_text ms) rest (told_node m c.1.node) (told_node n b.node) c.1.closed b.closed (sym c.1.split ∙ b.split) in
     none ms (subst (λ x. IsPath (x ∷ ms)) same.0 path) same.1
 
 -- a path of the first node and of those that the rest reads as has the text

@@ -3,7 +3,7 @@ use Rattle.std.proofs.Common.{◌≡◌, ◌||◌, ℕ, Bool, false, List, [], �
 use Rattle.serde_json.specs.Data as json
 use Rattle.serde_json.specs.View.{items_of}
 use Rattle.serde_json.specs.Written.{has_float, items_have_float}
-use Rattle.fv_model.specs.Writing.{datum_json}
+use Rattle.fv_types.specs.Writing.{datum_json}
 use Rattle.fv_reply.specs.Texts.{violation_json, violations_json, violations_refused_json}
 use Rattle.fv_text.proofs.NoFloats.{datum_json_float}
 use Rattle.fv_validate.specs.Violations.{Reported}

@@ -4,7 +4,8 @@ use Rattle.serde_json.specs.Data as json
 use Rattle.serde_json.specs.Written.{compact_text}
 use Rattle.fv_model.specs.Bundles.{Bundled}
 use Rattle.fv_model.specs.FaultNames.{bundle_fault_code}
-use Rattle.fv_model.specs.Writing.{datum_json, bundle_json}
+use Rattle.fv_types.specs.Writing.{datum_json}
+use Rattle.fv_model.specs.Writing.{bundle_json}
 use Rattle.fv_model.specs.declared.fault.BundleFault.{BundleFault}
 use Rattle.fv_validate.specs.Violations.{Reported}
 use Rattle.fv_reply.specs.Answers.{Answer, taken, shown, violated, refused}

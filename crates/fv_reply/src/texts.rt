@@ -2,7 +2,7 @@
 ghost use Rattle.std.specs.Prelude.{◌≡◌, false, IfOk, map, string_bytes};
 ghost use Rattle.fv_datum.specs.View.{view};
 ghost use Rattle.fv_model.specs.Views.{bundle_view};
-ghost use Rattle.fv_model.specs.Writing.{datum_json};
+ghost use Rattle.fv_types.specs.Writing.{datum_json};
 ghost use Rattle.fv_reply.specs.Texts.{bundle_refused_json, violation_json, judged_json, refusal_json, violations_refused_json, record_json};
 ghost use Rattle.fv_validate.specs.ViolationView.{violation_view};
 ghost use Rattle.json.specs.Print.{quoted};

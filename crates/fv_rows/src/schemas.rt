@@ -4,6 +4,7 @@ use crate::table::Table;
 use crate::texts::{Names, expanded};
 use anyhow::{Context, Result};
 use fv_declare::{Place, Placed, Schema, read_schema};
+use fv_extract::Step;
 use fv_model::{TypeId, Types};
 use fv_registry::RuleSet;
 use std::alloc::Global;
@@ -40,31 +41,43 @@ fn compare_lines(
     Ok(())
 }
 
-/// The name of the field at which a use stands, or `-` where it stands at the type.
-fn field_of<'a>(types: &'a Types, placed: &Placed) -> Result<&'a str> {
-    let name = types.name(placed.type_id());
-    let fields = types.fields(name).context("a type")?;
-    match placed.place() {
-        Place::Whole => Ok("-"),
-        Place::Field(field, _) => {
-            let (name, _) = fields.get_index(field).context("a field")?;
-            Ok(name.as_str())
-        }
+/// The word for a step into a datum.
+fn step_word(step: Step) -> &'static str {
+    match step {
+        Step::Element => ".element",
+        Step::Key => ".key",
+        Step::Value => ".value",
+        Step::Content => ".content",
     }
 }
 
-/// A constraint of a use by its number: the use's type and field, the constraint and its message.
+/// The place at which a use stands: the field's name and a word for each step, or `-` for the type.
+fn place_shown(alloc: Global, types: &Types, placed: &Placed) -> Result<String> {
+    let name = types.name(placed.type_id());
+    let fields = types.fields(name).context("a type")?;
+    let Place::Field(field, steps, _) = placed.place() else {
+        return Ok(String::from_str(alloc, "-")?);
+    };
+    let (name, _) = fields.get_index(*field).context("a field")?;
+    let mut shown = String::from_str(alloc, name.as_str())?;
+    for step in steps {
+        shown.push_str(step_word(*step))?;
+    }
+    Ok(shown)
+}
+
+/// A constraint of a use by its number: the use's type and place, the constraint and its message.
 fn node_shown(alloc: Global, types: &Types, placed: &Placed, below: usize) -> Result<String> {
     let name = types.name(placed.type_id());
-    let field = field_of(types, placed)?;
+    let place = place_shown(alloc, types, placed)?;
     let number = placed.number().checked_add(below).context("a number")?;
     let node = placed.occurrence().node(below).context("a node")?;
     let constraint = node.constraint();
     let message = node.message();
-    Ok(format!(in alloc; "{number} {name} {field} {constraint} {message}")?)
+    Ok(format!(in alloc; "{number} {name} {place} {constraint} {message}")?)
 }
 
-/// Rows `NUMBER TYPE FIELD CONSTRAINT MESSAGE`: the constraints that the uses of the head's declarations
+/// Rows `NUMBER TYPE PLACE CONSTRAINT MESSAGE`: the constraints that the uses of the head's declarations
 /// are composed to, by their numbers.
 pub(crate) fn uses<R: RuleSet>(
     alloc: Global,

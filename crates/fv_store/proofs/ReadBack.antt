@@ -1,10 +1,14 @@
 -- The text of a well-typed bundle is read back as its JSON.
-use Rattle.std.proofs.Common.{◌≡◌, Ordering, Less, Equal, Greater, nat_cmp, ℕ, ℤ, pos, negsuc, suc, max, ◌<◌, ◌≤◌, ◌^◌, List, [], ◌∷◌, Bool, true, false, cond, Some, option_map, option_and_then, inl, inr, refl, sym, ap, ap₂, ◌∙◌, arith, append-nil}
+use Rattle.std.proofs.Common.{◌≡◌, map, length, nat_lt, Option, unwrap_or, subst, Ordering, Less, Equal, Greater, nat_cmp, ℕ, ℤ, pos, negsuc, suc, max, ◌<◌, ◌≤◌, ◌^◌, List, [], ◌∷◌, Bool, true, false, cond, Some, option_map, option_and_then, inl, inr, refl, sym, ap, ap₂, ◌∙◌, arith, append-nil}
 use Rattle.std.specs.Prelude.{FitsSigned, ⊤}
 use Rattle.std.specs.List.{AllByRecursion}
+use Rattle.std.specs.List.Sorted.{IsStrictlySortedBy}
+use Rattle.std.specs.Map.{keys_of}
+use Rattle.std.specs.Str.{bytes_eq}
 use Rattle.std.specs.Ordering.{match_ordering}
 use Rattle.std.specs.Cmp.Lexicographic.{slice_cmp}
 use Rattle.std.specs.Int.{w64}
+use Rattle.std.proofs.lemmas.Bool.{ltb-false}
 use Rattle.json.specs.Lex.{tokens}
 use Rattle.json.specs.Json as parsed
 use Rattle.json.specs.Tree as tree
@@ -12,23 +16,35 @@ use Rattle.json.proofs.Printed.Tokens.{tokens-print}
 use Rattle.json.proofs.Printed.Trees.{value-json_tokens, ArePrintable-json_tokens}
 use Rattle.json.proofs.Printed.Decimals.{IsNumber-decimal, IsNumber-signed_decimal}
 use Rattle.serde_json.specs.Data.{Num, unsigned, negative, float, Data, null, boolean, number, string, array, object, Items, no_items, item, Members, no_members, member, put, depth, items_depth, members_depth}
+use Rattle.serde_json.specs.View as seen
 use Rattle.serde_json.specs.Read.{of_json, of_items, of_members, read, max_depth, number_of}
 use Rattle.serde_json.specs.Find.{of_integer}
 use Rattle.serde_json.specs.Written.{number_text, outline, items_outline, members_outline, compact_text}
 use Rattle.serde_json.proofs.Numbers.{number_of-decimal, number_of-negative}
 use Rattle.serde_json.proofs.Texts.{print-outline}
 use Rattle.fv_datum.specs.Data as datum
-use Rattle.fv_datum.specs.Kinds.{FitsKind, IsOfKind}
+use Rattle.fv_datum.specs.Kinds.{IsOfKind}
+use Rattle.fv_datum.specs.Lookup.{at_name}
 use Rattle.fv_datum.proofs.Spelled.{moment-fits}
-use Rattle.fv_datum.specs.Written.{is_null}
+use Rattle.fv_datum.specs.Written.{is_null, written}
 use Rattle.fv_datum.specs.declared.kind.Kind.{Kind}
 use Rattle.fv_datum.specs.declared.kind.Kind.TheVariants as kind
-use Rattle.fv_model.specs.Types.{DeclaredFields, Declared, kind_of}
+use Rattle.fv_types.specs.Fits.{Referring, IsOfUse, Fits}
+use Rattle.fv_types.specs.Names.{IsAscending}
+use Rattle.fv_types.specs.Spelled.{keyed, list_of, map_of}
+use Rattle.fv_types.specs.Types.{TypeUse, texts, integers, decimals, booleans, dates, instants, references, lists, maps, optionals, DeclaredFields, Declared, nested, deep_in, has_deep}
+use Rattle.fv_types.proofs.Back.{some_json, fits_writable}
+use Rattle.fv_types.proofs.Bools.{or_left, or_right}
+use Rattle.fv_types.proofs.Lists.{none_each, each_of}
+use Rattle.fv_types.proofs.Orders.{keys_in_order}
 use Rattle.fv_model.specs.Bundles.{Thing, Things, Bundled}
-use Rattle.fv_model.specs.WellTyped.{FitsType, FieldsFit, IsWellTyped}
-use Rattle.fv_model.specs.Writing.{datum_json, added, thing_json, objects_added, bundle_json}
+use Rattle.fv_model.specs.WellTyped.{NamesObject, FitsUse, FitsType, FieldsFit, IsWellTyped}
+use Rattle.fv_types.specs.Writing.{IsWritten, datum_json}
+use Rattle.fv_model.specs.Writing.{added, thing_json, objects_added, bundle_json}
+use Rattle.fv_text.proofs.Containers.{entry_named, list_written, map_written, json_is}
+use Rattle.fv_text.proofs.InOrder.{members_of}
 use Rattle.fv_store.specs.Records.{bundle_text}
-use Rattle.fv_store.proofs.Members.{AreAscending, all_put, ascending_put, put_again}
+use Rattle.fv_store.proofs.Members.{AreAbove, AreAscending, all_put, ascending_put, put_again}
 
 -- ---- data that are read back
 
@@ -172,45 +188,120 @@ kind_plain kind.Instant d (n, passes, it) = rw it (whole n (moment-fits n passes
 kind_plain kind.Ref d (s, passes, it) = rw it (tt, omega arith)
 kind_plain _ d none = absurd none
 
-datum_plain : (k : Kind) (d : datum.Data) → FitsKind k d → IsPlain (datum_json d) × (depth (datum_json d) ≤ 0)
-datum_plain k d (inl is) = rw is (tt, omega arith)
-datum_plain k d (inr of) = kind_plain k d of
-
-unless_null : (b : Bool) (k : List ℕ) (d : Data) (ms : Members) → IsPlain d → depth d ≤ 0 → Fields 0 ms → Fields 0 (cond b ms (put k d ms))
-unless_null true k d ms plain flat h = h
-unless_null false k d ms plain flat h = record { plain = plain_put k d ms plain h.plain; ordered = ascending_put k d ms h.ordered; flat = flat_put 0 k d ms flat h.flat }
-
-fields_added : (os : Things) (ds : DeclaredFields) (fs : List (List ℕ × datum.Data)) (ms : Members) → FieldsFit os ds fs → Fields 0 ms → Fields 0 (added ms fs)
-fields_added os [] [] ms fit h = h
-fields_added os (d ∷ ds) (f ∷ fs) ms fit h =
-    let one = datum_plain (kind_of d.1) f.1 fit.1.0 in
-    fields_added os ds fs (cond (is_null f.1) ms (put f.0 (datum_json f.1) ms)) fit.2 (unless_null (is_null f.1) f.0 (datum_json f.1) ms one.0 one.1 h)
-fields_added os [] (f ∷ fs) ms fit h = absurd fit
-fields_added os (d ∷ ds) [] ms fit h = absurd fit
-
 no_fields : (n : ℕ) → Fields n no_members
 no_fields n = record { plain = tt; ordered = tt; flat = omega arith }
 
+keyed_each : (es : List (List ℕ × datum.Data)) → AllByRecursion (λ e. IsWritten e.1) es → AllByRecursion (λ e. IsWritten e.1) (keyed es)
+keyed_each [] all = tt
+keyed_each (e ∷ es) all = (all.0, keyed_each es all.1)
+
+-- plain, and no deeper than so
+abbrev IsFlat : ℕ → Data → Type 0
+IsFlat n d = IsPlain d × (depth d ≤ n)
+
+items_flat : (n : ℕ) (ds : List datum.Data) → AllByRecursion (λ d. IsFlat n (datum_json d)) ds → ArePlainItems (seen.items_of (map datum_json ds)) × (items_depth (seen.items_of (map datum_json ds)) ≤ n)
+items_flat n [] all = (tt, omega arith)
+items_flat n (d ∷ ds) all =
+    let more = items_flat n ds all.1 in
+    ((all.0.0, more.0), (let one = all.0.1 in let others = more.1 in omega arith))
+
+keys_above : (k : List ℕ) (es : List (List ℕ × datum.Data)) → AllByRecursion (λ y. slice_cmp nat_cmp k y ≡ Less) (keys_of es) → AreAbove k (members_of (map entry_named (keyed es)))
+keys_above k [] h = tt
+keys_above k (e ∷ es) h = (h.0, keys_above k es h.1)
+
+entries_flat : (n : ℕ) (es : List (List ℕ × datum.Data)) → IsAscending (keys_of es) → AllByRecursion (λ e. IsFlat n (datum_json e.1)) es → Fields n (members_of (map entry_named (keyed es)))
+unfolding IsStrictlySortedBy
+entries_flat n [] ascending all = no_fields n
+entries_flat n (e ∷ es) ascending all =
+    let more = entries_flat n es ascending.1 all.1 in
+    record {
+      plain = (all.0.0, more.plain);
+      ordered = (keys_above e.0 es ascending.0, more.ordered);
+      flat = (let one = all.0.1 in let others = more.flat in omega arith);
+    }
+
+content_flat : (n : ℕ) (d : datum.Data) → IsWritten d → IsFlat n (datum_json d) → IsFlat (suc n) (datum_json (datum.optional d))
+content_flat n d h flat = at (is_null d)
+  where
+    at : (b : Bool) → IsFlat (suc n) (unwrap_or (cond b (Some (array no_items)) (option_map (λ j. array (item j no_items)) (written d))) null)
+    at true = (tt, omega arith)
+    at false = subst (λ (o : Option Data). IsFlat (suc n) (unwrap_or (option_map (λ j. array (item j no_items)) o) null)) (sym (some_json d h)) ((flat.0, tt), (let one = flat.1 in omega arith))
+
+null_or : (N : Referring) (u : TypeUse) (n : ℕ) → ((d : datum.Data) → IsOfUse N u d → IsFlat n (datum_json d)) → (d : datum.Data) → Fits N u d → IsFlat n (datum_json d)
+null_or N u n turn d (inl is) = rw is (tt, omega arith)
+null_or N u n turn d (inr of) = turn d of
+
+-- a datum that fits is written plainly, no deeper than its containers
+use_flat : (N : Referring) (u : TypeUse) (d : datum.Data) → IsOfUse N u d → IsFlat (nested u) (datum_json d)
+use_flat N texts d (s, few, it) = rw it (tt, omega arith)
+use_flat N integers d of = kind_plain kind.Integer d of
+use_flat N decimals d of = kind_plain kind.Decimal d of
+use_flat N booleans d of = kind_plain kind.Boolean d of
+use_flat N dates d of = kind_plain kind.Date d of
+use_flat N instants d of = kind_plain kind.Instant d of
+use_flat N (references type) d (s, passes, named, it) = rw it (tt, omega arith)
+use_flat N (lists u) d (ds, few, all, it) =
+    let flat = items_flat (nested u) ds (each_of (Fits N u) (λ x. IsFlat (nested u) (datum_json x)) ds (null_or N u (nested u) (λ x of. use_flat N u x of)) all) in
+    let json = json_is (list_of ds) (array (seen.items_of (map datum_json ds))) (list_written ds (each_of (Fits N u) IsWritten ds (fits_writable N u) all)) in
+    subst (λ (j : Data). IsFlat (suc (nested u)) j) (sym (ap datum_json it ∙ json)) (flat.0, (let deep = flat.1 in omega arith))
+use_flat N (maps u) d (es, few, ascending, all, it) =
+    let each = each_of (λ e. (length e.0 ≤ 65536) × Fits N u e.1) (λ e. IsFlat (nested u) (datum_json e.1)) es (λ e fits. null_or N u (nested u) (λ x of. use_flat N u x of) e.1 fits.1) all in
+    let flat = entries_flat (nested u) es ascending each in
+    let writable = each_of (λ e. (length e.0 ≤ 65536) × Fits N u e.1) (λ e. IsWritten e.1) es (λ e fits. fits_writable N u e.1 fits.1) all in
+    let json = json_is (map_of es) (object (members_of (map entry_named (keyed es)))) (map_written (keyed es) (keys_in_order es ascending) (keyed_each es writable)) in
+    subst (λ (j : Data). IsFlat (suc (nested u)) j) (sym (ap datum_json it ∙ json)) ((flat.plain, flat.ordered), (let deep = flat.flat in omega arith))
+use_flat N (optionals u) d (c, fits, it) =
+    subst (λ (x : datum.Data). IsFlat (suc (nested u)) (datum_json x)) (sym it)
+    (content_flat (nested u) c (fits_writable N u c fits) (null_or N u (nested u) (λ x of. use_flat N u x of) c fits))
+
+unless_null : (n : ℕ) (b : Bool) (k : List ℕ) (d : Data) (ms : Members) → IsFlat n d → Fields n ms → Fields n (cond b ms (put k d ms))
+unless_null n true k d ms flat h = h
+unless_null n false k d ms flat h = record { plain = plain_put k d ms flat.0 h.plain; ordered = ascending_put k d ms h.ordered; flat = flat_put n k d ms flat.1 h.flat }
+
+-- no more containers one in another than types have
+field_flat : (os : Things) (u : TypeUse) (d : datum.Data) → nat_lt 4 (nested u) ≡ false → FitsUse os u d → IsFlat 4 (datum_json d)
+field_flat os u d few fits =
+    let flat = null_or (NamesObject os) u (nested u) (use_flat (NamesObject os) u) d fits in
+    let bound : nested u ≤ 4 = ltb-false 4 (nested u) few in
+    (flat.0, (let deep = flat.1 in omega arith))
+
+fields_added : (os : Things) (ds : DeclaredFields) (fs : List (List ℕ × datum.Data)) (ms : Members) → AllByRecursion (λ d. nat_lt 4 (nested d.1) ≡ false) ds → FieldsFit os ds fs → Fields 4 ms → Fields 4 (added ms fs)
+fields_added os [] [] ms few fit h = h
+fields_added os (d ∷ ds) (f ∷ fs) ms few fit h =
+    fields_added os ds fs (cond (is_null f.1) ms (put f.0 (datum_json f.1) ms)) few.1 fit.2 (unless_null 4 (is_null f.1) f.0 (datum_json f.1) ms (field_flat os d.1 f.1 few.0 fit.1) h)
+fields_added os [] (f ∷ fs) ms few fit h = absurd fit
+fields_added os (d ∷ ds) [] ms few fit h = absurd fit
+
+-- the fields of declared types hold no more than four containers one in another
+fields_few : (name : List ℕ) (ts : Declared) (fields : DeclaredFields) → has_deep ts ≡ false → at_name name ts ≡ Some fields → AllByRecursion (λ d. nat_lt 4 (nested d.1) ≡ false) fields
+fields_few name [] fields few found = cc
+fields_few name (t ∷ ts) fields few found =
+    at (bytes_eq name t.0) (λ later. fields_few name ts fields (or_right (deep_in t.1) (has_deep ts) few) later) found
+  where
+    at : (b : Bool) → (at_name name ts ≡ Some fields → AllByRecursion (λ d. nat_lt 4 (nested d.1) ≡ false) fields) → cond b (Some t.1) (at_name name ts) ≡ Some fields → AllByRecursion (λ d. nat_lt 4 (nested d.1) ≡ false) fields
+    at true rest is = let here : t.1 ≡ fields = cc in subst (λ (ds : DeclaredFields). AllByRecursion (λ d. nat_lt 4 (nested d.1) ≡ false) ds) here (none_each (λ d. nat_lt 4 (nested d.1)) t.1 (or_left (deep_in t.1) (has_deep ts) few))
+    at false rest is = rest is
+
 -- ---- bundles
 
-thing_plain : (t : Thing) → Fields 0 (added no_members t.fields) → IsPlain (thing_json t) × (depth (thing_json t) ≤ 2)
+thing_plain : (t : Thing) → Fields 4 (added no_members t.fields) → IsPlain (thing_json t) × (depth (thing_json t) ≤ 6)
 thing_plain t h = ((((h.plain, h.ordered), (tt, tt)), ((refl, tt), (tt, tt))), (let flat = h.flat in omega arith))
 
-objects_fit : (types : Declared) (all os : Things) (ms : Members) → AllByRecursion (λ o. FitsType types all o.1) os → Fields 2 ms → Fields 2 (objects_added ms os)
-objects_fit types all [] ms fit h = h
-objects_fit types all (o ∷ os) ms fit h =
-    let one = thing_plain o.1 (fields_added all fit.0.fields o.1.fields no_members fit.0.fit (no_fields 0)) in
-    objects_fit types all os (put o.0 (thing_json o.1) ms) fit.1 (record {
+objects_fit : (types : Declared) (all os : Things) (ms : Members) → has_deep types ≡ false → AllByRecursion (λ o. FitsType types all o.1) os → Fields 6 ms → Fields 6 (objects_added ms os)
+objects_fit types all [] ms few fit h = h
+objects_fit types all (o ∷ os) ms few fit h =
+    let one = thing_plain o.1 (fields_added all fit.0.fields o.1.fields no_members (fields_few o.1.type_name types fit.0.fields few fit.0.declared) fit.0.fit (no_fields 4)) in
+    objects_fit types all os (put o.0 (thing_json o.1) ms) few fit.1 (record {
       plain = plain_put o.0 (thing_json o.1) ms one.0 h.plain;
       ordered = ascending_put o.0 (thing_json o.1) ms h.ordered;
-      flat = flat_put 2 o.0 (thing_json o.1) ms one.1 h.flat;
+      flat = flat_put 6 o.0 (thing_json o.1) ms one.1 h.flat;
     })
 
-bundle_plain : (types : Declared) (b : Bundled) → IsWellTyped types b → IsPlain (bundle_json b) × (depth (bundle_json b) ≤ max_depth)
-bundle_plain types b typed =
-    let objects = objects_fit types b.objects b.objects no_members typed.typed (no_fields 2) in
+bundle_plain : (types : Declared) (b : Bundled) → has_deep types ≡ false → IsWellTyped types b → IsPlain (bundle_json b) × (depth (bundle_json b) ≤ max_depth)
+bundle_plain types b few typed =
+    let objects = objects_fit types b.objects b.objects no_members few typed.typed (no_fields 6) in
     ((((objects.plain, objects.ordered), (tt, tt)), ((refl, tt), (tt, tt))), (let flat = objects.flat in omega arith))
 
-pub bundle_back : (types : Declared) (b : Bundled) → IsWellTyped types b → read (bundle_text b) ≡ Some (bundle_json b)
+pub bundle_back : (types : Declared) (b : Bundled) → has_deep types ≡ false → IsWellTyped types b → read (bundle_text b) ≡ Some (bundle_json b)
 unfolding bundle_text
-bundle_back types b typed = let plain = bundle_plain types b typed in text_back (bundle_json b) plain.0 plain.1
+bundle_back types b few typed = let plain = bundle_plain types b few typed in text_back (bundle_json b) plain.0 plain.1

@@ -3,7 +3,7 @@ use Rattle.std.specs.Prelude.{◌≡◌, ℕ, List, Option, Some, None, if◌the
 use Rattle.std.specs.Str.{bytes_eq}
 use Rattle.serde_json.specs.Written.{compact_text}
 use Rattle.fv_datum.specs.Lookup.{at_name}
-use Rattle.fv_model.specs.Types.{Declared}
+use Rattle.fv_types.specs.Types.{Declared}
 use Rattle.fv_model.specs.Bundles.{Bundled}
 use Rattle.fv_model.specs.WellTyped.{IsWellTyped, HasRootType}
 use Rattle.fv_model.specs.Writing.{bundle_json}

@@ -2,7 +2,7 @@
 ghost use Rattle.std.specs.Prelude.{◌≡◌, ◌≢◌, false, length, IfOk, IfErr, OnOk, OnErr, MatchResult, option_map, Some, None};
 ghost use Rattle.sqlite.specs.State.{HasCleanDisk};
 ghost use Rattle.sqlite.specs.Held.{state};
-ghost use Rattle.fv_model.specs.Views.{types_view};
+ghost use Rattle.fv_types.specs.TypesView.{types_view};
 ghost use Rattle.fv_store.specs.Causes.{AreShort, HasFailed, HasRoom, IsShortAbout};
 ghost use Rattle.fv_store.specs.Changes.{changed, ChangesFit};
 ghost use Rattle.fv_store.specs.Stands.{Frame, Holds, HasTables, IsBlank, IsLive, Opens, Stays};

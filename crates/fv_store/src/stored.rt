@@ -2,7 +2,7 @@
 ghost use Rattle.std.specs.Prelude.{◌≡◌, Ok, Option, option_map};
 ghost use Rattle.std.specs.Option.{ForSome};
 ghost use Rattle.fv_datum.specs.Outcomes.{Gives};
-ghost use Rattle.fv_model.specs.Views.{types_view};
+ghost use Rattle.fv_types.specs.TypesView.{types_view};
 ghost use Rattle.fv_model.specs.WellTyped.{IsWellTyped};
 ghost use Rattle.fv_store.specs.Records.{Kept};
 ghost use Rattle.fv_store.specs.Showing.{kept_text, shown_view};

@@ -1,7 +1,8 @@
 //! Bundles as texts.
 ghost use Rattle.std.specs.Prelude.{◌≡◌, IfOk, Ok, string_bytes};
 ghost use Rattle.fv_datum.specs.Outcomes.{Gives};
-ghost use Rattle.fv_model.specs.Views.{types_view, bundle_view};
+ghost use Rattle.fv_types.specs.TypesView.{types_view};
+ghost use Rattle.fv_model.specs.Views.{bundle_view};
 ghost use Rattle.fv_model.specs.Bundles.{Bundled};
 ghost use Rattle.fv_model.specs.WellTyped.{IsWellTyped};
 ghost use Rattle.fv_store.specs.Records.{bundle_text};

@@ -37,7 +37,7 @@ named o = (o.0, thing_json o.1)
 
 -- ---- they are the members that `put` makes
 
-abbrev put_all : json.Members → List Named → json.Members
+abbrev pub put_all : json.Members → List Named → json.Members
 put_all ms [] = ms
 put_all ms (e ∷ es) = put_all (json.put e.0 e.1 ms) es
 
@@ -62,7 +62,7 @@ lower : (k l : List ℕ) (es : List Named) → slice_cmp nat_cmp k l ≡ Less �
 lower k l [] below h = refl
 lower k l (e ∷ es) below h = let parts = and_parts _ _ h in and_from _ _ (ap is_lt (nat_list_cmp_total.trans k l e.0 below (less _ parts.0))) parts.1
 
-put_all-member : (k : List ℕ) (d : json.Data) (ms : json.Members) (es : List Named) → rises k es ≡ true → put_all (json.member k d ms) es ≡ json.member k d (put_all ms es)
+pub put_all-member : (k : List ℕ) (d : json.Data) (ms : json.Members) (es : List Named) → rises k es ≡ true → put_all (json.member k d ms) es ≡ json.member k d (put_all ms es)
 put_all-member k d ms [] h = refl
 put_all-member k d ms (e ∷ es) h =
     let parts = and_parts _ _ h in
@@ -70,7 +70,7 @@ put_all-member k d ms (e ∷ es) h =
     let above : slice_cmp nat_cmp e.0 k ≡ Greater = nat_list_cmp_total.antisymm e.0 k ∙ ap ordering_reverse below in
     rw above (put_all-member k d (json.put e.0 e.1 ms) es (lower k e.0 es below parts.1))
 
-put_all-in_order : (last : List ℕ) (es : List Named) → rises last es ≡ true → put_all json.no_members es ≡ members_of es
+pub put_all-in_order : (last : List ℕ) (es : List Named) → rises last es ≡ true → put_all json.no_members es ≡ members_of es
 put_all-in_order last [] h = refl
 put_all-in_order last (e ∷ es) h = let parts = and_parts _ _ h in put_all-member e.0 e.1 json.no_members es parts.1 ∙ ap (json.member e.0 e.1) (put_all-in_order e.0 es parts.1)
 

@@ -1,2 +1,3 @@
+pub mod Containers
 pub mod InOrder
 pub mod NoFloats

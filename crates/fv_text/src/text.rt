@@ -3,51 +3,16 @@
 ghost use Rattle.std.specs.Prelude.{◌≡◌, IfOk, string_bytes};
 ghost use Rattle.serde_json.specs.Data as json;
 ghost use Rattle.serde_json.specs.Written.{compact_text};
-ghost use Rattle.fv_datum.specs.View.{view};
 ghost use Rattle.fv_model.specs.Views.{object_view, objects_view, bundle_view};
-ghost use Rattle.fv_model.specs.Writing.{datum_json, added, objects_added, thing_json, bundle_json};
+ghost use Rattle.fv_model.specs.Writing.{added, objects_added, thing_json, bundle_json};
 ghost use Rattle.fv_text.specs.Puts.{Puts};
-ghost use Rattle.fv_text.specs.declared.text.Halt.TheVariants.{Memory};
 
-use fv_datum::{Datum, is_null};
+use crate::data::write_datum;
+use crate::halt::Halt;
+use fv_datum::is_null;
 use fv_model::{Bundle, Object, Objects, write_bundle};
 use json::Writer;
 use std::alloc::{AllocError, Global};
-
-/// Why a bundle wasn't written as it comes.
-#[derive(Clone, Copy)]
-enum Halt {
-    /// A name is not above the one before it, or a datum holds other data.
-    NotPlain,
-    /// An allocation was refused.
-    Memory,
-}
-
-impl From<AllocError> for Halt {
-    ghost from_gives = { λ _ e. e ≡ Memory };
-
-    fn from(_e: AllocError) -> Halt {
-        Halt::Memory
-    }
-}
-
-/// A datum that holds no other.
-fn write_datum(out: &mut Writer, datum: &Datum) -> Result<(), Halt>
-    ensures { Puts result out.old out.new (datum_json (view datum.now)) }
-{
-    match datum {
-        Datum::Null => out.null()?,
-        Datum::Text(text) => out.string(text.as_str())?,
-        Datum::Integer(number) => out.i64(*number)?,
-        Datum::Decimal(text) => out.string(text.as_str())?,
-        Datum::Boolean(flag) => out.boolean(*flag)?,
-        Datum::Date(text) => out.string(text.as_str())?,
-        Datum::Instant(seconds) => out.i64(*seconds)?,
-        Datum::Ref(name) => out.string(name.as_str())?,
-        Datum::List(_) | Datum::Map(_) | Datum::Optional(_) => return Err(Halt::NotPlain),
-    }
-    Ok(())
-}
 
 /// An object of the fields that aren't null.
 fn write_fields(out: &mut Writer, object: &Object) -> Result<(), Halt>

@@ -1,7 +1,7 @@
 -- Uses that fit, and those whose numbers are few, seen from one of them on.
-use Rattle.std.proofs.Common.{◌≡◌, ℕ, ℤ, ◌+◌, ◌<◌, ◌≤◌, ◌&&◌, List, [], ◌∷◌, length, get_or, map, drop, Bool, true, false, Some, refl, sym, ap, subst, ◌∙◌, true≢false, add-one, drop-cons, append_assoc, append-nil, ◌++◌, arith}
+use Rattle.std.proofs.Common.{◌≡◌, ℕ, ℤ, ◌+◌, ◌<◌, ◌≤◌, ◌&&◌, List, [], ◌∷◌, length, get_or, map, drop, Bool, true, false, refl, sym, ap, subst, ◌∙◌, true≢false, add-one, drop-cons, append_assoc, append-nil, ◌++◌, arith}
 use Rattle.std.proofs.lemmas.List.{at_drop_all}
-use Rattle.std.specs.List.{list_all}
+use Rattle.std.specs.List.{list_all, AllByRecursion}
 use Rattle.fv_declare.specs.Declarations.{Placed}
 use Rattle.fv_declare.specs.PlacedView.{placed_view}
 use Rattle.fv_declare.specs.declared.placed.Placed as code
@@ -11,12 +11,14 @@ use Rattle.fv_model.specs.Bundles.{Thing}
 use Rattle.fv_occurrence.specs.Fits.{test_fits, fits}
 use Rattle.fv_occurrence.specs.Nodes.{Test, built_in, by_rule, by_object_rule, nothing, Node}
 use Rattle.fv_occurrence.specs.Preorder.{nodes}
-use Rattle.fv_occurrence.specs.Reports.{violated}
 use Rattle.fv_occurrence.specs.Trees.{Tree, size}
 use Rattle.fv_registry.specs.Meanings.{Meanings}
 use Rattle.fv_registry.specs.Rules.{Known}
+use Rattle.fv_spot.specs.Telling.{Told}
+use Rattle.fv_spot.specs.Views.{told_view}
+use Rattle.fv_spot.specs.declared.told.Told as code_told
 use Rattle.fv_validate.specs.Judging.{reported_by, reported_all, AreFew}
-use Rattle.fv_validate.specs.Violations.{Reported, Spot, spot_at, report_at}
+use Rattle.fv_validate.specs.Violations.{Reported}
 
 and_left : (a b : Bool) → (a && b) ≡ true → a ≡ true
 and_left true b e = refl
@@ -47,12 +49,6 @@ all_there k place (n ∷ ns) e = both _ _ (test_there k place n.test (and_left _
 pub rules_there : (k : Known) (place : Place) (t : Tree Node) → flat.tree_fits k place t ≡ true → fits k t ≡ true
 rules_there k place t e = all_there k place (nodes t) e
 
--- what a use reports, where something stands at its place
-pub reported_as : (m : Meanings) (now : ℤ) (name : List ℕ) (object : Thing) (u : Placed) (s : Spot) → spot_at name object u.place ≡ Some s
-    → map (report_at s) (violated m now s.subject u.number u.tree) ≡ reported_by m now name object u
-unfolding reported_by
-reported_as m now name object u s e = rw e refl
-
 -- ---- few numbers
 
 turn : (xs : List code.Placed) (i : ℕ) (x : code.Placed) → i < length xs → x ≡ get_or xs i x → map placed_view (drop i xs) ≡ placed_view x ∷ map placed_view (drop (i + 1) xs)
@@ -69,6 +65,15 @@ few_here xs i x h is f = head_few (placed_view x) (map placed_view (drop (i + 1)
 
 pub few_later : (xs : List code.Placed) (i : ℕ) (x : code.Placed) → i < length xs → x ≡ get_or xs i x → AreFew (map placed_view (drop i xs)) → AreFew (map placed_view (drop (i + 1) xs))
 few_later xs i x h is f = tail_few (placed_view x) (map placed_view (drop (i + 1) xs)) (subst AreFew (turn xs i x h is) f)
+
+-- ---- what is told of the parts from one on
+
+turn_told : (xs : List code_told.Told) (i : ℕ) (x : code_told.Told) → i < length xs → x ≡ get_or xs i x → map told_view (drop i xs) ≡ told_view x ∷ map told_view (drop (i + 1) xs)
+turn_told xs i x h is = rw (add-one, drop-cons xs i x h, ← is) refl
+
+-- what holds of all that is told from a part on holds of that part
+pub told_here : (P : Told → Type 0) (xs : List code_told.Told) (i : ℕ) (x : code_told.Told) → i < length xs → x ≡ get_or xs i x → AllByRecursion P (map told_view (drop i xs)) → P (told_view x)
+told_here P xs i x h is all = (subst (λ (ts : List Told). AllByRecursion P ts) (turn_told xs i x h is) all).0
 
 -- ---- what is reported so far, and what is still to come
 

@@ -1,23 +1,20 @@
 -- What the uses of the root's type report are all violations of a bundle.
-use Rattle.std.proofs.Common.{cond, suc, zero, map, not, length, get_or, bytes_eq, nat_lt, ◌≡◌, ◌≢◌, ◌<◌, ◌≤◌, ◌+◌, ◌&&◌, ℕ, ℤ, List, [], ◌∷◌, ◌++◌, Bool, true, false, Option, Some, None, Result, Ok, Err, IfOk, is_some, true≢false, refl, sym, ap, subst, ◌∙◌, inl, inr, arith}
+use Rattle.std.proofs.Common.{◌⊎◌, cond, suc, zero, map, not, length, get_or, bytes_eq, nat_lt, ◌≡◌, ◌<◌, ◌+◌, ◌&&◌, ℕ, ℤ, List, [], ◌∷◌, ◌++◌, Bool, true, false, Option, Some, None, Result, Ok, Err, IfOk, is_some, true≢false, refl, sym, ap, subst, ◌∙◌, inl, inr, arith}
 use Rattle.std.proofs.lemmas.Bool.{lt-ltb}
 use Rattle.std.specs.List.{All, AllByRecursion, list_all, flat_map, prefix_len}
-use Rattle.std.proofs.lemmas.List.Elements.{All-from_recursion}
-use Rattle.std.proofs.lemmas.List.Kept.{AllPairs-cons}
 use Rattle.std.proofs.lemmas.Slice.Eq.{bytes_eq-Decides}
 use Rattle.fv_datum.specs.Lookup.{at_name}
 use Rattle.fv_datum.specs.Name.{names}
-use Rattle.fv_declare.specs.Declarations.{Placed, Declarations, count_nodes, AreNumbered}
+use Rattle.fv_declare.specs.Declarations.{Placed, Declarations}
 use Rattle.fv_model.specs.Bundles.{Thing, Bundled}
-use Rattle.fv_model.specs.Types.{DeclaredFields, Declared, number_of}
+use Rattle.fv_types.specs.Types.{DeclaredFields, Declared, number_of}
 use Rattle.fv_model.specs.WellTyped.{FitsType, IsWellTyped}
 use Rattle.fv_occurrence.specs.Nodes.{Node}
 use Rattle.fv_occurrence.specs.Reports.{violated}
-use Rattle.fv_occurrence.specs.Trees.{size}
 use Rattle.fv_registry.specs.Meanings.{Meanings}
-use Rattle.fv_validate.specs.Judging.{told_at, reported_by, reported_all, AreOccurrencesOf, AreApart, AreFound}
-use Rattle.fv_validate.specs.Violations.{Reported, Spot, spot_at, report_at, IsViolation, IsListed}
-use Rattle.fv_validate.proofs.Reports.{Rise, rise_append, rise_from, rise_map, rises}
+use Rattle.fv_validate.specs.Judging.{told_by, reported_by, reported_all, AreOccurrencesOf, AreFound}
+use Rattle.fv_validate.specs.Violations.{Reported, Spot, spots_at, report_at, IsViolation, IsListed}
+use Rattle.fv_validate.proofs.Apart.{CanBeTold, fits_told, reports_apart}
 
 -- what holds of an answer, by what holds
 pub if_ok : {T E : Type 0} (r : Result T E) (P Q : T → Type 0) → ((x : T) → P x → Q x) → IfOk r P → IfOk r Q
@@ -55,6 +52,11 @@ module _ {X : Type 0} where
   listed_behind [] ys x h = h
   listed_behind (y ∷ xs) ys x h = inr (listed_behind xs ys x h)
 
+  from_either : (xs ys : List X) (x : X) → IsListed (xs ++ ys) x → IsListed xs x ⊎ IsListed ys x
+  from_either [] ys x h = inr h
+  from_either (y ∷ xs) ys x (inl e) = inl (inl e)
+  from_either (y ∷ xs) ys x (inr h) = elim (from_either xs ys x h) [ inl here ↦ inl (inr here) | inr later ↦ inr later ]
+
   all_listed : (P : X → Type 0) (xs : List X) → ((x : X) → IsListed xs x → P x) → AllByRecursion P xs
   all_listed P [] each = tt
   all_listed P (x ∷ xs) each = (each x (inl refl), all_listed P xs (λ y h. each y (inr h)))
@@ -68,6 +70,14 @@ module _ {X Y : Type 0} (f : X → List Y) where
   listed_flat [] x y h k = absurd h
   listed_flat (z ∷ zs) x y (inl e) k = listed_front (f z) (flat_map f zs) y (subst (λ (w : X). IsListed (f w) y) e k)
   listed_flat (z ∷ zs) x y (inr h) k = listed_behind (f z) (flat_map f zs) y (listed_flat zs x y h k)
+
+  -- what is one of the lists of some is one of the list of one of them
+  from_flat : (xs : List X) (y : Y) → IsListed (flat_map f xs) y → (x : X) × IsListed xs x × IsListed (f x) y
+  from_flat [] y h = absurd h
+  from_flat (x ∷ xs) y h = elim (from_either (f x) (flat_map f xs) y h) [
+    | inl here ↦ (x, inl refl, here)
+    | inr later ↦ let r = from_flat xs y later in (r.0, inr r.1, r.2)
+  ]
 
   all_flat : (P : Y → Type 0) (xs : List X) → ((x : X) → IsListed xs x → AllByRecursion P (f x)) → AllByRecursion P (flat_map f xs)
   all_flat P [] each = tt
@@ -89,45 +99,10 @@ listed_at f (x ∷ xs) (suc k) d below = inr (listed_at f xs k d (omega arith))
 pub each_fits : {X : Type 0} (p : Placed → Bool) (f : X → Placed) (xs : List X) (all : List Placed) (type : ℕ) → AreOccurrencesOf all type (map f xs) → list_all p all ≡ true → All (λ x. p (f x) ≡ true) xs
 each_fits p f xs all type uses fit k d below = true_at p all (f (get_or xs k d)) fit (uses.each (f (get_or xs k d)) (listed_at f xs k d below)).1
 
--- ---- the numbers of reports rise
-
--- a report's number
-abbrev number : Reported → ℕ
-number v = v.occurrence
-
-differs : (v : Reported) (ws : List Reported) → AllByRecursion (λ w. v.occurrence + 1 ≤ number w) ws → AllByRecursion (λ w. v.occurrence ≢ w.occurrence) ws
-differs v [] all = tt
-differs v (w ∷ ws) all = let later : v.occurrence + 1 ≤ w.occurrence = all.0 in (λ e. absurd (omega arith), differs v ws all.1)
-
-apart : (m e : ℕ) (vs : List Reported) → Rise number m e vs → AreApart vs
-apart m e [] up = λ j k d below within. absurd (omega arith)
-apart m e (v ∷ vs) up =
-    AllPairs-cons (λ v w. v.occurrence ≢ w.occurrence) v vs
-    (All-from_recursion (λ w. v.occurrence ≢ w.occurrence) vs (differs v vs (rise_from number (v.occurrence + 1) e (v.occurrence + 1) vs (omega arith) up.1)))
-    (apart (v.occurrence + 1) e vs up.1)
-
-module _ (m : Meanings) (now : ℤ) (name : List ℕ) (object : Thing) where
-  told_rise : (u : Placed) (o : Option Spot) → Rise number u.number (u.number + size u.tree) (told_at m now u o)
-  told_rise u None = omega arith
-  told_rise u (Some s) = rise_map number (report_at s) u.number (u.number + size u.tree) (violated m now s.subject u.number u.tree) (rises _ _ u.number u.tree)
-
-  use_rises : (u : Placed) → Rise number u.number (u.number + size u.tree) (reported_by m now name object u)
-  unfolding reported_by
-  use_rises u = told_rise u (spot_at name object u.place)
-
-  all_rise : (n : ℕ) (us : List Placed) → AreNumbered n us → Rise number n (n + count_nodes (map (λ u. u.tree) us)) (reported_all m now name object us)
-  all_rise n [] numbered = omega arith
-  all_rise n (u ∷ us) numbered =
-      let same : n + size u.tree + count_nodes (map (λ (w : Placed). w.tree) us) ≡ n + (size u.tree + count_nodes (map (λ (w : Placed). w.tree) us)) = omega arith in
-      let here : Rise number n (n + size u.tree) (reported_by m now name object u) = subst (λ (k : ℕ). Rise number k (k + size u.tree) (reported_by m now name object u)) numbered.0 (use_rises u) in
-      let later = subst (λ (e : ℕ). Rise number (n + size u.tree) e (reported_all m now name object us)) same (all_rise (n + size u.tree) us numbered.1) in
-      rise_append number n (n + size u.tree) _ (reported_by m now name object u) (reported_all m now name object us) here later
-
 -- ---- in the root, by the uses of its type
 
 module _ (m : Meanings) (now : ℤ) (ds : Declarations) (b : Bundled) (root : Thing) (type : ℕ) (rooted : at_name b.root b.objects ≡ Some root) (typed : number_of ds.types root.type_name ≡ Some type) where
-  violation_in : (u : Placed) (s : Spot) (v : Reported) → IsListed ds.occurrences u → u.type ≡ type → spot_at b.root root u.place ≡ Some s
-      → IsListed (map (report_at s) (violated m now s.subject u.number u.tree)) v → IsViolation m ds now b v
+  violation_in : (u : Placed) (s : Spot) (v : Reported) → IsListed ds.occurrences u → u.type ≡ type → IsListed (spots_at b.root root u.place) s → IsListed (told_by m now u s) v → IsViolation m ds now b v
   violation_in u s v declared of_type stands listed =
       let found = from_map (report_at s) (violated m now s.subject u.number u.tree) v listed in
       record {
@@ -143,33 +118,32 @@ module _ (m : Meanings) (now : ℤ) (ds : Declarations) (b : Bundled) (root : Th
         is = found.2;
       }
 
-  told_sound : (u : Placed) (o : Option Spot) → IsListed ds.occurrences u → u.type ≡ type → spot_at b.root root u.place ≡ o → (v : Reported) → IsListed (told_at m now u o) v → IsViolation m ds now b v
-  told_sound u None declared of_type stands v listed = absurd listed
-  told_sound u (Some s) declared of_type stands v listed = violation_in u s v declared of_type stands listed
-
   use_sound : (u : Placed) → IsListed ds.occurrences u → u.type ≡ type → (v : Reported) → IsListed (reported_by m now b.root root u) v → IsViolation m ds now b v
   unfolding reported_by
-  use_sound u declared of_type v listed = told_sound u (spot_at b.root root u.place) declared of_type refl v listed
+  use_sound u declared of_type v listed =
+      let found = from_flat (told_by m now u) (spots_at b.root root u.place) v listed in
+      violation_in u found.0 v declared of_type found.1 found.2
 
-  use_complete : (u : Placed) (s : Spot) (n : ℕ × Node) → spot_at b.root root u.place ≡ Some s → IsListed (violated m now s.subject u.number u.tree) n → IsListed (reported_by m now b.root root u) (report_at s n)
+  use_complete : (u : Placed) (s : Spot) (n : ℕ × Node) → IsListed (spots_at b.root root u.place) s → IsListed (violated m now s.subject u.number u.tree) n → IsListed (reported_by m now b.root root u) (report_at s n)
   unfolding reported_by
-  use_complete u s n stands listed = rw stands (listed_map (report_at s) (violated m now s.subject u.number u.tree) n listed)
+  use_complete u s n stands listed =
+      listed_flat (told_by m now u) (spots_at b.root root u.place) s (report_at s n) stands (listed_map (report_at s) (violated m now s.subject u.number u.tree) n listed)
 
   complete : (us : List Placed) → AreOccurrencesOf ds.occurrences type us → (v : Reported) → IsViolation m ds now b v → IsListed (reported_all m now b.root root us) v
   complete us uses v is =
       let same_root : is.root ≡ root = let e : Some is.root ≡ Some root = sym is.rooted ∙ rooted in some_same _ _ e in
       let same_type : is.used.type ≡ type = let e : Some is.used.type ≡ Some type = sym is.typed ∙ ap (λ (t : Thing). number_of ds.types t.type_name) same_root ∙ typed in some_same _ _ e in
-      let stands : spot_at b.root root is.used.place ≡ Some is.spot = ap (λ (t : Thing). spot_at b.root t is.used.place) (sym same_root) ∙ is.stands in
+      let stands = subst (λ (t : Thing). IsListed (spots_at b.root t is.used.place) is.spot) same_root is.stands in
       let here = use_complete is.used is.spot is.node stands is.violated in
       listed_flat (reported_by m now b.root root) us is.used v (uses.none_left is.used is.declared same_type)
       (subst (λ (w : Reported). IsListed (reported_by m now b.root root is.used) w) (sym is.is) here)
 
   -- all violations are found
-  pub all_found : (us : List Placed) → AreOccurrencesOf ds.occurrences type us → AreFound m ds now b (reported_all m now b.root root us)
-  all_found us uses = record {
+  pub all_found : (us : List Placed) → AreOccurrencesOf ds.occurrences type us → CanBeTold root → AreFound m ds now b (reported_all m now b.root root us)
+  all_found us uses told = record {
     sound = all_flat (reported_by m now b.root root) (IsViolation m ds now b) us (λ u h. let one = uses.each u h in all_listed (IsViolation m ds now b) (reported_by m now b.root root u) (use_sound u one.1 one.0));
     complete = complete us uses;
-    apart = apart uses.few.0 _ (reported_all m now b.root root us) (all_rise m now b.root root uses.few.0 us uses.few.1);
+    apart = reports_apart m now b.root root told uses.few.0 us uses.few.1;
   }
 
 -- ---- the root
@@ -204,12 +178,24 @@ there (Some x) is = (x, refl)
 pub root_there : (ts : Declared) (b : Bundled) → IsWellTyped ts b → at_name b.root b.objects ≡ None → ⊥
 root_there ts b well none = let root = there (at_name b.root b.objects) well.rooted in let never : Some root.0 ≡ None = sym root.1 ∙ none in cc
 
+-- it is of a declared type
+root_typed : (ts : Declared) (b : Bundled) (root : Thing) → IsWellTyped ts b → at_name b.root b.objects ≡ Some root → FitsType ts b.objects root
+root_typed ts b root well rooted = found_in (λ (t : Thing). FitsType ts b.objects t) b.root b.objects root well.typed rooted
+
 -- and so is its type
 pub type_there : (ts : Declared) (b : Bundled) (root : Thing) → IsWellTyped ts b → at_name b.root b.objects ≡ Some root → number_of ts root.type_name ≡ None → ⊥
 type_there ts b root well rooted none =
-    let typed : FitsType ts b.objects root = found_in (λ (t : Thing). FitsType ts b.objects t) b.root b.objects root well.typed rooted in
+    let typed = root_typed ts b root well rooted in
     let number = numbered ts root.type_name typed.fields typed.declared in
     let never : Some number.0 ≡ None = sym number.1 ∙ none in cc
+
+-- where the fields of all types have names, all of it can be told
+pub root_told : (ts : Declared) (b : Bundled) (root : Thing) → IsWellTyped ts b → AllByRecursion (λ t. AllByRecursion (λ f. names f.0 ≡ true) t.1) ts → at_name b.root b.objects ≡ Some root
+    → CanBeTold root
+root_told ts b root well named rooted =
+    let typed = root_typed ts b root well rooted in
+    let fields = found_in (λ (fs : DeclaredFields). AllByRecursion (λ f. names f.0 ≡ true) fs) root.type_name ts typed.fields named typed.declared in
+    fits_told b.objects typed.fields root typed.fit fields
 
 -- ---- the root's name
 

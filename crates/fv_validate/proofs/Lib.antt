@@ -1,7 +1,9 @@
 pub mod Alike
+pub mod Apart
 pub mod Fitting
 pub mod Found
 pub mod Nodes
+pub mod Parts
 pub mod Ranges
 pub mod Reports
 pub mod Sorting

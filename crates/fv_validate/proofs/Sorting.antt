@@ -1,5 +1,5 @@
 -- What is found, sorted, is the listing.
-use Rattle.std.proofs.Common.{take, drop, ◌++◌, append-nil, cond, nat_lt, nat_eq, length, get_or, map, suc, zero, Ordering, Less, Equal, Greater, nat_cmp, ◌≡◌, ◌≢◌, ◌⊎◌, ◌<◌, ◌≤◌, ◌+◌, ℕ, ℤ, List, [], ◌∷◌, Bool, true, false, true≢false, refl, sym, ap, subst, ◌∙◌, inl, inr, arith}
+use Rattle.std.proofs.Common.{take, drop, ◌++◌, append-nil, cond, nat_lt, nat_eq, length, get_or, map, suc, zero, Ordering, Less, Equal, Greater, nat_cmp, ◌≡◌, ◌≢◌, ◌⊎◌, ◌<◌, ◌≤◌, ◌+◌, ℕ, ℤ, List, [], ◌∷◌, Bool, true, false, true≢false, refl, sym, ap, ap₂, subst, ◌∙◌, inl, inr, arith}
 use Rattle.std.proofs.lemmas.Bool.{ltb-false, cases_eq}
 use Rattle.std.proofs.lemmas.Cmp.{nat_list_cmp_total, nat_cmp_total}
 use Rattle.std.proofs.lemmas.List.Edits.{length-swap, swapped_from_swap}
@@ -17,7 +17,7 @@ use Rattle.std.specs.Ordering.{is_lt, is_eq, ordering_then, ordering_reverse}
 use Rattle.fv_declare.specs.Declarations.{Declarations}
 use Rattle.fv_model.specs.Bundles.{Bundled}
 use Rattle.fv_registry.specs.Meanings.{Meanings}
-use Rattle.fv_validate.specs.Judging.{AreApart, AreFound, order, is_before}
+use Rattle.fv_validate.specs.Judging.{key_of, AreApart, AreFound, order, is_before}
 use Rattle.fv_validate.specs.Violations.{Reported, IsViolation, Precedes, IsAscending, IsListed, IsListing}
 
 -- ---- the order
@@ -40,20 +40,22 @@ is_less false false = refl
 above : (i j : ℕ) → i ≢ j → is_lt (nat_cmp j i) ≡ false → i < j
 above i j differ not_below = let le : i ≤ j = ltb-false j i (sym (is_less (nat_lt j i) (nat_eq j i)) ∙ not_below) in omega arith
 
-by_order : (v w : Reported) (c : Ordering) → slice_cmp nat_cmp w.path v.path ≡ c → v.occurrence ≢ w.occurrence → is_lt (ordering_then c (nat_cmp w.occurrence v.occurrence)) ≡ false → Precedes v w
+by_order : (v w : Reported) (c : Ordering) → slice_cmp nat_cmp w.path v.path ≡ c → key_of v ≢ key_of w → is_lt (ordering_then c (nat_cmp w.occurrence v.occurrence)) ≡ false → Precedes v w
 by_order v w Less e differ up = absurd (true≢false up)
-by_order v w Equal e differ up = inr (sym (same_path w.path v.path e), above v.occurrence w.occurrence differ up)
+by_order v w Equal e differ up =
+    let path : v.path ≡ w.path = sym (same_path w.path v.path e) in
+    inr (path, above v.occurrence w.occurrence (λ number. differ (ap₂ (λ (p : List ℕ) (n : ℕ). (p, n)) path number)) up)
 by_order v w Greater e differ up = inl (ap is_lt (nat_list_cmp_total.antisymm v.path w.path ∙ ap ordering_reverse e))
 
--- one that doesn't stand behind another, of another use, precedes it
-precedes : (v w : Reported) → v.occurrence ≢ w.occurrence → is_before w v ≡ false → Precedes v w
+-- one that doesn't stand behind another precedes it
+precedes : (v w : Reported) → key_of v ≢ key_of w → is_before w v ≡ false → Precedes v w
 precedes v w differ up = by_order v w (slice_cmp nat_cmp w.path v.path) refl differ up
 
 -- ---- what an exchange keeps
 
--- no two at different places are of one use, either way round
+-- no two at different places have one path and one number, either way round
 abbrev Apart : List Reported → Type 0
-Apart l = (a b : ℕ) (d : Reported) → a ≢ b → a < length l → b < length l → (get_or l a d).occurrence ≢ (get_or l b d).occurrence
+Apart l = (a b : ℕ) (d : Reported) → a ≢ b → a < length l → b < length l → key_of (get_or l a d) ≢ key_of (get_or l b d)
 
 less_or_more : (a b : ℕ) → a ≢ b → (a < b) ⊎ (b < a)
 less_or_more zero zero differ = absurd (differ refl)
@@ -71,7 +73,7 @@ exchanged l i j at_i at_j apart a b d differ at_a at_b e =
     let in_a : a < length l = omega arith in
     let in_b : b < length l = omega arith in
     let meet : (x y : ℕ) → get_or (swap l i j) a d ≡ get_or l x d → get_or (swap l i j) b d ≡ get_or l y d → x ≢ y → x < length l → y < length l → ⊥
-    = λ x y is_a is_b n at_x at_y. apart x y d n at_x at_y (ap (λ (v : Reported). v.occurrence) (sym is_a) ∙ e ∙ ap (λ (v : Reported). v.occurrence) is_b) in
+    = λ x y is_a is_b n at_x at_y. apart x y d n at_x at_y (ap key_of (sym is_a) ∙ e ∙ ap key_of is_b) in
     let G : ℕ → Reported = λ k. get_or (swap l i j) k d in
     elim (cases_eq a i) [
       | inl ai ↦ elim (cases_eq b i) [

@@ -1,5 +1,5 @@
 -- What is found on the way to a listing, for private clauses.
-use Rattle.std.specs.Prelude.{◌≡◌, ◌≢◌, ◌≤◌, ℕ, ℤ, ◌+◌, List, [], map, Option, Some, None}
+use Rattle.std.specs.Prelude.{◌≡◌, ◌≢◌, ◌≤◌, ℕ, ℤ, ◌+◌, List, map}
 use Rattle.std.specs.List.{AllByRecursion, AllPairs, flat_map}
 use Rattle.std.specs.Ordering.{nat_cmp, is_lt, ordering_then}
 use Rattle.std.specs.Cmp.Lexicographic.{slice_cmp}
@@ -10,21 +10,30 @@ use Rattle.fv_model.specs.Bundles.{Thing, Bundled}
 use Rattle.fv_occurrence.specs.Preorder.{nodes}
 use Rattle.fv_occurrence.specs.Reports.{violated}
 use Rattle.fv_occurrence.specs.Trees.{root}
+use Rattle.fv_occurrence.specs.Says.{of_datum}
 use Rattle.fv_registry.specs.Meanings.{Meanings}
-use Rattle.fv_validate.specs.Violations.{Reported, Spot, spot_at, report_at, IsViolation, IsListed}
+use Rattle.fv_spot.specs.Telling.{Told}
+use Rattle.fv_validate.specs.Violations.{Reported, Spot, spots_at, report_at, IsViolation, IsListed}
 
 -- the report of the node of a use's tree that has a number in the tree
 abbrev pub report_numbered : Spot → Placed → ℕ → Reported
 report_numbered s u n = report_at s (u.number + n, get_or (nodes u.tree) n (root u.tree))
 
--- what a use tells of what stands at its place
-abbrev pub told_at : Meanings → ℤ → Placed → Option Spot → List Reported
-told_at m now u None = []
-told_at m now u (Some s) = map (report_at s) (violated m now s.subject u.number u.tree)
+-- what a use tells of one of those that stand at its place
+abbrev pub told_by : Meanings → ℤ → Placed → Spot → List Reported
+told_by m now u s = map (report_at s) (violated m now s.subject u.number u.tree)
 
 -- what a use reports of the object of that name
 unfoldable pub reported_by : Meanings → ℤ → List ℕ → Thing → Placed → List Reported
-reported_by m now name object u = told_at m now u (spot_at name object u.place)
+reported_by m now name object u = flat_map (told_by m now u) (spots_at name object u.place)
+
+-- what stands where something is told
+abbrev pub spot_of : Told → Spot
+spot_of t = record { path = t.path; subject = of_datum t.datum; value = t.datum }
+
+-- the reports of the nodes of a use's tree that are told of a part
+abbrev pub reports_of : Placed → Told → List Reported
+reports_of u t = map (report_numbered (spot_of t) u) t.numbers
 
 -- what uses report, one after another
 abbrev pub reported_all : Meanings → ℤ → List ℕ → Thing → List Placed → List Reported
@@ -40,9 +49,13 @@ pub record AreOccurrencesOf (all : List Placed) (type : ℕ) (us : List Placed) 
   pub none_left : (u : Placed) → IsListed all u → u.type ≡ type → IsListed us u
   pub few : AreFew us
 
--- no two at different places have one number
+-- what tells a report from the others: its path and its number
+abbrev pub key_of : Reported → List ℕ × ℕ
+key_of v = (v.path, v.occurrence)
+
+-- no two have one path and one number
 abbrev pub AreApart : List Reported → Type 0
-AreApart vs = AllPairs (λ v w. v.occurrence ≢ w.occurrence) vs
+AreApart vs = AllPairs (λ v w. key_of v ≢ key_of w) vs
 
 -- all violations of a bundle at a moment, each once, in any order
 pub record AreFound (m : Meanings) (ds : Declarations) (now : ℤ) (b : Bundled) (vs : List Reported) : Type 0 where

@@ -1,18 +1,22 @@
 -- The violations of a bundle's declared constraints.
-use Rattle.std.specs.Prelude.{◌≡◌, ◌⊎◌, ◌<◌, ℕ, ℤ, List, [], ◌∷◌, Option, Some, option_map, slice_get, true}
+use Rattle.std.specs.Prelude.{◌≡◌, ◌⊎◌, ◌<◌, ℕ, ℤ, List, [], ◌∷◌, Some, map, true}
 use Rattle.std.specs.List.{AllByRecursion}
 use Rattle.std.specs.Ordering.{nat_cmp, is_lt}
 use Rattle.std.specs.Cmp.Lexicographic.{slice_cmp}
 use Rattle.fv_datum.specs.Data.{Data, reference}
 use Rattle.fv_datum.specs.Lookup.{at_name}
 use Rattle.fv_declare.specs.Declarations.{Placed, Declarations}
-use Rattle.fv_declare.specs.Uses.{Place, whole, field}
+use Rattle.fv_extract.specs.Parts.{Locus, parts_at}
+use Rattle.fv_extract.specs.Places.{Step}
 use Rattle.fv_model.specs.Bundles.{Thing, Bundled}
-use Rattle.fv_model.specs.Types.{number_of}
+use Rattle.fv_types.specs.Types.{number_of}
 use Rattle.fv_occurrence.specs.Nodes.{Node}
 use Rattle.fv_occurrence.specs.Reports.{violated}
 use Rattle.fv_occurrence.specs.Says.{Subject, of_datum, of_object}
 use Rattle.fv_registry.specs.Meanings.{Meanings}
+use Rattle.fv_spot.specs.Paths.{path_at}
+use Rattle.fv_spot.specs.Telling.{field_name}
+use Rattle.fv_uses.specs.Uses.{Place, whole, field}
 
 -- a reported constraint: the path of the value, the constraint's name, its number over the whole declarations, the message and the value
 pub record Reported : Type 0 where
@@ -22,21 +26,22 @@ pub record Reported : Type 0 where
   pub message : List ℕ
   pub value : Data
 
--- what stands at a place of an object: the path there, what is judged, and the value that is told
+-- one of those that stand at a place of an object: its path, what is judged, and the value that is told
 pub record Spot : Type 0 where
   pub path : List ℕ
   pub subject : Subject
   pub value : Data
 
--- a field by its name, with its datum
-abbrev pub field_spot : List ℕ × Data → Spot
-field_spot f = record { path = f.0; subject = of_datum f.1; value = f.1 }
+-- a part of the field of that name, by the steps to it
+abbrev pub part_spot : List ℕ → List Step → Locus × Data → Spot
+part_spot name steps p = record { path = path_at name steps p.0; subject = of_datum p.1; value = p.1 }
 
--- what stands at a place of the object of that name: the field of that number, if it is there, or the object itself, whose path is empty
--- and which is told by its name
-abbrev pub spot_at : List ℕ → Thing → Place → Option Spot
-spot_at name object (field number kind) = option_map field_spot (slice_get object.fields number)
-spot_at name object whole = Some (record { path = []; subject = of_object object; value = reference name })
+-- what stands at a place of the object of that name: the parts that the steps lead to in the field of that number, or the object itself,
+-- whose path is empty and which is told by its name
+abbrev pub spots_at : List ℕ → Thing → Place → List Spot
+spots_at name object (field number steps kind) =
+    map (part_spot (field_name object number) steps) (parts_at object (record { field = number; steps = steps }))
+spots_at name object whole = record { path = []; subject = of_object object; value = reference name } ∷ []
 
 -- the report of a constraint with its number, at what stands there
 abbrev pub report_at : Spot → ℕ × Node → Reported
@@ -48,7 +53,7 @@ IsListed [] x = ⊥
 IsListed (y ∷ ys) x = (x ≡ y) ⊎ IsListed ys x
 
 -- v is a violation at a moment: it reports one of the constraints that the tree of a use at the root's type reports, with its number, of
--- what stands at the use's place in the root
+-- one of those that stand at the use's place in the root
 pub record IsViolation (m : Meanings) (ds : Declarations) (now : ℤ) (b : Bundled) (v : Reported) : Type 0 where
   pub used : Placed
   pub root : Thing
@@ -57,7 +62,7 @@ pub record IsViolation (m : Meanings) (ds : Declarations) (now : ℤ) (b : Bundl
   pub declared : IsListed ds.occurrences used
   pub rooted : at_name b.root b.objects ≡ Some root
   pub typed : number_of ds.types root.type_name ≡ Some used.type
-  pub stands : spot_at b.root root used.place ≡ Some spot
+  pub stands : IsListed (spots_at b.root root used.place) spot
   pub violated : IsListed (violated m now spot.subject used.number used.tree) node
   pub is : v ≡ report_at spot node
 

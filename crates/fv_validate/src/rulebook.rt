@@ -26,6 +26,7 @@ impl<R: RuleSet> Model for Rulebook<R> {
     ghost use Rattle.std.specs.Coded.{codes};
     ghost use Rattle.std.specs.Prelude.{◌≡◌, true};
     ghost use Rattle.fv_builtin.specs.Codes.{pattern_code};
+    ghost use Rattle.fv_declare.specs.Codes.{type_use_code};
     ghost use Rattle.fv_declare.specs.Declarations.{Declarations};
     ghost use Rattle.fv_declare.specs.Fits.{fits};
     ghost use Rattle.fv_occurrence.specs.Codes.{tree_code};
@@ -33,7 +34,7 @@ impl<R: RuleSet> Model for Rulebook<R> {
 
     ghost Value = { Declarations };
 
-    ghost coded = { Prim.hlevel (codes, tree_code {N = Node} (Prim.hlevel (codes, pattern_code))) };
+    ghost coded = { Prim.hlevel (codes, type_use_code, tree_code {N = Node} (Prim.hlevel (codes, pattern_code))) };
 
     ghost view = { λ b. b.schema };
 

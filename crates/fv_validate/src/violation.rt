@@ -3,7 +3,7 @@ use fv_datum::Datum;
 /// A reported constraint (constraint violation).
 #[derive(Drop)]
 pub struct Violation {
-    /// The property path: the field's name, and empty for the whole object.
+    /// The property path: of the field or of a part of it, and empty for the whole object.
     pub path: String,
     /// The constraint's name.
     pub constraint: String,

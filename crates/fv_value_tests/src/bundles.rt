@@ -50,7 +50,7 @@ const BUNDLES: &str = r#"
 "#;
 
 /// What a text of JSON is read as.
-fn read(alloc: Global, types: &Types, given: &str) -> Result<String, Fail> {
+pub(crate) fn read(alloc: Global, types: &Types, given: &str) -> Result<String, Fail> {
     let value = Value::from_str(alloc, given)?;
     match read_bundle(alloc, types, None, &value) {
         Ok(bundle) => shown(alloc, &bundle),
@@ -81,7 +81,12 @@ fn other_faults_have_names(rt: HostRuntime) {
 }
 
 /// The bundle of a text of JSON, whose root is of that type.
-fn bundle_of(alloc: Global, types: &Types, root: &str, text: &str) -> Result<Bundle, Fail> {
+pub(crate) fn bundle_of(
+    alloc: Global,
+    types: &Types,
+    root: &str,
+    text: &str,
+) -> Result<Bundle, Fail> {
     let value = Value::from_str(alloc, text)?;
     Ok(read_bundle(alloc, types, types.find(root), &value)?)
 }

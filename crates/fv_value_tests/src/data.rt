@@ -1,8 +1,11 @@
 //! Data, names and attributes by themselves: read, copied and written, and rules of texts asked about
 //! data of other kinds.
+ghost use Rattle.std.specs.Prelude.{◌≡◌};
+ghost use Rattle.fv_datum.specs.Kinds.{is_container};
+
 use crate::given::{attrs_of, check, check_that, type_use};
 use fv_datum::{
-    Attribute, Attrs, Datum, DatumFault, Name, is_name, is_null, read_datum, spells_datum,
+    Attribute, Attrs, Datum, DatumFault, Kind, Name, is_name, is_null, read_datum, spells_datum,
     write_datum,
 };
 use fv_house::{luhn, one_of};
@@ -39,10 +42,20 @@ M -62135596800 => true -62135596800
 E null => true null
 "#;
 
+/// Whether data of the kind hold others.
+fn is_container(kind: Kind) -> bool
+    ensures { result ≡ is_container kind }
+{
+    matches!(kind, Kind::List | Kind::Map | Kind::Optional)
+}
+
 /// What a row's value spells.
 fn spelled(alloc: Global, given: &str) -> Result<String, Fail> {
     let (letter, value) = given.split_once(' ').ok_or("a kind")?;
     let kind = type_use(alloc, letter)?.kind();
+    if is_container(kind) {
+        return Ok(String::from_str(alloc, "no plain kind")?);
+    }
     let value = Value::from_str(alloc, value)?;
     let spells = spells_datum(kind, &value);
     let read = match read_datum(alloc, kind, &value) {

@@ -43,7 +43,7 @@ fn faults_of_types_have_texts(rt: HostRuntime) -> Result<(), Fail> {
         &rt,
         rt.alloc(),
         &TypesFault::TooLarge,
-        "too many types or fields",
+        "too many types, fields or nested containers",
     )?;
     check_text(&rt, rt.alloc(), &TypesFault::Memory, "out of memory")
 }

@@ -74,8 +74,24 @@ pub(crate) fn attrs_of(alloc: Global, text: &str) -> Result<Attrs, Fail> {
     Ok(Attrs::new(entries))
 }
 
-/// What a field holds: data of the kind of a letter, or behind `&` a reference to a type.
+/// What a field holds: data as `plain_use` says, or as `T in O in L` lists of optionals of texts, with `P`
+/// for maps.
 pub(crate) fn type_use(alloc: Global, held: &str) -> Result<TypeUse, Fail> {
+    let mut parts = held.split(" in ");
+    let mut type_use = plain_use(alloc, parts.next().ok_or("a kind")?)?;
+    for container in parts {
+        let inner = Box::new(alloc, type_use)?;
+        type_use = match container {
+            "L" => TypeUse::List(inner),
+            "P" => TypeUse::Map(inner),
+            _ => TypeUse::Optional(inner),
+        };
+    }
+    Ok(type_use)
+}
+
+/// Data of the kind of a letter, or behind `&` a reference to a type.
+fn plain_use(alloc: Global, held: &str) -> Result<TypeUse, Fail> {
     if let Some(name) = held.strip_prefix("&") {
         return Ok(TypeUse::Ref(String::from_str(alloc, name)?));
     }

@@ -10,6 +10,8 @@ mod bundles;
 #[cfg(test)]
 mod constraints;
 #[cfg(test)]
+mod containers;
+#[cfg(test)]
 mod data;
 #[cfg(test)]
 mod faults;

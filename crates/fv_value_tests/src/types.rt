@@ -7,7 +7,7 @@ use std::test::Fail;
 
 /// Two types.
 const ITEM_AND_A: &str =
-    "Item = name: T, count: I, next: &Item, price: D, full: B, day: E, at: M\nA = a: T";
+    "Item = name: T, count: I, next: &Item, price: D, full: B, day: E, at: M, tags: T in O in L, by: &A in P\nA = a: T";
 
 #[test]
 fn types_have_numbers_and_fields(rt: HostRuntime) -> Result<(), Fail> {
@@ -24,7 +24,7 @@ fn types_have_numbers_and_fields(rt: HostRuntime) -> Result<(), Fail> {
 
 /// Each field of `Item`, with what it holds.
 const FIELDS: &str =
-    r#"{"name": Text, "count": Integer, "next": Ref("Item"), "price": Decimal, "full": Boolean, "day": Date, "at": Instant}"#;
+    r#"{"name": Text, "count": Integer, "next": Ref("Item"), "price": Decimal, "full": Boolean, "day": Date, "at": Instant, "tags": List(Optional(Text)), "by": Map(Ref("A"))}"#;
 
 /// What each field of `Item` holds is copied.
 #[test]
@@ -58,7 +58,8 @@ fn with_wide(
 }
 
 /// How many types there are beside `Wide`, how many fields beside its last, what the last holds, and
-/// the fault, or `-`: 256 of each are taken, and a reference to no type comes before limits.
+/// the fault, or `-`: 256 of each are taken and four containers one in another, and a reference to no
+/// type comes before limits.
 const LIMITS: &str = "
 2 255 T => -
 2 256 T => TooLarge
@@ -68,6 +69,12 @@ const LIMITS: &str = "
 2 0 &T1 => -
 2 0 &t1 => UnknownType
 2 0 &T2 => UnknownType
+2 0 T in L in P in O in L => -
+2 0 &Wide in O in O in O in O => -
+2 0 T in L in P in O in L in P => TooLarge
+2 0 &T1 in O in O in O in O in O => TooLarge
+2 0 &T2 in L => UnknownType
+2 0 &T2 in O in P in L in L in L => UnknownType
 256 257 &Nope => UnknownType
 ";
 

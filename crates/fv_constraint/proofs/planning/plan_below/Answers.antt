@@ -1,7 +1,7 @@
 use Rattle.std.proofs.Common.{◌≡◌, ◌∙◌, map, Option, Some, None, option_map, slice_get, refl, sym, ap}
 use Rattle.std.specs.Option.{unwrap_or}
 use Rattle.fv_builtin.proofs.Maps.{same_map}
-use Rattle.fv_model.proofs.Lookups.{seen_option}
+use Rattle.fv_types.proofs.Lookups.{seen_option}
 use Rattle.fv_constraint.specs.Composed.{Planned}
 use Rattle.fv_constraint.specs.Definitions as spec
 use Rattle.fv_constraint.specs.Definitions.{Definitions, Meant, meant_by, declared, composing_of}

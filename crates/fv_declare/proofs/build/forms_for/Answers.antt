@@ -1,6 +1,6 @@
 use Rattle.std.proofs.Common.{◌≡◌, Some, None, not, is_some, true, false, string_bytes, get_or, option_map, sym, ap, ◌∙◌, true≢false, arith}
-use Rattle.fv_model.specs.Types.{number_of, name_at}
-use Rattle.fv_model.specs.Views.{types_view}
+use Rattle.fv_types.specs.Types.{number_of, name_at}
+use Rattle.fv_types.specs.TypesView.{types_view}
 use Rattle.fv_declare.specs.Declares.{form_declared}
 use Rattle.fv_draft.specs.DraftViews.{form_view}
 use Rattle.fv_declare.specs.SchemaView.{form_entry}

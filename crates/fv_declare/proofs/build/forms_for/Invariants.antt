@@ -1,5 +1,5 @@
 use Rattle.std.proofs.Common.{◌≡◌, ◌++◌, map, drop, false}
-use Rattle.fv_model.specs.Views.{types_view}
+use Rattle.fv_types.specs.TypesView.{types_view}
 use Rattle.fv_declare.specs.Declares.{form_declared, unknown_root}
 use Rattle.fv_draft.specs.DraftViews.{form_view}
 use Rattle.fv_draft.specs.EntryNames.{names_of}

@@ -3,7 +3,7 @@ use Rattle.std.specs.Vec.Iter.{into_iter_items}
 use Rattle.fv_declare.specs.Declarations.{count_nodes}
 use Rattle.fv_declare.specs.Judging.{placed_from}
 use Rattle.fv_declare.specs.PlacedView.{placed_view}
-use Rattle.fv_declare.specs.UseViews.{use_view}
+use Rattle.fv_uses.specs.UseViews.{use_view}
 use Rattle.fv_declare.proofs.build.place_all.Given as goal
 
 abbrev pub invariant-loop-given : goal.invariant-loop-given

@@ -5,8 +5,8 @@ use Rattle.fv_constraint.specs.Definitions.{meant_by}
 use Rattle.fv_flatten.specs.Flattening.{AreTreesOfUses}
 use Rattle.fv_occurrence.specs.Trees.{Tree}
 use Rattle.fv_declare.specs.Declarations.{count_nodes}
-use Rattle.fv_declare.specs.Uses.{used}
-use Rattle.fv_declare.specs.UseViews.{use_view}
+use Rattle.fv_uses.specs.Uses.{used}
+use Rattle.fv_uses.specs.UseViews.{use_view}
 use Rattle.fv_declare.proofs.judging.count_nodes.Given as goal
 
 abbrev pub invariant-loop-given : goal.invariant-loop-given

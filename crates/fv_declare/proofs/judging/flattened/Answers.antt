@@ -7,13 +7,13 @@ use Rattle.fv_draft.specs.DraftViews.{draft_view}
 use Rattle.fv_flatten.specs.Fits.{tree_fits}
 use Rattle.fv_flatten.specs.Flattening as flat
 use Rattle.fv_flatten.specs.UseViews.{use_view as flat_use_view}
-use Rattle.fv_model.specs.Views.{types_view}
+use Rattle.fv_types.specs.TypesView.{types_view}
 use Rattle.fv_declare.specs.Declares.{types_declared, used_in, IsFlattened}
 use Rattle.fv_declare.specs.FaultNames.{flatten_fault}
-use Rattle.fv_declare.specs.Uses.{Use, used, uses_in}
-use Rattle.fv_declare.specs.UseViews.{use_view}
+use Rattle.fv_uses.specs.Uses.{Use, used, uses_in}
+use Rattle.fv_uses.specs.UseViews.{use_view}
 use Rattle.fv_declare.specs.declared.fault.DeclFault.{DeclFault}
-use Rattle.fv_declare.proofs.Found.{any_map, roots_known, used_known}
+use Rattle.fv_declare.proofs.Found.{any_map, names_good, roots_known, used_known}
 use Rattle.fv_declare.proofs.Judged.{counted, moved, many, few_types, types_large, others_large, refused, each, few_nodes, taken}
 use Rattle.fv_declare.proofs.judging.flattened.Goals as goal
 
@@ -57,6 +57,9 @@ returns-in_err-trees-clause-refused g c =
     subst (λ (e : DeclFault). IsFlattened k d (Err e)) (sym p.2)
     (refused k d (sym c.if-has_empty.ensures) types.0 c.count_nodes-nodes.result (counted d _ _ _ c.requires.composed c.requires.uses c.count_nodes-nodes.ensures) (sym c.if-is_large.ensures) c.trees_are_unique.ensures f
     (moved k d _ _ (Err f) c.requires.composed seen (c.in_err-trees.ensures.refused (λ is. other (p.2 ∙ ap flatten_fault is))))))
+
+pub build-requires-clause-named : goal.build-requires-clause-named
+build-requires-clause-named g c = names_good (draft_view c.args.draft.now) c.requires.named
 
 pub build-requires-clause-roots : goal.build-requires-clause-roots
 build-requires-clause-roots g c = roots_known (draft_view c.args.draft.now) c.requires.named

@@ -1,5 +1,5 @@
 use Rattle.std.proofs.Common.{◌≡◌, map, drop}
-use Rattle.fv_model.specs.Types.{declared_view}
+use Rattle.fv_types.specs.Types.{declared_view}
 use Rattle.fv_declare.specs.Declares.{unknown_root}
 use Rattle.fv_draft.specs.DraftViews.{form_view}
 use Rattle.fv_declare.proofs.names.has_unknown_root.Given as goal

@@ -1,5 +1,5 @@
 use Rattle.std.proofs.Common.{◌∙◌}
-use Rattle.fv_model.specs.Types.{fields_view}
+use Rattle.fv_types.specs.Types.{fields_view}
 use Rattle.fv_declare.proofs.Lookups.{has_name}
 use Rattle.fv_declare.proofs.names.is_declared.Goals as goal
 

@@ -2,7 +2,7 @@ use Rattle.std.proofs.Common.{sym, arith}
 use Rattle.fv_flatten.specs.Fits.{test_fits}
 use Rattle.fv_occurrence.specs.Views.{entry_view}
 use Rattle.fv_declare.specs.PlacedView.{placed_view}
-use Rattle.fv_declare.specs.Uses.{judged_at}
+use Rattle.fv_uses.specs.Uses.{judged_at}
 use Rattle.fv_declare.proofs.Nodes.{node_there, refused, passed, all_passed}
 use Rattle.fv_declare.proofs.schema.placed_fits.Goals as goal
 
@@ -12,12 +12,12 @@ unreachable-requires g c = node_there (placed_view c.args.placed.now).tree c.loo
 pub returns-then-not-test_fits : goal.returns-then-not-test_fits
 returns-then-not-test_fits g c =
     let o = placed_view c.args.placed.now in
-    refused (λ n. test_fits (g.R.RuleSet.known c.args.rules.now) (judged_at o.place) n.test) o.tree c.loop-number.number (entry_view c.in-Some.node.now) (sym c.in-Some.ensures) (sym c.if-not-test_fits.ensures) c.loop-number.invariant
+    refused (λ n. test_fits (g.R.RuleSet.known c.args.rules.now) (judged_at o.place) n.test) o.tree c.loop-number.number (entry_view c.in-Some.node.now) (sym c.in-Some.ensures) c.if-not-test_fits.ensures c.loop-number.invariant
 
 pub loop-number-preserved : goal.loop-number-preserved
 loop-number-preserved g c =
     let o = placed_view c.args.placed.now in
-    passed (λ n. test_fits (g.R.RuleSet.known c.args.rules.now) (judged_at o.place) n.test) o.tree c.loop-number.number (entry_view c.in-Some.node.now) (sym c.in-Some.ensures) (sym c.if-not-test_fits.ensures) c.loop-number.invariant
+    passed (λ n. test_fits (g.R.RuleSet.known c.args.rules.now) (judged_at o.place) n.test) o.tree c.loop-number.number (entry_view c.in-Some.node.now) (sym c.in-Some.ensures) c.if-not-test_fits.ensures c.loop-number.invariant
 
 pub returns : goal.returns
 returns g c =

@@ -3,7 +3,7 @@ use Rattle.std.specs.List.{list_all}
 use Rattle.fv_flatten.specs.Fits.{test_fits}
 use Rattle.fv_occurrence.specs.Preorder.{nodes}
 use Rattle.fv_declare.specs.PlacedView.{placed_view}
-use Rattle.fv_declare.specs.Uses.{judged_at}
+use Rattle.fv_uses.specs.Uses.{judged_at}
 use Rattle.fv_declare.proofs.schema.placed_fits.Given as goal
 
 abbrev pub invariant-loop-number : goal.invariant-loop-number

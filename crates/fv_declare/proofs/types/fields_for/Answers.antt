@@ -1,5 +1,5 @@
 use Rattle.std.proofs.Common.{◌≡◌, string_bytes, ap, ◌∙◌, arith}
-use Rattle.fv_model.specs.Types.{use_view, type_use_view}
+use Rattle.fv_types.specs.Types.{use_view, type_use_view}
 use Rattle.fv_declare.specs.Declares.{field_declared}
 use Rattle.fv_draft.specs.DraftViews.{field_view}
 use Rattle.fv_declare.proofs.Steps.{insert_names, insert_entries, all_made}

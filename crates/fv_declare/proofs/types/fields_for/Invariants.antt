@@ -1,5 +1,5 @@
 use Rattle.std.proofs.Common.{◌≡◌, ◌++◌, map, drop}
-use Rattle.fv_model.specs.Types.{fields_view}
+use Rattle.fv_types.specs.Types.{fields_view}
 use Rattle.fv_declare.specs.Declares.{field_declared}
 use Rattle.fv_draft.specs.DraftViews.{field_view}
 use Rattle.fv_draft.specs.EntryNames.{names_of}

@@ -1,5 +1,5 @@
 use Rattle.std.proofs.Common.{◌≡◌, map, string_bytes, ap, ◌∙◌, arith}
-use Rattle.fv_model.specs.Types.{type_view as entry_view, fields_view}
+use Rattle.fv_types.specs.Types.{type_view as entry_view, fields_view}
 use Rattle.fv_declare.specs.Declares.{field_declared, type_declared}
 use Rattle.fv_draft.specs.DraftViews.{field_view, type_view}
 use Rattle.fv_declare.proofs.Steps.{insert_names, insert_entries, all_made}

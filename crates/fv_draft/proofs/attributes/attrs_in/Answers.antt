@@ -2,7 +2,7 @@ use Rattle.std.proofs.Common.{◌≡◌, Some, string_bytes, sym, ap, ◌∙◌,
 use Rattle.serde_json.specs.View.{view as json_view, members_view}
 use Rattle.fv_datum.specs.Attributes.{entry_view, attribute_view}
 use Rattle.fv_datum.specs.Members.{pairs}
-use Rattle.fv_draft.specs.Drafts.{attr_of}
+use Rattle.fv_draft.specs.Uses.{attr_of}
 use Rattle.fv_draft.proofs.Entries.{next_above, more_names, more_made}
 use Rattle.fv_draft.proofs.attributes.attrs_in.Goals as goal
 

@@ -2,7 +2,7 @@ use Rattle.std.proofs.Common.{◌≡◌, ◌++◌, map}
 use Rattle.serde_json.specs.View.{members_view}
 use Rattle.fv_datum.specs.Attributes.{entry_view}
 use Rattle.fv_datum.specs.Members.{pairs, each_some}
-use Rattle.fv_draft.specs.Drafts.{attr_of}
+use Rattle.fv_draft.specs.Uses.{attr_of}
 use Rattle.fv_draft.proofs.Fronts.{with_front}
 use Rattle.fv_draft.specs.EntryNames.{names_of}
 use Rattle.fv_draft.proofs.attributes.attrs_in.Given as goal

@@ -1,5 +1,5 @@
 use Rattle.std.proofs.Common.{◌≡◌, ◌∷◌, ◌++◌, string_bytes, ◌∙◌, arith}
-use Rattle.fv_model.specs.Bundles.{IsAscending}
+use Rattle.fv_types.specs.Names.{IsAscending}
 use Rattle.fv_draft.specs.EntryNames.{names_of}
 use Rattle.fv_draft.proofs.Sorted.{put_last}
 use Rattle.fv_draft.proofs.members.add_last.Goals as goal

@@ -1,9 +1,9 @@
 use Rattle.std.proofs.Common.{map}
-use Rattle.fv_model.specs.Flaws.{Ascends}
+use Rattle.fv_model.specs.Ascents.{Ascends}
 use Rattle.fv_model.specs.Reading.{object_types, has_flaw}
 use Rattle.fv_model.specs.Views.{types_view, part_view}
 use Rattle.fv_model.proofs.Anys.{part_turn, each_turn}
-use Rattle.fv_model.proofs.Telling.{Joins, telling_more}
+use Rattle.fv_types.proofs.Telling.{Joins, telling_more}
 use Rattle.fv_model.proofs.flaws.draft_flaws.Goals as goal
 
 pub loop-part-preserved : goal.loop-part-preserved
@@ -14,7 +14,7 @@ loop-part-preserved c =
     let i = c.loop-part.part-index in
     let p = c.part-item.result in
     let joined = c.and-flaws.ensures in
-    let joins : Joins c.loop-part.flaws c.part_flaws.result c.and-flaws.result = record { undeclared = joined.undeclared; dangling = joined.dangling; stray = joined.stray; long_text = joined.long_text } in
+    let joins : Joins c.loop-part.flaws c.part_flaws.result c.and-flaws.result = record { undeclared = joined.undeclared; dangling = joined.dangling; stray = joined.stray; large = joined.large } in
     record {
       told = telling_more c.loop-part.flaws c.part_flaws.result c.and-flaws.result types (λ flaw. has_flaw flaw ts (part_view p)) _ _ _ joins c.part_flaws.ensures.told
           (λ flaw. part_turn (has_flaw flaw ts) ps i p c.loop-part-test.true c.part-item.is) c.loop-part.invariant.told;

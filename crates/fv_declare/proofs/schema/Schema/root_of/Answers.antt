@@ -1,6 +1,6 @@
 use Rattle.std.proofs.Common.{option_map, ap, ◌∙◌}
-use Rattle.fv_model.specs.Types.{name_at}
-use Rattle.fv_model.specs.Views.{types_view}
+use Rattle.fv_types.specs.Types.{name_at}
+use Rattle.fv_types.specs.TypesView.{types_view}
 use Rattle.fv_declare.proofs.Lookups.{lookup-at_name}
 use Rattle.fv_declare.proofs.schema.Schema.root_of.Goals as goal
 

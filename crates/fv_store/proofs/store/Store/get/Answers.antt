@@ -1,5 +1,5 @@
 use Rattle.sqlite.specs.Held.{state}
-use Rattle.fv_model.specs.Views.{types_view}
+use Rattle.fv_types.specs.TypesView.{types_view}
 use Rattle.fv_store.specs.Faults.{fault_of}
 use Rattle.fv_store.proofs.Openings.{keeps_of, holds_still}
 use Rattle.fv_store.proofs.Holdings.{handed_out, never_refused, is_refusal}

@@ -1,0 +1,3 @@
+pub mod Loci
+pub mod Longer
+pub mod Writable

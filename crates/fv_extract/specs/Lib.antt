@@ -1,0 +1,5 @@
+pub mod FoundView
+pub mod InsideView
+pub mod Parts
+pub mod Places
+pub mod Views

@@ -1,0 +1,13 @@
+//! What stands at a place in an object: the elements of lists, the keys and values of maps, and the
+//! content of optionals (Jakarta Bean Validation 3.0, "Container element constraints").
+#![tactic(auto)]
+
+mod finding;
+mod inside;
+mod part;
+mod place;
+
+pub use finding::{Found, extended, find};
+pub use inside::Inside;
+pub use part::{Locus, Part};
+pub use place::{Place, Step};

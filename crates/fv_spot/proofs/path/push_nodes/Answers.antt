@@ -1,0 +1,16 @@
+use Rattle.std.proofs.Common.{arith}
+use Rattle.fv_extract.specs.declared.place.Step.TheVariants as step
+use Rattle.fv_spot.proofs.Stands.{step_turns, steps_left}
+use Rattle.fv_spot.proofs.path.push_nodes.Goals as goal
+use Rattle.fv_spot.proofs.path.push_nodes.Goals.{in-Content, in_default}
+
+pub loop-step-preserved : goal.loop-step-preserved
+loop-step-preserved c = elim c.match-matches.branch [
+  | in-Content w ↦ let clash = c.if-matches.false in let is = w.matches-is in absurd cc
+  | in_default w ↦
+      let i = c.loop-step.step-index in
+      let kept = c.loop-step.invariant in
+      let s = step_turns c.args.steps.now c.args.locus.now i c.loop-step.at step.Element c.in-Some.part.now c.loop-step.path c.push_step.new.path _ (omega arith) w.in_default.not-Content
+      c.in-Some.ensures.lookup.3.0 c.in-Some.ensures.lookup.1 kept.led kept.nodes (c.in_ok-push_step.ensures.added) (c.in_ok-push_step.ensures.path) in
+      record { led = s.led; nodes = s.nodes; room = λ more. s.room (steps_left c.args.steps.now c.args.locus.now i more) }
+]

@@ -1,0 +1,4 @@
+pub mod Loci
+pub mod Paths
+pub mod Telling
+pub mod Views

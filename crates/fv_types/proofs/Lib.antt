@@ -1,0 +1,14 @@
+pub mod Apart
+pub mod Back
+pub mod Bools
+pub mod Contained
+pub mod Fitted
+pub mod Fronts
+pub mod Lists
+pub mod Lookups
+pub mod Orders
+pub mod Plain
+pub mod Seen
+pub mod Spelling
+pub mod Telling
+pub mod Writable

@@ -1,0 +1,47 @@
+-- A type use, level by level, and the members and items that are seen.
+use Rattle.std.proofs.Common.{◌≡◌, List, [], ◌∷◌, length, map, String, Vec, Box, Global, string_bytes, refl, ap, suc, rules}
+use Rattle.serde_json.specs.View.{members_view, items_view}
+use Rattle.serde_json.specs.declared.value.Value.{Value}
+use Rattle.fv_datum.specs.Data as datum
+use Rattle.fv_datum.specs.Data.{entries_of}
+use Rattle.fv_datum.specs.View.{view, pair_view}
+use Rattle.fv_datum.specs.declared.datum.Datum.{Datum, the_lemmas as data_lemmas}
+use Rattle.fv_datum.specs.declared.datum.Datum.TheVariants.{Text as text_datum, List as list_datum, Map as map_datum, Optional as optional_datum}
+use Rattle.fv_types.specs.Spelled.{list_of}
+use Rattle.fv_datum.specs.Members.{pairs, listed}
+use Rattle.fv_types.specs.Types.{lists, maps, optionals, type_use_view}
+use Rattle.fv_types.specs.declared.type_use.TypeUse.{TypeUse, the_lemmas}
+use Rattle.fv_types.specs.declared.type_use.TypeUse.TheVariants.{List as list_use, Map as map_use, Optional as optional_use}
+
+pub view-List : (b : Box TypeUse Global) → type_use_view (list_use b) ≡ lists (type_use_view b.value)
+view-List b = search (rules, the_lemmas)
+
+pub view-Map : (b : Box TypeUse Global) → type_use_view (map_use b) ≡ maps (type_use_view b.value)
+view-Map b = search (rules, the_lemmas)
+
+pub view-Optional : (b : Box TypeUse Global) → type_use_view (optional_use b) ≡ optionals (type_use_view b.value)
+view-Optional b = search (rules, the_lemmas)
+
+-- ---- data
+
+pub view-DataText : (s : String Global) → view (text_datum s) ≡ datum.text (string_bytes s)
+view-DataText s = search (rules, data_lemmas)
+
+pub view-DataList : (v : Vec Datum Global) → view (list_datum v) ≡ list_of (map view v.items)
+view-DataList v = search (rules, data_lemmas)
+
+pub view-DataMap : (v : Vec (Datum × Datum) Global) → view (map_datum v) ≡ datum.map (entries_of (map pair_view v.items))
+view-DataMap v = search (rules, data_lemmas)
+
+pub view-DataOptional : (b : Box Datum Global) → view (optional_datum b) ≡ datum.optional (view b.value)
+view-DataOptional b = search (rules, data_lemmas)
+
+-- ---- members and items
+
+pub length-members : (es : List (String Global × Value)) → length (pairs (members_view es)) ≡ length es
+length-members [] = refl
+length-members (e ∷ es) = ap suc (length-members es)
+
+pub length-items : (vs : List Value) → length (listed (items_view vs)) ≡ length vs
+length-items [] = refl
+length-items (v ∷ vs) = ap suc (length-items vs)

@@ -1,0 +1,10 @@
+pub mod FaultNames
+pub mod Fits
+pub mod Flaws
+pub mod Limits
+pub mod Names
+pub mod Spelled
+pub mod Tells
+pub mod Types
+pub mod TypesView
+pub mod Writing

@@ -1,0 +1,21 @@
+-- Names in order, and the names of objects with those of their types.
+use Rattle.std.specs.Prelude.{ℕ, List, map}
+use Rattle.std.specs.Borrow.{Bor}
+use Rattle.std.specs.Cmp.Lexicographic.{slice_cmp}
+use Rattle.std.specs.HashMap.{HashMap}
+use Rattle.std.specs.List.Sorted.{IsStrictlySortedBy}
+use Rattle.std.specs.Ordering.{nat_cmp}
+use Rattle.std.specs.declared.hash.FoldHasher.{FoldHasher}
+use Rattle.std.specs.declared.hash.BuildHasherDefault.{BuildHasherDefault}
+
+-- names that ascend by their bytes: each is below those after it
+abbrev pub IsAscending : List (List ℕ) → Type 0
+IsAscending = IsStrictlySortedBy (slice_cmp nat_cmp)
+
+-- the names of objects, each with the name of its type
+abbrev pub ObjectTypes : Type 0
+ObjectTypes = List (List ℕ × List ℕ)
+
+-- the same, as the code has them
+abbrev pub object_types_view : HashMap (Bor (List ℕ)) (Bor (List ℕ)) (BuildHasherDefault FoldHasher) → ObjectTypes
+object_types_view m = map (λ e. (e.0.now, e.1.now)) m.entries

@@ -1,0 +1,2 @@
+pub mod UseViews
+pub mod Uses

@@ -1,0 +1,16 @@
+-- The uses at their places that contracts see.
+use Rattle.std.specs.Prelude.{map}
+use Rattle.fv_extract.specs.Views.{step_view}
+use Rattle.fv_uses.specs.Uses as spec
+use Rattle.fv_uses.specs.declared.place.Place.{Place}
+use Rattle.fv_uses.specs.declared.place.Place.TheVariants as place
+use Rattle.fv_uses.specs.declared.uses.Use.{Use}
+
+-- where a use stands
+abbrev pub place_view : Place → spec.Place
+place_view place.Whole = spec.whole
+place_view (place.Field number steps kind) = spec.field number (map step_view steps.items) kind
+
+-- a use at its place
+abbrev pub use_view : Use → spec.Use
+use_view u = record { type = u.type_index; place = place_view u.place; constraint = u.constraint.now; given = u.given.now }
