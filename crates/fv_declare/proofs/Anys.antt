@@ -2,11 +2,9 @@
 use Rattle.std.proofs.Common.{◌≡◌, ℕ, ◌+◌, ◌<◌, List, length, get_or, drop, map, Bool, ◌||◌, refl, add-one, drop-cons}
 use Rattle.std.specs.List.{list_any}
 use Rattle.fv_draft.specs.Drafts as spec
-use Rattle.fv_draft.specs.DraftViews.{field_view, type_view, form_view}
+use Rattle.fv_draft.specs.DraftViews.{form_view}
 use Rattle.fv_uses.specs.UseViews.{use_view}
 use Rattle.fv_uses.specs.Uses as uses
-use Rattle.fv_draft.specs.declared.draft.FieldDraft.{FieldDraft}
-use Rattle.fv_draft.specs.declared.draft.TypeDraft.{TypeDraft}
 use Rattle.fv_draft.specs.declared.draft.FormDraft.{FormDraft}
 use Rattle.fv_uses.specs.declared.uses.Use.{Use}
 
@@ -17,14 +15,6 @@ turn view test xs i x h is = rw (add-one, drop-cons xs i x h, ← is) refl
 pub use_turn : (test : uses.Use → Bool) (xs : List Use) (i : ℕ) (x : Use) → i < length xs → x ≡ get_or xs i x
     → list_any test (map use_view (drop i xs)) ≡ (test (use_view x) || list_any test (map use_view (drop (i + 1) xs)))
 use_turn = turn use_view
-
-pub field_turn : (test : spec.FieldDraft → Bool) (xs : List FieldDraft) (i : ℕ) (x : FieldDraft) → i < length xs → x ≡ get_or xs i x
-    → list_any test (map field_view (drop i xs)) ≡ (test (field_view x) || list_any test (map field_view (drop (i + 1) xs)))
-field_turn = turn field_view
-
-pub type_turn : (test : spec.TypeDraft → Bool) (xs : List TypeDraft) (i : ℕ) (x : TypeDraft) → i < length xs → x ≡ get_or xs i x
-    → list_any test (map type_view (drop i xs)) ≡ (test (type_view x) || list_any test (map type_view (drop (i + 1) xs)))
-type_turn = turn type_view
 
 pub form_turn : (test : spec.FormDraft → Bool) (xs : List FormDraft) (i : ℕ) (x : FormDraft) → i < length xs → x ≡ get_or xs i x
     → list_any test (map form_view (drop i xs)) ≡ (test (form_view x) || list_any test (map form_view (drop (i + 1) xs)))

@@ -11,7 +11,9 @@ use Rattle.fv_types.specs.Types.{DeclaredFields, Declared, number_of, name_at, h
 use Rattle.fv_constraint.specs.Definitions.{composes_unknown}
 use Rattle.fv_datum.specs.Outcomes.{first}
 use Rattle.fv_draft.specs.Drafts as spec
-use Rattle.fv_declare.specs.Declares.{types_declared, bad_name, unknown_constraint, unknown_name, unknown_root, name_conditions}
+use Rattle.fv_declare.specs.Declares.{unknown_constraint, unknown_name, unknown_root, name_conditions}
+use Rattle.fv_naming.specs.Types.{types_declared}
+use Rattle.fv_naming.specs.Naming.{bad_name}
 use Rattle.fv_declare.specs.declared.fault.DeclFault.TheVariants.{BadName, UnknownName}
 use Rattle.fv_draft.specs.DraftViews.{form_view}
 use Rattle.fv_draft.specs.declared.draft.FormDraft.{FormDraft}
@@ -24,10 +26,6 @@ or_left false b e = refl
 pub or_right : (a b : Bool) → (a || b) ≡ false → b ≡ false
 or_right true b e = absurd (true≢false e)
 or_right false b e = e
-
--- what stands for a form where there is none
-abbrev pub no_form : FormDraft
-no_form = record { name = record { ref_ptr = (0, 0); now = [] }; root = record { ref_ptr = (0, 0); now = [] } }
 
 -- ---- the first fault is none
 

@@ -16,7 +16,8 @@ use Rattle.fv_occurrence.specs.Nodes.{Node}
 use Rattle.fv_occurrence.specs.Trees.{Tree}
 use Rattle.fv_registry.specs.Rules.{Known}
 use Rattle.fv_declare.specs.Declarations.{Declarations, count_nodes}
-use Rattle.fv_declare.specs.Declares.{types_declared, used_in, has_many, too_large, IsDeclared, IsFlattened}
+use Rattle.fv_declare.specs.Declares.{used_in, has_many, too_large, IsDeclared, IsFlattened}
+use Rattle.fv_naming.specs.Types.{types_declared}
 use Rattle.fv_declare.specs.FaultNames.{flatten_fault}
 use Rattle.fv_declare.specs.Judging.{unless_many}
 use Rattle.fv_uses.specs.Uses.{Use, used, uses_in}

@@ -2,7 +2,6 @@ pub mod Alls
 pub mod Anys
 pub mod Counts
 pub mod Found
-pub mod Inserted
 pub mod Judged
 pub mod Led
 pub mod Lookups
@@ -11,4 +10,6 @@ pub mod Ordered
 pub mod Rising
 pub mod Steps
 pub mod There
+pub mod Valid
 pub mod Verdicts
+pub mod Within

@@ -37,6 +37,11 @@ pub option_map-copied : {X Y : Type 0} (f : X → Y) (found : Option (Bor X)) �
 option_map-copied f None = refl
 option_map-copied f (Some x) = refl
 
+-- what a map has at a name, as it is found
+pub found_in : {X Y : Type 0} (f : X → Y) (name : List ℕ) (es : List (String Global × X)) (found : Option (Bor X)) → option_copied found ≡ lookup (λ k. bytes_eq name (string_bytes k)) es
+    → option_map (λ x. f x.now) found ≡ at_name name (map (λ e. (string_bytes e.0, f e.1)) es)
+found_in f name es found value = option_map-copied f found ∙ ap (option_map f) value ∙ lookup-at_name f name es
+
 -- what a map that is ordered has at a name, as it is found
 module _ {X Y : Type 0} (f : X → Y) (name : List ℕ) (es : List (String Global × X)) (found : Option (Bor X)) (value : option_copied found ≡ lookup (is_at (λ k. slice_cmp nat_cmp name (string_bytes k))) es) where
   pub found_at : option_map (λ x. f x.now) found ≡ at_name name (map (λ e. (string_bytes e.0, f e.1)) es)

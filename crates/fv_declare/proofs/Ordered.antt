@@ -1,5 +1,5 @@
 -- The declarations of a draft are ordered.
-use Rattle.std.proofs.Common.{◌≡◌, ℕ, ◌+◌, ◌≤◌, List, [], ◌∷◌, length, map, zip, slice_get, true, false, not, ◌||◌, codes, refl, ap, arith}
+use Rattle.std.proofs.Common.{◌≡◌, ℕ, ◌+◌, ◌<◌, ◌≤◌, List, [], ◌∷◌, length, map, zip, slice_get, true, false, not, ◌||◌, codes, refl, ap, arith}
 use Rattle.std.specs.List.{AllByRecursion, AllZip, list_all, list_any}
 use Rattle.std.specs.Str.{bytes_eq}
 use Rattle.fv_constraint.specs.Composed.{Planned}
@@ -10,6 +10,9 @@ use Rattle.fv_draft.specs.declared.draft.FieldDraft.{FieldDraft}
 use Rattle.fv_draft.specs.declared.draft.TypeDraft.{TypeDraft}
 use Rattle.fv_draft.specs.declared.draft.FormDraft.{FormDraft}
 use Rattle.fv_draft.specs.declared.draft.Draft.{Draft}
+use Rattle.fv_grouping.specs.Grouping.{is_misplaced}
+use Rattle.fv_grouping.specs.Numbered.{groups_named, type_ranks, valid_places}
+use Rattle.fv_groups.specs.Groups.{Groups}
 use Rattle.fv_flatten.specs.Fits.{tree_fits}
 use Rattle.fv_flatten.specs.Read.{IsReadTree}
 use Rattle.fv_occurrence.specs.Nodes.{Node}
@@ -18,66 +21,71 @@ use Rattle.fv_registry.specs.Rules.{Known}
 use Rattle.fv_types.proofs.Bools.{not_false, or_left, or_right}
 use Rattle.fv_types.proofs.Lists.{none_each}
 use Rattle.fv_types.specs.Names.{IsAscending}
+use Rattle.fv_uses.specs.Cascades.{cascades_in}
 use Rattle.fv_uses.specs.Uses.{Use, uses_in, used}
 use Rattle.fv_declare.specs.Declarations.{Placed, Declarations, count_nodes, AreNumbered}
-use Rattle.fv_declare.specs.Declares.{field_declared, type_declared, form_declared, is_bad_type, is_bad_definition, bad_name, IsPlacedAs}
+use Rattle.fv_declare.specs.Declares.{form_declared, form_grouped, IsPlacedAs}
+use Rattle.fv_naming.specs.Types.{field_declared, type_declared}
+use Rattle.fv_naming.specs.Naming.{is_bad_type, is_bad_definition, is_bad_group, bad_name}
 use Rattle.fv_declare.specs.Fits.{placed_fits}
 use Rattle.fv_declare.specs.Judging.{AreLed, placed_from}
 use Rattle.fv_declare.specs.Ordered.{Precedes, IsRising, IsPlaced, AreOrdered}
+use Rattle.fv_declare.proofs.Within.{uses_within, forms_within, sequences_within, places_within}
 use Rattle.fv_declare.proofs.Alls.{all_mapped_by}
 use Rattle.fv_declare.proofs.Rising.{Before, Rises, types_rise}
-use Rattle.fv_declare.proofs.There.{IsThere, types_there}
+use Rattle.fv_declare.proofs.There.{IsThere, types_there, cascades_there}
+use Rattle.fv_declare.proofs.Valid.{valid_all}
 
 -- ---- the uses with their trees stand where they do
 
--- a use with its tree, the root of which has a number
-abbrev at : Use → ℕ → Tree Node → Placed
-at u n t = record { type = u.type; place = u.place; number = n; tree = t }
+-- a use with its groups and its tree, the root of which has a number
+abbrev at : Groups → Use → ℕ → Tree Node → Placed
+at gs u n t = record { type = u.type; place = u.place; number = n; groups = groups_named gs u.groups; tree = t }
 
-placed_all : (P : Use → Type 0) (Q : Placed → Type 0) (n : ℕ) (us : List Use) (ts : List (Tree Node)) → ((u : Use) (n : ℕ) (t : Tree Node) → P u → Q (at u n t)) → AllByRecursion P us → AllByRecursion Q (placed_from n us ts)
-placed_all P Q n [] [] f h = tt
-placed_all P Q n [] (t ∷ ts) f h = tt
-placed_all P Q n (u ∷ us) [] f h = tt
-placed_all P Q n (u ∷ us) (t ∷ ts) f h = (f u n t h.0, placed_all P Q (n + size t) us ts f h.1)
+placed_all : (gs : Groups) (P : Use → Type 0) (Q : Placed → Type 0) (n : ℕ) (us : List Use) (ts : List (Tree Node)) → ((u : Use) (n : ℕ) (t : Tree Node) → P u → Q (at gs u n t)) → AllByRecursion P us → AllByRecursion Q (placed_from gs n us ts)
+placed_all gs P Q n [] [] f h = tt
+placed_all gs P Q n [] (t ∷ ts) f h = tt
+placed_all gs P Q n (u ∷ us) [] f h = tt
+placed_all gs P Q n (u ∷ us) (t ∷ ts) f h = (f u n t h.0, placed_all gs P Q (n + size t) us ts f h.1)
 
-rising : (n : ℕ) (us : List Use) (ts : List (Tree Node)) → Rises us → IsRising (placed_from n us ts)
-rising n [] [] h = tt
-rising n [] (t ∷ ts) h = tt
-rising n (u ∷ us) [] h = tt
-rising n (u ∷ us) (t ∷ ts) h = (placed_all (Before u) (Precedes (at u n t)) (n + size t) us ts (λ v k s b. b) h.0, rising (n + size t) us ts h.1)
+rising : (gs : Groups) (n : ℕ) (us : List Use) (ts : List (Tree Node)) → Rises us → IsRising (placed_from gs n us ts)
+rising gs n [] [] h = tt
+rising gs n [] (t ∷ ts) h = tt
+rising gs n (u ∷ us) [] h = tt
+rising gs n (u ∷ us) (t ∷ ts) h = (placed_all gs (Before u) (Precedes (at gs u n t)) (n + size t) us ts (λ v k s b. b) h.0, rising gs (n + size t) us ts h.1)
 
-numbered : (n : ℕ) (us : List Use) (ts : List (Tree Node)) → AreNumbered n (placed_from n us ts)
-numbered n [] [] = tt
-numbered n [] (t ∷ ts) = tt
-numbered n (u ∷ us) [] = tt
-numbered n (u ∷ us) (t ∷ ts) = (refl, numbered (n + size t) us ts)
+numbered : (gs : Groups) (n : ℕ) (us : List Use) (ts : List (Tree Node)) → AreNumbered n (placed_from gs n us ts)
+numbered gs n [] [] = tt
+numbered gs n [] (t ∷ ts) = tt
+numbered gs n (u ∷ us) [] = tt
+numbered gs n (u ∷ us) (t ∷ ts) = (refl, numbered gs (n + size t) us ts)
 
-trees : (n : ℕ) (us : List Use) (ts : List (Tree Node)) → length ts ≡ length us → map (λ o. o.tree) (placed_from n us ts) ≡ ts
-trees n [] [] same = refl
-trees n [] (t ∷ ts) same = cc
-trees n (u ∷ us) [] same = cc
-trees n (u ∷ us) (t ∷ ts) same = let less : length ts ≡ length us = omega (arith, same) in ap (λ rest. t ∷ rest) (trees (n + size t) us ts less)
+trees : (gs : Groups) (n : ℕ) (us : List Use) (ts : List (Tree Node)) → length ts ≡ length us → map (λ o. o.tree) (placed_from gs n us ts) ≡ ts
+trees gs n [] [] same = refl
+trees gs n [] (t ∷ ts) same = cc
+trees gs n (u ∷ us) [] same = cc
+trees gs n (u ∷ us) (t ∷ ts) same = let less : length ts ≡ length us = omega (arith, same) in ap (λ rest. t ∷ rest) (trees gs (n + size t) us ts less)
 
 -- what is read at the uses' places stands there
-pub placed : (n : ℕ) (us : List Use) (ps : List (Tree Planned)) (ts : List (Tree Node)) → length ts ≡ length us → AllZip (λ u o. IsReadTree u.0.place u.1 o) (zip (map used us) ps) ts
-    → AllZip IsPlacedAs (zip us ps) (placed_from n us ts)
-placed n [] [] [] long z = tt
-placed n [] [] (t ∷ ts) long z = cc
-placed n [] (p ∷ ps) [] long z = tt
-placed n [] (p ∷ ps) (t ∷ ts) long z = cc
-placed n (u ∷ us) [] [] long z = cc
-placed n (u ∷ us) [] (t ∷ ts) long z = absurd z
-placed n (u ∷ us) (p ∷ ps) [] long z = cc
-placed n (u ∷ us) (p ∷ ps) (t ∷ ts) long z =
+pub placed : (gs : Groups) (n : ℕ) (us : List Use) (ps : List (Tree Planned)) (ts : List (Tree Node)) → length ts ≡ length us → AllZip (λ u o. IsReadTree u.0.place u.1 o) (zip (map used us) ps) ts
+    → AllZip (IsPlacedAs gs) (zip us ps) (placed_from gs n us ts)
+placed gs n [] [] [] long z = tt
+placed gs n [] [] (t ∷ ts) long z = cc
+placed gs n [] (p ∷ ps) [] long z = tt
+placed gs n [] (p ∷ ps) (t ∷ ts) long z = cc
+placed gs n (u ∷ us) [] [] long z = cc
+placed gs n (u ∷ us) [] (t ∷ ts) long z = absurd z
+placed gs n (u ∷ us) (p ∷ ps) [] long z = cc
+placed gs n (u ∷ us) (p ∷ ps) (t ∷ ts) long z =
     let less : length ts ≡ length us = omega (arith, long) in
-    (record { type = refl; place = refl; tree = z.0 }, placed (n + size t) us ps ts less z.1)
+    (record { type = refl; place = refl; groups = refl; tree = z.0 }, placed gs (n + size t) us ps ts less z.1)
 
 -- and fits where the trees do
-pub placed_fit : (k : Known) (n : ℕ) (us : List Use) (ts : List (Tree Node)) → AllZip (λ u o. tree_fits k u.place o ≡ true) (map used us) ts → list_all (placed_fits k) (placed_from n us ts) ≡ true
-placed_fit k n [] [] z = refl
-placed_fit k n [] (t ∷ ts) z = absurd z
-placed_fit k n (u ∷ us) [] z = absurd z
-placed_fit k n (u ∷ us) (t ∷ ts) z = rw (z.0, placed_fit k (n + size t) us ts z.1) refl
+pub placed_fit : (gs : Groups) (k : Known) (n : ℕ) (us : List Use) (ts : List (Tree Node)) → AllZip (λ u o. tree_fits k u.place o ≡ true) (map used us) ts → list_all (placed_fits k) (placed_from gs n us ts) ≡ true
+placed_fit gs k n [] [] z = refl
+placed_fit gs k n [] (t ∷ ts) z = absurd z
+placed_fit gs k n (u ∷ us) [] z = absurd z
+placed_fit gs k n (u ∷ us) (t ∷ ts) z = rw (z.0, placed_fit gs k (n + size t) us ts z.1) refl
 
 -- ---- names
 
@@ -108,11 +116,12 @@ types_named ts good =
 
 all_named : (d : spec.Drafted) → bad_name d ≡ false → AllByRecursion (λ t. AllByRecursion (λ f. names f.0 ≡ true) t.1) (map type_declared d.types)
 unfolding bad_name
-all_named d good = types_named d.types (or_left (list_any is_bad_type d.types) _ (or_left _ (list_any is_bad_definition d.definitions) good))
+all_named d good = types_named d.types (or_left (list_any is_bad_type d.types) _ (or_left _ (list_any is_bad_definition d.definitions) (or_left _ (list_any (is_bad_group d.types) d.groups) good)))
 
-pub ordered : (d : Draft) (ds : Declarations) (ts : List (Tree Node)) → ds.types ≡ map type_declared (map type_view d.types.items) → ds.occurrences ≡ placed_from 0 (uses_in (map type_view d.types.items)) ts
-    → ds.forms ≡ map form_declared (map form_view d.forms.items) → length ts ≡ length (uses_in (map type_view d.types.items)) → count_nodes ts ≤ 1024 → bad_name (draft_view d) ≡ false → AreLed (draft_view d) → AreOrdered ds
-ordered d ds ts types uses forms each few named led =
+pub ordered : (gs : Groups) (d : Draft) (ds : Declarations) (ts : List (Tree Node)) → ds.types ≡ map type_declared (map type_view d.types.items) → ds.occurrences ≡ placed_from gs 0 (uses_in (map type_view d.types.items)) ts
+    → ds.forms ≡ map form_declared (map form_view d.forms.items) → ds.valid_places ≡ valid_places gs (cascades_in (map type_view d.types.items)) → list_any (is_misplaced gs) (cascades_in (map type_view d.types.items)) ≡ false → length ts ≡ length (uses_in (map type_view d.types.items)) → count_nodes ts ≤ 1024 → bad_name (draft_view d) ≡ false → AreLed (draft_view d)
+    → 0 < length gs → ds.groups ≡ gs → ds.form_groups ≡ map (form_grouped gs) (map form_view d.forms.items) → ds.sequences ≡ map (type_ranks gs) (map type_view d.types.items) → AreOrdered ds
+ordered gs d ds ts types uses forms valid placed each few named led some groups form_groups sequences =
     let drafts = map type_view d.types.items in
     let us = uses_in drafts in
     let all = map type_declared drafts in
@@ -121,8 +130,16 @@ ordered d ds ts types uses forms each few named led =
       forms = rw (forms, ← form_names d.forms.items) d.forms_ascend;
       fields = rw types (fields_ascend d.types.items);
       named = rw types (all_named (draft_view d) named);
-      uses = rw uses (rising 0 us ts (types_rise 0 drafts));
-      there = rw (types, uses) (placed_all (IsThere all) (IsPlaced all) 0 us ts (λ u n t k. k) (types_there all 0 drafts led (λ j. let same : 0 + j ≡ j = omega arith in ap (slice_get all) same)));
-      numbered = rw uses (numbered 0 us ts);
-      few = rw (uses, trees 0 us ts each) few;
+      uses = rw uses (rising gs 0 us ts (types_rise 0 drafts));
+      there = rw (types, uses) (placed_all gs (IsThere all) (IsPlaced all) 0 us ts (λ u n t k. k) (types_there all 0 drafts led (λ j. let same : 0 + j ≡ j = omega arith in ap (slice_get all) same)));
+      numbered = rw uses (numbered gs 0 us ts);
+      few = rw (uses, trees gs 0 us ts each) few;
+      valid = rw (types, valid) (valid_all gs all (cascades_in drafts) (cascades_there all 0 drafts led (λ j. let same : 0 + j ≡ j = omega arith in ap (slice_get all) same)) placed);
+      grouped = record {
+        some = rw groups some;
+        uses = rw (groups, uses) (uses_within gs some 0 us ts);
+        forms = rw (groups, form_groups) (forms_within gs some (map form_view d.forms.items));
+        sequences = rw (groups, sequences) (sequences_within gs some drafts);
+        conversions = rw (groups, valid) (places_within gs (cascades_in drafts));
+      };
     }

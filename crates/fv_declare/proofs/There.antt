@@ -1,11 +1,12 @@
--- The places of a draft's uses are there.
+-- The places of a draft's uses and cascades are there.
 use Rattle.std.proofs.Common.{◌≡◌, ℕ, suc, ◌+◌, List, [], ◌∷◌, map, slice_get, Some, option_map, refl, ap, ◌∙◌, arith}
 use Rattle.std.specs.List.{AllByRecursion, flat_map, enumerate_from}
 use Rattle.fv_draft.specs.Drafts.{FieldDraft, TypeDraft}
 use Rattle.fv_types.proofs.Lists.{each_of}
 use Rattle.fv_types.specs.Types.{DeclaredFields, Declared, kind_of}
-use Rattle.fv_uses.specs.Uses.{whole, Use, use_at, use_in, field_uses, type_uses}
-use Rattle.fv_declare.specs.Declares.{field_declared, type_declared}
+use Rattle.fv_uses.specs.Cascades.{Cascade, cascade_in, field_cascades, type_cascades}
+use Rattle.fv_uses.specs.Uses.{whole, field, Use, use_at, use_in, field_uses, type_uses}
+use Rattle.fv_naming.specs.Types.{field_declared, type_declared}
 use Rattle.fv_declare.specs.Judging.{IsLed}
 use Rattle.fv_declare.specs.Ordered.{held_inside, IsAmong}
 use Rattle.fv_declare.proofs.Alls.{all_append, all_mapped, all_mapped_by}
@@ -24,7 +25,7 @@ fields_there type all from (f ∷ fs) led same =
     let start : from ≡ from + 0 = omega arith in
     let found : slice_get all from ≡ Some (field_declared f) = ap (slice_get all) start ∙ same 0 in
     all_append (IsOf type all) (field_uses type (from, f)) _
-    (all_mapped_by (λ u. option_map kind_of (held_inside u.steps f.type) ≡ Some u.kind) (IsOf type all) (use_in type from) f.uses (λ u k. (refl, (field_declared f, found, k))) led.0)
+    (all_mapped_by (λ u. option_map kind_of (held_inside u.steps f.type) ≡ Some u.kind) (IsOf type all) (use_in type from) f.uses (λ u k. (refl, (field_declared f, found, k))) led.0.0)
     (fields_there type all (from + 1) fs led.1 (λ j. let next : from + 1 + j ≡ from + suc j = omega arith in ap (slice_get all) next ∙ same (suc j)))
 
 type_there : (t : ℕ × TypeDraft) → AllByRecursion IsLed t.1.fields → AllByRecursion (IsOf t.0 (type_declared t.1).1) (type_uses t)
@@ -43,3 +44,34 @@ types_there all from (t ∷ ts) led same =
     all_append (IsThere all) (type_uses (from, t)) _
     (each_of (IsOf from (type_declared t).1) (IsThere all) (type_uses (from, t)) (λ u h. (type_declared t, ap (slice_get all) h.0 ∙ found, h.1)) (type_there (from, t) led.0))
     (types_there all (from + 1) ts led.1 (λ j. let next : from + 1 + j ≡ from + suc j = omega arith in ap (slice_get all) next ∙ same (suc j)))
+
+-- ---- cascades
+
+abbrev pub IsCascadeThere : Declared → Cascade → Type 0
+IsCascadeThere ts c = (t : List ℕ × DeclaredFields) × (slice_get ts c.type ≡ Some t) × IsAmong t.1 (field c.field c.placed.steps c.placed.kind)
+
+-- in the type of that number, at a place among these fields
+abbrev IsCascadeOf : ℕ → DeclaredFields → Cascade → Type 0
+IsCascadeOf type fs c = (c.type ≡ type) × IsAmong fs (field c.field c.placed.steps c.placed.kind)
+
+cascades_of_fields : (type : ℕ) (all : DeclaredFields) (from : ℕ) (fs : List FieldDraft) → AllByRecursion IsLed fs → ((j : ℕ) → slice_get all (from + j) ≡ slice_get (map field_declared fs) j)
+    → AllByRecursion (IsCascadeOf type all) (flat_map (field_cascades type) (enumerate_from from fs))
+cascades_of_fields type all from [] led same = tt
+cascades_of_fields type all from (f ∷ fs) led same =
+    let start : from ≡ from + 0 = omega arith in
+    let found : slice_get all from ≡ Some (field_declared f) = ap (slice_get all) start ∙ same 0 in
+    all_append (IsCascadeOf type all) (field_cascades type (from, f)) _
+    (all_mapped_by (λ c. option_map kind_of (held_inside c.steps f.type) ≡ Some c.kind) (IsCascadeOf type all) (cascade_in type from) f.cascades (λ c k. (refl, (field_declared f, found, k))) led.0.1)
+    (cascades_of_fields type all (from + 1) fs led.1 (λ j. let next : from + 1 + j ≡ from + suc j = omega arith in ap (slice_get all) next ∙ same (suc j)))
+
+pub cascades_there : (all : Declared) (from : ℕ) (ts : List TypeDraft) → AllByRecursion (λ t. AllByRecursion IsLed t.fields) ts → ((j : ℕ) → slice_get all (from + j) ≡ slice_get (map type_declared ts) j)
+    → AllByRecursion (IsCascadeThere all) (flat_map type_cascades (enumerate_from from ts))
+cascades_there all from [] led same = tt
+cascades_there all from (t ∷ ts) led same =
+    let start : from ≡ from + 0 = omega arith in
+    let found : slice_get all from ≡ Some (type_declared t) = ap (slice_get all) start ∙ same 0 in
+    let fields = (type_declared t).1 in
+    all_append (IsCascadeThere all) (type_cascades (from, t)) _
+    (each_of (IsCascadeOf from fields) (IsCascadeThere all) (type_cascades (from, t)) (λ c h. (type_declared t, ap (slice_get all) h.0 ∙ found, h.1))
+    (cascades_of_fields from fields 0 t.fields led.0 (λ j. let here : 0 + j ≡ j = omega arith in ap (slice_get fields) here)))
+    (cascades_there all (from + 1) ts led.1 (λ j. let next : from + 1 + j ≡ from + suc j = omega arith in ap (slice_get all) next ∙ same (suc j)))

@@ -1,23 +1,32 @@
 -- What declarations declare.
-use Rattle.std.specs.Prelude.{◌≡◌, ℕ, ◌+◌, List, [], ◌∷◌}
+use Rattle.std.specs.Prelude.{◌≡◌, ℕ, ◌+◌, List, [], ◌∷◌, Option}
 use Rattle.fv_types.specs.Types.{Declared}
+use Rattle.fv_grouping.specs.Numbered.{ValidPlace}
+use Rattle.fv_groups.specs.Groups.{Groups}
 use Rattle.fv_occurrence.specs.Nodes.{Node}
 use Rattle.fv_occurrence.specs.Trees.{Tree, size}
 use Rattle.fv_uses.specs.Uses.{Place}
 
--- a use of a constraint where it stands: the number of its type, its place there, its tree, and the number of the tree's root over the
--- whole declarations, from which the numbers of the nodes run on in preorder
+-- a use of a constraint where it stands: the number of its type, its place there, the numbers of its groups, its tree, and the number of
+-- the tree's root over the whole declarations, from which the numbers of the nodes run on in preorder
 pub record Placed : Type 0 where
   pub type : ℕ
   pub place : Place
   pub number : ℕ
+  pub groups : List ℕ
   pub tree : Tree Node
 
--- the types, the uses of constraints where they stand, and the forms by their names, each with its root's type
+-- the types, the uses of constraints where they stand, the forms by their names, each with its root's type, the groups in the order of
+-- their numbers, the numbers of each form's groups, for each type the ranks of the sequence that redefines `Default` for it, if there is
+-- one, and the places whose objects are validated
 pub record Declarations : Type 0 where
   pub types : Declared
   pub occurrences : List Placed
   pub forms : List (List ℕ × List ℕ)
+  pub groups : Groups
+  pub form_groups : List (List ℕ × List ℕ)
+  pub sequences : List (Option (List ℕ))
+  pub valid_places : List ValidPlace
 
 -- how many nodes trees have
 abbrev pub count_nodes : {N : Type 0} → List (Tree N) → ℕ

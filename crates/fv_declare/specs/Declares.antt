@@ -1,55 +1,36 @@
 -- The declarations that a text declares, or its first fault.
-use Rattle.std.specs.Prelude.{◌≡◌, ◌⊎◌, ℕ, ◌||◌, List, [], ◌∷◌, length, map, zip, Bool, not, nat_lt, Option, Some, None, is_some, Result, Ok, Err, codes}
+use Rattle.std.specs.Prelude.{◌≡◌, ◌⊎◌, ℕ, ◌||◌, List, [], ◌∷◌, length, map, zip, Bool, not, nat_lt, Option, Some, None, is_some, Result, Ok, Err}
 use Rattle.std.specs.List.{list_any, AllZip}
-use Rattle.std.specs.Str.{bytes_eq}
 use Rattle.serde_json.specs.Data as json
 use Rattle.fv_datum.specs.Outcomes.{first}
 use Rattle.fv_datum.specs.Lookup.{at_name}
-use Rattle.fv_datum.specs.Name.{names}
 use Rattle.fv_datum.specs.Parsing.{json_of}
-use Rattle.fv_builtin.specs.Names.{is_builtin}
-use Rattle.fv_types.specs.Types.{TypeUse, DeclaredFields, Declared, has_unknown, too_many}
+use Rattle.fv_types.specs.Types.{Declared, has_unknown, too_many}
 use Rattle.fv_registry.specs.Rules.{Known}
 use Rattle.fv_constraint.specs.Composed.{Planned, IsCyclic}
-use Rattle.fv_constraint.specs.Definitions.{Definition, composes_unknown, meant_by}
-use Rattle.fv_draft.specs.Drafts.{FieldDraft, TypeDraft, FormDraft, Drafted, draft_of}
+use Rattle.fv_constraint.specs.Definitions.{composes_unknown, meant_by}
+use Rattle.fv_draft.specs.Drafts.{FormDraft, Drafted, draft_of}
 use Rattle.fv_flatten.specs.Flattening.{AreTreesOfUses, is_empty_in, unknown_rule, bad_attribute, unexpected_type, HasBadPattern}
 use Rattle.fv_flatten.specs.Flattening as flat
 use Rattle.fv_flatten.specs.Read.{IsReadTree}
+use Rattle.fv_grouping.specs.First.{IsFirst}
+use Rattle.fv_grouping.specs.Grouping.{groups_in, is_long, grouping_faults, Holds}
+use Rattle.fv_grouping.specs.Numbered.{groups_named, type_ranks, valid_places}
+use Rattle.fv_grouping.specs.declared.fault.GroupingFault.{GroupingFault}
+use Rattle.fv_groups.specs.Groups.{Groups}
+use Rattle.fv_groups.specs.Judged.{is_large}
+use Rattle.fv_naming.specs.Naming.{bad_name}
+use Rattle.fv_naming.specs.Types.{types_declared}
 use Rattle.fv_occurrence.specs.Trees.{Tree}
 use Rattle.fv_declare.specs.Declarations.{Placed, Declarations, count_nodes}
 use Rattle.fv_declare.specs.Ordered.{AreOrdered}
+use Rattle.fv_uses.specs.Cascades.{cascades_in}
 use Rattle.fv_uses.specs.Uses.{Use, used, uses_in, judged_at}
+use Rattle.fv_declare.specs.FaultNames.{grouping_fault}
 use Rattle.fv_declare.specs.declared.fault.DeclFault.{DeclFault}
 use Rattle.fv_declare.specs.declared.fault.DeclFault.TheVariants.{NotJson, Shape, BadName, UnknownName, CyclicComposition, EmptyConstraint, TooLarge, UnknownRule, Attribute, UnexpectedType, BadPattern}
 
--- ---- the types
-
--- a field with what it holds
-abbrev pub field_declared : FieldDraft → List ℕ × TypeUse
-field_declared f = (f.name, f.type)
-
--- a type with its fields
-abbrev pub type_declared : TypeDraft → List ℕ × DeclaredFields
-type_declared t = (t.name, map field_declared t.fields)
-
--- the types of a draft
-abbrev pub types_declared : Drafted → Declared
-types_declared d = map type_declared d.types
-
 -- ---- what can be wrong with names
-
--- a type is named as no name or as the group that is always there, or a field as no name
-abbrev pub is_bad_type : TypeDraft → Bool
-is_bad_type t = not (names t.name) || bytes_eq t.name (codes "Default") || list_any (λ f. not (names f.name)) t.fields
-
--- a constraint is named as no name or like a built-in, or an attribute as no name
-abbrev pub is_bad_definition : List ℕ × Definition → Bool
-is_bad_definition c = not (names c.0) || is_builtin c.0 || list_any (λ a. not (names a.0)) c.1.attributes
-
--- a declared name that is no name or is taken
-unfoldable pub bad_name : Drafted → Bool
-bad_name d = list_any is_bad_type d.types || list_any (λ f. not (names f.name)) d.forms || list_any is_bad_definition d.definitions
 
 -- a use of a constraint that is neither built in nor declared
 abbrev pub unknown_constraint : Drafted → Bool
@@ -73,12 +54,13 @@ name_conditions d = (bad_name d, BadName) ∷ (unknown_name d, UnknownName) ∷ 
 abbrev pub used_in : Drafted → List flat.Use
 used_in d = map used (uses_in d.types)
 
--- more than 256 forms or declared constraints
+-- more than 256 forms, declared constraints or groups, more than 32 that a group inherits directly, or more than 32 members of a sequence
 abbrev pub has_many : Drafted → Bool
-has_many d = nat_lt 256 (length d.forms) || nat_lt 256 (length d.definitions)
+has_many d =
+    nat_lt 256 (length d.forms) || nat_lt 256 (length d.definitions) || is_large (groups_in d) || list_any is_long d.types
 
--- more than 256 types, fields of a type, forms or declared constraints, more than four containers one in another, or more than 1,024
--- nodes of all trees
+-- more than 256 types, fields of a type, forms, declared constraints or groups, more than 32 groups that one inherits directly or that are
+-- members of a sequence, more than four containers one in another, or more than 1,024 nodes of all trees
 unfoldable pub too_large : Drafted → List (Tree Planned) → Bool
 too_large d ts = too_many (types_declared d) || has_many d || nat_lt 1024 (count_nodes ts)
 
@@ -98,17 +80,26 @@ tree_conditions k d ts =
 abbrev pub form_declared : FormDraft → List ℕ × List ℕ
 form_declared f = (f.name, f.root)
 
--- a use with its tree is declared: it stands at its place, and each of the tree's constraints is read there
-pub record IsPlacedAs (u : Use × Tree Planned) (o : Placed) : Type 0 where
+-- a form with the numbers of its groups
+abbrev pub form_grouped : Groups → FormDraft → List ℕ × List ℕ
+form_grouped gs f = (f.name, groups_named gs f.groups)
+
+-- a use with its tree is declared: it stands at its place and in its groups, and each of the tree's constraints is read there
+pub record IsPlacedAs (gs : Groups) (u : Use × Tree Planned) (o : Placed) : Type 0 where
   pub type : o.type ≡ u.0.type
   pub place : o.place ≡ u.0.place
+  pub groups : o.groups ≡ groups_named gs u.0.groups
   pub tree : IsReadTree (judged_at u.0.place) u.1 o.tree
 
 -- types, forms and fields stand, and the nodes of the uses' trees are numbered, in the order of the names' bytes
 pub record IsDeclared (d : Drafted) (ts : List (Tree Planned)) (ds : Declarations) : Type 0 where
   pub types : ds.types ≡ types_declared d
-  pub uses : AllZip IsPlacedAs (zip (uses_in d.types) ts) ds.occurrences
+  pub uses : AllZip (IsPlacedAs (groups_in d)) (zip (uses_in d.types) ts) ds.occurrences
   pub forms : ds.forms ≡ map form_declared d.forms
+  pub groups : ds.groups ≡ groups_in d
+  pub form_groups : ds.form_groups ≡ map (form_grouped (groups_in d)) d.forms
+  pub sequences : ds.sequences ≡ map (type_ranks (groups_in d)) d.types
+  pub valid_places : ds.valid_places ≡ valid_places (groups_in d) (cascades_in d.types)
   pub ordered : AreOrdered ds
 
 -- the answer where nothing is wrong but perhaps a pattern
@@ -126,14 +117,23 @@ IsDecided None d ts answer = IsBuilt d ts answer
 abbrev pub IsFlattened : Known → Drafted → Result Declarations DeclFault → Type 0
 IsFlattened k d answer = (ts : List (Tree Planned)) × AreTreesOfUses d.definitions (used_in d) ts × IsDecided (first (tree_conditions k d ts)) d ts answer
 
--- the answer where names are known
+-- the answer where the names of types, constraints and groups are known and stand as they may
 abbrev pub IsComposed : Known → Drafted → Result Declarations DeclFault → Type 0
 IsComposed k d answer = (IsCyclic d.definitions × (answer ≡ Err CyclicComposition)) ⊎ ((IsCyclic d.definitions → ⊥) × IsFlattened k d answer)
+
+-- the answer by the first fault of groups, if there is one
+abbrev pub IsGroupedBy : Option GroupingFault → Known → Drafted → Result Declarations DeclFault → Type 0
+IsGroupedBy (Some fault) k d answer = answer ≡ Err (grouping_fault fault)
+IsGroupedBy None k d answer = IsComposed k d answer
+
+-- the answer where the names of types and constraints are known
+abbrev pub IsGrouped : Known → Drafted → Result Declarations DeclFault → Type 0
+IsGrouped k d answer = (found : Option GroupingFault) × IsFirst (Holds d) grouping_faults found × IsGroupedBy found k d answer
 
 -- the answer by the first fault of names, if there is one
 abbrev pub IsNamed : Option DeclFault → Known → Drafted → Result Declarations DeclFault → Type 0
 IsNamed (Some fault) k d answer = answer ≡ Err fault
-IsNamed None k d answer = IsComposed k d answer
+IsNamed None k d answer = IsGrouped k d answer
 
 -- the answer to a draft, `Shape` where the JSON has another form
 abbrev pub Judged : Known → Option Drafted → Result Declarations DeclFault → Type 0

@@ -1,7 +1,10 @@
 -- The order of declarations.
-use Rattle.std.specs.Prelude.{◌≡◌, ℕ, ◌+◌, ◌<◌, ◌≤◌, ◌⊎◌, List, [], ◌∷◌, map, true, slice_get, Option, Some, None, option_map, option_and_then}
+use Rattle.std.specs.Prelude.{◌≡◌, ℕ, ◌+◌, ◌<◌, ◌≤◌, ◌⊎◌, List, [], ◌∷◌, map, length, true, slice_get, IfSome, Option, Some, None, option_map, option_and_then}
 use Rattle.std.specs.List.{AllByRecursion}
 use Rattle.fv_datum.specs.Name.{names}
+use Rattle.fv_datum.specs.declared.kind.Kind.TheVariants as kind
+use Rattle.fv_grouping.specs.Numbered.{ValidPlace}
+use Rattle.fv_groups.specs.Groups.{Groups}
 use Rattle.fv_types.specs.Names.{IsAscending}
 use Rattle.fv_extract.specs.Places.{Step, element, key, value, content}
 use Rattle.fv_types.specs.Types.{TypeUse, texts, lists, maps, optionals, DeclaredFields, Declared, kind_of}
@@ -45,9 +48,29 @@ IsAmong fs (field number steps kind) =
 abbrev pub IsPlaced : Declared → Placed → Type 0
 IsPlaced ts u = (t : List ℕ × DeclaredFields) × (slice_get ts u.type ≡ Some t) × IsAmong t.1 u.place
 
+-- the type of that number is declared, the field of that number is there among its fields, and the steps lead in it to references
+abbrev pub IsValidIn : Declared → ValidPlace → Type 0
+IsValidIn ts p = (t : List ℕ × DeclaredFields) × (slice_get ts p.type ≡ Some t) × IsAmong t.1 (field p.field p.steps kind.Ref)
+
+-- each is the number of a group
+abbrev pub AreGroups : Groups → List ℕ → Type 0
+AreGroups gs groups = AllByRecursion (λ g. g < length gs) groups
+
+-- each leads from a group to a group
+abbrev pub AreConversions : Groups → List (ℕ × ℕ) → Type 0
+AreConversions gs conversions = AllByRecursion (λ c. (c.0 < length gs) × (c.1 < length gs)) conversions
+
+-- the groups of uses, forms, types' sequences and conversions are declared, and there is one
+pub record AreGrouped (d : Declarations) : Type 0 where
+  pub some : 0 < length d.groups
+  pub uses : AllByRecursion (λ u. AreGroups d.groups u.groups) d.occurrences
+  pub forms : AllByRecursion (λ f. AreGroups d.groups f.1) d.form_groups
+  pub sequences : AllByRecursion (λ s. IfSome s (AreGroups d.groups)) d.sequences
+  pub conversions : AllByRecursion (λ p. AreConversions d.groups p.conversions) d.valid_places
+
 -- types, forms and the fields of each type ascend by their names, fields are named as names, and the uses ascend by their types, in a type
 -- by their fields, behind those at the object itself, and their places are there; the numbers of the nodes, of which there are at most
--- 1,024, run on through all trees
+-- 1,024, run on through all trees; where objects are validated there are references; and groups are declared
 pub record AreOrdered (d : Declarations) : Type 0 where
   pub types : IsAscending (map (λ t. t.0) d.types)
   pub forms : IsAscending (map (λ f. f.0) d.forms)
@@ -57,3 +80,5 @@ pub record AreOrdered (d : Declarations) : Type 0 where
   pub there : AllByRecursion (IsPlaced d.types) d.occurrences
   pub numbered : AreNumbered 0 d.occurrences
   pub few : count_nodes (map (λ o. o.tree) d.occurrences) ≤ 1024
+  pub valid : AllByRecursion (IsValidIn d.types) d.valid_places
+  pub grouped : AreGrouped d

@@ -1,6 +1,6 @@
 //! The schema that declarations without fault declare.
-ghost use Rattle.std.specs.Prelude.{◌≡◌, ◌≤◌, true, false, Ok, IfOk, IfErr, List, length, map, zip};
-ghost use Rattle.std.specs.List.{AllZip};
+ghost use Rattle.std.specs.Prelude.{◌≡◌, ◌≤◌, ℕ, true, false, Ok, IfOk, IfErr, List, length, map, zip};
+ghost use Rattle.std.specs.List.{AllZip, list_any};
 ghost use Rattle.fv_constraint.specs.Composed.{Planned};
 ghost use Rattle.fv_datum.specs.Outcomes.{Gives};
 ghost use Rattle.fv_draft.specs.DraftViews.{form_view, draft_view};
@@ -11,29 +11,40 @@ ghost use Rattle.fv_types.specs.TypesView.{types_view};
 ghost use Rattle.fv_occurrence.specs.Trees.{Tree};
 ghost use Rattle.fv_registry.specs.Rules.{Known};
 ghost use Rattle.fv_declare.specs.Declarations.{count_nodes};
-ghost use Rattle.fv_declare.specs.Declares.{types_declared, bad_name, unknown_root, form_declared, used_in, IsDeclared};
+ghost use Rattle.fv_declare.specs.Declares.{unknown_root, form_declared, form_grouped, used_in, IsDeclared};
+ghost use Rattle.fv_naming.specs.Types.{types_declared};
+ghost use Rattle.fv_naming.specs.Naming.{bad_name};
 ghost use Rattle.fv_declare.specs.Fits.{fits};
 ghost use Rattle.fv_declare.specs.Judging.{AreLed, placed_from};
 ghost use Rattle.fv_declare.specs.PlacedView.{placed_view};
-ghost use Rattle.fv_declare.specs.SchemaView.{forms_view};
+ghost use Rattle.fv_declare.specs.SchemaView.{forms_view, form_groups_view};
+ghost use Rattle.fv_grouping.specs.Grouping.{groups_in, is_misplaced};
+ghost use Rattle.fv_uses.specs.Cascades.{cascades_in};
 ghost use Rattle.fv_uses.specs.Uses.{uses_in};
-ghost use Rattle.fv_uses.specs.UseViews.{use_view};
+ghost use Rattle.fv_uses.specs.UseViews.{use_view, cascade_view};
 
 use crate::fault::DeclFault;
 use crate::placed::Placed;
-use crate::schema::Schema;
+use crate::schema::{Form, Schema};
 use fv_draft::{Draft, FormDraft};
+use fv_grouping::{groups_named, sequences_of, valid_places};
+use fv_groups::Groups;
 use fv_model::{TypeId, Types};
 use fv_occurrence::Occurrence;
-use fv_uses::Use;
+use fv_uses::{Cascade, Use};
 use indexmap::IndexMap;
 use std::alloc::{AllocError, Global};
 
-/// The uses with their trees, each at its place, the nodes of all trees numbered from 0.
-fn place_all(alloc: Global, uses: &[Use], trees: Vec<Occurrence>) -> Result<Vec<Placed>, AllocError>
+/// The uses with their groups and trees, each at its place, the nodes of all trees numbered from 0.
+fn place_all(
+    alloc: Global,
+    groups: &Groups,
+    uses: &[Use],
+    trees: Vec<Occurrence>,
+) -> Result<Vec<Placed>, AllocError>
     requires each { length trees.items ≡ length uses.now }
     requires few { count_nodes trees.items ≤ 1024 }
-    ensures { IfOk result (λ v. map placed_view v.items ≡ placed_from 0 (map use_view uses.now) trees.items) }
+    ensures { IfOk result (λ v. map placed_view v.items ≡ placed_from groups.now 0 (map use_view uses.now) trees.items) }
 {
     let mut placed = Vec::with_capacity(alloc, uses.len())?;
     let mut rest = trees.into_iter();
@@ -49,6 +60,7 @@ fn place_all(alloc: Global, uses: &[Use], trees: Vec<Occurrence>) -> Result<Vec<
             },
             place: given.place.copy()?,
             number,
+            groups: groups_named(alloc, groups, given.groups)?,
             occurrence,
         })?;
         number += size;
@@ -59,37 +71,44 @@ fn place_all(alloc: Global, uses: &[Use], trees: Vec<Occurrence>) -> Result<Vec<
 fn forms_for(
     alloc: Global,
     types: &Types,
+    groups: &Groups,
     forms: &[FormDraft],
-) -> Result<IndexMap<String, TypeId>, DeclFault>
+) -> Result<IndexMap<String, Form>, DeclFault>
     requires ascend { IsAscending (map (λ f. f.name.now) forms.now) }
     requires known { unknown_root (types_view types.now) (map form_view forms.now) ≡ false }
-    ensures { Gives DeclFault.Memory (forms_view (types_view types.now)) result
-        (Ok (map (λ f. form_declared (form_view f)) forms.now)) }
+    ensures { Gives {Y = List (List ℕ × List ℕ) × List (List ℕ × List ℕ)} DeclFault.Memory (λ m. (forms_view (types_view types.now) m, form_groups_view m)) result
+        (Ok (map (λ f. form_declared (form_view f)) forms.now, map (λ f. form_grouped groups.now (form_view f)) forms.now)) }
 {
     let mut declared = IndexMap::new(alloc);
     for form in forms {
         let Some(root) = types.find(form.root) else {
             return Err(DeclFault::UnknownName);
         };
-        let _ = declared.insert(String::from_str(alloc, form.name)?, root)?;
+        let groups = groups_named(alloc, groups, &form.groups)?;
+        let _ = declared.insert(String::from_str(alloc, form.name)?, Form { root, groups })?;
     }
     Ok(declared)
 }
 
-/// The schema that a draft without fault declares. The types are the draft's, and the trees are those
-/// of its uses.
+/// The schema that a draft without fault declares. The types, groups and cascades are the draft's, and
+/// the trees are those of its uses.
 pub(crate) fn build(
     alloc: Global,
     draft: &Draft,
     types: Types,
+    groups: Groups,
     uses: &[Use],
+    cascades: &[Cascade],
     trees: Vec<Occurrence>,
 ) -> Result<Schema, DeclFault>
     requires types { types_view types ≡ types_declared (draft_view draft.now) }
     requires named { bad_name (draft_view draft.now) ≡ false }
     requires led { AreLed (draft_view draft.now) }
     requires roots { unknown_root (types_declared (draft_view draft.now)) (draft_view draft.now).forms ≡ false }
+    requires groups { groups ≡ groups_in (draft_view draft.now) }
     requires uses { map use_view uses.now ≡ uses_in (draft_view draft.now).types }
+    requires placed { list_any (is_misplaced (groups_in (draft_view draft.now))) (cascades_in (draft_view draft.now).types) ≡ false }
+    requires cascades { map cascade_view cascades.now ≡ cascades_in (draft_view draft.now).types }
     requires each { length trees.items ≡ length uses.now }
     requires few { count_nodes trees.items ≤ 1024 }
     ensures taken { IfOk result (λ s. (ts : List (Tree Planned))
@@ -99,11 +118,16 @@ pub(crate) fn build(
         → AllZip (λ u o. tree_fits k u.place o ≡ true) (used_in (draft_view draft.now)) trees.items → fits k s ≡ true) }
     ensures refused { IfErr result (λ f. f ≡ DeclFault.Memory) }
 {
-    let forms = forms_for(alloc, &types, &draft.forms)?;
-    let occurrences = place_all(alloc, uses, trees)?;
+    let forms = forms_for(alloc, &types, &groups, &draft.forms)?;
+    let occurrences = place_all(alloc, &groups, uses, trees)?;
+    let sequences = sequences_of(alloc, &groups, &draft.types)?;
+    let valid_places = valid_places(alloc, &groups, cascades)?;
     Ok(Schema {
         types,
         occurrences,
         forms,
+        groups,
+        sequences,
+        valid_places,
     })
 }

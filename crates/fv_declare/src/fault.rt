@@ -2,6 +2,7 @@ ghost use Rattle.std.specs.Prelude.{◌≡◌};
 ghost use Rattle.fv_declare.specs.FaultNames.{decl_fault_name, decl_fault_code};
 
 use fv_flatten::FlattenFault;
+use fv_grouping::GroupingFault;
 use std::alloc::{AllocError, AllocFailed};
 use thiserror::Error;
 
@@ -14,13 +15,34 @@ pub enum DeclFault {
     /// Not of the form of declarations.
     #[error("not declarations")]
     Shape,
-    /// A declared name that is no name, a type named like a group, or a constraint named like a
-    /// built-in.
+    /// A declared name that is no name, `Default` declared, a group named like a type, or a constraint
+    /// named like a built-in.
     #[error("a declared name that is no name or is taken")]
     BadName,
     /// A type or constraint that isn't declared or built in.
     #[error("a type or constraint that isn't declared")]
     UnknownName,
+    /// A group that isn't declared, or in a type's sequence another type.
+    #[error("a group that isn't declared")]
+    UnknownGroup,
+    /// A group inherits itself, directly or through others.
+    #[error("a group that inherits itself")]
+    CyclicInheritance,
+    /// A sequence contains itself, directly or through others.
+    #[error("a sequence that contains itself")]
+    CyclicSequence,
+    /// A sequence is inherited, or a constraint is in it.
+    #[error("a sequence that is inherited or a constraint's group")]
+    SequenceMisused,
+    /// A type's sequence doesn't contain the type.
+    #[error("a type's sequence without the type")]
+    SequenceLacksType,
+    /// A member of a type's sequence is, inherits or expands to a group that is or inherits `Default`.
+    #[error("a type's sequence with the default group")]
+    DefaultInTypeSequence,
+    /// Validation of what is no reference, or a conversion where nothing is validated or of a sequence.
+    #[error("a conversion or validation that can't stand where it does")]
+    ConversionMisplaced,
     /// A constraint that is composed of itself, directly or through others.
     #[error("a constraint that is composed of itself")]
     CyclicComposition,
@@ -59,6 +81,13 @@ impl DeclFault {
             DeclFault::Shape => "Shape",
             DeclFault::BadName => "BadName",
             DeclFault::UnknownName => "UnknownName",
+            DeclFault::UnknownGroup => "UnknownGroup",
+            DeclFault::CyclicInheritance => "CyclicInheritance",
+            DeclFault::CyclicSequence => "CyclicSequence",
+            DeclFault::SequenceMisused => "SequenceMisused",
+            DeclFault::SequenceLacksType => "SequenceLacksType",
+            DeclFault::DefaultInTypeSequence => "DefaultInTypeSequence",
+            DeclFault::ConversionMisplaced => "ConversionMisplaced",
             DeclFault::CyclicComposition => "CyclicComposition",
             DeclFault::EmptyConstraint => "EmptyConstraint",
             DeclFault::TooLarge => "TooLarge",
@@ -79,6 +108,13 @@ impl DeclFault {
             DeclFault::Shape => "F2",
             DeclFault::BadName => "F3",
             DeclFault::UnknownName => "F4",
+            DeclFault::UnknownGroup => "F5",
+            DeclFault::CyclicInheritance => "F6",
+            DeclFault::CyclicSequence => "F7",
+            DeclFault::SequenceMisused => "F8",
+            DeclFault::SequenceLacksType => "F9",
+            DeclFault::DefaultInTypeSequence => "F10",
+            DeclFault::ConversionMisplaced => "F11",
             DeclFault::CyclicComposition => "F12",
             DeclFault::EmptyConstraint => "F13",
             DeclFault::TooLarge => "F14",
@@ -110,6 +146,26 @@ impl<T: Drop> From<AllocFailed<T>> for DeclFault {
 
     fn from(_e: AllocFailed<T>) -> DeclFault {
         DeclFault::Memory
+    }
+}
+
+impl From<GroupingFault> for DeclFault {
+    ghost use Rattle.std.specs.Prelude.{◌≡◌};
+    ghost use Rattle.fv_declare.specs.FaultNames.{grouping_fault};
+
+    ghost from_gives = { λ f e. e ≡ grouping_fault f };
+
+    fn from(fault: GroupingFault) -> DeclFault {
+        match fault {
+            GroupingFault::UnknownGroup => DeclFault::UnknownGroup,
+            GroupingFault::CyclicInheritance => DeclFault::CyclicInheritance,
+            GroupingFault::CyclicSequence => DeclFault::CyclicSequence,
+            GroupingFault::SequenceMisused => DeclFault::SequenceMisused,
+            GroupingFault::SequenceLacksType => DeclFault::SequenceLacksType,
+            GroupingFault::DefaultInTypeSequence => DeclFault::DefaultInTypeSequence,
+            GroupingFault::ConversionMisplaced => DeclFault::ConversionMisplaced,
+            GroupingFault::Memory => DeclFault::Memory,
+        }
     }
 }
 

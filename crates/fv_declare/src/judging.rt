@@ -1,4 +1,4 @@
-//! Declarations whose names are known: the trees that their uses are composed to, and the schema, or
+//! Declarations whose names are known and stand as they may: the trees that their uses are composed to, and the schema, or
 //! the first fault.
 ghost use Rattle.std.specs.Prelude.{◌≡◌, ◌≢◌, ◌||◌, List, nat_lt, None, Ok, Err, IfOk, IfErr, map, min, is_some, not, true, false, option_map};
 ghost use Rattle.std.specs.List.{list_any};
@@ -8,14 +8,16 @@ ghost use Rattle.fv_datum.specs.Outcomes.{first};
 ghost use Rattle.fv_draft.specs.DraftViews.{draft_view};
 ghost use Rattle.fv_flatten.specs.Flattening.{AreTreesOfUses};
 ghost use Rattle.fv_flatten.specs.UseViews.{use_view as flat_use_view};
+ghost use Rattle.fv_grouping.specs.Grouping.{groups_in, IsGrouping};
 ghost use Rattle.fv_types.specs.TypesView.{types_view};
 ghost use Rattle.fv_occurrence.specs.Trees.{Tree};
 ghost use Rattle.fv_declare.specs.Declarations.{count_nodes};
-ghost use Rattle.fv_declare.specs.Declares.{types_declared, name_conditions, has_many, IsFlattened, IsComposed};
+ghost use Rattle.fv_declare.specs.Declares.{name_conditions, has_many, IsFlattened, IsComposed};
+ghost use Rattle.fv_naming.specs.Types.{types_declared};
 ghost use Rattle.fv_declare.specs.Fits.{fits};
 ghost use Rattle.fv_declare.specs.Judging.{AreLed, unless_many};
 ghost use Rattle.fv_uses.specs.Uses.{used, uses_in};
-ghost use Rattle.fv_uses.specs.UseViews.{use_view};
+ghost use Rattle.fv_uses.specs.UseViews.{use_view, cascade_view};
 
 use crate::build::build;
 use crate::fault::DeclFault;
@@ -23,6 +25,8 @@ use crate::schema::Schema;
 use fv_constraint::Composition;
 use fv_draft::Draft;
 use fv_flatten::{flatten_all, has_empty, trees_are_unique};
+use fv_grouping::{Grouping, has_long_sequence};
+use fv_groups::GroupGraph;
 use fv_model::Types;
 use fv_registry::RuleSet;
 use fv_uses::{Use, used_in};
@@ -34,18 +38,24 @@ const MOST_DECLARED: usize = 256;
 /// The most nodes of all trees.
 const MOST_NODES: usize = 1024;
 
-/// Too many forms or declared constraints.
-fn has_many(draft: &Draft) -> bool
+/// Too many forms, declared constraints or groups, or members of a sequence or groups that one
+/// inherits.
+fn has_many(draft: &Draft, groups: &GroupGraph) -> bool
+    requires { groups.now ≡ groups_in (draft_view draft.now) }
     ensures { result ≡ has_many (draft_view draft.now) }
 {
-    draft.forms.len() > MOST_DECLARED || draft.definitions.len() > MOST_DECLARED
+    draft.forms.len() > MOST_DECLARED
+        || draft.definitions.len() > MOST_DECLARED
+        || groups.is_large()
+        || has_long_sequence(&draft.types)
 }
 
-/// Too many forms or declared constraints, or nodes of all trees.
-fn is_large(draft: &Draft, nodes: usize) -> bool
+/// Too many of these, or nodes of all trees.
+fn is_large(draft: &Draft, groups: &GroupGraph, nodes: usize) -> bool
+    requires { groups.now ≡ groups_in (draft_view draft.now) }
     ensures { result ≡ (has_many (draft_view draft.now) || nat_lt 1024 nodes) }
 {
-    has_many(draft) || nodes > MOST_NODES
+    has_many(draft, groups) || nodes > MOST_NODES
 }
 
 /// How many nodes the trees of the uses have, but no more than 1,025. No tree is made.
@@ -62,19 +72,21 @@ fn count_nodes(composition: &Composition, uses: &[Use]) -> usize
 }
 
 /// The schema of declarations in which no constraint is composed of itself, or their first fault.
-/// `types` are the draft's, `None` where one of their limits is passed.
+/// `types` are the draft's, `None` where one of their limits is passed, and so are the groups.
 fn flattened<'a, R: RuleSet>(
     alloc: Global,
     rules: &R,
     draft: &Draft,
     uses: &[Use<'a>],
     types: Option<Types>,
+    groups: Grouping,
     composition: &Composition<'a>,
 ) -> Result<Schema, DeclFault>
     requires named { first (name_conditions (draft_view draft.now)) ≡ None }
     requires types { option_map types_view types ≡ unless_many (types_declared (draft_view draft.now)) }
     requires led { AreLed (draft_view draft.now) }
     requires uses { map use_view uses.now ≡ uses_in (draft_view draft.now).types }
+    requires groups { IsGrouping (draft_view draft.now) groups.graph (map cascade_view groups.cascades.items) }
     requires composed { composition.now ≡ (draft_view draft.now).definitions }
     ensures taken { IfOk result (λ s. IsFlattened (R.known rules.now) (draft_view draft.now) (Ok s)) }
     ensures fits { IfOk result (λ s. fits (R.known rules.now) s ≡ true) }
@@ -88,33 +100,39 @@ fn flattened<'a, R: RuleSet>(
     let Some(types) = types else {
         return Err(DeclFault::TooLarge);
     };
-    if is_large(draft, nodes) {
+    let Grouping { graph, cascades } = groups;
+    if is_large(draft, &graph, nodes) {
         return Err(DeclFault::TooLarge);
     }
+    let Ok(groups) = graph.finish(alloc) else {
+        return Err(DeclFault::Memory);
+    };
     let used = used_in(alloc, uses)?;
     let trees = flatten_all(alloc, rules, composition, &used)?;
-    build(alloc, draft, types, uses, trees)
+    build(alloc, draft, types, groups, uses, &cascades, trees)
 }
 
-/// The schema of declarations whose names are known, or their first fault. `types` are the draft's,
-/// `None` where one of their limits is passed.
+/// The schema of declarations whose names are known and stand as they may, or their first fault.
+/// `types` are the draft's, `None` where one of their limits is passed, and so are the groups.
 pub(crate) fn composed<'a, R: RuleSet>(
     alloc: Global,
     rules: &R,
     draft: &'a Draft<'a>,
     uses: &[Use<'a>],
     types: Option<Types>,
+    groups: Grouping,
 ) -> Result<Schema, DeclFault>
     requires named { first (name_conditions (draft_view draft.now)) ≡ None }
     requires types { option_map types_view types ≡ unless_many (types_declared (draft_view draft.now)) }
     requires led { AreLed (draft_view draft.now) }
     requires uses { map use_view uses.now ≡ uses_in (draft_view draft.now).types }
+    requires groups { IsGrouping (draft_view draft.now) groups.graph (map cascade_view groups.cascades.items) }
     ensures taken { IfOk result (λ s. IsComposed (R.known rules.now) (draft_view draft.now) (Ok s)) }
     ensures fits { IfOk result (λ s. fits (R.known rules.now) s ≡ true) }
     ensures refused { IfErr result (λ f. f ≢ DeclFault.Memory → IsComposed (R.known rules.now) (draft_view draft.now) (Err f)) }
 {
     match Composition::new(alloc, &draft.definitions)? {
         None => Err(DeclFault::CyclicComposition),
-        Some(composition) => flattened(alloc, rules, draft, uses, types, &composition),
+        Some(composition) => flattened(alloc, rules, draft, uses, types, groups, &composition),
     }
 }

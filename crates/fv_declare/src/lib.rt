@@ -9,7 +9,6 @@ mod names;
 mod placed;
 mod reading;
 mod schema;
-mod types;
 
 pub use fault::DeclFault;
 pub use fv_uses::Place;

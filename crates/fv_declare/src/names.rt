@@ -1,109 +1,28 @@
 //! What can be wrong with names, and the types where nothing is.
-ghost use Rattle.std.specs.Prelude.{◌≡◌, ◌||◌, map, not, option_map, is_some};
+ghost use Rattle.std.specs.Prelude.{◌≡◌, map, not, option_map, is_some};
 ghost use Rattle.std.specs.List.{list_any};
-ghost use Rattle.fv_constraint.specs.DefinitionViews.{attribute_entry, definition_entry};
+ghost use Rattle.fv_constraint.specs.DefinitionViews.{definition_entry};
 ghost use Rattle.fv_constraint.specs.Definitions.{meant_by};
 ghost use Rattle.fv_datum.specs.Lookup.{at_name};
-ghost use Rattle.fv_datum.specs.Name.{names};
 ghost use Rattle.fv_datum.specs.Outcomes.{Gives, first, unless_fault};
-ghost use Rattle.fv_draft.specs.DraftViews.{field_view, type_view, form_view, draft_view};
+ghost use Rattle.fv_draft.specs.DraftViews.{form_view, draft_view};
 ghost use Rattle.fv_types.specs.Types.{declared_view};
 ghost use Rattle.fv_types.specs.TypesView.{types_view};
-ghost use Rattle.fv_declare.specs.Declares.{types_declared, is_bad_type, is_bad_definition, bad_name, unknown_root, name_conditions};
+ghost use Rattle.fv_declare.specs.Declares.{unknown_root, name_conditions};
+ghost use Rattle.fv_naming.specs.Types.{types_declared};
 ghost use Rattle.fv_declare.specs.Judging.{unless_many};
 ghost use Rattle.fv_uses.specs.Uses.{uses_in};
 ghost use Rattle.fv_uses.specs.UseViews.{use_view};
 
 use crate::fault::DeclFault;
-use crate::types::types_for;
-use fv_builtin::is_builtin;
-use fv_constraint::{AttributeDefinition, Definition, composes_unknown, meant_by};
-use fv_datum::is_name;
-use fv_draft::{Draft, FieldDraft, FormDraft, TypeDraft};
+use fv_constraint::{Definition, composes_unknown, meant_by};
+use fv_draft::{Draft, FormDraft};
 use fv_model::{Fields, Types, TypesFault};
+use fv_naming::{bad_name, types_for};
 use fv_uses::Use;
 use indexmap::IndexMap;
 use std::alloc::Global;
 use std::collections::BTreeMap;
-
-/// Whether a field's name is no name.
-#[tactic(auto, using(crate::proofs::Anys::field_turn))]
-fn has_bad_field(fields: &[FieldDraft]) -> bool
-    ensures { result ≡ list_any (λ f. not (names f.name)) (map field_view fields.now) }
-{
-    for field in fields {
-        if !is_name(field.name) {
-            return true;
-        }
-    }
-    false
-}
-
-/// A type is named as no name or as the group that is always there, or a field as no name.
-#[tactic(auto, using(crate::proofs::Anys::type_turn))]
-fn has_bad_type(types: &[TypeDraft]) -> bool
-    ensures { result ≡ list_any is_bad_type (map type_view types.now) }
-{
-    for declared in types {
-        if !is_name(declared.name) || declared.name == "Default" {
-            return true;
-        }
-        if has_bad_field(&declared.fields) {
-            return true;
-        }
-    }
-    false
-}
-
-/// A form's name is no name.
-#[tactic(auto, using(crate::proofs::Anys::form_turn))]
-fn has_bad_form(forms: &[FormDraft]) -> bool
-    ensures { result ≡ list_any (λ f. not (names f.name)) (map form_view forms.now) }
-{
-    for form in forms {
-        if !is_name(form.name) {
-            return true;
-        }
-    }
-    false
-}
-
-/// Whether an attribute's name is no name.
-fn has_bad_attribute_name(attributes: &BTreeMap<String, AttributeDefinition>) -> bool
-    ensures { result ≡ list_any (λ a. not (names a.0)) (map attribute_entry attributes.now.entries) }
-{
-    for (name, _) in attributes.iter() {
-        if !is_name(name.as_str()) {
-            return true;
-        }
-    }
-    false
-}
-
-/// A constraint is named as no name or like a built-in, or an attribute as no name.
-fn has_bad_definition(definitions: &BTreeMap<String, Definition>) -> bool
-    ensures { result ≡ list_any is_bad_definition (map definition_entry definitions.now.entries) }
-{
-    for (name, definition) in definitions.iter() {
-        if !is_name(name.as_str()) || is_builtin(name.as_str()) {
-            return true;
-        }
-        if has_bad_attribute_name(&definition.attributes) {
-            return true;
-        }
-    }
-    false
-}
-
-/// A declared name is no name or is taken.
-#[tactic(auto, unfolding(crate::specs::Declares::bad_name))]
-fn bad_name(draft: &Draft) -> bool
-    ensures { result ≡ bad_name (draft_view draft.now) }
-{
-    has_bad_type(&draft.types)
-        || has_bad_form(&draft.forms)
-        || has_bad_definition(&draft.definitions)
-}
 
 /// A constraint is used that is neither built in nor declared.
 #[tactic(auto, using(crate::proofs::Anys::use_turn))]

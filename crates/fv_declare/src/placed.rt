@@ -1,7 +1,9 @@
 ghost use Rattle.std.specs.Prelude.{◌≡◌};
 ghost use Rattle.fv_declare.specs.PlacedView.{placed_view};
+ghost use Rattle.fv_groups.specs.Tables.{indices};
 ghost use Rattle.fv_uses.specs.UseViews.{place_view};
 
+use fv_groups::GroupId;
 use fv_model::TypeId;
 use fv_occurrence::Occurrence;
 use fv_uses::Place;
@@ -12,6 +14,7 @@ pub struct Placed {
     pub(crate) type_id: TypeId,
     pub(crate) place: Place,
     pub(crate) number: usize,
+    pub(crate) groups: Vec<GroupId>,
     pub(crate) occurrence: Occurrence,
 }
 
@@ -36,6 +39,13 @@ impl Placed {
         ensures { result ≡ (placed_view self.now).number }
     {
         self.number
+    }
+
+    /// The groups that the constraint is in.
+    pub fn groups(&self) -> &[GroupId]
+        ensures { indices result.now ≡ (placed_view self.now).groups }
+    {
+        &self.groups
     }
 
     /// The constraint and those that it is composed of.

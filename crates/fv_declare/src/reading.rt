@@ -15,6 +15,7 @@ use crate::names::known_types;
 use crate::schema::Schema;
 use fv_datum::{JsonFault, read_json};
 use fv_draft::{Draft, draft_of};
+use fv_grouping::grouped;
 use fv_registry::RuleSet;
 use fv_uses::uses_in;
 use serde_json::Value;
@@ -41,7 +42,8 @@ fn schema_of_draft<R: RuleSet>(alloc: Global, rules: &R, draft: &Draft) -> Resul
 {
     let uses = uses_in(alloc, &draft.types)?;
     let types = known_types(alloc, draft, &uses)?;
-    composed(alloc, rules, draft, &uses, types)
+    let groups = grouped(alloc, draft, &uses)?;
+    composed(alloc, rules, draft, &uses, types, groups)
 }
 
 /// The schema that a JSON value declares.
@@ -59,9 +61,11 @@ fn schema_of<R: RuleSet>(alloc: Global, rules: &R, value: &Value) -> Result<Sche
 
 /// The schema that a text declares, where these rules are there.
 ///
-/// Refused by the first of `NotJson`, `Shape`, `BadName`, `UnknownName`, `CyclicComposition`,
-/// `EmptyConstraint`, `TooLarge`, `UnknownRule`, `Attribute`, `UnexpectedType` and `BadPattern` whose
-/// condition holds; by `Memory` at any place.
+/// Refused by the first of `NotJson`, `Shape`, `BadName`, `UnknownName`, `UnknownGroup`,
+/// `CyclicInheritance`, `CyclicSequence`, `SequenceMisused`, `SequenceLacksType`,
+/// `DefaultInTypeSequence`, `ConversionMisplaced`, `CyclicComposition`, `EmptyConstraint`, `TooLarge`,
+/// `UnknownRule`, `Attribute`, `UnexpectedType` and `BadPattern` whose condition holds; by `Memory` at
+/// any place.
 pub fn read_schema<R: RuleSet>(alloc: Global, rules: &R, bytes: &[u8]) -> Result<Schema, DeclFault>
     ensures taken { IfOk result (λ s. Declares (R.known rules.now) bytes.now (Ok s)) }
     ensures fits { IfOk result (λ s. fits (R.known rules.now) s ≡ true) }

@@ -1,10 +1,12 @@
-ghost use Rattle.std.specs.Prelude.{◌≡◌, map, option_map};
+ghost use Rattle.std.specs.Prelude.{◌≡◌, IfSome, map, option_map, option_and_then, slice_get};
 ghost use Rattle.std.specs.List.{list_all};
 ghost use Rattle.fv_datum.specs.Lookup.{at_name};
+ghost use Rattle.fv_grouping.specs.NumberViews.{valid_place_view};
+ghost use Rattle.fv_groups.specs.Tables.{indices};
 ghost use Rattle.fv_types.specs.Types.{name_at};
 ghost use Rattle.fv_types.specs.TypesView.{types_view};
 ghost use Rattle.fv_declare.specs.Fits.{placed_fits, fits};
-ghost use Rattle.fv_declare.specs.Ordered.{AreOrdered};
+ghost use Rattle.fv_declare.specs.Ordered.{AreOrdered, AreGroups};
 ghost use Rattle.fv_declare.specs.PlacedView.{placed_view};
 ghost use Rattle.fv_uses.specs.UseViews.{place_view};
 ghost use Rattle.fv_uses.specs.Uses.{judged_at};
@@ -12,12 +14,21 @@ ghost use Rattle.fv_flatten.specs.Fits.{test_fits};
 ghost use Rattle.fv_occurrence.specs.Views.{test_view};
 
 use crate::placed::Placed;
+use fv_grouping::ValidPlace;
+use fv_groups::{GroupId, Groups};
 use fv_model::{TypeId, Types};
 use fv_occurrence::Test;
 use fv_registry::RuleSet;
 use fv_uses::Place;
 use indexmap::IndexMap;
 use std::marker::Model;
+
+/// A form: its root's type and its groups.
+#[derive(Drop)]
+pub(crate) struct Form {
+    pub(crate) root: TypeId,
+    pub(crate) groups: Vec<GroupId>,
+}
 
 /// What declarations declare. Contracts see it as the declarations.
 #[derive(Drop)]
@@ -26,8 +37,14 @@ pub struct Schema {
     /// The uses of constraints, each at its number: by types, in a type those at itself and then by
     /// fields, in a field those at it and then those inside it.
     pub(crate) occurrences: Vec<Placed>,
-    /// The forms by their names, each with its root's type.
-    pub(crate) forms: IndexMap<String, TypeId>,
+    /// The forms by their names.
+    pub(crate) forms: IndexMap<String, Form>,
+    pub(crate) groups: Groups,
+    /// For each type the ranks of the sequence that redefines `Default` for it, if there is one.
+    pub(crate) sequences: Vec<Option<Vec<GroupId>>>,
+    /// The places whose objects are validated: by types, in a type by fields, in a field from the
+    /// outermost place inwards.
+    pub(crate) valid_places: Vec<ValidPlace>,
 }
 
 impl Model for Schema {
@@ -44,9 +61,10 @@ impl Model for Schema {
 
     ghost coded = { Prim.hlevel (codes, type_use_code, tree_code {N = Node} (Prim.hlevel (codes, pattern_code))) };
 
-    ghost view = { λ s. declared_by s.types s.occurrences.items s.forms };
+    ghost view = { λ s. declared_by s.types s.occurrences.items s.forms s.groups s.sequences.items s.valid_places.items };
 
-    ghost invariant = { λ s. AreOrdered (declared_by s.types s.occurrences.items s.forms) };
+    ghost invariant = { λ s.
+        AreOrdered (declared_by s.types s.occurrences.items s.forms s.groups s.sequences.items s.valid_places.items) };
 }
 
 impl Schema {
@@ -69,7 +87,47 @@ impl Schema {
     pub fn root_of(&self, form: &str) -> Option<TypeId>
         ensures { option_map (λ t. name_at self.now.types t.index) result ≡ at_name form.now self.now.forms }
     {
-        self.forms.get(form).copied()
+        match self.forms.get(form) {
+            None => None,
+            Some(found) => Some(found.root),
+        }
+    }
+
+    /// The groups of a form.
+    pub fn groups_of(&self, form: &str) -> Option<&[GroupId]>
+        ensures groups { option_map (λ g. indices g.now) result ≡ at_name form.now self.now.form_groups }
+        ensures within { IfSome result (λ g. AreGroups self.now.groups (indices g.now)) }
+    {
+        match self.forms.get(form) {
+            None => None,
+            Some(found) => Some(&found.groups),
+        }
+    }
+
+    /// The declared groups.
+    pub fn groups(&self) -> &Groups
+        ensures { result.now ≡ self.now.groups }
+    {
+        &self.groups
+    }
+
+    /// The ranks of the sequence that redefines `Default` for a type, if there is one: plain groups,
+    /// where `Default` stands for the type's own name. None where no type has the number.
+    pub fn sequence_of(&self, type_id: TypeId) -> Option<&[GroupId]>
+        ensures { option_map (λ g. indices g.now) result
+            ≡ option_and_then (λ ranks. ranks) (slice_get self.now.sequences type_id.index) }
+    {
+        match self.sequences.get(type_id.index) {
+            Some(Some(ranks)) => Some(ranks),
+            _ => None,
+        }
+    }
+
+    /// The places whose objects are validated, in order.
+    pub fn valid_places(&self) -> &[ValidPlace]
+        ensures { map valid_place_view result.now ≡ self.now.valid_places }
+    {
+        &self.valid_places
     }
 
     /// Whether each rule that is used is there for its sort, and takes the kinds of its places.

@@ -1,4 +1,1 @@
-pub mod Entries
-pub mod Fronts
 pub mod PlaceMembers
-pub mod Sorted

@@ -5,10 +5,11 @@ use Rattle.std.specs.Ordering.{match_ordering}
 use Rattle.std.proofs.Math.Nat.{le-max_left, le-max_right}
 use Rattle.serde_json.specs.Data as json
 use Rattle.serde_json.specs.Find.{get, get_member, as_str}
-use Rattle.fv_datum.specs.Forms.{map2}
+use Rattle.fv_datum.specs.Forms.{map2, map3}
 use Rattle.fv_datum.specs.Members.{has_only}
 use Rattle.fv_extract.specs.Places.{Step, element, content, value}
-use Rattle.fv_draft.specs.Places.{place_members, place_of, type_in, held_of, place_in, with_uses, alone, list_of, optional_of, map_of, reference_of}
+use Rattle.fv_draft.specs.Places.{place_members, place_of, type_in, held_of, place_in, with_own, alone, list_of, optional_of, map_of, reference_of}
+use Rattle.fv_draft.specs.Cascades.{cascade_of}
 use Rattle.fv_draft.specs.Uses.{uses_of}
 
 chosen : {X : Type 0} (o : Ordering) (f : json.Data → Option X) (found : Option X) (j : json.Data) (rest : Option json.Data) → found ≡ option_and_then f rest → match_ordering o found (f j) found ≡ option_and_then f (match_ordering o rest (Some j) rest)
@@ -29,14 +30,14 @@ type_in-get steps (json.member k j ms) =
     chosen (slice_cmp nat_cmp (codes "type") k) (held_of steps) (type_in steps ms) j (get_member (codes "type") ms) (type_in-get steps ms)
 
 -- a place, by its members
-pub place_of_members : (steps : List Step) (j : json.Data) → place_of steps j ≡ (if has_only place_members j then map2 (with_uses steps) (uses_of (codes "constraints") j) (option_and_then (held_of steps) (get (codes "type") j)) else None)
+pub place_of_members : (steps : List Step) (j : json.Data) → place_of steps j ≡ (if has_only place_members j then map3 (with_own steps) (uses_of (codes "constraints") j) (cascade_of j) (option_and_then (held_of steps) (get (codes "type") j)) else None)
 place_of_members steps json.null = refl
 place_of_members steps (json.boolean b) = refl
 place_of_members steps (json.number n) = refl
 place_of_members steps (json.string s) = refl
 place_of_members steps (json.array js) = refl
 place_of_members steps (json.object ms) =
-    ap (λ held. if has_only place_members (json.object ms) then map2 (with_uses steps) (uses_of (codes "constraints") (json.object ms)) held else None)
+    ap (λ held. if has_only place_members (json.object ms) then map3 (with_own steps) (uses_of (codes "constraints") (json.object ms)) (cascade_of (json.object ms)) held else None)
     (type_in-get steps ms)
 
 found_at : (o : Ordering) (e j : json.Data) (rest : Option json.Data) → match_ordering o rest (Some e) rest ≡ Some j → (rest ≡ Some j) ⊎ (e ≡ j)

@@ -1,5 +1,6 @@
+pub mod Cascades
 pub mod DraftViews
 pub mod Drafts
-pub mod EntryNames
+pub mod Groups
 pub mod Places
 pub mod Uses

@@ -4,12 +4,13 @@ use Rattle.std.specs.Cmp.Lexicographic.{slice_cmp}
 use Rattle.std.specs.Ordering.{nat_cmp, match_ordering}
 use Rattle.serde_json.specs.Data as json
 use Rattle.serde_json.specs.Find.{as_str}
-use Rattle.fv_datum.specs.Forms.{required, map2}
+use Rattle.fv_datum.specs.Forms.{required, map2, map3}
 use Rattle.fv_datum.specs.Lookup.{at_name}
 use Rattle.fv_datum.specs.Members.{has_only}
 use Rattle.fv_datum.specs.declared.kind.Kind.{Kind}
 use Rattle.fv_extract.specs.Places.{Step, element, key, value, content}
 use Rattle.fv_types.specs.Types.{TypeUse, texts, integers, decimals, booleans, dates, instants, references, lists, maps, optionals, kind_of}
+use Rattle.fv_draft.specs.Cascades.{Cascade, cascade_of}
 use Rattle.fv_draft.specs.Uses.{UseDraft, uses_of}
 
 -- a use at a place in a field: the steps that lead there, the kind of what stands there, and what is used
@@ -18,34 +19,53 @@ pub record PlacedUse : Type 0 where
   pub kind : Kind
   pub draft : UseDraft
 
--- what a place holds, and the uses there and inside it, in the order of their numbers
+-- a cascade at a place in a field: the steps that lead there, the kind of what stands there, and what is written of it
+pub record PlacedCascade : Type 0 where
+  pub steps : List Step
+  pub kind : Kind
+  pub cascade : Cascade
+
+-- what a place holds, the uses there and inside it, in the order of their numbers, and the cascades there and at each place inside it
 pub record Held : Type 0 where
   pub type : TypeUse
   pub uses : List PlacedUse
+  pub cascades : List PlacedCascade
 
 -- a use at a place where data of a kind stand
 abbrev pub use_there : List Step → Kind → UseDraft → PlacedUse
 use_there steps kind draft = record { steps = steps; kind = kind; draft = draft }
 
--- what a place holds, with the uses at it before those inside it
-abbrev pub with_uses : List Step → List UseDraft → Held → Held
-with_uses steps uses held = record { type = held.type; uses = map (use_there steps (kind_of held.type)) uses ++ held.uses }
+-- a cascade at a place where data of a kind stand
+abbrev pub cascade_there : List Step → Kind → Cascade → PlacedCascade
+cascade_there steps kind cascade = record { steps = steps; kind = kind; cascade = cascade }
+
+-- what a place holds, with the uses at it before those inside it, and its cascade before those inside it
+abbrev pub with_own : List Step → List UseDraft → Cascade → Held → Held
+with_own steps uses cascade held = record {
+  type = held.type;
+  uses = map (use_there steps (kind_of held.type)) uses ++ held.uses;
+  cascades = cascade_there steps (kind_of held.type) cascade ∷ held.cascades;
+}
 
 -- what holds no other data
 abbrev pub alone : TypeUse → Held
-alone type = record { type = type; uses = [] }
+alone type = record { type = type; uses = []; cascades = [] }
 
 -- lists of what their elements' place holds
 abbrev pub list_of : Held → Held
-list_of held = record { type = lists held.type; uses = held.uses }
+list_of held = record { type = lists held.type; uses = held.uses; cascades = held.cascades }
 
 -- optionals of what their content's place holds
 abbrev pub optional_of : Held → Held
-optional_of held = record { type = optionals held.type; uses = held.uses }
+optional_of held = record { type = optionals held.type; uses = held.uses; cascades = held.cascades }
 
 -- maps of what their values' place holds, at a place; the uses at the keys, which are texts, come before those at and inside the values
 abbrev pub map_of : List Step → List UseDraft → Held → Held
-map_of steps keys held = record { type = maps held.type; uses = map (use_there (steps ++ key ∷ []) (kind_of texts)) keys ++ held.uses }
+map_of steps keys held = record {
+  type = maps held.type;
+  uses = map (use_there (steps ++ key ∷ []) (kind_of texts)) keys ++ held.uses;
+  cascades = held.cascades;
+}
 
 -- the plain kinds by their names
 abbrev pub plain_kinds : List (List ℕ × TypeUse)
@@ -64,13 +84,14 @@ reference_of j = option_map references (required as_str (codes "ref") j)
 
 -- the members of a place
 abbrev pub place_members : List (List ℕ)
-place_members = codes "type" ∷ codes "constraints" ∷ []
+place_members = codes "type" ∷ codes "constraints" ∷ codes "valid" ∷ codes "convert" ∷ []
 
 abbrev mutual
-  -- `{"type":T,"constraints":[USE]}`, `constraints` may be missing; the steps lead to the place
+  -- `{"type":T,"constraints":[USE],"valid":BOOL,"convert":{GROUP:GROUP}}`, only `type` is required; the steps lead to the place
   pub place_of : List Step → json.Data → Option Held
   place_of steps (json.object ms) =
-      if has_only place_members (json.object ms) then map2 (with_uses steps) (uses_of (codes "constraints") (json.object ms)) (type_in steps ms)
+      if has_only place_members (json.object ms) then
+      map3 (with_own steps) (uses_of (codes "constraints") (json.object ms)) (cascade_of (json.object ms)) (type_in steps ms)
       else None
   place_of steps _ = None
 

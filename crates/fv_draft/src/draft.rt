@@ -2,7 +2,7 @@
 ghost use Rattle.std.proofs.Props.{props};
 ghost use Rattle.std.specs.Prelude.{◌≡◌, map};
 ghost use Rattle.fv_types.specs.Names.{IsAscending};
-ghost use Rattle.fv_draft.specs.EntryNames.{names_of};
+ghost use Rattle.fv_definition.specs.EntryNames.{names_of};
 
 use fv_constraint::Definition;
 use fv_datum::{Attrs, Kind};
@@ -16,6 +16,32 @@ use std::collections::BTreeMap;
 pub struct UseDraft<'a> {
     pub constraint: &'a str,
     pub with: Attrs,
+    /// The names of its groups; none stand for `Default`.
+    pub groups: Vec<&'a str>,
+}
+
+/// A group by its name, and the one that it is converted to.
+#[derive(Drop)]
+pub struct Conversion<'a> {
+    pub from: &'a str,
+    pub to: &'a str,
+}
+
+/// Whether the objects at a place are validated, and the conversions on the way to them.
+#[derive(Drop)]
+pub struct Cascade<'a> {
+    pub valid: bool,
+    pub conversions: Vec<Conversion<'a>>,
+}
+
+/// A cascade at a place in a field.
+#[derive(Drop)]
+pub struct PlacedCascade<'a> {
+    /// The steps from the field to the place.
+    pub steps: Vec<Step>,
+    /// The kind of what stands there.
+    pub kind: Kind,
+    pub cascade: Cascade<'a>,
 }
 
 /// A use of a constraint at a place in a field.
@@ -28,12 +54,14 @@ pub struct PlacedUse<'a> {
     pub draft: UseDraft<'a>,
 }
 
-/// A field of a type, with the uses at it and inside it in the order of their numbers.
+/// A field of a type, with the uses at it and inside it in the order of their numbers, and the cascades
+/// at it and at each place inside it.
 #[derive(Drop)]
 pub struct FieldDraft<'a> {
     pub name: &'a str,
     pub type_use: TypeUse,
     pub uses: Vec<PlacedUse<'a>>,
+    pub cascades: Vec<PlacedCascade<'a>>,
 }
 
 /// A type, its fields ascending by the bytes of their names, and the uses at itself.
@@ -42,6 +70,8 @@ pub struct TypeDraft<'a> {
     pub name: &'a str,
     pub fields: Vec<FieldDraft<'a>>,
     pub uses: Vec<UseDraft<'a>>,
+    /// The members of the sequence that redefines `Default` for the type, if it has one.
+    pub sequence: Option<Vec<&'a str>>,
     pub ghost ascend: { IsAscending (map (λ f. f.name.now) fields.items) } by { Prim.hlevel props },
 }
 
@@ -50,9 +80,27 @@ pub struct TypeDraft<'a> {
 pub struct FormDraft<'a> {
     pub name: &'a str,
     pub root: &'a str,
+    /// The names of its groups; none stand for `Default`.
+    pub groups: Vec<&'a str>,
 }
 
-/// Declarations, types and forms ascending by the bytes of their names.
+/// What a declared group is.
+#[derive(Drop)]
+pub enum GroupForm<'a> {
+    /// A plain group, with the names of the groups that it inherits.
+    Inherits(Vec<&'a str>),
+    /// A sequence of groups, with the names of its members in order.
+    Sequence(Vec<&'a str>),
+}
+
+/// A declared group.
+#[derive(Drop)]
+pub struct GroupDraft<'a> {
+    pub name: &'a str,
+    pub form: GroupForm<'a>,
+}
+
+/// Declarations, types, forms and groups ascending by the bytes of their names.
 #[derive(Drop)]
 pub struct Draft<'a> {
     /// The types by their names.
@@ -61,7 +109,9 @@ pub struct Draft<'a> {
     pub forms: Vec<FormDraft<'a>>,
     /// The declared constraints by their names.
     pub definitions: BTreeMap<String, Definition>,
+    pub groups: Vec<GroupDraft<'a>>,
     pub ghost named_are: { map (λ t. t.name.now) types.items ≡ names_of named.now.entries },
     pub ghost types_ascend: { IsAscending (map (λ t. t.name.now) types.items) } by { Prim.hlevel props },
+    pub ghost groups_ascend: { IsAscending (map (λ g. g.name.now) groups.items) } by { Prim.hlevel props },
     pub ghost forms_ascend: { IsAscending (map (λ f. f.name.now) forms.items) } by { Prim.hlevel props },
 }

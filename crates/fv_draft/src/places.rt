@@ -1,4 +1,4 @@
-//! Places: what they hold, and the uses of constraints there and inside them.
+//! Places: what they hold, and the uses of constraints and the cascades there and inside them.
 ghost use Rattle.std.specs.Prelude.{◌≡◌, ◌∷◌, ◌++◌, [], IfOk, map, option_map, option_and_then, codes};
 ghost use Rattle.serde_json.specs.Find.{get};
 ghost use Rattle.serde_json.specs.View.{view as json_view};
@@ -7,11 +7,12 @@ ghost use Rattle.fv_datum.specs.Lookup.{at_name};
 ghost use Rattle.fv_extract.specs.Places.{element, content, value as spec_value};
 ghost use Rattle.fv_extract.specs.Views.{step_view};
 ghost use Rattle.fv_types.specs.Types.{type_use_view};
-ghost use Rattle.fv_draft.specs.DraftViews.{use_view, placed_use_view, held_view};
-ghost use Rattle.fv_draft.specs.Places.{plain_kinds, place_of as spec_place, held_of as spec_held, reference_of as spec_reference, alone as spec_alone, list_of as spec_list, optional_of as spec_optional, map_of as spec_map, use_there};
+ghost use Rattle.fv_draft.specs.DraftViews.{use_view, placed_use_view, cascade_view, placed_cascade_view, held_view};
+ghost use Rattle.fv_draft.specs.Places.{plain_kinds, place_of as spec_place, held_of as spec_held, reference_of as spec_reference, alone as spec_alone, list_of as spec_list, optional_of as spec_optional, map_of as spec_map, use_there, cascade_there};
 ghost use Rattle.fv_draft.specs.Uses.{uses_of as spec_uses};
 
-use crate::draft::{PlacedUse, UseDraft};
+use crate::cascades::cascade_of;
+use crate::draft::{Cascade, PlacedCascade, PlacedUse, UseDraft};
 use crate::uses::uses_of;
 use fv_datum::{Kind, has_only};
 use fv_extract::Step;
@@ -19,11 +20,12 @@ use fv_types::TypeUse;
 use serde_json::Value;
 use std::alloc::{AllocError, Global};
 
-/// What a place holds, and the uses there and inside it.
+/// What a place holds, and the uses and cascades there and inside it.
 #[derive(Drop)]
 pub(crate) struct Held<'a> {
     pub(crate) type_use: TypeUse,
     pub(crate) uses: Vec<PlacedUse<'a>>,
+    pub(crate) cascades: Vec<PlacedCascade<'a>>,
 }
 
 /// What a field of plain data holds.
@@ -59,6 +61,7 @@ fn alone<'a>(alloc: Global, type_use: Option<TypeUse>) -> Option<Held<'a>>
     Some(Held {
         type_use,
         uses: Vec::new(alloc),
+        cascades: Vec::new(alloc),
     })
 }
 
@@ -98,7 +101,32 @@ fn uses_before<'a>(
     Ok(uses)
 }
 
-/// `{"type":T,"constraints":[USE]}`, `constraints` may be missing. The steps lead to the place.
+/// The cascade at one place, in front of those inside it.
+fn cascades_before<'a>(
+    alloc: Global,
+    steps: &[Step],
+    kind: Kind,
+    cascade: Cascade<'a>,
+    inside: Vec<PlacedCascade<'a>>,
+) -> Result<Vec<PlacedCascade<'a>>, AllocError>
+    ensures { IfOk result (λ v. map placed_cascade_view v.items
+        ≡ cascade_there (map step_view steps.now) kind (cascade_view cascade.entry) ∷ map placed_cascade_view inside.entry.items) }
+{
+    let mut inside = inside;
+    let mut own = Vec::with_capacity(alloc, steps.len())?;
+    own.extend_from_slice(steps)?;
+    let mut cascades = Vec::with_capacity(alloc, inside.len() + 1)?;
+    cascades.push(PlacedCascade {
+        steps: own,
+        kind,
+        cascade,
+    })?;
+    cascades.append(&mut inside)?;
+    Ok(cascades)
+}
+
+/// `{"type":T,"constraints":[USE],"valid":BOOL,"convert":{GROUP:GROUP}}`, only `type` is required.
+/// The steps lead to the place.
 #[cycle(place)]
 #[tactic(auto, using(crate::proofs::PlaceMembers::place_of_members))]
 pub(crate) fn place_of<'a>(
@@ -108,20 +136,35 @@ pub(crate) fn place_of<'a>(
 ) -> Result<Option<Held<'a>>, AllocError>
     ensures { IfOk result (λ o. option_map held_view o ≡ spec_place (map step_view steps.now) (json_view value.now)) }
 {
-    if !has_only(value, &["type", "constraints"]) {
+    if !has_only(value, &["type", "constraints", "valid", "convert"]) {
         return Ok(None);
     }
     let Some(drafts) = uses_of(alloc, value.get("constraints"))? else {
         return Ok(None);
     };
+    let Some(cascade) = cascade_of(alloc, value)? else {
+        return Ok(None);
+    };
     let Some(told) = value.get("type") else {
         return Ok(None);
     };
-    let Some(Held { type_use, uses }) = held_of(alloc, steps, told)? else {
+    let Some(
+        Held {
+            type_use,
+            uses,
+            cascades,
+        },
+    ) = held_of(alloc, steps, told)?
+    else {
         return Ok(None);
     };
     let uses = uses_before(alloc, steps, type_use.kind(), drafts, uses)?;
-    Ok(Some(Held { type_use, uses }))
+    let cascades = cascades_before(alloc, steps, type_use.kind(), cascade, cascades)?;
+    Ok(Some(Held {
+        type_use,
+        uses,
+        cascades,
+    }))
 }
 
 /// The place that a member is, one step further than these.
@@ -154,9 +197,16 @@ fn list_of<'a>(
 {
     match place_in(alloc, steps, Step::Element, "list", value)? {
         None => Ok(None),
-        Some(Held { type_use, uses }) => Ok(Some(Held {
+        Some(
+            Held {
+                type_use,
+                uses,
+                cascades,
+            },
+        ) => Ok(Some(Held {
             type_use: TypeUse::List(Box::new(alloc, type_use)?),
             uses,
+            cascades,
         })),
     }
 }
@@ -173,9 +223,16 @@ fn optional_of<'a>(
 {
     match place_in(alloc, steps, Step::Content, "optional", value)? {
         None => Ok(None),
-        Some(Held { type_use, uses }) => Ok(Some(Held {
+        Some(
+            Held {
+                type_use,
+                uses,
+                cascades,
+            },
+        ) => Ok(Some(Held {
             type_use: TypeUse::Optional(Box::new(alloc, type_use)?),
             uses,
+            cascades,
         })),
     }
 }
@@ -196,11 +253,18 @@ fn map_of<'a>(
     };
     match place_in(alloc, steps, Step::Value, "map", value)? {
         None => Ok(None),
-        Some(Held { type_use, uses }) => {
+        Some(
+            Held {
+                type_use,
+                uses,
+                cascades,
+            },
+        ) => {
             let at_keys = further(alloc, steps, Step::Key)?;
             Ok(Some(Held {
                 type_use: TypeUse::Map(Box::new(alloc, type_use)?),
                 uses: uses_before(alloc, &at_keys, Kind::Text, keys, uses)?,
+                cascades,
             }))
         }
     }

@@ -6,13 +6,14 @@ ghost use Rattle.fv_datum.specs.Members.{pairs, each_some};
 ghost use Rattle.fv_draft.specs.Drafts.{field_of as spec_field, type_of as spec_type, form_of as spec_form, draft_of as spec_draft};
 ghost use Rattle.fv_draft.specs.DraftViews.{field_view, type_view, form_view, draft_view};
 ghost use Rattle.fv_types.specs.Names.{IsAscending};
-ghost use Rattle.fv_draft.specs.EntryNames.{names_of};
+ghost use Rattle.fv_definition.specs.EntryNames.{names_of};
 
-use crate::definitions::definitions_of;
 use crate::draft::{Draft, FieldDraft, FormDraft, TypeDraft};
+use crate::groups::groups_of;
 use crate::places::{Held, place_of};
 use crate::uses::uses_of;
 use fv_datum::has_only;
+use fv_definition::{definitions_of, names_of, told_names_of};
 use serde_json::{Map, Value};
 use std::alloc::{AllocError, Global};
 
@@ -27,10 +28,17 @@ fn field_of<'a>(
 {
     match place_of(alloc, &[], value)? {
         None => Ok(None),
-        Some(Held { type_use, uses }) => Ok(Some(FieldDraft {
+        Some(
+            Held {
+                type_use,
+                uses,
+                cascades,
+            },
+        ) => Ok(Some(FieldDraft {
             name,
             type_use,
             uses,
+            cascades,
         })),
     }
 }
@@ -54,7 +62,7 @@ fn fields_of<'a>(
     Ok(Some(fields))
 }
 
-/// `{"fields":{..},"constraints":[..]}`, `constraints` may be missing.
+/// `{"fields":{..},"constraints":[..],"sequence":[GROUP]}`, `constraints` and `sequence` may be missing.
 fn type_of<'a>(
     alloc: Global,
     name: &'a str,
@@ -63,7 +71,7 @@ fn type_of<'a>(
     ensures exact { IfOk result (λ o. option_map type_view o ≡ spec_type (name.now, json_view value.now)) }
     ensures name { IfOk result (λ o. IfSome o (λ x. x.name.now ≡ name.now)) }
 {
-    if !has_only(value, &["fields", "constraints"]) {
+    if !has_only(value, &["fields", "constraints", "sequence"]) {
         return Ok(None);
     }
     let Some(fields) = value.get("fields").and_then(Value::as_object) else {
@@ -72,9 +80,17 @@ fn type_of<'a>(
     let Some(fields) = fields_of(alloc, fields)? else {
         return Ok(None);
     };
-    match uses_of(alloc, value.get("constraints"))? {
+    let Some(uses) = uses_of(alloc, value.get("constraints"))? else {
+        return Ok(None);
+    };
+    match told_names_of(alloc, value.get("sequence"))? {
         None => Ok(None),
-        Some(uses) => Ok(Some(TypeDraft { name, fields, uses })),
+        Some(sequence) => Ok(Some(TypeDraft {
+            name,
+            fields,
+            uses,
+            sequence,
+        })),
     }
 }
 
@@ -97,16 +113,25 @@ fn types_of<'a>(
     Ok(Some(types))
 }
 
-/// `{"root":TYPE}`.
-fn form_of<'a>(name: &'a str, value: &'a Value) -> Option<FormDraft<'a>>
-    ensures exact { option_map form_view result ≡ spec_form (name.now, json_view value.now) }
-    ensures name { IfSome result (λ x. x.name.now ≡ name.now) }
+/// `{"root":TYPE,"groups":[GROUP]}`, `groups` may be missing.
+fn form_of<'a>(
+    alloc: Global,
+    name: &'a str,
+    value: &'a Value,
+) -> Result<Option<FormDraft<'a>>, AllocError>
+    ensures exact { IfOk result (λ o. option_map form_view o ≡ spec_form (name.now, json_view value.now)) }
+    ensures name { IfOk result (λ o. IfSome o (λ x. x.name.now ≡ name.now)) }
 {
-    if !has_only(value, &["root"]) {
-        return None;
+    if !has_only(value, &["root", "groups"]) {
+        return Ok(None);
     }
-    let root = value.get("root").and_then(Value::as_str)?;
-    Some(FormDraft { name, root })
+    let Some(root) = value.get("root").and_then(Value::as_str) else {
+        return Ok(None);
+    };
+    match names_of(alloc, value.get("groups"))? {
+        None => Ok(None),
+        Some(groups) => Ok(Some(FormDraft { name, root, groups })),
+    }
 }
 
 fn forms_of<'a>(
@@ -120,7 +145,7 @@ fn forms_of<'a>(
 {
     let mut forms = Vec::with_capacity(alloc, members.len())?;
     for (name, value) in members.iter() {
-        match form_of(name.as_str(), value) {
+        match form_of(alloc, name.as_str(), value)? {
             None => return Ok(None),
             Some(form) => forms.push(form)?,
         }
@@ -129,11 +154,12 @@ fn forms_of<'a>(
 }
 
 /// The draft that a JSON value is, where it has the form of declarations:
-/// `{"types":{..},"forms":{..},"constraints":{..}}`, `constraints` may be missing.
+/// `{"types":{..},"forms":{..},"groups":{..},"constraints":{..}}`, `groups` and `constraints` may be
+/// missing.
 pub fn draft_of<'a>(alloc: Global, value: &'a Value) -> Result<Option<Draft<'a>>, AllocError>
     ensures { IfOk result (λ o. option_map draft_view o ≡ spec_draft (json_view value.now)) }
 {
-    if !has_only(value, &["types", "forms", "constraints"]) {
+    if !has_only(value, &["types", "forms", "groups", "constraints"]) {
         return Ok(None);
     }
     let Some(named) = value.get("types").and_then(Value::as_object) else {
@@ -148,6 +174,9 @@ pub fn draft_of<'a>(alloc: Global, value: &'a Value) -> Result<Option<Draft<'a>>
     let Some(forms) = forms_of(alloc, forms)? else {
         return Ok(None);
     };
+    let Some(groups) = groups_of(alloc, value.get("groups"))? else {
+        return Ok(None);
+    };
     match definitions_of(alloc, value.get("constraints"))? {
         None => Ok(None),
         Some(definitions) => Ok(Some(Draft {
@@ -155,6 +184,7 @@ pub fn draft_of<'a>(alloc: Global, value: &'a Value) -> Result<Option<Draft<'a>>
             types,
             forms,
             definitions,
+            groups,
         })),
     }
 }

@@ -7,25 +7,32 @@ ghost use Rattle.fv_datum.specs.Members.{listed, each_some};
 ghost use Rattle.fv_draft.specs.DraftViews.{use_view};
 ghost use Rattle.fv_draft.specs.Uses.{use_of as spec_use};
 
-use crate::attributes::attrs_of;
 use crate::draft::UseDraft;
 use fv_datum::has_only;
+use fv_definition::{attrs_of, names_of};
 use serde_json::Value;
 use std::alloc::{AllocError, Global};
 
-/// `{"constraint":NAME,"with":{..}}`, `with` may be missing.
+/// `{"constraint":NAME,"with":{..},"groups":[GROUP]}`, `with` and `groups` may be missing.
 fn use_of<'a>(alloc: Global, value: &'a Value) -> Result<Option<UseDraft<'a>>, AllocError>
     ensures { IfOk result (λ o. option_map use_view o ≡ spec_use (json_view value.now)) }
 {
-    if !has_only(value, &["constraint", "with"]) {
+    if !has_only(value, &["constraint", "with", "groups"]) {
         return Ok(None);
     }
     let Some(constraint) = value.get("constraint").and_then(Value::as_str) else {
         return Ok(None);
     };
-    match attrs_of(alloc, value.get("with"))? {
+    let Some(with) = attrs_of(alloc, value.get("with"))? else {
+        return Ok(None);
+    };
+    match names_of(alloc, value.get("groups"))? {
         None => Ok(None),
-        Some(with) => Ok(Some(UseDraft { constraint, with })),
+        Some(groups) => Ok(Some(UseDraft {
+            constraint,
+            with,
+            groups,
+        })),
     }
 }
 

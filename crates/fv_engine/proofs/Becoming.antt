@@ -27,7 +27,8 @@ use Rattle.fv_store.specs.Records.{Kept, Records, with_record}
 use Rattle.fv_store.specs.declared.fault.StoreFault.{StoreFault}
 use Rattle.fv_store.specs.declared.fault.StoreFault.TheVariants as store
 use Rattle.fv_store.specs.Stands.{Frame, Holds}
-use Rattle.fv_validate.specs.Violations.{Reported, IsListing}
+use Rattle.fv_validate.specs.Violations.{Reported}
+use Rattle.fv_engine.specs.Asked.{IsListingOf}
 
 -- a relation between machines
 abbrev Relation : Type 1
@@ -104,11 +105,11 @@ decided_some id kept (v ∷ vs) x some = (refl, stays_itself x)
 
 module _ (means : Meanings) (now : ℤ) (id : List ℕ) (kept : Kept) where
   -- a record without violations is decided by the store
-  settled_empty : (x y : Machine Records) (answer : Answer) → IsListing means x.declared now kept.bundle [] → Keeps id kept x answer y → Settles means now id kept x answer y
+  settled_empty : (x y : Machine Records) (answer : Answer) → IsListingOf means x.declared now kept [] → Keeps id kept x answer y → Settles means now id kept x answer y
   settled_empty x y answer none (inl took) = inl ([], none, took)
   settled_empty x y answer none (inr failed) = inr (failed.0, failing failed.0 failed.1, failed.2, failed.3)
     where
-      failing : (why : Refusal) → Fails why (HasRoomFor id kept x → StoreHasFailed x y) → Fails why (IsListing means x.declared now kept.bundle [] × (HasRoomFor id kept x → StoreHasFailed x y))
+      failing : (why : Refusal) → Fails why (HasRoomFor id kept x → StoreHasFailed x y) → Fails why (IsListingOf means x.declared now kept [] × (HasRoomFor id kept x → StoreHasFailed x y))
       failing Memory f = tt
       failing Store f = (none, f)
       failing LineTooLong f = absurd f
@@ -118,15 +119,15 @@ module _ (means : Meanings) (now : ℤ) (id : List ℕ) (kept : Kept) where
       failing (Bundle e) f = absurd f
       failing NoRecord f = absurd f
 
-  pub judged_empty : {H : Type 0} (held : H → State) (ds : Declarations) (old new : H) (answer : Answer) (vs : List Reported) → vs ≡ [] → IsListing means ds now kept.bundle vs
+  pub judged_empty : {H : Type 0} (held : H → State) (ds : Declarations) (old new : H) (answer : Answer) (vs : List Reported) → vs ≡ [] → IsListingOf means ds now kept vs
       → Becomes held (over held ds old) (over held ds new) (λ x y. Keeps id kept x answer y) → Becomes held (over held ds old) (over held ds new) (λ x y. Settles means now id kept x answer y)
   judged_empty held ds old new answer vs none listing becoming = record {
     declared = becoming.declared;
     clean = becoming.clean;
-    related = λ c bytes m stands. let t = becoming.related c bytes m stands in (t.0, settled_empty _ _ answer (subst (IsListing means ds now kept.bundle) none listing) t.1, t.2);
+    related = λ c bytes m stands. let t = becoming.related c bytes m stands in (t.0, settled_empty _ _ answer (subst (IsListingOf means ds now kept) none listing) t.1, t.2);
   }
 
-  pub judged_some : {H : Type 0} (held : H → State) (ds : Declarations) (h : H) (vs : List Reported) → (vs ≡ [] → ⊥) → IsListing means ds now kept.bundle vs
+  pub judged_some : {H : Type 0} (held : H → State) (ds : Declarations) (h : H) (vs : List Reported) → (vs ≡ [] → ⊥) → IsListingOf means ds now kept vs
       → Becomes held (over held ds h) (over held ds h) (λ x y. Settles means now id kept x (violated id vs) y)
   judged_some held ds h vs some listing = record {
     declared = refl;
@@ -214,7 +215,7 @@ module _ (means : Meanings) (now : ℤ) (id form : List ℕ) (bundle : json.Data
       inl (subst (λ (o : Option Refusal). Does o means now (put id form bundle) x answer y) (sym (unrefused x b type is some)) (b, is, judged), tt)
   put_judged x y b type answer is some (inr failed) = inr (failed.0, failing failed.0 failed.1, failed.2, failed.3)
     where
-      failing : (why : Refusal) → Fails why (IsListing means x.declared now b [] × (HasRoomFor id (record { form = form; bundle = b }) x → StoreHasFailed x y))
+      failing : (why : Refusal) → Fails why (IsListingOf means x.declared now (record { form = form; bundle = b }) [] × (HasRoomFor id (record { form = form; bundle = b }) x → StoreHasFailed x y))
           → MayFail why means now (put id form bundle) x y
       failing Memory f = refl
       failing Store f = (unrefused x b type is some, (b, is, f.0, f.1))

@@ -20,7 +20,8 @@ use Rattle.fv_reply.specs.declared.answer.Refusal.{Refusal}
 use Rattle.fv_reply.specs.declared.answer.Refusal.TheVariants.{LineTooLong, NotJson, Shape, UnknownForm, Bundle, NoRecord, Store, Memory}
 use Rattle.fv_reply.proofs.Apart.{only_taken}
 use Rattle.fv_store.specs.Records.{Kept, Records, with_record}
-use Rattle.fv_validate.specs.Violations.{Reported, IsListing}
+use Rattle.fv_validate.specs.Violations.{Reported}
+use Rattle.fv_engine.specs.Asked.{IsListingOf}
 
 -- ---- answers of different kinds
 
@@ -36,14 +37,14 @@ abbrev keep : List ℕ → Bundled → Kept
 keep form b = record { form = form; bundle = b }
 
 abbrev Took : Meanings → ℤ → List ℕ → List ℕ → json.Data → Machine Records → Machine Records → Type 0
-Took means now id form bundle x y = (refusal x (put id form bundle) ≡ None) × (b : Bundled) × (bundle_under x.declared form bundle ≡ Ok b) × IsListing means x.declared now b [] × Takes id (keep form b) x y
+Took means now id form bundle x y = (refusal x (put id form bundle) ≡ None) × (b : Bundled) × (bundle_under x.declared form bundle ≡ Ok b) × IsListingOf means x.declared now (keep form b) [] × Takes id (keep form b) x y
 
 module _ (means : Meanings) (now : ℤ) (id form : List ℕ) (bundle : json.Data) where
   took : (x y : Machine Records) → Handles means now (put id form bundle) x taken y → Took means now id form bundle x y
   took x y (inr failed) = absurd (taken_or_refused failed.0 failed.2)
   took x y (inl does) = by_refusal (refusal x (put id form bundle)) refl does.0
     where
-      decided : (b : Bundled) (vs : List Reported) → IsListing means x.declared now b vs → Decided id (keep form b) vs x taken y → IsListing means x.declared now b [] × Takes id (keep form b) x y
+      decided : (b : Bundled) (vs : List Reported) → IsListingOf means x.declared now (keep form b) vs → Decided id (keep form b) vs x taken y → IsListingOf means x.declared now (keep form b) [] × Takes id (keep form b) x y
       decided b [] listing d = (listing, d.1)
       decided b (v ∷ vs) listing d = absurd (taken_or_violated id (v ∷ vs) d.0)
 
@@ -60,7 +61,7 @@ module _ (means : Meanings) (now : ℤ) (id form : List ℕ) (bundle : json.Data
     subst (λ (ds : Declarations). refusal (record v { declared = ds }) (put id form bundle) ≡ None) (sym same) t.0,
     t.1,
     subst (λ (ds : Declarations). bundle_under ds form bundle ≡ Ok t.1) (sym same) t.2,
-    subst (λ (ds : Declarations). IsListing means ds now t.1 []) (sym same) t.3,
+    subst (λ (ds : Declarations). IsListingOf means ds now (keep form t.1) []) (sym same) t.3,
     takes,
   )
 

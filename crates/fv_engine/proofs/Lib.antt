@@ -1,4 +1,5 @@
 pub mod Becoming
+pub mod Groups
 pub mod Laws
 pub mod Lifts
 pub mod Openings

@@ -11,7 +11,7 @@ use Rattle.fv_reply.specs.declared.answer.Refusal.{Refusal}
 use Rattle.fv_reply.specs.declared.answer.Refusal.TheVariants.{Store, Memory}
 use Rattle.fv_store.specs.Causes.{IsShort}
 use Rattle.fv_store.specs.Records.{Kept, Records}
-use Rattle.fv_validate.specs.Violations.{IsListing}
+use Rattle.fv_engine.specs.Asked.{IsListingOf}
 
 -- the disk has failed more often since, or the connection was shut before
 abbrev pub StoreHasFailed : Machine Records → Machine Records → Type 0
@@ -27,7 +27,8 @@ abbrev pub MayFail : Refusal → Meanings → ℤ → Request → Machine Record
 MayFail Memory means now r old new = is_too_long r ≡ false
 MayFail Store means now (get id) old new = StoreHasFailed old new
 MayFail Store means now (put id form bundle) old new =
-    (refusal old (put id form bundle) ≡ None) × ((b : Bundled) × (bundle_under old.declared form bundle ≡ Ok b) × IsListing means old.declared now b []
+    (refusal old (put id form bundle) ≡ None) × ((b : Bundled) × (bundle_under old.declared form bundle ≡ Ok b)
+    × IsListingOf means old.declared now (record { form = form; bundle = b }) []
     × (HasRoomFor id (record { form = form; bundle = b }) old → StoreHasFailed old new))
 MayFail why means now r old new = ⊥
 

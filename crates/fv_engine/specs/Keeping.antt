@@ -12,7 +12,7 @@ use Rattle.fv_reply.specs.Texts.{answer_text}
 use Rattle.fv_reply.specs.declared.answer.Refusal.{Refusal}
 use Rattle.fv_reply.specs.declared.answer.Refusal.TheVariants.{Shape, UnknownForm, Bundle, Store, Memory}
 use Rattle.fv_store.specs.Records.{Kept, Records}
-use Rattle.fv_validate.specs.Violations.{IsListing}
+use Rattle.fv_engine.specs.Asked.{IsListingOf}
 
 -- what a request does, told by the text of its answer
 abbrev pub Replies : Meanings → ℤ → Request → Machine Records → List ℕ → Machine Records → Type 0
@@ -34,7 +34,7 @@ Keeps id kept old answer new =
 abbrev pub Settles : Meanings → ℤ → List ℕ → Kept → Machine Records → Answer → Machine Records → Type 0
 Settles means now id kept old answer new =
     Judged means now id kept old answer new
-    ⊎ ((why : Refusal) × Fails why (IsListing means old.declared now kept.bundle [] × (HasRoomFor id kept old → StoreHasFailed old new))
+    ⊎ ((why : Refusal) × Fails why (IsListingOf means old.declared now kept [] × (HasRoomFor id kept old → StoreHasFailed old new))
     × (answer ≡ refused why) × Unchanged old new)
 
 -- the refusal of a put whose bundle has a fault, under a form that is declared or not

@@ -1,3 +1,4 @@
+pub mod Asked
 pub mod CommandView
 pub mod Commands
 pub mod Failures

@@ -11,7 +11,8 @@ use Rattle.fv_reply.specs.Answers.{Answer, taken, shown, violated, refused}
 use Rattle.fv_reply.specs.Texts.{answer_text}
 use Rattle.fv_reply.specs.declared.answer.Refusal.{Refusal}
 use Rattle.fv_store.specs.Records.{Kept, Records, with_record}
-use Rattle.fv_validate.specs.Violations.{Reported, IsListing}
+use Rattle.fv_validate.specs.Violations.{Reported}
+use Rattle.fv_engine.specs.Asked.{IsListingOf}
 
 -- Nothing has changed, but that a failure may have shut the connection. No fault is forgotten.
 pub record Unchanged (old new : Machine Records) : Type 0 where
@@ -36,7 +37,7 @@ Decided id kept (v ∷ vs) old answer new = (answer ≡ violated id (v ∷ vs)) 
 
 -- a record is judged at a moment
 abbrev pub Judged : Meanings → ℤ → List ℕ → Kept → Machine Records → Answer → Machine Records → Type 0
-Judged means now id kept old answer new = (vs : List Reported) × IsListing means old.declared now kept.bundle vs × Decided id kept vs old answer new
+Judged means now id kept old answer new = (vs : List Reported) × IsListingOf means old.declared now kept vs × Decided id kept vs old answer new
 
 -- what a request that nothing refuses does at a moment
 abbrev pub Serves : Meanings → ℤ → Request → Machine Records → Answer → Machine Records → Type 0

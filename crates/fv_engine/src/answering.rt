@@ -1,12 +1,14 @@
 //! What a command does to the records, and its answer.
-ghost use Rattle.std.specs.Prelude.{◌≡◌, ℤ, length, IfOk};
+ghost use Rattle.std.specs.Prelude.{◌≡◌, ◌<◌, ℤ, All, length, IfOk};
 ghost use Rattle.fv_datum.specs.Moments.{IsMoment};
 ghost use Rattle.fv_datum.specs.Parsing.{json_of};
 ghost use Rattle.fv_declare.specs.Declarations.{Declarations};
+ghost use Rattle.fv_engine.specs.Asked.{groups_of};
 ghost use Rattle.fv_engine.specs.Keeping.{Replies, Keeps, Settles, unread};
 ghost use Rattle.fv_engine.specs.Machines.{over, Becomes};
 ghost use Rattle.fv_engine.specs.Commands.{put, get, command_of, or_shape, of_json};
 ghost use Rattle.fv_engine.specs.Step.{Handles};
+ghost use Rattle.fv_groups.specs.Tables.{indices};
 ghost use Rattle.fv_types.specs.Types.{Declared};
 ghost use Rattle.fv_types.specs.TypesView.{types_view};
 ghost use Rattle.fv_model.specs.Views.{bundle_view};
@@ -20,11 +22,14 @@ ghost use Rattle.sqlite.specs.Held.{state};
 
 use crate::command::{Command, command_of};
 use fv_datum::{JsonFault, read_json};
+use fv_declare::Schema;
+use fv_groups::GroupId;
+use fv_local::Rulebook;
 use fv_model::{Bundle, BundleFault, Types, read_bundle};
 use fv_registry::RuleSet;
 use fv_reply::{Answer, Refusal, Reply};
 use fv_store::{Change, Store, StoreFault};
-use fv_validate::Rulebook;
+use fv_validate::validate;
 use serde_json::Value;
 use sqlite::Alter;
 use std::alloc::{AllocError, Global};
@@ -81,6 +86,17 @@ fn keep<'a, S: Alter>(
     }
 }
 
+/// The groups that a form asks for; none where it isn't declared.
+fn asked_by<'a>(schema: &'a Schema, form: &str) -> &'a [GroupId]
+    ensures groups { indices result.now ≡ groups_of schema.now form.now }
+    ensures within { All (λ g. g.index < length schema.now.groups) result.now }
+{
+    match schema.groups_of(form) {
+        Some(groups) => groups,
+        None => &[],
+    }
+}
+
 /// Stores a bundle of a form under an id, where it has no violation.
 fn judge<'a, R: RuleSet, S: Alter>(
     store: &mut Store<S>,
@@ -98,7 +114,7 @@ fn judge<'a, R: RuleSet, S: Alter>(
         (λ x y. Settles R.meaning now id.now (record { form = form.now; bundle = bundle_view bundle }) x
         (answer_view result) y) }
 {
-    match book.validate(alloc, &bundle, now) {
+    match validate(alloc, book, &bundle, asked_by(book.schema(), form), now) {
         Err(_) => Answer::Refused(Refusal::Memory),
         Ok(violations) => if violations.is_empty() {
             keep(store, alloc, id, form, bundle)

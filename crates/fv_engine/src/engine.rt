@@ -15,10 +15,10 @@ ghost use Rattle.fv_reply.specs.Texts.{refusal_text};
 use crate::answering::reply_to_line;
 use fv_declare::{DeclFault, read_schema};
 use fv_lines::{LIMIT, Responder};
+use fv_local::Rulebook;
 use fv_registry::RuleSet;
 use fv_reply::{Refusal, Reply};
 use fv_store::{OpenStoreFault, Store};
-use fv_validate::Rulebook;
 use sqlite::{Alter, Connection};
 use std::alloc::Global;
 use std::marker::Model;
@@ -162,11 +162,12 @@ impl<R: RuleSet + Drop, S: Alter + Drop> Engine<R, S> {
             Ok(schema) => schema,
             Err(fault) => return Err((declarations_fault(fault), connection)),
         };
+        let book = match Rulebook::new(alloc, rules, schema) {
+            Ok(book) => book,
+            Err(_) => return Err((OpenFault::Memory, connection)),
+        };
         match Store::open(connection, declarations) {
-            Ok(store) => Ok(Engine {
-                book: Rulebook::new(rules, schema),
-                store,
-            }),
+            Ok(store) => Ok(Engine { book, store }),
             Err((fault, connection)) => Err((store_fault(fault), connection)),
         }
     }

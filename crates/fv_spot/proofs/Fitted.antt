@@ -1,15 +1,14 @@
 -- Data that fit a type use have indices of 32 bits.
-use Rattle.std.proofs.Common.{◌≡◌, inl, inr, ℕ, ◌+◌, ◌≤◌, zero, suc, List, [], ◌∷◌, length, true, Option, Some, None, slice_get, sym, subst, arith}
+use Rattle.std.proofs.Common.{◌≡◌, inl, inr, ℕ, ◌+◌, ◌≤◌, zero, suc, List, [], ◌∷◌, length, true, Some, slice_get, sym, subst, arith}
 use Rattle.std.specs.List.{AllByRecursion}
-use Rattle.std.specs.Option.{IfSome}
 use Rattle.fv_datum.specs.Data.{Data, null, text, integer, decimal, boolean, date, instant, reference, items_of, entries_of}
 use Rattle.fv_datum.specs.Name.{names}
-use Rattle.fv_model.specs.Bundles.{Things, Thing}
+use Rattle.fv_model.specs.Bundles.{Things}
 use Rattle.fv_model.specs.WellTyped.{FieldsFit, NamesObject}
 use Rattle.fv_types.specs.Fits.{Referring, OrNull, Fits, IsOfUse}
 use Rattle.fv_types.specs.Spelled.{keyed}
 use Rattle.fv_types.specs.Types.{TypeUse, texts, integers, decimals, booleans, dates, instants, references, lists, maps, optionals, DeclaredFields}
-use Rattle.fv_spot.specs.Loci.{IsIndexed, AreIndexed, EntriesIndexed, CanBeTold}
+use Rattle.fv_spot.specs.Loci.{IsIndexed, AreIndexed, EntriesIndexed}
 
 -- what holds of a datum, by what it is
 alike : (d e : Data) → d ≡ e → IsIndexed e → IsIndexed d
@@ -61,7 +60,7 @@ pub field_indexed : (os : Things) (ds : DeclaredFields) (fs : List (List ℕ × 
 field_indexed os ds fs i f fit e = let fits = field_fits os ds fs i f fit e in fits_indexed (NamesObject os) fits.0 f.1 fits.1
 
 -- a field of a type whose fields have names has one
-field_named : (os : Things) (ds : DeclaredFields) (fs : List (List ℕ × Data)) (i : ℕ) (f : List ℕ × Data) → FieldsFit os ds fs → AllByRecursion (λ d. names d.0 ≡ true) ds
+pub field_named : (os : Things) (ds : DeclaredFields) (fs : List (List ℕ × Data)) (i : ℕ) (f : List ℕ × Data) → FieldsFit os ds fs → AllByRecursion (λ d. names d.0 ≡ true) ds
     → slice_get fs i ≡ Some f → names f.0 ≡ true
 field_named os [] [] i f fit named e = cc
 field_named os (d ∷ ds) [] i f fit named e = cc
@@ -71,11 +70,3 @@ field_named os (d ∷ ds) (g ∷ fs) zero f fit named e =
     let is : f.0 ≡ d.0 = subst (λ (h : List ℕ × Data). h.0 ≡ d.0) same fit.0 in
     subst (λ (n : List ℕ). names n ≡ true) (sym is) named.0
 field_named os (d ∷ ds) (g ∷ fs) (suc i) f fit named e = field_named os ds fs i f fit.2 named.1 e
-
-told_at_field : (o : Option (List ℕ × Data)) → ((f : List ℕ × Data) → o ≡ Some f → (names f.0 ≡ true) × IsIndexed f.1) → IfSome o (λ f. (names f.0 ≡ true) × IsIndexed f.1)
-told_at_field None each = tt
-told_at_field (Some f) each = each f cc
-
--- so each field of an object that fits such a type can be told
-pub field_told : (os : Things) (ds : DeclaredFields) (t : Thing) (i : ℕ) → FieldsFit os ds t.fields → AllByRecursion (λ d. names d.0 ≡ true) ds → CanBeTold t i
-field_told os ds t i fit named = told_at_field (slice_get t.fields i) (λ f e. (field_named os ds t.fields i f fit named e, field_indexed os ds t.fields i f fit e))

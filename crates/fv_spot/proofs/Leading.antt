@@ -1,5 +1,5 @@
 -- The loci of parts are those that the steps lead to.
-use Rattle.std.proofs.Common.{◌≡◌, ℕ, zero, suc, length, get_or, arith, ◌+◌, ◌<◌, ◌^◌, List, [], ◌∷◌, ◌++◌, map as each, true, ◌&&◌, nat_lt, refl, sym, subst}
+use Rattle.std.proofs.Common.{◌≡◌, ℕ, ◌+◌, ◌^◌, List, [], ◌∷◌, ◌++◌, map as each, true, ◌&&◌, nat_lt, refl}
 use Rattle.std.proofs.lemmas.Bool.{and_parts, and_from, lt-ltb}
 use Rattle.std.specs.List.{AllByRecursion, flat_map}
 use Rattle.fv_datum.specs.Data.{Data, text, list, map, optional, Items, no_items, item, Entries, no_entries, entry}
@@ -80,19 +80,3 @@ pub parts_led : (steps : List to.Step) (d : Data) → IsWritten d → IsIndexed 
 parts_led [] d can small = (refl, tt)
 parts_led (step ∷ steps) d can small =
     all_flat (IsLedTo (step ∷ steps)) (λ p. each (below p.0) (parts_of steps p.1)) (inside step d) (inside_led steps (λ e c s. parts_led steps e c s) step d can small)
-
--- ---- of one among parts
-
-all_front : {X : Type 0} (P : X → Type 0) (xs ys : List X) → AllByRecursion P (xs ++ ys) → AllByRecursion P xs
-all_front P [] ys h = tt
-all_front P (x ∷ xs) ys h = (h.0, all_front P xs ys h.1)
-
-all_back : {X : Type 0} (P : X → Type 0) (xs ys : List X) → AllByRecursion P (xs ++ ys) → AllByRecursion P ys
-all_back P [] ys h = h
-all_back P (x ∷ xs) ys h = all_back P xs ys h.1
-
-pub all_at : {X Y Z : Type 0} (P : Z → Type 0) (f : Y → List Z) (view : X → Y) (xs : List X) (i : ℕ) (x : X) → AllByRecursion P (flat_map f (each view xs)) → i < length xs → x ≡ get_or xs i x
-    → AllByRecursion P (f (view x))
-all_at P f view [] i x h within is = absurd (omega arith)
-all_at P f view (y ∷ ys) zero x h within is = subst (λ (z : _). AllByRecursion P (f (view z))) (sym is) (all_front P (f (view y)) (flat_map f (each view ys)) h)
-all_at P f view (y ∷ ys) (suc i) x h within is = all_at P f view ys i x (all_back P (f (view y)) (flat_map f (each view ys)) h) (omega arith) is

@@ -1,5 +1,4 @@
 pub mod Fitted
-pub mod Gathered
 pub mod Leading
-pub mod PathsApart
+pub mod NodesApart
 pub mod Stands

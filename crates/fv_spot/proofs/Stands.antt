@@ -1,6 +1,6 @@
 -- Where the nodes of a part may stand.
-use Rattle.std.proofs.Common.{◌≡◌, ℕ, ◌+◌, ◌<◌, map, drop, get_or, add-one, drop-cons, length-drop, subst, ap₂, ◌^◌, nat_lt, length, arith, Bool, false, true, List, [], ◌∷◌, ◌++◌, Option, Some, None, refl, sym, ap, ◌∙◌, append_assoc}
-use Rattle.fv_path.specs.Nodes.{PathNode, index, key, list_element, map_key, map_value, is_node}
+use Rattle.std.proofs.Common.{◌≡◌, ℕ, ◌+◌, ◌<◌, map, drop, get_or, add-one, drop-cons, length-drop, subst, ap₂, ◌^◌, nat_lt, length, arith, Bool, false, true, List, [], ◌∷◌, ◌++◌, Option, Some, None, Result, Ok, Err, OnOk, OnErr, refl, sym, ap, ◌∙◌, append_assoc}
+use Rattle.fv_path.specs.Nodes.{PathNode, field, index, key, list_element, map_key, map_value, is_node}
 use Rattle.fv_path.specs.Paths.{takes_place, may_follow, may_stand, is_path, IsPath}
 use Rattle.fv_path.proofs.Chains.{last_of, path_push, path_front}
 use Rattle.std.proofs.lemmas.Bool.{and_parts, and_from, false≢true}
@@ -31,6 +31,15 @@ stands ns n h sound same = path_push ns n (path_open ns h) sound ∙ same (last_
 
 follows : (ns : List PathNode) (n m : PathNode) → IsPath (ns ++ n ∷ []) → is_node m ≡ true → may_follow n m ≡ true → IsPath ((ns ++ n ∷ []) ++ m ∷ [])
 follows ns n m h sound may = path_push (ns ++ n ∷ []) m h sound ∙ ap (λ o. may_stand o m) (last_pushed None ns n) ∙ may
+
+-- what a push leaves, of which it is told what stands there where it could be made and where not
+pub pushed : {A E : Type 0} (r : Result A E) (ns ms : List PathNode) (n : PathNode) → IsPath (ns ++ n ∷ []) → OnOk r (ms ≡ ns ++ n ∷ []) → OnErr r (ms ≡ ns) → IsPath ms
+pushed (Ok x) ns ms n path ok err = subst IsPath (sym ok) path
+pushed (Err e) ns ms n path ok err = subst IsPath (sym err) (path_front ns n path)
+
+-- an index or a key may stand behind a field
+pub field_open : (ns : List PathNode) (name : List ℕ) → IsPath (ns ++ field name ∷ []) → IsOpen (ns ++ field name ∷ [])
+field_open ns name h = follows ns (field name) (index 0) h refl refl
 
 -- the nodes of an index or a key and of what it names
 pub pair_stands : (ns : List PathNode) (n m : PathNode) → IsOpen ns → is_node n ≡ true → ((o : Option PathNode) → may_stand o n ≡ may_stand o (index 0))

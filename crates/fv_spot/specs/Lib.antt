@@ -1,4 +1,2 @@
 pub mod Loci
 pub mod Paths
-pub mod Telling
-pub mod Views

@@ -1,10 +1,8 @@
 -- The loci that paths can be written of, and the data that have such loci alone.
-use Rattle.std.specs.Prelude.{◌≡◌, ◌<◌, ◌+◌, ◌^◌, ℕ, List, [], ◌∷◌, Bool, true, false, nat_lt, ◌&&◌, IfSome, slice_get}
+use Rattle.std.specs.Prelude.{◌<◌, ◌+◌, ◌^◌, ℕ, List, [], ◌∷◌, Bool, true, false, nat_lt, ◌&&◌}
 use Rattle.fv_datum.specs.Data.{Data, list, map, optional, Items, no_items, item, Entries, no_entries, entry}
-use Rattle.fv_datum.specs.Name.{names}
 use Rattle.fv_extract.specs.Parts.{Locus, at_index, at_key}
 use Rattle.fv_extract.specs.Places as to
-use Rattle.fv_model.specs.Bundles.{Thing}
 
 -- the locus is one that the steps lead to: an index, of at most 4294967295, for each element and a key for each value of a map; no step
 -- follows a step to a key
@@ -33,7 +31,3 @@ abbrev mutual
   pub EntriesIndexed : Entries → Type 0
   EntriesIndexed no_entries = Unit {0}
   EntriesIndexed (entry k d es) = IsIndexed k × IsIndexed d × EntriesIndexed es
-
--- the field of that number, if it is there, has a name and such a datum
-abbrev pub CanBeTold : Thing → ℕ → Type 0
-CanBeTold object field = IfSome (slice_get object.fields field) (λ f. (names f.0 ≡ true) × IsIndexed f.1)

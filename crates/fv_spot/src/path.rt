@@ -1,12 +1,12 @@
 //! The path of a part of a field.
-ghost use Rattle.std.specs.Prelude.{◌≡◌, [], ◌∷◌, ◌++◌, true, map, IfOk, OnOk, string_bytes};
+ghost use Rattle.std.specs.Prelude.{◌≡◌, [], ◌∷◌, ◌++◌, true, map, IfOk, OnOk};
 ghost use Rattle.fv_datum.specs.Name.{names};
 ghost use Rattle.fv_extract.specs.Views.{part_view, step_view};
-ghost use Rattle.fv_path.specs.Nodes.{index, key as key_node, is_node};
+ghost use Rattle.fv_path.specs.Nodes.{field, index, key as key_node, is_node};
 ghost use Rattle.fv_path.specs.Paths.{IsPath};
 ghost use Rattle.fv_path.specs.Views.{node_view};
 ghost use Rattle.fv_spot.specs.Loci.{leads};
-ghost use Rattle.fv_spot.specs.Paths.{nodes_of, path_at};
+ghost use Rattle.fv_spot.specs.Paths.{nodes_of};
 
 use fv_datum::Name;
 use fv_extract::{Part, Step};
@@ -25,7 +25,7 @@ fn key_node(alloc: Global, key: &str) -> Result<Node, AllocError>
 fn push_part(path: &mut Path, place: Node, part: Node) -> Result<(), AllocError>
     requires { IsPath (path.old ++ node_view place ∷ node_view part ∷ []) }
     ensures added { OnOk result (path.new ≡ path.old ++ node_view place ∷ node_view part ∷ []) }
-    ensures path { OnOk result (IsPath path.new) }
+    ensures path { IsPath path.new }
 {
     path.push(place)?;
     path.push(part)
@@ -36,7 +36,7 @@ fn push_step(alloc: Global, path: &mut Path, step: Step, part: Part) -> Result<(
     requires room { IsPath (path.old ++ index 0 ∷ []) }
     requires leads { leads (step_view step ∷ []) (part_view part ∷ []) ≡ true }
     ensures added { OnOk result (path.new ≡ path.old ++ nodes_of (step_view step ∷ []) (part_view part.entry ∷ [])) }
-    ensures path { OnOk result (IsPath path.new) }
+    ensures path { IsPath path.new }
 {
     match (step, part) {
         (Step::Element, Part::Index(index)) => {
@@ -57,7 +57,8 @@ fn push_nodes(
 ) -> Result<(), AllocError>
     requires room { IsPath (path.old ++ index 0 ∷ []) }
     requires leads { leads (map step_view steps.now) (map part_view locus.now) ≡ true }
-    ensures { OnOk result (path.new ≡ path.old ++ nodes_of (map step_view steps.now) (map part_view locus.now)) }
+    ensures added { OnOk result (path.new ≡ path.old ++ nodes_of (map step_view steps.now) (map part_view locus.now)) }
+    ensures path { IsPath path.new }
 {
     let mut at = 0;
     for step in steps {
@@ -73,19 +74,21 @@ fn push_nodes(
     Ok(())
 }
 
-/// The text of the path to a part of the field of that name, by the steps to it and its locus.
-pub(crate) fn path_of(
+/// Adds the nodes of a part of the field of that name, by the steps to it and its locus. Where memory
+/// is refused some of them may have been added.
+pub fn push_spot(
     alloc: Global,
+    path: &mut Path,
     name: &str,
     steps: &[Step],
     locus: &[Part],
-) -> Result<String, AllocError>
+) -> Result<(), AllocError>
     requires named { names name.now ≡ true }
     requires leads { leads (map step_view steps.now) (map part_view locus.now) ≡ true }
-    ensures { IfOk result (λ s. string_bytes s ≡ path_at name.now (map step_view steps.now) (map part_view locus.now)) }
+    requires room { IsPath (path.old ++ field name.now ∷ []) }
+    ensures ok { OnOk result (path.new ≡ path.old ++ field name.now ∷ nodes_of (map step_view steps.now) (map part_view locus.now)) }
+    ensures path { IsPath path.new }
 {
-    let mut path = Path::new(alloc);
     path.push(Node::Field(Name::new(String::from_str(alloc, name)?)))?;
-    push_nodes(alloc, &mut path, steps, locus)?;
-    path.write(alloc)
+    push_nodes(alloc, path, steps, locus)
 }

@@ -1,2 +1,3 @@
+pub mod Cascades
 pub mod UseViews
 pub mod Uses

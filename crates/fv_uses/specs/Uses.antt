@@ -20,12 +20,14 @@ abbrev pub judged_at : Place → subject.Place
 judged_at whole = subject.on_object
 judged_at (field number steps kind) = subject.on_data kind
 
--- a use at its place: the number of its type, its place there, the constraint's name and what is given
+-- a use at its place: the number of its type, its place there, the constraint's name, what is given, and the names of its groups; no
+-- names stand for `Default`
 pub record Use : Type 0 where
   pub type : ℕ
   pub place : Place
   pub constraint : List ℕ
   pub given : Attributes
+  pub groups : List (List ℕ)
 
 -- what is used, and of what it judges
 abbrev pub used : Use → flat.Use
@@ -33,7 +35,7 @@ used u = record { constraint = u.constraint; given = u.given; place = judged_at 
 
 -- a use at a place in the type of a number
 abbrev pub use_at : ℕ → Place → UseDraft → Use
-use_at type place u = record { type = type; place = place; constraint = u.constraint; given = u.given }
+use_at type place u = record { type = type; place = place; constraint = u.constraint; given = u.given; groups = u.groups }
 
 -- a use at a place in the field of a number
 abbrev pub use_in : ℕ → ℕ → PlacedUse → Use

@@ -21,6 +21,8 @@ pub struct Use<'a> {
     pub constraint: &'a str,
     /// The attributes that are given.
     pub given: &'a Attrs,
+    /// The names of its groups; none stand for `Default`.
+    pub groups: &'a [&'a str],
 }
 
 /// Adds the uses at a type itself.
@@ -38,6 +40,7 @@ fn add_whole<'a>(
             place: Place::Whole,
             constraint: draft.constraint,
             given: &draft.with,
+            groups: &draft.groups,
         })?;
     }
     Ok(())
@@ -56,6 +59,7 @@ fn use_in<'a>(
         place: Place::Field(number, placed.steps.clone()?, placed.kind),
         constraint: placed.draft.constraint,
         given: &placed.draft.with,
+        groups: &placed.draft.groups,
     })
 }
 

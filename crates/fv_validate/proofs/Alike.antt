@@ -1,13 +1,14 @@
 -- A bundle has one listing at a moment.
-use Rattle.std.proofs.Common.{◌≡◌, ◌<◌, ℕ, ℤ, List, [], ◌∷◌, true, true≢false, Ordering, Less, Equal, Greater, nat_cmp, Result, Ok, Err, IfOk, refl, sym, ap, subst, ◌∙◌, inl, inr, arith}
+use Rattle.std.proofs.Common.{◌≡◌, ◌<◌, ℕ, ℤ, List, [], ◌∷◌, true, true≢false, Ordering, Less, Equal, Greater, nat_cmp, refl, sym, ap, subst, ◌∙◌, inl, inr, arith}
 use Rattle.std.proofs.lemmas.Cmp.{nat_list_cmp_total}
 use Rattle.std.specs.Cmp.Lexicographic.{slice_cmp}
 use Rattle.std.specs.List.{AllByRecursion}
 use Rattle.std.specs.Ordering.{is_lt, ordering_reverse}
 use Rattle.fv_declare.specs.Declarations.{Declarations}
+use Rattle.fv_graph.specs.Graph.{IsIn}
 use Rattle.fv_model.specs.Bundles.{Bundled}
 use Rattle.fv_registry.specs.Meanings.{Meanings}
-use Rattle.fv_validate.specs.Violations.{Reported, Precedes, IsAscending, IsListed, IsListing}
+use Rattle.fv_validate.specs.Violations.{Reported, Precedes, IsAscending, IsListing}
 
 -- ---- no two precede each other
 
@@ -30,24 +31,24 @@ not_both v w (inr a) (inr b) = crossed v.occurrence w.occurrence a.1 b.1
 
 -- ---- lists with the same members
 
-each : (P : Reported → Type 0) (ws : List Reported) (w : Reported) → AllByRecursion P ws → IsListed ws w → P w
-each P [] w all listed = absurd listed
-each P (u ∷ us) w all (inl is) = subst P (sym is) all.0
-each P (u ∷ us) w all (inr listed) = each P us w all.1 listed
+each : (P : Reported → Type 0) (ws : List Reported) (w : Reported) → AllByRecursion P ws → IsIn ws w → P w
+each P [] w all is_in = absurd is_in
+each P (u ∷ us) w all (inl is) = subst P is all.0
+each P (u ∷ us) w all (inr is_in) = each P us w all.1 is_in
 
 -- the members of one are members of the other
 abbrev Within : List Reported → List Reported → Type 0
-Within vs ws = (x : Reported) → IsListed vs x → IsListed ws x
+Within vs ws = (x : Reported) → IsIn vs x → IsIn ws x
 
 same_first : (v w : Reported) (vs ws : List Reported) → AllByRecursion (Precedes v) vs → AllByRecursion (Precedes w) ws
-    → IsListed (w ∷ ws) v → IsListed (v ∷ vs) w → v ≡ w
-same_first v w vs ws before behind (inl is) listed = is
-same_first v w vs ws before behind (inr at) (inl is) = sym is
-same_first v w vs ws before behind (inr at) (inr listed) = absurd (not_both v w (each (Precedes v) vs w before listed) (each (Precedes w) ws v behind at))
+    → IsIn (w ∷ ws) v → IsIn (v ∷ vs) w → v ≡ w
+same_first v w vs ws before behind (inl is) is_in = sym is
+same_first v w vs ws before behind (inr at) (inl is) = is
+same_first v w vs ws before behind (inr at) (inr is_in) = absurd (not_both v w (each (Precedes v) vs w before is_in) (each (Precedes w) ws v behind at))
 
 same_rest : (v w : Reported) (vs ws : List Reported) → v ≡ w → AllByRecursion (Precedes v) vs → Within (v ∷ vs) (w ∷ ws) → Within vs ws
-same_rest v w vs ws first before within = λ x listed. elim (within x (inr listed)) [
-  | inl is ↦ let p : Precedes v v = subst (Precedes v) (is ∙ sym first) (each (Precedes v) vs x before listed) in absurd (not_both v v p p)
+same_rest v w vs ws first before within = λ x is_in. elim (within x (inr is_in)) [
+  | inl is ↦ let p : Precedes v v = subst (Precedes v) (sym is ∙ sym first) (each (Precedes v) vs x before is_in) in absurd (not_both v v p p)
   | inr there ↦ there
 ]
 
@@ -60,14 +61,9 @@ same_list (v ∷ vs) (w ∷ ws) up rise to from =
     let rest : vs ≡ ws = same_list vs ws up.1 rise.1 (same_rest v w vs ws first up.0 to) (same_rest w v ws vs (sym first) rise.0 from) in
     ap (λ (x : Reported). x ∷ vs) first ∙ ap (λ (xs : List Reported). w ∷ xs) rest
 
-module _ (m : Meanings) (ds : Declarations) (now : ℤ) (b : Bundled) where
-  within : (vs ws : List Reported) → IsListing m ds now b vs → IsListing m ds now b ws → Within vs ws
-  within vs ws one other = λ x listed. other.complete x (each _ vs x one.sound listed)
+module _ (m : Meanings) (ds : Declarations) (now : ℤ) (b : Bundled) (asked : List ℕ) where
+  within : (vs ws : List Reported) → IsListing m ds now b asked vs → IsListing m ds now b asked ws → Within vs ws
+  within vs ws one other = λ x is_in. other.complete x (each _ vs x one.sound is_in)
 
-  one_listing : (vs ws : List Reported) → IsListing m ds now b vs → IsListing m ds now b ws → vs ≡ ws
+  pub one_listing : (vs ws : List Reported) → IsListing m ds now b asked vs → IsListing m ds now b asked ws → vs ≡ ws
   one_listing vs ws one other = same_list vs ws one.ascending other.ascending (within vs ws one other) (within ws vs other one)
-
-  -- what was listed is any listing
-  pub alike : {X E : Type 0} (r : Result X E) (f : X → List Reported) → IfOk r (λ x. IsListing m ds now b (f x)) → IfOk r (λ x. (vs : List Reported) → IsListing m ds now b vs → vs ≡ f x)
-  alike (Ok x) f listing = λ vs other. one_listing vs (f x) other listing
-  alike (Err e) f listing = tt

@@ -1,9 +1,4 @@
 pub mod Alike
-pub mod Apart
-pub mod Fitting
-pub mod Found
-pub mod Nodes
-pub mod Parts
-pub mod Ranges
+pub mod Arranged
+pub mod Numbers
 pub mod Reports
-pub mod Sorting

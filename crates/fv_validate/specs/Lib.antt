@@ -1,4 +1,3 @@
-pub mod Judging
-pub mod SpotView
+pub mod Listing
 pub mod ViolationView
 pub mod Violations

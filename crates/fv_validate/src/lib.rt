@@ -1,13 +1,12 @@
-//! Judging: the violations of a bundle's declared constraints at a moment. Each is a constraint that
-//! the tree of a use reports.
+//! Validation: the violations of a bundle's declared constraints at a moment, for the groups that are
+//! asked for, as a listing (Jakarta Bean Validation 3.0, "Validation routine" and
+//! "ConstraintViolation").
 #![tactic(auto)]
 
 mod listing;
-mod rulebook;
-mod spot;
-mod uses;
-mod validate;
+mod node;
+mod validating;
 mod violation;
 
-pub use rulebook::Rulebook;
+pub use validating::validate;
 pub use violation::Violation;

@@ -1,8 +1,9 @@
 //! The order of a listing.
-ghost use Rattle.std.specs.Prelude.{◌≡◌};
-ghost use Rattle.std.specs.List.Sorted.{IsPermutation, IsSortedBy};
-ghost use Rattle.fv_validate.specs.Judging.{order, is_before};
+ghost use Rattle.std.specs.Prelude.{◌≡◌, ◌↔◌, map};
+ghost use Rattle.fv_graph.specs.Graph.{IsIn};
+ghost use Rattle.fv_validate.specs.Listing.{order, AreToldApart};
 ghost use Rattle.fv_validate.specs.ViolationView.{violation_view};
+ghost use Rattle.fv_validate.specs.Violations.{Reported, IsAscending};
 
 use crate::violation::Violation;
 use std::cmp::Ordering;
@@ -14,10 +15,13 @@ fn compare(a: &Violation, b: &Violation) -> Ordering
     a.path.cmp(&b.path).then(a.occurrence.cmp(&b.occurrence))
 }
 
-/// Puts violations in the order of a listing.
-pub(crate) fn sort(violations: &mut [Violation])
-    ensures same { IsPermutation violations.old violations.new }
-    ensures sorted { IsSortedBy (λ v w. is_before (violation_view v) (violation_view w)) violations.new }
+/// Arranges violations as a listing has them: ascending, each once.
+pub(crate) fn arrange(violations: &mut Vec<Violation>)
+    requires { AreToldApart (map violation_view violations.old.items) }
+    ensures same { (r : Reported) → IsIn (map violation_view violations.new.items) r
+        ↔ IsIn (map violation_view violations.old.items) r }
+    ensures ascending { IsAscending (map violation_view violations.new.items) }
 {
     violations.sort_unstable_by(|a, b| compare(a, b));
+    violations.dedup_by(|a, b| compare(a, b).is_eq());
 }

@@ -143,3 +143,31 @@ fn faults_of_declarations_have_texts(rt: HostRuntime) -> Result<(), Fail> {
     }
     Ok(())
 }
+
+#[test]
+fn faults_of_groups_have_texts(rt: HostRuntime) -> Result<(), Fail> {
+    for (fault, wanted) in [
+        (DeclFault::UnknownGroup, "a group that isn't declared"),
+        (DeclFault::CyclicInheritance, "a group that inherits itself"),
+        (DeclFault::CyclicSequence, "a sequence that contains itself"),
+        (
+            DeclFault::SequenceMisused,
+            "a sequence that is inherited or a constraint's group",
+        ),
+        (
+            DeclFault::SequenceLacksType,
+            "a type's sequence without the type",
+        ),
+        (
+            DeclFault::DefaultInTypeSequence,
+            "a type's sequence with the default group",
+        ),
+        (
+            DeclFault::ConversionMisplaced,
+            "a conversion or validation that can't stand where it does",
+        ),
+    ] {
+        check_text(&rt, rt.alloc(), &fault, wanted)?;
+    }
+    Ok(())
+}

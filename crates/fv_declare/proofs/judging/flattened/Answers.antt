@@ -8,13 +8,15 @@ use Rattle.fv_flatten.specs.Fits.{tree_fits}
 use Rattle.fv_flatten.specs.Flattening as flat
 use Rattle.fv_flatten.specs.UseViews.{use_view as flat_use_view}
 use Rattle.fv_types.specs.TypesView.{types_view}
-use Rattle.fv_declare.specs.Declares.{types_declared, used_in, IsFlattened}
+use Rattle.fv_declare.specs.Declares.{used_in, IsFlattened}
+use Rattle.fv_naming.specs.Types.{types_declared}
 use Rattle.fv_declare.specs.FaultNames.{flatten_fault}
 use Rattle.fv_uses.specs.Uses.{Use, used, uses_in}
 use Rattle.fv_uses.specs.UseViews.{use_view}
 use Rattle.fv_declare.specs.declared.fault.DeclFault.{DeclFault}
 use Rattle.fv_declare.proofs.Found.{any_map, names_good, roots_known, used_known}
 use Rattle.fv_declare.proofs.Judged.{counted, moved, many, few_types, types_large, others_large, refused, each, few_nodes, taken}
+use Rattle.fv_declare.proofs.Valid.{none_misplaced}
 use Rattle.fv_declare.proofs.judging.flattened.Goals as goal
 
 pub count_nodes-nodes-requires : goal.count_nodes-nodes-requires
@@ -103,3 +105,16 @@ returns-clause-fits g c =
 
 pub returns-clause-refused : goal.returns-clause-refused
 returns-clause-refused g c = IfErr-weaker c.build.result _ _ (λ f is other. absurd (other is)) c.build.ensures.refused
+
+pub returns-in_err-used-clause-refused : goal.returns-in_err-used-clause-refused
+returns-in_err-used-clause-refused g c =
+    let p = err_from_is_err_and c.from_residual.result c.from_residual.ensures.1 in
+    rw p.1 (λ other. absurd (other p.2))
+
+pub build-requires-clause-types : goal.build-requires-clause-types
+build-requires-clause-types g c =
+    let d = draft_view c.args.draft.now in
+    (few_types (types_declared d) (types_view c.in-Some.types) (sym c.requires.types ∙ ap (option_map types_view) c.in-Some.is)).1
+
+pub build-requires-clause-placed : goal.build-requires-clause-placed
+build-requires-clause-placed g c = none_misplaced (draft_view c.args.draft.now) c.requires.groups.2

@@ -6,7 +6,9 @@ use Rattle.fv_draft.specs.DraftViews.{type_view, form_view, draft_view}
 use Rattle.fv_draft.specs.Drafts.{Drafted}
 use Rattle.fv_types.specs.Types.{declared_view, types_fault}
 use Rattle.fv_types.specs.declared.fault.TypesFault.TheVariants.{UnknownType, TooLarge}
-use Rattle.fv_declare.specs.Declares.{type_declared, types_declared, bad_name, unknown_constraint, unknown_name, unknown_root, name_conditions}
+use Rattle.fv_declare.specs.Declares.{unknown_constraint, unknown_name, unknown_root, name_conditions}
+use Rattle.fv_naming.specs.Types.{type_declared, types_declared}
+use Rattle.fv_naming.specs.Naming.{bad_name}
 use Rattle.fv_declare.specs.Judging.{unless_many}
 use Rattle.fv_declare.proofs.names.known_types.Goals as goal
 

@@ -5,9 +5,9 @@ use Rattle.serde_json.specs.View.{view as json_view, members_view}
 use Rattle.fv_datum.specs.Members.{pairs, each_some}
 use Rattle.fv_draft.specs.Drafts.{field_of}
 use Rattle.fv_draft.specs.DraftViews.{field_view}
-use Rattle.fv_draft.specs.EntryNames.{names_of}
-use Rattle.fv_draft.proofs.Fronts.{with_front, front_more}
-use Rattle.fv_draft.proofs.Sorted.{names-ascend}
+use Rattle.fv_definition.specs.EntryNames.{names_of}
+use Rattle.fv_definition.proofs.Fronts.{with_front, front_more}
+use Rattle.fv_definition.proofs.Sorted.{names-ascend}
 use Rattle.fv_draft.proofs.shape.fields_of.Goals as goal
 
 pub loop-name-preserved : goal.loop-name-preserved

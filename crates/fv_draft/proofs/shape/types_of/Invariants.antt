@@ -3,8 +3,8 @@ use Rattle.serde_json.specs.View.{members_view}
 use Rattle.fv_datum.specs.Members.{pairs, each_some}
 use Rattle.fv_draft.specs.Drafts.{type_of}
 use Rattle.fv_draft.specs.DraftViews.{type_view}
-use Rattle.fv_draft.specs.EntryNames.{names_of}
-use Rattle.fv_draft.proofs.Fronts.{with_front}
+use Rattle.fv_definition.specs.EntryNames.{names_of}
+use Rattle.fv_definition.proofs.Fronts.{with_front}
 use Rattle.fv_draft.proofs.shape.types_of.Given as goal
 
 abbrev pub invariant-loop-name : goal.invariant-loop-name

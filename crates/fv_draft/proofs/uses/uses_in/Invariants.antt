@@ -3,7 +3,7 @@ use Rattle.serde_json.specs.View.{items_view}
 use Rattle.fv_datum.specs.Members.{listed, each_some}
 use Rattle.fv_draft.specs.Uses.{use_of}
 use Rattle.fv_draft.specs.DraftViews.{use_view}
-use Rattle.fv_draft.proofs.Fronts.{with_front}
+use Rattle.fv_definition.proofs.Fronts.{with_front}
 use Rattle.fv_draft.proofs.uses.uses_in.Given as goal
 
 abbrev pub invariant-loop-value : goal.invariant-loop-value

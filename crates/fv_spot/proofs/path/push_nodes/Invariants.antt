@@ -11,5 +11,6 @@ invariant-loop-step l = record {
   led : leads (map step_view (drop l.step-index l.steps)) (map part_view (drop l.at l.locus)) ≡ true;
   nodes : l.path ++ nodes_of (map step_view (drop l.step-index l.steps)) (map part_view (drop l.at l.locus))
       ≡ l.initial.path ++ nodes_of (map step_view l.steps) (map part_view l.locus);
+  path : IsPath l.path;
   room : l.step-index < length l.steps → IsPath (l.path ++ index 0 ∷ []);
 }

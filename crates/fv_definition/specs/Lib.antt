@@ -1,0 +1,4 @@
+pub mod Attributes
+pub mod Definitions
+pub mod EntryNames
+pub mod Names

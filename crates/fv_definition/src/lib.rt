@@ -1,0 +1,14 @@
+//! Constraint definitions as they are written: JSON in, declared constraints with their attributes and
+//! composing constraints out, or none where the form isn't kept.
+#![tactic(auto)]
+
+mod attributes;
+mod composing;
+mod definitions;
+mod members;
+mod names;
+
+pub use attributes::attrs_of;
+pub use definitions::definitions_of;
+pub use members::add_last;
+pub use names::{names_in, names_of, told_names_of};

@@ -1,0 +1,6 @@
+pub mod Anys
+pub mod Firsts
+pub mod Founds
+pub mod Inserted
+pub mod Named
+pub mod Somes

@@ -1,0 +1,5 @@
+pub mod First
+pub mod Graphed
+pub mod Grouping
+pub mod NumberViews
+pub mod Numbered

@@ -1,0 +1,115 @@
+use Rattle.std.proofs.Common.{◌≡◌, ◌≢◌, ◌∙◌, ℕ, List, Vec, true, false, length, sym, ap, subst}
+use Rattle.std.specs.declared.alloc.Global.{Global}
+use Rattle.fv_graph.specs.Graph.{next_of, IsCyclic}
+use Rattle.fv_groups.specs.Groups.{Groups, inherit_next, member_next}
+use Rattle.fv_groups.specs.Judged.{AreSound, IsFault, has_unknown, has_inherited_sequence}
+use Rattle.fv_groups.specs.Marked.{AreMeetingIn}
+use Rattle.fv_groups.specs.Tables.{AreEdges}
+use Rattle.fv_groups.specs.declared.fault.GroupFault.TheVariants.{CyclicInheritance, CyclicSequence, SequenceMisused, TooLarge}
+use Rattle.fv_groups.proofs.Edges.{inherited_edges, member_edges, inherited_within, members_within, cyclic_same, acyclic_same, meeting_same}
+use Rattle.fv_groups.proofs.graph.GroupGraph.new.Goals as goal
+
+pub new-requires : goal.new-requires
+new-requires c =
+    let gs : Groups = c.new-groups.result in
+    let edges = c.in_ok-inherited.field-0.items in
+    inherited_within gs edges (inherited_edges gs edges c.in_ok-inherited.ensures)
+
+pub returns-in_default : goal.returns-in_default
+returns-in_default c =
+    let gs : Groups = c.new-groups.result in
+    let edges = c.in_ok-inherited.field-0.items in
+    let are : AreEdges (inherit_next gs) (length gs) edges = inherited_edges gs edges c.in_ok-inherited.ensures in
+    let known : has_unknown gs ≡ false = sym c.has_unknown.ensures ∙ c.if-has_unknown.false in
+    let cycle : IsCyclic (next_of edges) = rw c.in_default.is at c.in_ok-inheritance.ensures in
+    subst (λ (es : Groups). (CyclicInheritance ≢ TooLarge) × IsFault es CyclicInheritance) c.new-groups.ensures
+    (λ e. cc, (known, cyclic_same (next_of edges) (inherit_next gs) are.1 cycle))
+
+pub new-requires-2 : goal.new-requires-2
+new-requires-2 c =
+    let gs : Groups = c.new-groups.result in
+    let edges = c.in_ok-members.field-0.items in
+    members_within gs edges (member_edges gs edges c.in_ok-members.ensures)
+
+pub returns-in_default-2 : goal.returns-in_default-2
+returns-in_default-2 c =
+    let gs : Groups = c.new-groups.result in
+    let edges = c.in_ok-inherited.field-0.items in
+    let edges' = c.in_ok-members.field-0.items in
+    let are : AreEdges (inherit_next gs) (length gs) edges = inherited_edges gs edges c.in_ok-inherited.ensures in
+    let are' : AreEdges (member_next gs) (length gs) edges' = member_edges gs edges' c.in_ok-members.ensures in
+    let known : has_unknown gs ≡ false = sym c.has_unknown.ensures ∙ c.if-has_unknown.false in
+    let found = rw c.in-Some.is at c.in_ok-inheritance.ensures in
+    let cycle : IsCyclic (next_of edges') = rw c.in_default-2.is at c.in_ok-expansion.ensures in
+    subst (λ (es : Groups). (CyclicSequence ≢ TooLarge) × IsFault es CyclicSequence) c.new-groups.ensures
+    (λ e. cc, (known, acyclic_same (next_of edges) (inherit_next gs) are.1 found.1, cyclic_same (next_of edges') (member_next gs) are'.1 cycle))
+
+pub returns-then-has_inherited_sequence : goal.returns-then-has_inherited_sequence
+returns-then-has_inherited_sequence c =
+    let gs : Groups = c.new-groups.result in
+    let edges = c.in_ok-inherited.field-0.items in
+    let edges' = c.in_ok-members.field-0.items in
+    let are : AreEdges (inherit_next gs) (length gs) edges = inherited_edges gs edges c.in_ok-inherited.ensures in
+    let are' : AreEdges (member_next gs) (length gs) edges' = member_edges gs edges' c.in_ok-members.ensures in
+    let known : has_unknown gs ≡ false = sym c.has_unknown.ensures ∙ c.if-has_unknown.false in
+    let misused : has_inherited_sequence gs ≡ true = sym c.has_inherited_sequence.ensures ∙ c.if-has_inherited_sequence.true in
+    let found = rw c.in-Some.is at c.in_ok-inheritance.ensures in
+    let found' = rw c.in-Some-2.is at c.in_ok-expansion.ensures in
+    subst (λ (es : Groups). (SequenceMisused ≢ TooLarge) × IsFault es SequenceMisused) c.new-groups.ensures
+    (λ e. cc, (known, acyclic_same (next_of edges) (inherit_next gs) are.1 found.1, acyclic_same (next_of edges') (member_next gs) are'.1 found'.1, misused))
+
+pub meeting_default-requires-clause-inheritance : goal.meeting_default-requires-clause-inheritance
+meeting_default-requires-clause-inheritance c =
+    let gs : Groups = c.new-groups.result in
+    let edges = c.in_ok-inherited.field-0.items in
+    let found = rw c.in-Some.is at c.in_ok-inheritance.ensures in
+    ap length found.0 ∙ (inherited_edges gs edges c.in_ok-inherited.ensures).0 ∙ sym c.count.ensures
+
+pub meeting_default-requires-clause-expansion : goal.meeting_default-requires-clause-expansion
+meeting_default-requires-clause-expansion c =
+    let gs : Groups = c.new-groups.result in
+    let edges' = c.in_ok-members.field-0.items in
+    let found' = rw c.in-Some-2.is at c.in_ok-expansion.ensures in
+    ap length found'.0 ∙ (member_edges gs edges' c.in_ok-members.ensures).0 ∙ sym c.count.ensures
+
+pub invariant_of-result : goal.invariant_of-result
+invariant_of-result c =
+    let gs : Groups = c.new-groups.result in
+    let edges = c.in_ok-inherited.field-0.items in
+    let edges' = c.in_ok-members.field-0.items in
+    let found = rw c.in-Some.is at c.in_ok-inheritance.ensures in
+    let found' = rw c.in-Some-2.is at c.in_ok-expansion.ensures in
+    let are : AreEdges (inherit_next gs) (length gs) edges = inherited_edges gs edges c.in_ok-inherited.ensures in
+    let are' : AreEdges (member_next gs) (length gs) edges' = member_edges gs edges' c.in_ok-members.ensures in
+    let kept : AreEdges (inherit_next gs) (length gs) c.in-Some.inheritance = subst (λ (es : List (Vec ℕ Global)). AreEdges (inherit_next gs) (length gs) es) (sym found.0) are in
+    let kept' : AreEdges (member_next gs) (length gs) c.in-Some-2.expansion = subst (λ (es : List (Vec ℕ Global)). AreEdges (member_next gs) (length gs) es) (sym found'.0) are' in
+    let flags = c.in_ok-meeting.meeting.items in
+    let meets : AreMeetingIn (next_of c.in-Some.inheritance) (next_of c.in-Some-2.expansion) (length gs) flags =
+    subst (λ (n : ℕ). AreMeetingIn (next_of c.in-Some.inheritance) (next_of c.in-Some-2.expansion) n flags) c.count.ensures c.in_ok-meeting.ensures in
+    record {
+      sound = record {
+        known = sym c.has_unknown.ensures ∙ c.if-has_unknown.false;
+        inheritance = acyclic_same (next_of edges) (inherit_next gs) are.1 found.1;
+        expansion = acyclic_same (next_of edges') (member_next gs) are'.1 found'.1;
+        proper = sym c.has_inherited_sequence.ensures ∙ c.if-has_inherited_sequence.false;
+      };
+      inherited_are = kept;
+      members_are = kept';
+      meeting_are = meeting_same gs (next_of c.in-Some.inheritance) (next_of c.in-Some-2.expansion) flags kept.1 kept'.1 meets;
+      large_is = c.is_large-large.ensures;
+    }
+
+pub returns : goal.returns
+returns c =
+    let gs : Groups = c.new-groups.result in
+    let edges = c.in_ok-inherited.field-0.items in
+    let edges' = c.in_ok-members.field-0.items in
+    let found = rw c.in-Some.is at c.in_ok-inheritance.ensures in
+    let found' = rw c.in-Some-2.is at c.in_ok-expansion.ensures in
+    let sound : AreSound gs = record {
+      known = sym c.has_unknown.ensures ∙ c.if-has_unknown.false;
+      inheritance = acyclic_same (next_of edges) (inherit_next gs) (inherited_edges gs edges c.in_ok-inherited.ensures).1 found.1;
+      expansion = acyclic_same (next_of edges') (member_next gs) (member_edges gs edges' c.in_ok-members.ensures).1 found'.1;
+      proper = sym c.has_inherited_sequence.ensures ∙ c.if-has_inherited_sequence.false;
+    } in
+    (c.new-groups.ensures, subst AreSound c.new-groups.ensures sound)

@@ -1,0 +1,21 @@
+//! Groups of constraints: which groups a group inherits, and the plain groups that a sequence of
+//! groups stands for, in order.
+#![tactic(auto)]
+
+mod acyclic;
+mod declared;
+mod draft;
+mod fault;
+mod graph;
+mod groups;
+mod laws;
+mod marking;
+mod ranking;
+
+pub use declared::GroupId;
+pub use draft::GroupDraft;
+pub use fault::GroupFault;
+pub use graph::GroupGraph;
+pub use groups::Groups;
+pub use laws::{ranks_are_plain, ranks_unfold};
+pub use ranking::add_new;

@@ -1,0 +1,10 @@
+pub mod Reports
+pub mod Picked
+pub mod Fitting
+pub mod Sets
+pub mod Locals
+pub mod Steps
+pub mod Inside
+pub mod First
+pub mod Found
+pub mod Reaching

@@ -1,0 +1,51 @@
+-- What fails of the uses of constraints at an object.
+use Rattle.std.specs.Prelude.{◌≡◌, ℕ, ℤ, List, [], ◌∷◌, map, filter, Some}
+use Rattle.std.specs.List.{flat_map}
+use Rattle.fv_datum.specs.Data.{Data}
+use Rattle.fv_declare.specs.Declarations.{Placed, Declarations}
+use Rattle.fv_extract.specs.Parts.{Locus, parts_at}
+use Rattle.fv_extract.specs.Places as object
+use Rattle.fv_extract.specs.Places.{Step}
+use Rattle.fv_model.specs.Bundles.{Thing}
+use Rattle.fv_occurrence.specs.Reports.{violated}
+use Rattle.fv_occurrence.specs.Says.{Subject, of_datum, of_object}
+use Rattle.fv_graph.specs.Graph.{IsIn}
+use Rattle.fv_reach.specs.Below.{below}
+use Rattle.fv_reach.specs.Reached.{is_in, ranks_of}
+use Rattle.fv_registry.specs.Meanings.{Meanings}
+use Rattle.fv_turns.specs.OneObject.{first_some}
+use Rattle.fv_turns.specs.Turns as turn
+use Rattle.fv_turns.specs.Turns.{LocalFailure}
+use Rattle.fv_uses.specs.Uses.{Place, whole, field}
+
+-- one of those that stand at a place of an object: where in the object, and what is judged
+abbrev pub Standing : Type 0
+Standing = turn.Spot × Subject
+
+-- a part of an object at a place
+abbrev pub part_at : object.Place → Locus × Data → Standing
+part_at place p = (turn.at place p.0, of_datum p.1)
+
+-- what stands at a place: the parts that the steps lead to in the field of that number, or the object itself
+abbrev pub standing_at : Thing → Place → List Standing
+standing_at object whole = (turn.of_object, of_object object) ∷ []
+standing_at object (field number steps kind) =
+    map (part_at (record { field = number; steps = steps })) (parts_at object (record { field = number; steps = steps }))
+
+-- the nodes of a use's tree that are reported of what stands there
+abbrev pub failures_at : Meanings → ℤ → Standing → Placed → List LocalFailure
+failures_at m now s u = map (λ n. record { spot = s.0; node = n.0 }) (violated m now s.1 u.number u.tree)
+
+-- what fails of a use
+abbrev pub failures_of : Meanings → ℤ → Thing → Placed → List LocalFailure
+failures_of m now object u = flat_map (λ s. failures_at m now s u) (standing_at object u.place)
+
+-- what fails of the uses at a type that are in one of these groups
+abbrev pub failures_in : Meanings → Declarations → ℤ → Thing → ℕ → List ℕ → List LocalFailure
+failures_in m ds now object type hs = flat_map (failures_of m now object) (filter (is_in type hs) ds.occurrences)
+
+-- what fails in the first rank of a type's sequence in which something does, where `Default` is among these groups
+abbrev pub FailsInRanks : Meanings → Declarations → ℤ → Thing → ℕ → List ℕ → LocalFailure → Type 0
+FailsInRanks m ds now object type hs f =
+    (ranks : List ℕ) × (ranks_of ds type ≡ Some ranks) × IsIn hs 0
+    × IsIn (first_some (map (λ r. failures_in m ds now object type (below ds.groups r)) ranks)) f

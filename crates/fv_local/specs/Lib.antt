@@ -1,0 +1,4 @@
+pub mod Failures
+pub mod FailureView
+pub mod Own
+pub mod Told

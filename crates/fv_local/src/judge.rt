@@ -1,0 +1,82 @@
+//! Uses of constraints at one place, and the numbers of the constraints that they report.
+ghost use Rattle.std.specs.Prelude.{◌≡◌, ◌<◌, ◌≤◌, ◌+◌, ◌++◌, All, map, length, IfOk, OnOk};
+ghost use Rattle.std.specs.List.{AllByRecursion};
+ghost use Rattle.fv_datum.specs.Moments.{IsMoment};
+ghost use Rattle.fv_datum.specs.View.{view};
+ghost use Rattle.fv_declare.specs.PlacedView.{placed_view};
+ghost use Rattle.fv_local.specs.Told.{picked, numbers_of, CanBeAsked};
+ghost use Rattle.fv_model.specs.Views.{object_view};
+ghost use Rattle.fv_occurrence.specs.Says.{of_datum, of_object};
+
+use fv_datum::Datum;
+use fv_declare::Placed;
+use fv_model::Object;
+use fv_occurrence::{report, report_object};
+use fv_registry::{RuleSet, Ruled};
+use std::alloc::{AllocError, Global};
+
+/// All uses, the numbers of those that are asked, their rules, and the moment at which they are asked.
+#[derive(Drop)]
+pub(crate) struct Judge<'a, R: RuleSet> {
+    pub(crate) rules: &'a Ruled<R>,
+    pub(crate) occurrences: &'a [Placed],
+    pub(crate) asked: &'a [usize],
+    pub(crate) moment: i64,
+}
+
+/// Adds the numbers of a tree's nodes over the whole declarations, where the root has the first.
+fn add_numbers(numbers: &mut Vec<usize>, first: usize, reported: &[usize]) -> Result<(), AllocError>
+    requires { AllByRecursion (λ n. first + n ≤ 1024) reported.now }
+    ensures { OnOk result (numbers.new.items ≡ numbers.old.items ++ map (λ n. first + n) reported.now) }
+{
+    for number in reported {
+        numbers.push(first + *number)?;
+    }
+    Ok(())
+}
+
+impl<R: RuleSet> Judge<'_, R> {
+    /// The numbers of the nodes that are reported of a datum.
+    pub(crate) fn numbers(&self, alloc: Global, datum: &Datum) -> Result<Vec<usize>, AllocError>
+        requires moment { IsMoment self.now.moment }
+        requires within { All (λ i. i < length self.now.occurrences.now) self.now.asked.now }
+        requires can { CanBeAsked (R.known self.now.rules.now.rules) (map placed_view self.now.occurrences.now) }
+        ensures { IfOk result (λ v. v.items ≡ numbers_of R.meaning self.now.moment (of_datum (view datum.now))
+            (picked (map placed_view self.now.occurrences.now) self.now.asked.now)) }
+    {
+        let mut numbers = Vec::new(alloc);
+        for index in self.asked {
+            let placed = &self.occurrences[*index];
+            let reported = report(alloc, self.rules, placed.occurrence(), datum, self.moment)?;
+            add_numbers(&mut numbers, placed.number(), &reported)?;
+        }
+        Ok(numbers)
+    }
+
+    /// The numbers of the nodes that are reported of an object.
+    pub(crate) fn object_numbers(
+        &self,
+        alloc: Global,
+        object: &Object,
+    ) -> Result<Vec<usize>, AllocError>
+        requires moment { IsMoment self.now.moment }
+        requires within { All (λ i. i < length self.now.occurrences.now) self.now.asked.now }
+        requires can { CanBeAsked (R.known self.now.rules.now.rules) (map placed_view self.now.occurrences.now) }
+        ensures { IfOk result (λ v. v.items ≡ numbers_of R.meaning self.now.moment (of_object (object_view object.now))
+            (picked (map placed_view self.now.occurrences.now) self.now.asked.now)) }
+    {
+        let mut numbers = Vec::new(alloc);
+        for index in self.asked {
+            let placed = &self.occurrences[*index];
+            let reported = report_object(
+                alloc,
+                self.rules,
+                placed.occurrence(),
+                object,
+                self.moment,
+            )?;
+            add_numbers(&mut numbers, placed.number(), &reported)?;
+        }
+        Ok(numbers)
+    }
+}

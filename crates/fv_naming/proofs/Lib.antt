@@ -1,0 +1,2 @@
+pub mod Anys
+pub mod Typed

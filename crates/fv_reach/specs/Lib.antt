@@ -1,0 +1,4 @@
+pub mod Below
+pub mod Reached
+pub mod Spans
+pub mod TableView

@@ -1,0 +1,16 @@
+pub mod Lists
+pub mod Shadowing
+pub mod Exact
+pub mod Arrivals
+pub mod Once
+pub mod Facts
+pub mod Unfolded
+pub mod Unfolds
+pub mod Prefix
+pub mod Parts
+pub mod Visiting
+pub mod Tidy
+pub mod Told
+pub mod Ends
+pub mod Listing
+pub mod OneField

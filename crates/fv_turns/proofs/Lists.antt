@@ -1,0 +1,65 @@
+-- Membership by recursion, and lists without repeats.
+use Rattle.std.proofs.Common.{◌≡◌, List, [], ◌∷◌, map, ◌⊎◌, inl, inr, refl, sym, ap, subst}
+use Rattle.fv_graph.specs.Graph.{IsIn, AllDiffer}
+use Rattle.fv_turns.specs.OneObject.{or_else, if_none}
+
+pub in_map : {X Y : Type 0} (f : X → Y) (xs : List X) (x : X) → IsIn xs x → IsIn (map f xs) (f x)
+in_map f [] x h = absurd h
+in_map f (y ∷ xs) x (inl e) = inl (ap f e)
+in_map f (y ∷ xs) x (inr h) = inr (in_map f xs x h)
+
+pub from_map : {X Y : Type 0} (f : X → Y) (xs : List X) (y : Y) → IsIn (map f xs) y → (x : X) × (y ≡ f x) × IsIn xs x
+from_map f [] y h = absurd h
+from_map f (x ∷ xs) y (inl e) = (x, sym e, inl refl)
+from_map f (x ∷ xs) y (inr h) = let k = from_map f xs y h in (k.0, k.1, inr k.2)
+
+pub map_none : {X Y : Type 0} (f : X → Y) (xs : List X) → map f xs ≡ [] → xs ≡ []
+map_none f [] e = refl
+map_none f (x ∷ xs) e = cc
+
+pub none_map : {X Y : Type 0} (f : X → Y) (xs : List X) → xs ≡ [] → map f xs ≡ []
+none_map f [] e = refl
+none_map f (x ∷ xs) e = cc
+
+pub none_or_some : {X : Type 0} (xs : List X) → (xs ≡ []) ⊎ ((x : X) × IsIn xs x)
+none_or_some [] = inl refl
+none_or_some (x ∷ xs) = inr (x, inl refl)
+
+pub or_else_left : {X : Type 0} (xs ys : List X) (x : X) → IsIn xs x → IsIn (or_else xs ys) x
+or_else_left [] ys x h = absurd h
+or_else_left (y ∷ xs) ys x h = h
+
+pub or_else_right : {X : Type 0} (xs ys : List X) (x : X) → xs ≡ [] → IsIn ys x → IsIn (or_else xs ys) x
+or_else_right [] ys x e h = h
+or_else_right (y ∷ xs) ys x e h = cc
+
+pub or_else_cases : {X : Type 0} (xs ys : List X) (x : X) → IsIn (or_else xs ys) x → IsIn xs x ⊎ ((xs ≡ []) × IsIn ys x)
+or_else_cases [] ys x h = inr (refl, h)
+or_else_cases (y ∷ xs) ys x h = inl h
+
+pub or_else_some : {X : Type 0} (xs ys : List X) (y : X) → IsIn ys y → (x : X) × IsIn (or_else xs ys) x
+or_else_some [] ys y h = (y, h)
+or_else_some (x ∷ xs) ys y h = (x, inl refl)
+
+pub in_if_none : {X Y : Type 0} (xs : List X) (ys : List Y) (y : Y) → xs ≡ [] → IsIn ys y → IsIn (if_none xs ys) y
+in_if_none [] ys y e h = h
+in_if_none (x ∷ xs) ys y e h = cc
+
+pub from_if_none : {X Y : Type 0} (xs : List X) (ys : List Y) (y : Y) → IsIn (if_none xs ys) y → (xs ≡ []) × IsIn ys y
+from_if_none [] ys y h = (refl, h)
+from_if_none (x ∷ xs) ys y h = absurd h
+
+pub AllDiffer-map : {X Y : Type 0} (f : X → Y) → ((a b : X) → f a ≡ f b → a ≡ b) → (xs : List X) → AllDiffer xs → AllDiffer (map f xs)
+AllDiffer-map f one [] d = tt
+AllDiffer-map f one (x ∷ xs) d = (
+  λ h. let k = from_map f xs (f x) h in d.0 (subst (λ z. IsIn xs z) (one _ _ (sym k.1)) k.2),
+  AllDiffer-map f one xs d.1,
+)
+
+pub AllDiffer-or_else : {X : Type 0} (xs ys : List X) → AllDiffer xs → AllDiffer ys → AllDiffer (or_else xs ys)
+AllDiffer-or_else [] ys d e = e
+AllDiffer-or_else (x ∷ xs) ys d e = d
+
+pub AllDiffer-if_none : {X Y : Type 0} (xs : List X) (ys : List Y) → AllDiffer ys → AllDiffer (if_none xs ys)
+AllDiffer-if_none [] ys e = e
+AllDiffer-if_none (x ∷ xs) ys e = tt

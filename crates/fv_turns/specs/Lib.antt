@@ -1,0 +1,11 @@
+pub mod Turns
+pub mod Requests
+pub mod Traces
+pub mod Violations
+pub mod OneObject
+pub mod OneField
+pub mod Tree
+pub mod Unfold
+pub mod Points
+pub mod Finite
+pub mod Listing

@@ -1,0 +1,10 @@
+use Rattle.fv_turns.proofs.Told.{tells}
+use Rattle.fv_turns_tests.specs.Rows.{trip}
+use Rattle.fv_turns_tests.proofs.Tables.{trip_tidy}
+use Rattle.fv_turns_tests.proofs.rows.object_fails_at_its_own_path.Goals as goal
+
+pub returns-clause-element : goal.returns-clause-element
+returns-clause-element _ v = tells (trip 0) 3 (trip_tidy 0) v
+
+pub returns-clause-root : goal.returns-clause-root
+returns-clause-root _ v = tells (trip 2) 3 (trip_tidy 2) v

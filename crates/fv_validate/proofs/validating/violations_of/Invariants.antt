@@ -1,0 +1,16 @@
+use Rattle.std.proofs.Common.{◌≡◌, ◌++◌, map}
+use Rattle.std.specs.List.{AllByRecursion}
+use Rattle.std.specs.Vec.Iter.{into_iter_items}
+use Rattle.fv_declare.specs.PlacedView.{placed_view}
+use Rattle.fv_path.specs.Paths.{IsPath}
+use Rattle.fv_validate.specs.ViolationView.{violation_view}
+use Rattle.fv_validate.specs.Violations.{reported_by}
+use Rattle.fv_walk.specs.FailureView.{failure_view}
+use Rattle.fv_validate.proofs.validating.violations_of.Given as goal
+
+abbrev pub invariant-loop-failure : goal.invariant-loop-failure
+invariant-loop-failure l = record {
+  made : map violation_view l.violations.items ++ map (reported_by (map placed_view l.occurrences)) (map failure_view (into_iter_items l.failure-iterator))
+      ≡ map (reported_by (map placed_view l.occurrences)) (map failure_view l.fn.failures.items);
+  paths : AllByRecursion (λ v. IsPath v.path) (map failure_view (into_iter_items l.failure-iterator)) → AllByRecursion (λ v. IsPath v.path) (map failure_view l.fn.failures.items);
+}

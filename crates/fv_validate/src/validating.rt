@@ -1,0 +1,90 @@
+//! The violations of a bundle.
+ghost use Rattle.std.specs.Prelude.{◌≡◌, ◌<◌, All, map, length, IfOk};
+ghost use Rattle.std.specs.List.{AllByRecursion};
+ghost use Rattle.fv_datum.specs.Moments.{IsMoment};
+ghost use Rattle.fv_declare.specs.Declarations.{AreNumbered};
+ghost use Rattle.fv_declare.specs.PlacedView.{placed_view};
+ghost use Rattle.fv_groups.specs.Tables.{indices};
+ghost use Rattle.fv_model.specs.Views.{bundle_view};
+ghost use Rattle.fv_model.specs.WellTyped.{IsWellTyped};
+ghost use Rattle.fv_path.specs.Paths.{IsPath};
+ghost use Rattle.fv_validate.specs.ViolationView.{violation_view};
+ghost use Rattle.fv_validate.specs.Violations.{reported_by, IsListing};
+ghost use Rattle.fv_walk.specs.FailureView.{failure_view};
+
+use crate::listing::arrange;
+use crate::node::node_of;
+use crate::violation::Violation;
+use fv_declare::Placed;
+use fv_groups::GroupId;
+use fv_local::Rulebook;
+use fv_model::Bundle;
+use fv_registry::RuleSet;
+use fv_walk::{Failure, walk};
+use std::alloc::{AllocError, Global};
+
+/// A failure, as it is reported.
+fn violation_of(
+    alloc: Global,
+    occurrences: &[Placed],
+    failure: Failure,
+) -> Result<Violation, AllocError>
+    requires { AreNumbered 0 (map placed_view occurrences.now) }
+    ensures report { IfOk result (λ v. violation_view v ≡ reported_by (map placed_view occurrences.now) (failure_view failure)) }
+    ensures path { IsPath failure.path }
+{
+    let (constraint, message) = match node_of(occurrences, failure.number) {
+        Some(node) => (node.constraint(), node.message()),
+        None => ("", ""),
+    };
+    Ok(Violation {
+        path: failure.path.write(alloc)?,
+        constraint: String::from_str(alloc, constraint)?,
+        occurrence: failure.number,
+        message: String::from_str(alloc, message)?,
+        value: failure.value,
+    })
+}
+
+/// Failures, as they are reported.
+fn violations_of(
+    alloc: Global,
+    occurrences: &[Placed],
+    failures: Vec<Failure>,
+) -> Result<Vec<Violation>, AllocError>
+    requires { AreNumbered 0 (map placed_view occurrences.now) }
+    ensures reports { IfOk result (λ v. map violation_view v.items ≡ map (reported_by (map placed_view occurrences.now)) (map failure_view failures.items)) }
+    ensures paths { IfOk result (λ _. AllByRecursion (λ v. IsPath v.path) (map failure_view failures.items)) }
+{
+    let mut violations = Vec::with_capacity(alloc, failures.len())?;
+    for failure in failures {
+        violations.push(violation_of(alloc, occurrences, failure)?)?;
+    }
+    Ok(violations)
+}
+
+/// The violations of a bundle at a moment, in whole seconds since 1970-01-01T00:00:00Z, for the
+/// groups that are asked for: each once, ascending by the bytes of the path, then by the number of
+/// the constraint. The root alone is validated. At least one group is to be handed in, `Default`
+/// where none is asked for: none would ask for nothing.
+pub fn validate<R: RuleSet>(
+    alloc: Global,
+    rulebook: &Rulebook<R>,
+    bundle: &Bundle,
+    asked: &[GroupId],
+    now: i64,
+) -> Result<Vec<Violation>, AllocError>
+    requires moment { IsMoment now }
+    requires typed { IsWellTyped rulebook.now.types (bundle_view bundle.now) }
+    requires asked { All (λ g. g.index < length rulebook.now.groups) asked.now }
+    ensures listing { IfOk result (λ v. IsListing R.meaning rulebook.now now (bundle_view bundle.now) (indices asked.now)
+        (map violation_view v.items)) }
+    // What is judged twice at one moment is judged alike.
+    ensures alike { IfOk result (λ v. (vs : _) → IsListing R.meaning rulebook.now now (bundle_view bundle.now) (indices asked.now) vs
+        → vs ≡ map violation_view v.items) }
+{
+    let failures = walk(alloc, rulebook, bundle, asked, now)?;
+    let mut violations = violations_of(alloc, rulebook.schema().occurrences(), failures)?;
+    arrange(&mut violations);
+    Ok(violations)
+}

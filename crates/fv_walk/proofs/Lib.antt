@@ -1,0 +1,9 @@
+pub mod Asked
+pub mod Numbers
+pub mod Objects
+pub mod Parts
+pub mod Tidy
+pub mod Apart
+pub mod Firsts
+pub mod Roots
+pub mod Tellings

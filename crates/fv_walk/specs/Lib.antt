@@ -1,0 +1,4 @@
+pub mod Requests
+pub mod FailureView
+pub mod Telling
+pub mod Sound

@@ -1,0 +1,70 @@
+-- The request that judges a bundle: its objects by their numbers, and what stands in them.
+use Rattle.std.specs.Prelude.{ℕ, ℤ, List, [], ◌∷◌, Bool, true, false, ◌&&◌, cond, nat_eq, position, slice_get, unwrap_or}
+use Rattle.std.specs.Option.{option_map_or}
+use Rattle.std.specs.Str.{bytes_eq}
+use Rattle.fv_datum.specs.Data.{Data, null}
+use Rattle.fv_declare.specs.Declarations.{Declarations}
+use Rattle.fv_extract.specs.Parts.{Part, at_index, at_key, Locus, parts_at}
+use Rattle.fv_extract.specs.Places.{Place}
+use Rattle.fv_groups.specs.Groups.{is_sequence, ranks}
+use Rattle.fv_groups.specs.Once.{once}
+use Rattle.fv_local.specs.Own.{own_in}
+use Rattle.fv_model.specs.Bundles.{Thing, Bundled}
+use Rattle.fv_path.specs.Nodes.{PathNode, field}
+use Rattle.fv_reach.specs.Below.{below}
+use Rattle.fv_registry.specs.Meanings.{Meanings}
+use Rattle.fv_spot.specs.Paths.{field_name, nodes_of}
+use Rattle.fv_turns.specs.Requests.{Request}
+
+-- the object of a number: its place in the order of the objects' names. One without fields, of no type, where there is none
+abbrev pub object_at : Bundled → ℕ → Thing
+object_at b i = option_map_or (λ o. o.1) (slice_get b.objects i) (record { type_name = []; fields = [] })
+
+-- its name
+abbrev pub object_name : Bundled → ℕ → List ℕ
+object_name b i = option_map_or (λ o. o.0) (slice_get b.objects i) []
+
+-- the number of the object of a name
+abbrev pub object_number : Bundled → List ℕ → ℕ
+object_number b name = unwrap_or (position (λ o. bytes_eq name o.0) b.objects) 0
+
+-- the same index, or the same key
+abbrev pub is_same_part : Part → Part → Bool
+is_same_part (at_index i) (at_index j) = nat_eq i j
+is_same_part (at_key k) (at_key l) = bytes_eq k l
+is_same_part _ _ = false
+
+abbrev pub is_same_locus : Locus → Locus → Bool
+is_same_locus [] [] = true
+is_same_locus (p ∷ l) (q ∷ m) = is_same_part p q && is_same_locus l m
+is_same_locus _ _ = false
+
+-- the datum of the part that has the locus; null where none has
+abbrev pub datum_among : List (Locus × Data) → Locus → Data
+datum_among [] locus = null
+datum_among (p ∷ ps) locus = cond (is_same_locus p.0 locus) p.1 (datum_among ps locus)
+
+-- the datum at a place and a locus of an object
+abbrev pub datum_at : Thing → Place → Locus → Data
+datum_at object place locus = datum_among (parts_at object place) locus
+
+-- the nodes from an object to a part of it
+abbrev pub nodes_at : Thing → Place → Locus → List PathNode
+nodes_at object place locus = field (field_name object place.field) ∷ nodes_of place.steps locus
+
+-- the request that judges a bundle by declarations, for groups that are asked for, at a moment: those that are handed in, `Default` among
+-- them where none is asked for by name. The root alone is judged: no reference is followed from it
+abbrev pub request_of : Meanings → Declarations → ℤ → Bundled → List ℕ → Request
+request_of m ds now b asked = record {
+  asked = once asked;
+  root = object_number b b.root;
+  is_sequence = is_sequence ds.groups;
+  ranks = ranks ds.groups;
+  ways = λ object. [];
+  converted = λ object place group. group;
+  below = below ds.groups;
+  own = λ object group. own_in m ds now (object_at b object) group;
+  nodes = λ object place locus. nodes_at (object_at b object) place locus;
+  datum = λ object place locus. datum_at (object_at b object) place locus;
+  name = object_name b;
+}
