@@ -7,4 +7,5 @@ pub mod Steps
 pub mod Inside
 pub mod First
 pub mod Found
+pub mod Fields
 pub mod Reaching

@@ -1,7 +1,6 @@
 -- What is told of an object is what fails in the groups that a group stands for.
 use Rattle.std.proofs.Common.{◌≡◌, ◌<◌, ◌⊎◌, inl, inr, ℕ, ℤ, zero, suc, List, [], ◌∷◌, ◌++◌, map, filter, Bool, true, false, cond, not, ◌&&◌, ◌||◌, nat_eq, Option, Some, None, slice_get, refl, sym, ap, subst, ◌∙◌, true≢false, arith}
 use Rattle.std.specs.Prelude.{is_some}
-use Rattle.std.proofs.lemmas.List.{map-append}
 use Rattle.std.specs.List.{list_any, flat_map, AllZip}
 use Rattle.std.specs.Option.{option_map_or}
 use Rattle.fv_datum.specs.Data.{Data, null}
@@ -9,17 +8,17 @@ use Rattle.fv_declare.specs.Declarations.{Placed, Declarations}
 use Rattle.fv_extract.specs.Parts.{parts_at}
 use Rattle.fv_extract.specs.Places as to
 use Rattle.fv_graph.specs.Graph.{IsIn}
-use Rattle.fv_graph.proofs.Lists.{in_left, in_right, in_cases, eq_of, eq_same}
+use Rattle.fv_graph.proofs.Lists.{in_left, eq_of, eq_same}
 use Rattle.fv_groups.specs.Once.{mem}
 use Rattle.fv_model.specs.Bundles.{Thing}
 use Rattle.fv_occurrence.specs.Nodes.{Node}
 use Rattle.fv_occurrence.specs.Reports.{violated}
 use Rattle.fv_occurrence.specs.Says.{of_datum, of_object}
 use Rattle.fv_reach.specs.Below.{below}
-use Rattle.fv_reach.specs.Reached.{is_in, AreReached, ranks_of, plain_groups, AreOfRanks}
+use Rattle.fv_reach.specs.Reached.{is_in, ranks_of, plain_groups}
 use Rattle.fv_registry.specs.Meanings.{Meanings}
 use Rattle.fv_turns.specs.OneObject.{IsLocalIn, first_some, told_of_own, told_in}
-use Rattle.fv_turns.specs.Requests.{Own, Plain}
+use Rattle.fv_turns.specs.Requests.{Own, Plain, InRanks}
 use Rattle.fv_turns.specs.Turns as turn
 use Rattle.fv_turns.specs.Turns.{LocalFailure}
 use Rattle.fv_turns.proofs.Ends.{in_flat_map, from_flat_map, to_local_in, from_local_in}
@@ -27,15 +26,15 @@ use Rattle.fv_turns.proofs.Lists.{in_map, from_map, or_else_left, or_else_right,
 use Rattle.fv_types.specs.Types.{number_of}
 use Rattle.fv_uses.specs.Uses.{Place, whole, field}
 use Rattle.fv_local.specs.FailureView.{failure_view}
-use Rattle.fv_local.specs.Failures.{Standing, part_at, standing_at, failures_at, failures_of, failures_in, FailsInRanks}
-use Rattle.fv_local.specs.Own.{own_at, own_in, ranked}
-use Rattle.fv_local.specs.Told.{Told, datum_of, told_view, numbers_of, told_part, part_told, object_told, told_at, IsTold, IsToldFirst}
+use Rattle.fv_local.specs.Failures.{Standing, part_at, standing_at, failures_at, failures_of}
+use Rattle.fv_local.specs.Own.{own_at, own_in}
+use Rattle.fv_local.specs.Told.{Told, datum_of, told_view, numbers_of, told_part, part_told, object_told, told_at, IsTold, IsToldFirst, IsToldIn}
 use Rattle.fv_local.specs.declared.failure.LocalFailure as code
 use Rattle.fv_local.proofs.Sets.{one_number, from_one}
 
 -- ---- lists
 
-to_filter : {X : Type 0} (test : X → Bool) (xs : List X) (x : X) → IsIn xs x → test x ≡ true → IsIn (filter test xs) x
+pub to_filter : {X : Type 0} (test : X → Bool) (xs : List X) (x : X) → IsIn xs x → test x ≡ true → IsIn (filter test xs) x
 to_filter test [] x h t = absurd h
 to_filter {X} test (y ∷ xs) x h t = go (to_filter test xs x) (test y) refl h
   where
@@ -45,7 +44,7 @@ to_filter {X} test (y ∷ xs) x h t = go (to_filter test xs x) (test y) refl h
     go ih false e (inl same) = absurd (true≢false (sym t ∙ ap test (sym same) ∙ e))
     go ih false e (inr k) = ih k t
 
-from_filter : {X : Type 0} (test : X → Bool) (xs : List X) (x : X) → IsIn (filter test xs) x → IsIn xs x × (test x ≡ true)
+pub from_filter : {X : Type 0} (test : X → Bool) (xs : List X) (x : X) → IsIn (filter test xs) x → IsIn xs x × (test x ≡ true)
 from_filter test [] x h = absurd h
 from_filter {X} test (y ∷ xs) x h = go (from_filter test xs x) (test y) refl h
   where
@@ -64,11 +63,11 @@ in_get [] x h = absurd h
 in_get (y ∷ xs) x (inl same) = (0, ap Some same)
 in_get (y ∷ xs) x (inr k) = let r = in_get xs x k in (suc r.0, r.1)
 
-and_both : (a b : Bool) → (a && b) ≡ true → (a ≡ true) × (b ≡ true)
+pub and_both : (a b : Bool) → (a && b) ≡ true → (a ≡ true) × (b ≡ true)
 and_both true b e = (refl, e)
 and_both false b e = absurd (true≢false (sym e))
 
-both_and : (a b : Bool) → a ≡ true → b ≡ true → (a && b) ≡ true
+pub both_and : (a b : Bool) → a ≡ true → b ≡ true → (a && b) ≡ true
 both_and true b one other = other
 both_and false b one other = one
 
@@ -160,37 +159,55 @@ module _ (m : Meanings) (now : ℤ) (object : Thing) where
       (subst (λ (g : LocalFailure). IsIn (failures_at m now (part_at place p.0) u) g) is
       (in_map (λ (n : ℕ × Node). record { spot = turn.at place p.0.0; node = n.0 }) (violated m now (of_datum p.0.1) u.number u.tree) v.0 v.2))
 
-  module _ (ds : Declarations) (type : ℕ) where
+  module _ (ds : Declarations) (type : ℕ) (keep : Placed → Bool) where
+    -- a use that is kept, at the type and in one of these groups
+    abbrev is_kept : List ℕ → Placed → Bool
+    is_kept hs u = keep u && is_in type hs u
+
+    -- the use of that number is one of those
+    abbrev IsKept : List ℕ → ℕ → Type 0
+    IsKept hs i = (u : Placed) × (slice_get ds.occurrences i ≡ Some u) × (is_kept hs u ≡ true)
+
+    -- the numbers of those uses
+    abbrev pub AreKept : List ℕ → List ℕ → Type 0
+    AreKept hs is = (i : ℕ) → (IsIn is i → IsKept hs i) × (IsKept hs i → IsIn is i)
+
+    -- what fails of them
+    abbrev pub kept_fails : List ℕ → List LocalFailure
+    kept_fails hs = flat_map (failures_of m now object) (filter (is_kept hs) ds.occurrences)
+
     -- what is told of the uses that groups reach is what fails in those groups
-    pub reached_fails : (hs is : List ℕ) (x : Told) → AreReached ds type hs is → IsTold m now object ds.occurrences is x → IsIn (failures_in m ds now object type hs) x.0
+    reached_fails : (hs is : List ℕ) (x : Told) → AreKept hs is → IsTold m now object ds.occurrences is x → IsIn (kept_fails hs) x.0
     reached_fails hs is x reached t =
         let r = (reached t.0).0 t.2 in
         let same : r.0 ≡ t.1 = let e : Some r.0 ≡ Some t.1 = sym r.1 ∙ t.3 in cc in
-        let kept = to_filter (is_in type hs) ds.occurrences t.1 (get_in ds.occurrences t.0 t.1 t.3) (ap (is_in type hs) (sym same) ∙ r.2) in
-        in_flat_map (failures_of m now object) (filter (is_in type hs) ds.occurrences) t.1 x.0 kept (told_failed t.1 t.1.place x t.4)
+        let kept = to_filter (is_kept hs) ds.occurrences t.1 (get_in ds.occurrences t.0 t.1 t.3) (ap (is_kept hs) (sym same) ∙ r.2) in
+        in_flat_map (failures_of m now object) (filter (is_kept hs) ds.occurrences) t.1 x.0 kept (told_failed t.1 t.1.place x t.4)
 
-    pub fails_reached : (hs is : List ℕ) (f : LocalFailure) → AreReached ds type hs is → IsIn (failures_in m ds now object type hs) f → (d : Data) × IsTold m now object ds.occurrences is (f, d)
+    fails_reached : (hs is : List ℕ) (f : LocalFailure) → AreKept hs is → IsIn (kept_fails hs) f → (d : Data) × IsTold m now object ds.occurrences is (f, d)
     fails_reached hs is f reached h =
-        let r = from_flat_map (failures_of m now object) (filter (is_in type hs) ds.occurrences) f h in
-        let k = from_filter (is_in type hs) ds.occurrences r.0 r.1 in
+        let r = from_flat_map (failures_of m now object) (filter (is_kept hs) ds.occurrences) f h in
+        let k = from_filter (is_kept hs) ds.occurrences r.0 r.1 in
         let i = in_get ds.occurrences r.0 k.0 in
         let t = failed_told r.0 r.0.place f r.2 in
         (t.0, (i.0, r.0, (reached i.0).1 (r.0, i.1, k.1), i.1, t.1))
 
     -- ---- groups together
 
-    fails_in_one : (hs : List ℕ) (f : LocalFailure) → IsIn (failures_in m ds now object type hs) f → (h : ℕ) × IsIn hs h × IsIn (failures_in m ds now object type (h ∷ [])) f
+    fails_in_one : (hs : List ℕ) (f : LocalFailure) → IsIn (kept_fails hs) f → (h : ℕ) × IsIn hs h × IsIn (kept_fails (h ∷ [])) f
     fails_in_one hs f h =
-        let r = from_flat_map (failures_of m now object) (filter (is_in type hs) ds.occurrences) f h in
-        let k = from_filter (is_in type hs) ds.occurrences r.0 r.1 in
-        let o = in_one_of type hs r.0 k.1 in
-        (o.0, o.1, in_flat_map (failures_of m now object) (filter (is_in type (o.0 ∷ [])) ds.occurrences) r.0 f (to_filter (is_in type (o.0 ∷ [])) ds.occurrences r.0 k.0 o.2) r.2)
+        let r = from_flat_map (failures_of m now object) (filter (is_kept hs) ds.occurrences) f h in
+        let k = from_filter (is_kept hs) ds.occurrences r.0 r.1 in
+        let p = and_both (keep r.0) (is_in type hs r.0) k.1 in
+        let o = in_one_of type hs r.0 p.1 in
+        (o.0, o.1, in_flat_map (failures_of m now object) (filter (is_kept (o.0 ∷ [])) ds.occurrences) r.0 f (to_filter (is_kept (o.0 ∷ [])) ds.occurrences r.0 k.0 (both_and (keep r.0) _ p.0 o.2)) r.2)
 
-    fails_in_all : (hs : List ℕ) (h : ℕ) (f : LocalFailure) → IsIn hs h → IsIn (failures_in m ds now object type (h ∷ [])) f → IsIn (failures_in m ds now object type hs) f
+    fails_in_all : (hs : List ℕ) (h : ℕ) (f : LocalFailure) → IsIn hs h → IsIn (kept_fails (h ∷ [])) f → IsIn (kept_fails hs) f
     fails_in_all hs h f there k =
-        let r = from_flat_map (failures_of m now object) (filter (is_in type (h ∷ [])) ds.occurrences) f k in
-        let q = from_filter (is_in type (h ∷ [])) ds.occurrences r.0 r.1 in
-        in_flat_map (failures_of m now object) (filter (is_in type hs) ds.occurrences) r.0 f (to_filter (is_in type hs) ds.occurrences r.0 q.0 (in_all_of type hs h r.0 there q.1)) r.2
+        let r = from_flat_map (failures_of m now object) (filter (is_kept (h ∷ [])) ds.occurrences) f k in
+        let q = from_filter (is_kept (h ∷ [])) ds.occurrences r.0 r.1 in
+        let p = and_both (keep r.0) (is_in type (h ∷ []) r.0) q.1 in
+        in_flat_map (failures_of m now object) (filter (is_kept hs) ds.occurrences) r.0 f (to_filter (is_kept hs) ds.occurrences r.0 q.0 (both_and (keep r.0) _ p.0 (in_all_of type hs h r.0 there p.1))) r.2
 
     -- ---- the first rank in which something fails
 
@@ -222,8 +239,8 @@ module _ (m : Meanings) (now : ℤ) (object : Thing) where
         empty (x ∷ xs) never = absurd (never x (inl refl))
 
     -- what fails in a rank
-    abbrev fails_of_rank : ℕ → List LocalFailure
-    fails_of_rank r = failures_in m ds now object type (below ds.groups r)
+    abbrev pub fails_of_rank : ℕ → List LocalFailure
+    fails_of_rank r = kept_fails (below ds.groups r)
 
     rank_at : (ranks : List ℕ) (k : ℕ) (fs : List LocalFailure) → slice_get (map fails_of_rank ranks) k ≡ Some fs → (r : ℕ) × (slice_get ranks k ≡ Some r) × (fs ≡ fails_of_rank r)
     rank_at [] k fs e = absurd (cc)
@@ -248,10 +265,10 @@ module _ (m : Meanings) (now : ℤ) (object : Thing) where
     paired_back P (x ∷ xs) (z ∷ ys) zero y all e = let same : z ≡ y = cc in (x, refl, subst (λ w. P x w) same all.0)
     paired_back P (x ∷ xs) (z ∷ ys) (suc k) y all e = paired_back P xs ys k y all.1 e
 
-    abbrev IsOfRank : ℕ → List ℕ → Type 0
-    IsOfRank r is = AreReached ds type (below ds.groups r) is
+    abbrev pub IsOfRank : ℕ → List ℕ → Type 0
+    IsOfRank r is = AreKept (below ds.groups r) is
 
-    pub first_fails : (ranks : List ℕ) (lists : List (List ℕ)) (x : Told) → AreOfRanks ds type ranks lists → IsToldFirst m now object ds.occurrences lists x → IsIn (first_some (map fails_of_rank ranks)) x.0
+    first_fails : (ranks : List ℕ) (lists : List (List ℕ)) (x : Told) → AllZip IsOfRank ranks lists → IsToldFirst m now object ds.occurrences lists x → IsIn (first_some (map fails_of_rank ranks)) x.0
     first_fails ranks lists x of t =
         let r = paired_back IsOfRank ranks lists t.0 t.1 of t.2 in
         let here = reached_fails (below ds.groups r.0) t.1 x r.2 t.3 in
@@ -261,7 +278,7 @@ module _ (m : Meanings) (now : ℤ) (object : Thing) where
         let there = fails_reached (below ds.groups q.0) is.0 g is.2 (subst (λ (l : List LocalFailure). IsIn l g) q.2 h) in
         t.4 j is.0 (g, there.0) less is.1 there.1)
 
-    pub fails_first : (ranks : List ℕ) (lists : List (List ℕ)) (f : LocalFailure) → AreOfRanks ds type ranks lists → IsIn (first_some (map fails_of_rank ranks)) f → (d : Data) × IsToldFirst m now object ds.occurrences lists (f, d)
+    fails_first : (ranks : List ℕ) (lists : List (List ℕ)) (f : LocalFailure) → AllZip IsOfRank ranks lists → IsIn (first_some (map fails_of_rank ranks)) f → (d : Data) × IsToldFirst m now object ds.occurrences lists (f, d)
     fails_first ranks lists f of h =
         let r = first_told (map fails_of_rank ranks) f h in
         let q = rank_at ranks r.0 r.1 r.2 in
@@ -281,10 +298,14 @@ module _ (m : Meanings) (now : ℤ) (object : Thing) where
 
     -- ---- all that is told
 
+    -- what fails in ranks
+    abbrev pub kept_ranked : List ℕ → Own
+    kept_ranked ranks = InRanks (map fails_of_rank ranks)
+
     -- what fails in a group, where the type has these ranks or none
-    abbrev own_by : Option (List ℕ) → ℕ → Own
+    abbrev pub own_by : Option (List ℕ) → ℕ → Own
     own_by o h =
-        cond (nat_eq h 0) (option_map_or (ranked m ds now object type) o (Plain (failures_in m ds now object type (h ∷ [])))) (Plain (failures_in m ds now object type (h ∷ [])))
+        cond (nat_eq h 0) (option_map_or (kept_ranked) o (Plain (kept_fails (h ∷ [])))) (Plain (kept_fails (h ∷ [])))
 
     abbrev is_other : ℕ → Bool
     is_other h = not (nat_eq h 0)
@@ -294,29 +315,29 @@ module _ (m : Meanings) (now : ℤ) (object : Thing) where
     InRanksOf o hs f = (ranks : List ℕ) × (o ≡ Some ranks) × IsIn hs 0 × IsIn (first_some (map fails_of_rank ranks)) f
 
     told_split : (o : Option (List ℕ)) (hs : List ℕ) (f : LocalFailure) → IsIn (told_in hs (own_by o)) f
-        → IsIn (failures_in m ds now object type (cond (is_some o) (filter is_other hs) hs)) f ⊎ InRanksOf o hs f
+        → IsIn (kept_fails (cond (is_some o) (filter is_other hs) hs)) f ⊎ InRanksOf o hs f
     told_split None hs f h =
         let r = from_flat_map (λ (k : ℕ). told_of_own (own_by None k)) hs f h in
         inl (fails_in_all hs r.0 f r.1 (go r.0 (nat_eq r.0 0) r.2))
       where
-        go : (k : ℕ) (b : Bool) → IsIn (told_of_own (cond b (Plain (failures_in m ds now object type (k ∷ []))) (Plain (failures_in m ds now object type (k ∷ []))))) f → IsIn (failures_in m ds now object type (k ∷ [])) f
+        go : (k : ℕ) (b : Bool) → IsIn (told_of_own (cond b (Plain (kept_fails (k ∷ []))) (Plain (kept_fails (k ∷ []))))) f → IsIn (kept_fails (k ∷ [])) f
         go k true i = i
         go k false i = i
     told_split (Some ranks) hs f h =
         let r = from_flat_map (λ (k : ℕ). told_of_own (own_by (Some ranks) k)) hs f h in
         go r.0 r.1 (nat_eq r.0 0) refl r.2
       where
-        go : (k : ℕ) → IsIn hs k → (b : Bool) → nat_eq k 0 ≡ b → IsIn (told_of_own (cond b (ranked m ds now object type ranks) (Plain (failures_in m ds now object type (k ∷ []))))) f
-            → IsIn (failures_in m ds now object type (filter is_other hs)) f ⊎ InRanksOf (Some ranks) hs f
+        go : (k : ℕ) → IsIn hs k → (b : Bool) → nat_eq k 0 ≡ b → IsIn (told_of_own (cond b (kept_ranked ranks) (Plain (kept_fails (k ∷ []))))) f
+            → IsIn (kept_fails (filter is_other hs)) f ⊎ InRanksOf (Some ranks) hs f
         go k there true e i = inr (ranks, refl, subst (λ (j : ℕ). IsIn hs j) (eq_of k 0 e) there, i)
         go k there false e i = inl (fails_in_all (filter is_other hs) k f (to_filter is_other hs k there (ap not e)) i)
 
-    plain_join : (o : Option (List ℕ)) (hs : List ℕ) (f : LocalFailure) → IsIn (failures_in m ds now object type (cond (is_some o) (filter is_other hs) hs)) f → IsIn (told_in hs (own_by o)) f
+    plain_join : (o : Option (List ℕ)) (hs : List ℕ) (f : LocalFailure) → IsIn (kept_fails (cond (is_some o) (filter is_other hs) hs)) f → IsIn (told_in hs (own_by o)) f
     plain_join None hs f h =
         let r = fails_in_one hs f h in
         in_flat_map (λ (k : ℕ). told_of_own (own_by None k)) hs r.0 f r.1 (go r.0 (nat_eq r.0 0) r.2)
       where
-        go : (k : ℕ) (b : Bool) → IsIn (failures_in m ds now object type (k ∷ [])) f → IsIn (told_of_own (cond b (Plain (failures_in m ds now object type (k ∷ []))) (Plain (failures_in m ds now object type (k ∷ []))))) f
+        go : (k : ℕ) (b : Bool) → IsIn (kept_fails (k ∷ [])) f → IsIn (told_of_own (cond b (Plain (kept_fails (k ∷ []))) (Plain (kept_fails (k ∷ []))))) f
         go k true i = i
         go k false i = i
     plain_join (Some ranks) hs f h =
@@ -324,8 +345,8 @@ module _ (m : Meanings) (now : ℤ) (object : Thing) where
         let k = from_filter is_other hs r.0 r.1 in
         in_flat_map (λ (j : ℕ). told_of_own (own_by (Some ranks) j)) hs r.0 f k.0 (go r.0 (nat_eq r.0 0) refl k.1 r.2)
       where
-        go : (k : ℕ) (b : Bool) → nat_eq k 0 ≡ b → not (nat_eq k 0) ≡ true → IsIn (failures_in m ds now object type (k ∷ [])) f
-            → IsIn (told_of_own (cond b (ranked m ds now object type ranks) (Plain (failures_in m ds now object type (k ∷ []))))) f
+        go : (k : ℕ) (b : Bool) → nat_eq k 0 ≡ b → not (nat_eq k 0) ≡ true → IsIn (kept_fails (k ∷ [])) f
+            → IsIn (told_of_own (cond b (kept_ranked ranks) (Plain (kept_fails (k ∷ []))))) f
         go k true e other i = absurd (true≢false (sym other ∙ ap not e))
         go k false e other i = i
 
@@ -335,12 +356,28 @@ module _ (m : Meanings) (now : ℤ) (object : Thing) where
         let same : ranks ≡ h.0 = let e = h.1 in cc in
         in_flat_map (λ (j : ℕ). told_of_own (own_by (Some ranks) j)) hs 0 f h.2 (subst (λ (l : List ℕ). IsIn (first_some (map fails_of_rank l)) f) (sym same) h.3)
 
-    own_is : (h : ℕ) → number_of ds.types object.type_name ≡ Some type → own_in m ds now object h ≡ own_by (ranks_of ds type) h
-    own_is h typed = ap (λ o. option_map_or (λ t. own_at m ds now object t h) o (Plain [])) typed
+    -- ---- the ranks of the type's sequence
 
-    own_all : (hs : List ℕ) → number_of ds.types object.type_name ≡ Some type → told_in hs (own_in m ds now object) ≡ told_in hs (own_by (ranks_of ds type))
-    own_all [] typed = refl
-    own_all (h ∷ hs) typed = ap (λ o. told_of_own o ++ told_in hs (own_in m ds now object)) (own_is h typed) ∙ ap (λ l. told_of_own (own_by (ranks_of ds type) h) ++ l) (own_all hs typed)
+    -- these are the uses of each rank, where `Default` is among the groups; none where it isn't, or the type has no sequence
+    abbrev pub AreKeptRanks : List ℕ → List (List ℕ) → Type 0
+    AreKeptRanks hs lists =
+        ((ranks : List ℕ) × (ranks_of ds type ≡ Some ranks) × IsIn hs 0 × AllZip IsOfRank ranks lists)
+        ⊎ ((lists ≡ []) × ((ranks : List ℕ) → ranks_of ds type ≡ Some ranks → IsIn hs 0 → ⊥))
+
+    told_ranks : (hs : List ℕ) (lists : List (List ℕ)) (x : Told) → AreKeptRanks hs lists → IsToldFirst m now object ds.occurrences lists x → InRanksOf (ranks_of ds type) hs x.0
+    told_ranks hs lists x (inl r) t = (r.0, r.1, r.2, first_fails r.0 lists x r.3 t)
+    told_ranks hs lists x (inr r) t = absurd (let e : slice_get [] t.0 ≡ Some t.1 = ap (λ (l : List (List ℕ)). slice_get l t.0) (sym r.0) ∙ t.2 in cc)
+
+    ranks_told : (hs : List ℕ) (lists : List (List ℕ)) (f : LocalFailure) → AreKeptRanks hs lists → InRanksOf (ranks_of ds type) hs f → (d : Data) × IsToldFirst m now object ds.occurrences lists (f, d)
+    ranks_told hs lists f (inl r) h =
+        let same : Some h.0 ≡ Some r.0 = sym h.1 ∙ r.1 in
+        let list : h.0 ≡ r.0 = cc in
+        fails_first r.0 lists f r.3 (subst (λ (l : List ℕ). IsIn (first_some (map fails_of_rank l)) f) list h.3)
+    ranks_told hs lists f (inr r) h = absurd (r.1 h.0 h.1 h.2)
+
+    own_all : (own : ℕ → Own) → ((h : ℕ) → own h ≡ own_by (ranks_of ds type) h) → (hs : List ℕ) → told_in hs own ≡ told_in hs (own_by (ranks_of ds type))
+    own_all own owns [] = refl
+    own_all own owns (h ∷ hs) = ap (λ o. told_of_own o ++ told_in hs own) (owns h) ∙ ap (λ l. told_of_own (own_by (ranks_of ds type) h) ++ l) (own_all own owns hs)
 
     -- ---- lists of failures
 
@@ -354,53 +391,29 @@ module _ (m : Meanings) (now : ℤ) (object : Thing) where
         let k = from_map told_view v x h in
         subst (λ (e : LocalFailure). IsIn (map failure_view v) e) (sym (ap (λ (t : Told). t.0) k.1)) (in_map failure_view v k.0 k.2)
 
-    -- the failures of uses that groups reach
-    pub plain_exact : (hs is : List ℕ) (v : List code.LocalFailure) → AreReached ds type hs is
-        → ((x : Told) → (IsIn (map told_view v) x → IsTold m now object ds.occurrences is x) × (IsTold m now object ds.occurrences is x → IsIn (map told_view v) x))
-        → (f : LocalFailure) → (IsIn (map failure_view v) f → IsIn (failures_in m ds now object type hs) f) × (IsIn (failures_in m ds now object type hs) f → IsIn (map failure_view v) f)
-    plain_exact hs is v reached told f = (
-      λ h. let x = seen v f h in reached_fails hs is (f, x.0) reached ((told (f, x.0)).0 x.1),
-      λ h. let t = fails_reached hs is f reached h in unseen v (f, t.0) ((told (f, t.0)).1 t.1),
-    )
-
-    -- the failures of the first rank in which something fails
-    pub ranked_exact : (hs ranks : List ℕ) (lists : List (List ℕ)) (v : List code.LocalFailure) → ranks_of ds type ≡ Some ranks → IsIn hs 0 → AreOfRanks ds type ranks lists
-        → ((x : Told) → (IsIn (map told_view v) x → IsToldFirst m now object ds.occurrences lists x) × (IsToldFirst m now object ds.occurrences lists x → IsIn (map told_view v) x))
-        → (f : LocalFailure) → (IsIn (map failure_view v) f → FailsInRanks m ds now object type hs f) × (FailsInRanks m ds now object type hs f → IsIn (map failure_view v) f)
-    ranked_exact hs ranks lists v has default of told f = (
-      λ h. let x = seen v f h in (ranks, has, default, first_fails ranks lists (f, x.0) of ((told (f, x.0)).0 x.1)),
-      λ h.
-          let same : Some ranks ≡ Some h.0 = sym has ∙ h.1 in
-          let list : ranks ≡ h.0 = cc in
-          let t = fails_first ranks lists f of (subst (λ (l : List ℕ). IsIn (first_some (map fails_of_rank l)) f) (sym list) h.3) in
-          unseen v (f, t.0) ((told (f, t.0)).1 t.1),
-    )
-
-    -- both together are what is local
-    pub all_local : (g : ℕ) (v w : List code.LocalFailure) → number_of ds.types object.type_name ≡ Some type
-        → ((f : LocalFailure) → (IsIn (map failure_view v) f → IsIn (failures_in m ds now object type (plain_groups ds type g)) f) × (IsIn (failures_in m ds now object type (plain_groups ds type g)) f → IsIn (map failure_view v) f))
-        → ((f : LocalFailure) → (IsIn (map failure_view w) f → FailsInRanks m ds now object type (below ds.groups g) f) × (FailsInRanks m ds now object type (below ds.groups g) f → IsIn (map failure_view w) f))
-        → (f : LocalFailure) → (IsIn (map failure_view (v ++ w)) f → IsLocalIn (below ds.groups g) (own_in m ds now object) f) × (IsLocalIn (below ds.groups g) (own_in m ds now object) f → IsIn (map failure_view (v ++ w)) f)
-    all_local g v w typed plain ranked f =
+    -- what is told of uses that groups reach, and of the ranks of the type's sequence, is what is local
+    pub all_local : (own : ℕ → Own) (g : ℕ) (is : List ℕ) (lists : List (List ℕ)) (v : List code.LocalFailure) → ((h : ℕ) → own h ≡ own_by (ranks_of ds type) h)
+        → AreKept (plain_groups ds type g) is → AreKeptRanks (below ds.groups g) lists
+        → ((x : Told) → (IsIn (map told_view v) x → IsToldIn m now object ds.occurrences is lists x) × (IsToldIn m now object ds.occurrences is lists x → IsIn (map told_view v) x))
+        → (f : LocalFailure) → (IsIn (map failure_view v) f → IsLocalIn (below ds.groups g) own f) × (IsLocalIn (below ds.groups g) own f → IsIn (map failure_view v) f)
+    all_local own g is lists v owns plain ranked told f =
         let hs = below ds.groups g in
-        let same = own_all hs typed in
-        let split : map failure_view (v ++ w) ≡ map failure_view v ++ map failure_view w = map-append failure_view v w in (
+        let same = own_all own owns hs in (
           λ h.
-              let told : IsIn (told_in hs (own_by (ranks_of ds type))) f = elim (in_cases (map failure_view v) (map failure_view w) f (subst (λ (l : List LocalFailure). IsIn l f) split h)) [
-                | inl k ↦ plain_join (ranks_of ds type) hs f ((plain f).0 k)
-                | inr k ↦ ranks_join (ranks_of ds type) hs f ((ranked f).0 k)
+              let x = seen v f h in
+              let k : IsIn (told_in hs (own_by (ranks_of ds type))) f = elim ((told (f, x.0)).0 x.1) [
+                | inl t ↦ plain_join (ranks_of ds type) hs f (reached_fails (plain_groups ds type g) is (f, x.0) plain t)
+                | inr t ↦ ranks_join (ranks_of ds type) hs f (told_ranks hs lists (f, x.0) ranked t)
               ] in
-              to_local_in hs (own_in m ds now object) f (subst (λ (l : List LocalFailure). IsIn l f) (sym same) told),
+              to_local_in hs own f (subst (λ (l : List LocalFailure). IsIn l f) (sym same) k),
           λ l.
-              let told = subst (λ (xs : List LocalFailure). IsIn xs f) same (from_local_in hs (own_in m ds now object) f l) in
-              subst (λ (xs : List LocalFailure). IsIn xs f) (sym split) (elim (told_split (ranks_of ds type) hs f told) [
-                | inl k ↦ in_left (map failure_view v) (map failure_view w) f ((plain f).1 k)
-                | inr k ↦ in_right (map failure_view v) (map failure_view w) f ((ranked f).1 k)
-              ]),
+              let k = subst (λ (xs : List LocalFailure). IsIn xs f) same (from_local_in hs own f l) in
+              elim (told_split (ranks_of ds type) hs f k) [
+                | inl h ↦ (let t = fails_reached (plain_groups ds type g) is f plain h in unseen v (f, t.0) ((told (f, t.0)).1 (inl t.1)))
+                | inr h ↦ (let t = ranks_told hs lists f ranked h in unseen v (f, t.0) ((told (f, t.0)).1 (inr t.1)))
+              ],
         )
 
-  -- nothing is local at an object of a type that isn't declared
-  pub none_local : (ds : Declarations) (hs : List ℕ) (f : LocalFailure) → number_of ds.types object.type_name ≡ None → IsLocalIn hs (own_in m ds now object) f → ⊥
-  none_local ds hs f typed l =
-      let r = from_flat_map (λ (h : ℕ). told_of_own (own_in m ds now object h)) hs f (from_local_in hs (own_in m ds now object) f l) in
-      subst (λ o. IsIn (told_of_own (option_map_or (λ t. own_at m ds now object t r.0) o (Plain []))) f) typed r.2
+  -- what fails by a type's own constraints, where every use is kept
+  pub own_is : (ds : Declarations) (type h : ℕ) → number_of ds.types object.type_name ≡ Some type → own_in m ds now object h ≡ own_by ds type (λ u. true) (ranks_of ds type) h
+  own_is ds type h typed = ap (λ o. option_map_or (λ t. own_at m ds now object t h) o (Plain [])) typed

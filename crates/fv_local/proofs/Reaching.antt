@@ -1,6 +1,6 @@
 -- The uses that the table of reached uses names are there and can be asked, and what they tell is what fails.
-use Rattle.std.proofs.Common.{◌≡◌, ◌<◌, ◌≤◌, ◌+◌, ◌++◌, inl, inr, ℕ, ℤ, zero, suc, List, [], ◌∷◌, map, length, true, Option, Some, None, slice_get, Result, Ok, Err, IfOk, Vec, Global, refl, sym, ap, subst, ◌∙◌, arith}
-use Rattle.std.proofs.lemmas.List.{length-map}
+use Rattle.std.proofs.Common.{◌≡◌, ◌<◌, ◌≤◌, ◌+◌, ◌++◌, inl, inr, ℕ, ℤ, zero, suc, List, [], ◌∷◌, map, length, Bool, true, Option, Some, None, slice_get, Result, Ok, Err, IfOk, Vec, Global, refl, sym, ap, subst, ◌∙◌, arith}
+use Rattle.std.proofs.lemmas.List.{length-map, map-append}
 use Rattle.std.proofs.lemmas.List.Elements.{All-from_recursion, recursion_from_All}
 use Rattle.std.specs.List.{All, AllByRecursion, AllZip}
 use Rattle.fv_declare.specs.Declarations.{Placed, Declarations, count_nodes, AreNumbered}
@@ -9,20 +9,26 @@ use Rattle.fv_declare.specs.Ordered.{AreOrdered}
 use Rattle.fv_declare.specs.PlacedView.{placed_view}
 use Rattle.fv_declare.specs.declared.placed.Placed as code_placed
 use Rattle.fv_graph.specs.Graph.{IsIn}
+use Rattle.fv_graph.proofs.Lists.{in_left, in_right, in_cases}
 use Rattle.fv_model.specs.Bundles.{Thing}
 use Rattle.fv_occurrence.specs.Trees.{size}
 use Rattle.fv_reach.specs.Below.{below}
-use Rattle.fv_reach.specs.Reached.{AreReached, AreOfRanks, IsRanked, ranks_of}
+use Rattle.fv_reach.specs.Reached.{AreReached, AreOfRanks, IsRanked, plain_groups}
 use Rattle.fv_reach.specs.TableView.{lists_view}
 use Rattle.fv_registry.specs.Meanings.{Meanings}
 use Rattle.fv_registry.specs.Rules.{Known}
+use Rattle.fv_turns.specs.OneField.{own_of_field}
+use Rattle.fv_turns.specs.OneObject.{IsLocalIn}
 use Rattle.fv_turns.specs.Turns.{LocalFailure}
+use Rattle.fv_types.specs.Types.{number_of}
 use Rattle.fv_local.specs.FailureView.{failure_view, IsFoundIn}
-use Rattle.fv_local.specs.Failures.{failures_in, FailsInRanks}
-use Rattle.fv_local.specs.Told.{Told, told_view, IsTold, IsToldFirst, CanBeAsked}
+use Rattle.fv_local.specs.Fields.{stands_in}
+use Rattle.fv_local.specs.Own.{own_in}
+use Rattle.fv_local.specs.Told.{Told, told_view, IsTold, IsToldFirst, IsToldIn, AreRanksIn, CanBeAsked}
 use Rattle.fv_local.specs.declared.failure.LocalFailure as code
 use Rattle.fv_local.proofs.Fitting.{each_fits}
-use Rattle.fv_local.proofs.Locals.{plain_exact, ranked_exact}
+use Rattle.fv_local.proofs.Fields.{own_of_field_is}
+use Rattle.fv_local.proofs.Locals.{AreKept, AreKeptRanks, IsOfRank, own_is, all_local}
 
 -- ---- uses that are there
 
@@ -45,23 +51,26 @@ each_in : (P : ℕ → Type 0) (is : List ℕ) → ((i : ℕ) → IsIn is i → 
 each_in P [] h = tt
 each_in P (i ∷ is) h = (h i (inl refl), each_in P is (λ j k. h j (inr k)))
 
-pub reached_within : (ds : Declarations) (type : ℕ) (hs is : List ℕ) (os : List code_placed.Placed) → AreReached ds type hs is → map placed_view os ≡ ds.occurrences → All (λ i. i < length os) is
-reached_within ds type hs is os reached same =
-    let long : length os ≡ length ds.occurrences = sym (length-map os placed_view) ∙ ap (λ (l : List Placed). length l) same in
-    All-from_recursion (λ i. i < length os) is (each_in (λ i. i < length os) is (λ i there.
-    let u = (reached i).0 there in
-    let less : i < length ds.occurrences = get_less ds.occurrences i u.0 u.1 in
-    omega (arith, long, less)))
+pub same_length : (us : List Placed) (os : List code_placed.Placed) → map placed_view os ≡ us → length us ≡ length os
+same_length us os same = ap (λ (l : List Placed). length l) (sym same) ∙ length-map os placed_view
 
-pub ranks_within : (ds : Declarations) (type : ℕ) (ranks : List ℕ) (lists : List (Vec ℕ Global)) (os : List code_placed.Placed) → AreOfRanks ds type ranks (lists_view lists) → map placed_view os ≡ ds.occurrences
-    → All (λ v. All (λ i. i < length os) v.items) lists
-ranks_within ds type ranks lists os of same = All-from_recursion (λ v. All (λ i. i < length os) v.items) lists (go ranks lists of)
-  where
-    go : (rs : List ℕ) (vs : List (Vec ℕ Global)) → AllZip (λ r is. AreReached ds type (below ds.groups r) is) rs (lists_view vs) → AllByRecursion (λ v. All (λ i. i < length os) v.items) vs
-    go [] [] z = tt
-    go [] (v ∷ vs) z = absurd z
-    go (r ∷ rs) [] z = tt
-    go (r ∷ rs) (v ∷ vs) z = (reached_within ds type (below ds.groups r) v.items os z.0 same, go rs vs z.1)
+module _ (m : Meanings) (now : ℤ) (object : Thing) (ds : Declarations) (type : ℕ) (keep : Placed → Bool) where
+  pub kept_within : (hs is : List ℕ) → AreKept m now object ds type keep hs is → All (λ i. i < length ds.occurrences) is
+  kept_within hs is kept =
+      All-from_recursion (λ i. i < length ds.occurrences) is (each_in (λ i. i < length ds.occurrences) is (λ i there. let u = (kept i).0 there in get_less ds.occurrences i u.0 u.1))
+
+  pub ranks_within : (hs : List ℕ) (lists : List (Vec ℕ Global)) → AreKeptRanks m now object ds type keep hs (lists_view lists) → All (λ v. All (λ i. i < length ds.occurrences) v.items) lists
+  ranks_within hs lists kept = All-from_recursion (λ v. All (λ i. i < length ds.occurrences) v.items) lists (elim kept [ inl r ↦ each r.0 lists r.3 | inr r ↦ none lists r.0 ])
+    where
+      each : (ranks : List ℕ) (vs : List (Vec ℕ Global)) → AllZip (IsOfRank m now object ds type keep) ranks (lists_view vs) → AllByRecursion (λ v. All (λ i. i < length ds.occurrences) v.items) vs
+      each [] [] z = tt
+      each [] (v ∷ vs) z = absurd z
+      each (k ∷ ranks) [] z = tt
+      each (k ∷ ranks) (v ∷ vs) z = (kept_within (below ds.groups k) v.items z.0, each ranks vs z.1)
+
+      none : (vs : List (Vec ℕ Global)) → lists_view vs ≡ [] → AllByRecursion (λ v. All (λ i. i < length ds.occurrences) v.items) vs
+      none [] e = tt
+      none (v ∷ vs) e = absurd (cc)
 
 -- ---- ranks, where the table has them
 
@@ -70,11 +79,6 @@ ranked_some ds type None None lists e is = absurd (cc)
 ranked_some ds type None (Some l) lists e is = absurd is
 ranked_some ds type (Some ranks) None lists e is = absurd (cc)
 ranked_some ds type (Some ranks) (Some l) lists e is = let same : lists ≡ l = cc in (ranks, refl, subst (AreOfRanks ds type ranks) (sym same) is)
-
-pub ranked_none : (ds : Declarations) (type : ℕ) (o : Option (List ℕ)) (p : Option (List (List ℕ))) → None ≡ p → IsRanked ds type o p → o ≡ None
-ranked_none ds type None p e is = refl
-ranked_none ds type (Some ranks) None e is = absurd is
-ranked_none ds type (Some ranks) (Some l) e is = absurd (cc)
 
 -- ---- results
 
@@ -87,32 +91,23 @@ abbrev pub HasAll : (LocalFailure → Type 0) → List code.LocalFailure → Typ
 HasAll P v = (f : LocalFailure) → (IsIn (map failure_view v) f → P f) × (P f → IsIn (map failure_view v) f)
 
 module _ (m : Meanings) (ds : Declarations) (now : ℤ) (object : Thing) (type : ℕ) where
-  -- a list has what is told of uses, and nothing else
-  abbrev pub HasTold : List Placed → List ℕ → List code.LocalFailure → Type 0
-  HasTold us is v = (x : Told) → (IsIn (map told_view v) x → IsTold m now object us is x) × (IsTold m now object us is x → IsIn (map told_view v) x)
+  -- a list has what is told of uses and of ranks, and nothing else
+  abbrev pub HasTold : List ℕ → List (List ℕ) → List code.LocalFailure → Type 0
+  HasTold is lists v = (x : Told) → (IsIn (map told_view v) x → IsToldIn m now object ds.occurrences is lists x) × (IsToldIn m now object ds.occurrences is lists x → IsIn (map told_view v) x)
 
-  abbrev pub HasFirst : List Placed → List (List ℕ) → List code.LocalFailure → Type 0
-  HasFirst us lists v = (x : Told) → (IsIn (map told_view v) x → IsToldFirst m now object us lists x) × (IsToldFirst m now object us lists x → IsIn (map told_view v) x)
+  pub local_all : {E : Type 0} (g : ℕ) (is : List ℕ) (lists : List (List ℕ)) (r : Result (Vec code.LocalFailure Global) E) → number_of ds.types object.type_name ≡ Some type
+      → AreReached ds type (plain_groups ds type g) is → AreRanksIn ds type (below ds.groups g) lists
+      → IfOk r (λ v. HasTold is lists v.items) → IfOk r (λ v. HasAll (IsLocalIn (below ds.groups g) (own_in m ds now object)) v.items)
+  local_all g is lists r typed plain ranked told =
+      if_ok (λ v. HasTold is lists v.items) (λ v. HasAll (IsLocalIn (below ds.groups g) (own_in m ds now object)) v.items) r
+      (λ v h. all_local m now object ds type (λ u. true) (own_in m ds now object) g is lists v.items (λ k. own_is m now object ds type k typed) plain ranked h) told
 
-  pub plain_all : {E : Type 0} (hs is : List ℕ) (us : List Placed) (r : Result (Vec code.LocalFailure Global) E) → AreReached ds type hs is → us ≡ ds.occurrences
-      → IfOk r (λ v. HasTold us is v.items) → IfOk r (λ v. HasAll (λ f. IsIn (failures_in m ds now object type hs) f) v.items)
-  plain_all hs is us r reached same told =
-      if_ok (λ v. HasTold us is v.items) (λ v. HasAll (λ f. IsIn (failures_in m ds now object type hs) f) v.items) r
-      (λ v h. plain_exact m now object ds type hs is v.items reached (subst (λ (l : List Placed). HasTold l is v.items) same h)) told
-
-  pub ranked_all : {E : Type 0} (hs ranks : List ℕ) (lists : List (List ℕ)) (us : List Placed) (r : Result (Vec code.LocalFailure Global) E) → ranks_of ds type ≡ Some ranks → IsIn hs 0 → AreOfRanks ds type ranks lists
-      → us ≡ ds.occurrences → IfOk r (λ v. HasFirst us lists v.items) → IfOk r (λ v. HasAll (FailsInRanks m ds now object type hs) v.items)
-  ranked_all hs ranks lists us r has default of same told =
-      if_ok (λ v. HasFirst us lists v.items) (λ v. HasAll (FailsInRanks m ds now object type hs) v.items) r
-      (λ v h. ranked_exact m now object ds type hs ranks lists v.items has default of (subst (λ (l : List Placed). HasFirst l lists v.items) same h)) told
-
-  -- nothing fails in ranks where `Default` isn't among the groups, or the type has no sequence
-  pub none_without_default : (hs : List ℕ) (v : List code.LocalFailure) → v ≡ [] → (IsIn hs 0 → ⊥) → HasAll (FailsInRanks m ds now object type hs) v
-  none_without_default hs v empty never f = (λ h. absurd (subst (λ (l : List code.LocalFailure). IsIn (map failure_view l) f) empty h), λ h. absurd (never h.2))
-
-  pub none_without_ranks : (hs : List ℕ) (v : List code.LocalFailure) → v ≡ [] → ranks_of ds type ≡ None → HasAll (FailsInRanks m ds now object type hs) v
-  none_without_ranks hs v empty none f =
-      (λ h. absurd (subst (λ (l : List code.LocalFailure). IsIn (map failure_view l) f) empty h), λ h. absurd (let e : None ≡ Some h.0 = sym none ∙ h.1 in cc))
+  pub field_all : {E : Type 0} (n g : ℕ) (is : List ℕ) (lists : List (List ℕ)) (r : Result (Vec code.LocalFailure Global) E) → number_of ds.types object.type_name ≡ Some type
+      → AreKept m now object ds type (stands_in n) (plain_groups ds type g) is → AreKeptRanks m now object ds type (stands_in n) (below ds.groups g) lists
+      → IfOk r (λ v. HasTold is lists v.items) → IfOk r (λ v. HasAll (IsLocalIn (below ds.groups g) (λ h. own_of_field n (own_in m ds now object h))) v.items)
+  field_all n g is lists r typed plain ranked told =
+      if_ok (λ v. HasTold is lists v.items) (λ v. HasAll (IsLocalIn (below ds.groups g) (λ h. own_of_field n (own_in m ds now object h))) v.items) r
+      (λ v h. all_local m now object ds type (stands_in n) (λ k. own_of_field n (own_in m ds now object k)) g is lists v.items (λ k. own_of_field_is m now object n ds type k typed) plain ranked h) told
 
 -- ---- two lists
 
@@ -124,3 +119,20 @@ pub found_both : (object : Thing) (v w both : List code.LocalFailure) → both �
 found_both object v w both is one other =
     let P : code.LocalFailure → Type 0 = λ f. IsFoundIn object f.spot in
     subst (All P) (sym is) (All-from_recursion P (v ++ w) (all_end P v w (recursion_from_All P v one) (recursion_from_All P w other)))
+
+-- what is told of uses and what is told of ranks, together
+pub told_both : (m : Meanings) (now : ℤ) (object : Thing) (us : List Placed) (is : List ℕ) (lists : List (List ℕ)) (v w both : List code.LocalFailure) → both ≡ v ++ w
+    → ((x : Told) → (IsIn (map told_view v) x → IsTold m now object us is x) × (IsTold m now object us is x → IsIn (map told_view v) x))
+    → ((x : Told) → (IsIn (map told_view w) x → IsToldFirst m now object us lists x) × (IsToldFirst m now object us lists x → IsIn (map told_view w) x))
+    → (x : Told) → (IsIn (map told_view both) x → IsToldIn m now object us is lists x) × (IsToldIn m now object us is lists x → IsIn (map told_view both) x)
+told_both m now object us is lists v w both joined plain ranked x =
+    let split : map told_view both ≡ map told_view v ++ map told_view w = ap (map told_view) joined ∙ map-append told_view v w in (
+      λ h. elim (in_cases (map told_view v) (map told_view w) x (subst (λ (l : List Told). IsIn l x) split h)) [
+        | inl k ↦ inl ((plain x).0 k)
+        | inr k ↦ inr ((ranked x).0 k)
+      ],
+      λ t. subst (λ (l : List Told). IsIn l x) (sym split) (elim t [
+        | inl k ↦ in_left (map told_view v) (map told_view w) x ((plain x).1 k)
+        | inr k ↦ in_right (map told_view v) (map told_view w) x ((ranked x).1 k)
+      ]),
+    )

@@ -1,5 +1,5 @@
 -- What fails of the uses of constraints at an object.
-use Rattle.std.specs.Prelude.{◌≡◌, ℕ, ℤ, List, [], ◌∷◌, map, filter, Some}
+use Rattle.std.specs.Prelude.{ℕ, ℤ, List, [], ◌∷◌, map, filter}
 use Rattle.std.specs.List.{flat_map}
 use Rattle.fv_datum.specs.Data.{Data}
 use Rattle.fv_declare.specs.Declarations.{Placed, Declarations}
@@ -9,11 +9,8 @@ use Rattle.fv_extract.specs.Places.{Step}
 use Rattle.fv_model.specs.Bundles.{Thing}
 use Rattle.fv_occurrence.specs.Reports.{violated}
 use Rattle.fv_occurrence.specs.Says.{Subject, of_datum, of_object}
-use Rattle.fv_graph.specs.Graph.{IsIn}
-use Rattle.fv_reach.specs.Below.{below}
-use Rattle.fv_reach.specs.Reached.{is_in, ranks_of}
+use Rattle.fv_reach.specs.Reached.{is_in}
 use Rattle.fv_registry.specs.Meanings.{Meanings}
-use Rattle.fv_turns.specs.OneObject.{first_some}
 use Rattle.fv_turns.specs.Turns as turn
 use Rattle.fv_turns.specs.Turns.{LocalFailure}
 use Rattle.fv_uses.specs.Uses.{Place, whole, field}
@@ -43,9 +40,3 @@ failures_of m now object u = flat_map (λ s. failures_at m now s u) (standing_at
 -- what fails of the uses at a type that are in one of these groups
 abbrev pub failures_in : Meanings → Declarations → ℤ → Thing → ℕ → List ℕ → List LocalFailure
 failures_in m ds now object type hs = flat_map (failures_of m now object) (filter (is_in type hs) ds.occurrences)
-
--- what fails in the first rank of a type's sequence in which something does, where `Default` is among these groups
-abbrev pub FailsInRanks : Meanings → Declarations → ℤ → Thing → ℕ → List ℕ → LocalFailure → Type 0
-FailsInRanks m ds now object type hs f =
-    (ranks : List ℕ) × (ranks_of ds type ≡ Some ranks) × IsIn hs 0
-    × IsIn (first_some (map (λ r. failures_in m ds now object type (below ds.groups r)) ranks)) f

@@ -1,9 +1,10 @@
 -- What is told of uses at one place of an object, for private clauses: failures, each with its datum.
 use Rattle.std.specs.Prelude.{◌≡◌, ◌<◌, ◌≤◌, ℕ, ℤ, ◌+◌, List, [], ◌∷◌, map, true, Some, filter_map, slice_get}
 use Rattle.std.specs.List.{AllByRecursion, flat_map}
+use mathlib.Core.Logic.{◌⊎◌}
 use Rattle.fv_datum.specs.Data.{Data, null}
 use Rattle.fv_datum.specs.View.{view}
-use Rattle.fv_declare.specs.Declarations.{Placed}
+use Rattle.fv_declare.specs.Declarations.{Placed, Declarations}
 use Rattle.fv_declare.specs.Fits.{placed_fits}
 use Rattle.fv_extract.specs.Parts.{Locus, parts_at}
 use Rattle.fv_extract.specs.Places as object
@@ -12,6 +13,7 @@ use Rattle.fv_model.specs.Bundles.{Thing}
 use Rattle.fv_occurrence.specs.Reports.{violated}
 use Rattle.fv_occurrence.specs.Says.{Subject, of_datum, of_object}
 use Rattle.fv_occurrence.specs.Trees.{size}
+use Rattle.fv_reach.specs.Reached.{ranks_of, AreOfRanks}
 use Rattle.fv_registry.specs.Meanings.{Meanings}
 use Rattle.fv_registry.specs.Rules.{Known}
 use Rattle.fv_turns.specs.Turns as turn
@@ -84,6 +86,17 @@ abbrev pub IsToldFirst : Meanings → ℤ → Thing → List Placed → List (Li
 IsToldFirst m now object us lists x =
     (k : ℕ) × (is : List ℕ) × (slice_get lists k ≡ Some is) × IsTold m now object us is x
     × ((j : ℕ) (before : List ℕ) (y : Told) → j < k → slice_get lists j ≡ Some before → IsTold m now object us before y → ⊥)
+
+-- what is told of uses, and what is told of the first of some lists of uses of which something is
+abbrev pub IsToldIn : Meanings → ℤ → Thing → List Placed → List ℕ → List (List ℕ) → Told → Type 0
+IsToldIn m now object us is lists x = IsTold m now object us is x ⊎ IsToldFirst m now object us lists x
+
+-- the uses that each rank of a type's sequence reaches, where `Default` is among these groups; none where it isn't, or the type has no
+-- sequence
+abbrev pub AreRanksIn : Declarations → ℕ → List ℕ → List (List ℕ) → Type 0
+AreRanksIn ds type hs lists =
+    ((ranks : List ℕ) × (ranks_of ds type ≡ Some ranks) × IsIn hs 0 × AreOfRanks ds type ranks lists)
+    ⊎ ((lists ≡ []) × ((ranks : List ℕ) → ranks_of ds type ≡ Some ranks → IsIn hs 0 → ⊥))
 
 -- uses can be asked: their rules are there, and their numbers are few
 pub record CanBeAsked (k : Known) (us : List Placed) : Type 0 where

@@ -3,6 +3,7 @@
 #![tactic(auto)]
 
 mod failure;
+mod field;
 mod judge;
 mod parts;
 mod ranks;

@@ -3,15 +3,18 @@ ghost use Rattle.fv_datum.specs.Moments.{IsMoment};
 ghost use Rattle.fv_declare.specs.Fits.{fits};
 ghost use Rattle.fv_graph.specs.Graph.{IsIn};
 ghost use Rattle.fv_local.specs.FailureView.{failure_view, IsFoundIn};
-ghost use Rattle.fv_local.specs.Failures.{failures_in, FailsInRanks};
 ghost use Rattle.fv_local.specs.Own.{own_in};
+ghost use Rattle.fv_local.specs.Told.{Told, told_view, IsToldIn, AreRanksIn};
 ghost use Rattle.fv_model.specs.Views.{object_view};
 ghost use Rattle.fv_reach.specs.Below.{below};
-ghost use Rattle.fv_reach.specs.Reached.{plain_groups};
+ghost use Rattle.fv_reach.specs.Reached.{AreReached, plain_groups};
+ghost use Rattle.fv_reach.specs.TableView.{lists_view};
+ghost use Rattle.fv_turns.specs.OneField.{own_of_field};
 ghost use Rattle.fv_turns.specs.OneObject.{IsLocalIn};
 ghost use Rattle.fv_turns.specs.Turns as turn;
 
 use crate::failure::LocalFailure;
+use crate::field::{each_of_field, of_field};
 use crate::ranks::told_in_ranks;
 use crate::uses::told_of;
 use fv_declare::Schema;
@@ -78,65 +81,53 @@ impl<R: RuleSet> Rulebook<R> {
         &self.schema
     }
 
-    /// What fails in an object of a type, in the groups that a group stands for outside of a sequence
-    /// of the type.
-    fn plain<'a>(
-        &'a self,
-        alloc: Global,
-        type_id: TypeId,
-        object: &'a Object,
-        group: GroupId,
-        now: i64,
-    ) -> Result<Vec<LocalFailure<'a>>, AllocError>
-        requires moment { IsMoment now }
+    /// The uses at a type that a group reaches outside of a sequence of the type.
+    fn uses(&self, type_id: TypeId, group: GroupId) -> &[usize]
         requires typed { type_id.index < length self.now.types }
         requires group { group.index < length self.now.groups }
-        ensures exact { IfOk result (λ v. (f : turn.LocalFailure) → IsIn (map failure_view v.items) f
-            ↔ IsIn (failures_in R.meaning self.now now (object_view object.now) type_id.index (plain_groups self.now type_id.index group.index)) f) }
-        ensures found { IfOk result (λ v. All (λ f. IsFoundIn (object_view object.now) f.spot) v.items) }
+        ensures { AreReached self.now type_id.index (plain_groups self.now type_id.index group.index) result.now }
     {
-        let uses = self.reach.uses(type_id, group);
-        told_of(
-            alloc,
-            &self.rules,
-            self.schema.occurrences(),
-            uses,
-            object,
-            now,
-        )
+        self.reach.uses(type_id, group)
     }
 
-    /// What fails in an object of a type, in the sequence that the type has in place of `Default`, where
-    /// a group stands for `Default`.
-    fn ranked<'a>(
+    /// The uses that each rank reaches of the sequence that a type has in place of `Default`, where a
+    /// group stands for `Default`; none elsewhere.
+    fn ranks(&self, type_id: TypeId, group: GroupId) -> &[Vec<usize>]
+        requires typed { type_id.index < length self.now.types }
+        requires group { group.index < length self.now.groups }
+        ensures { AreRanksIn self.now type_id.index (below self.now.groups group.index) (lists_view result.now) }
+    {
+        if !self.schema.groups().inherits(group, DEFAULT) {
+            return &[];
+        }
+        match self.reach.ranks(type_id) {
+            Some(ranks) => ranks,
+            None => &[],
+        }
+    }
+
+    /// What uses tell of an object, and behind that what the first of these ranks does in which
+    /// something fails.
+    fn told<'a>(
         &'a self,
         alloc: Global,
-        type_id: TypeId,
+        uses: &[usize],
+        ranks: &[Vec<usize>],
         object: &'a Object,
-        group: GroupId,
         now: i64,
     ) -> Result<Vec<LocalFailure<'a>>, AllocError>
         requires moment { IsMoment now }
-        requires typed { type_id.index < length self.now.types }
-        requires group { group.index < length self.now.groups }
-        ensures exact { IfOk result (λ v. (f : turn.LocalFailure) → IsIn (map failure_view v.items) f
-            ↔ FailsInRanks R.meaning self.now now (object_view object.now) type_id.index (below self.now.groups group.index) f) }
+        requires uses { All (λ i. i < length self.now.occurrences) uses.now }
+        requires ranks { All (λ v. All (λ i. i < length self.now.occurrences) v.items) ranks.now }
+        ensures told { IfOk result (λ v. (x : Told) → IsIn (map told_view v.items) x
+            ↔ IsToldIn R.meaning now (object_view object.now) self.now.occurrences uses.now (lists_view ranks.now) x) }
         ensures found { IfOk result (λ v. All (λ f. IsFoundIn (object_view object.now) f.spot) v.items) }
     {
-        if !self.schema.groups().inherits(group, DEFAULT) {
-            return Ok(Vec::new(alloc));
-        }
-        let Some(ranks) = self.reach.ranks(type_id) else {
-            return Ok(Vec::new(alloc));
-        };
-        told_in_ranks(
-            alloc,
-            &self.rules,
-            self.schema.occurrences(),
-            ranks,
-            object,
-            now,
-        )
+        let occurrences = self.schema.occurrences();
+        let mut failures = told_of(alloc, &self.rules, occurrences, uses, object, now)?;
+        let mut ranked = told_in_ranks(alloc, &self.rules, occurrences, ranks, object, now)?;
+        failures.append(&mut ranked)?;
+        Ok(failures)
     }
 
     /// What fails in an object, by its own constraints in the groups that a plain group stands for,
@@ -160,9 +151,39 @@ impl<R: RuleSet> Rulebook<R> {
         let Some(type_id) = self.schema.types().find(object.type_name()) else {
             return Ok(Vec::new(alloc));
         };
-        let mut failures = self.plain(alloc, type_id, object, group, now)?;
-        let mut ranked = self.ranked(alloc, type_id, object, group, now)?;
-        failures.append(&mut ranked)?;
-        Ok(failures)
+        let uses = self.uses(type_id, group);
+        let ranks = self.ranks(type_id, group);
+        self.told(alloc, uses, ranks, object, now)
+    }
+
+    /// What fails in one field of an object, by its own constraints at the field and inside it in the
+    /// groups that a plain group stands for, at a moment in whole seconds since 1970-01-01T00:00:00Z.
+    /// Where the object's type has a sequence in place of `Default`, that ends behind the first rank
+    /// in which something fails in the field; what fails elsewhere in the object ends nothing.
+    ///
+    /// The field is given by its number in the object's type. A failure may stand there more than
+    /// once, where its constraint is in more than one group.
+    pub fn local_of_field<'a>(
+        &'a self,
+        alloc: Global,
+        object: &'a Object,
+        group: GroupId,
+        field: usize,
+        now: i64,
+    ) -> Result<Vec<LocalFailure<'a>>, AllocError>
+        requires moment { IsMoment now }
+        requires group { group.index < length self.now.groups }
+        ensures exact { IfOk result (λ v. (f : turn.LocalFailure) → IsIn (map failure_view v.items) f
+            ↔ IsLocalIn (below self.now.groups group.index)
+            (λ h. own_of_field field (own_in R.meaning self.now now (object_view object.now) h)) f) }
+        ensures found { IfOk result (λ v. All (λ f. IsFoundIn (object_view object.now) f.spot) v.items) }
+    {
+        let Some(type_id) = self.schema.types().find(object.type_name()) else {
+            return Ok(Vec::new(alloc));
+        };
+        let occurrences = self.schema.occurrences();
+        let uses = of_field(alloc, occurrences, self.uses(type_id, group), field)?;
+        let ranks = each_of_field(alloc, occurrences, self.ranks(type_id, group), field)?;
+        self.told(alloc, &uses, &ranks, object, now)
     }
 }
