@@ -65,8 +65,7 @@ fn violations_of(
 
 /// The violations of a bundle at a moment, in whole seconds since 1970-01-01T00:00:00Z, for the
 /// groups that are asked for: each once, ascending by the bytes of the path, then by the number of
-/// the constraint. The root alone is validated. At least one group is to be handed in, `Default`
-/// where none is asked for: none would ask for nothing.
+/// the constraint. The root alone is validated. Where no group is asked for, `Default` is.
 pub fn validate<R: RuleSet>(
     alloc: Global,
     rulebook: &Rulebook<R>,

@@ -34,6 +34,7 @@ is_same_part (at_index i) (at_index j) = nat_eq i j
 is_same_part (at_key k) (at_key l) = bytes_eq k l
 is_same_part _ _ = false
 
+-- the same parts one after the other
 abbrev pub is_same_locus : Locus → Locus → Bool
 is_same_locus [] [] = true
 is_same_locus (p ∷ l) (q ∷ m) = is_same_part p q && is_same_locus l m
@@ -52,11 +53,16 @@ datum_at object place locus = datum_among (parts_at object place) locus
 abbrev pub nodes_at : Thing → Place → Locus → List PathNode
 nodes_at object place locus = field (field_name object place.field) ∷ nodes_of place.steps locus
 
--- the request that judges a bundle by declarations, for groups that are asked for, at a moment: those that are handed in, `Default` among
--- them where none is asked for by name. The root alone is judged: no reference is followed from it
+-- the groups that are asked for: `Default` alone where none is
+abbrev pub asked_or_default : List ℕ → List ℕ
+asked_or_default [] = 0 ∷ []
+asked_or_default (g ∷ gs) = g ∷ gs
+
+-- the request that judges a bundle by declarations, for groups that are asked for, at a moment. The root alone is judged: no reference is
+-- followed from it
 abbrev pub request_of : Meanings → Declarations → ℤ → Bundled → List ℕ → Request
 request_of m ds now b asked = record {
-  asked = once asked;
+  asked = once (asked_or_default asked);
   root = object_number b b.root;
   is_sequence = is_sequence ds.groups;
   ranks = ranks ds.groups;
