@@ -123,9 +123,9 @@ module _ (m : Meanings) (now : ℤ) (object : Thing) (n : ℕ) where
               to_filter (is_of_field ds.occurrences n) is i ((reached i).1 (r.0, r.1, p.1)) (ap (λ o. option_map_or (stands_in n) o false) r.1 ∙ p.0),
         ))
 
-    pub ranks_in_the_field : (hs : List ℕ) (lists kept : List (List ℕ)) (us : List Placed) → us ≡ ds.occurrences → kept ≡ map (filter (is_of_field us n)) lists → AreRanksIn ds type hs lists
+    pub ranks_reached_in_field : (hs : List ℕ) (lists kept : List (List ℕ)) (us : List Placed) → us ≡ ds.occurrences → kept ≡ map (filter (is_of_field us n)) lists → AreRanksIn ds type hs lists
         → AreKeptRanks m now object ds type (stands_in n) hs kept
-    ranks_in_the_field hs lists kept us same made reached =
+    ranks_reached_in_field hs lists kept us same made reached =
         subst (AreKeptRanks m now object ds type (stands_in n) hs) (sym made) (elim reached [
           | inl r ↦ inl (r.0, r.1, r.2, each r.0 lists r.3)
           | inr r ↦ inr (ap (map (filter (is_of_field us n))) r.0, r.1)

@@ -10,7 +10,7 @@ use Rattle.fv_reach.specs.TableView.{lists_view}
 use Rattle.fv_types.specs.Types.{Declared, number_of}
 use Rattle.fv_types.specs.TypesView.{types_view}
 use Rattle.fv_local.specs.Fields.{stands_in}
-use Rattle.fv_local.proofs.Fields.{reached_in_field, ranks_in_the_field}
+use Rattle.fv_local.proofs.Fields.{reached_in_field, ranks_reached_in_field}
 use Rattle.fv_local.proofs.Reaching.{same_length, kept_within, ranks_within, field_all}
 use Rattle.fv_local.proofs.rulebook.Rulebook.local_of_field.Goals as goal
 
@@ -50,7 +50,7 @@ told-requires-clause-ranks g c =
     let hs = below ds.groups c.args.group.index in
     let same : map placed_view c.occurrences-occurrences.result.now ≡ ds.occurrences = c.occurrences-occurrences.ensures.uses ∙ ap (λ (d : Declarations). d.occurrences) c.self.view_is in
     ranks_within m c.args.now object ds type (stands_in c.args.field) hs c.deref-2.result.now
-    (ranks_in_the_field m c.args.now object c.args.field ds type hs (lists_view c.ranks.result.now) (lists_view c.deref-2.result.now) _ same (ap lists_view c.deref-2.ensures.value ∙ c.in_ok-ranks.ensures) c.ranks.ensures)
+    (ranks_reached_in_field m c.args.now object c.args.field ds type hs (lists_view c.ranks.result.now) (lists_view c.deref-2.result.now) _ same (ap lists_view c.deref-2.ensures.value ∙ c.in_ok-ranks.ensures) c.ranks.ensures)
 
 pub returns-clause-exact : goal.returns-clause-exact
 returns-clause-exact g c =
@@ -65,5 +65,5 @@ returns-clause-exact g c =
     ap (λ (ts : Declared). number_of ts object.type_name) (sym c.types.ensures) ∙ ap (λ (n : List ℕ). number_of (types_view c.types.result.now) n) (sym c.type_name.ensures) ∙ sym c.in-Some.ensures in
     let typed : number_of ds.types object.type_name ≡ Some type = rw (← c.self.view_is) named in
     let plain = reached_in_field m c.args.now object c.args.field ds type hs c.uses.result.now c.deref.result.now _ same (c.deref.ensures.value ∙ c.in_ok-uses.ensures) c.uses.ensures in
-    let ranked = ranks_in_the_field m c.args.now object c.args.field ds type below_it (lists_view c.ranks.result.now) (lists_view c.deref-2.result.now) _ same (ap lists_view c.deref-2.ensures.value ∙ c.in_ok-ranks.ensures) c.ranks.ensures in
+    let ranked = ranks_reached_in_field m c.args.now object c.args.field ds type below_it (lists_view c.ranks.result.now) (lists_view c.deref-2.result.now) _ same (ap lists_view c.deref-2.ensures.value ∙ c.in_ok-ranks.ensures) c.ranks.ensures in
     field_all m ds c.args.now object type c.args.field c.args.group.index c.deref.result.now (lists_view c.deref-2.result.now) c.told.result typed plain ranked (rw (to_z-of_z w64 c.args.now c.ranges.now) at c.told.ensures.told)
