@@ -14,3 +14,9 @@ pub mod Told
 pub mod Ends
 pub mod Listing
 pub mod OneField
+pub mod Logs
+pub mod Owing
+pub mod Own
+pub mod Stacked
+pub mod Counting
+pub mod Walked

@@ -114,7 +114,7 @@ own_last request x (Plain fails) h last e =
 own_last request x (InRanks lists) h last e =
     (Free (Group h) ∷ Rank e.0 ∷ [], e.2, ap (λ (l : Turns). Free (Group h) ∷ l) e.5, ap (λ (l : Turns). told (onward request) x l) e.5)
 
-end_last : (request : Request) (x : Reached) (object carried : ℕ) (e : Turns) → IsOwnEnd request object carried e → (before : Turns) × (f : LocalFailure) × (e ≡ before ++ Free (Fail f) ∷ []) × (told (onward request) x e ≡ onward request x (Free (Fail f)))
+pub end_last : (request : Request) (x : Reached) (object carried : ℕ) (e : Turns) → IsOwnEnd request object carried e → (before : Turns) × (f : LocalFailure) × (e ≡ before ++ Free (Fail f) ∷ []) × (told (onward request) x e ≡ onward request x (Free (Fail f)))
 end_last request x object carried e (h, last, is_below, ends, e_is) =
     let l = own_last request x (request.own object h) h last ends in
     (l.0, l.1, e_is ∙ l.2, ap (λ (z : Turns). told (onward request) x z) e_is ∙ l.3)

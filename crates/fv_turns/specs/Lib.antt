@@ -9,3 +9,5 @@ pub mod Unfold
 pub mod Points
 pub mod Finite
 pub mod Listing
+pub mod Log
+pub mod Frames

@@ -8,6 +8,7 @@ mod local;
 mod shadows;
 mod traces;
 mod visits;
+mod walks;
 
 pub use field::{field_is_narrowed, narrowed_is_tidy};
 pub use local::{listing_is_exact, local_failures_are_exact};
@@ -17,3 +18,6 @@ pub use traces::{
     told_violations_are_exact,
 };
 pub use visits::{entered_visits_are_exact, visits_are_exact};
+pub use walks::{
+    walk_arrives_at_the_visits, walk_enters_the_entered_visits, walk_finds_the_violations,
+};
