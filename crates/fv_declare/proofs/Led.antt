@@ -1,8 +1,7 @@
 -- The steps of the uses and cascades that a draft has lead in what their fields hold.
-use Rattle.std.proofs.Common.{◌≡◌, ℕ, List, [], ◌∷◌, ◌++◌, Ordering, Less, Equal, Greater, nat_cmp, map, Bool, true, false, Option, Some, None, option_map, option_and_then, if◌then◌else◌, codes, refl, sym, ap, ◌∙◌, append_assoc, append-nil}
+use Rattle.std.proofs.Common.{◌≡◌, ℕ, List, [], ◌∷◌, ◌++◌, nat_cmp, map, Bool, true, false, Option, Some, None, option_map, option_and_then, if◌then◌else◌, codes, refl, sym, ap, ◌∙◌, append_assoc, append-nil}
 use Rattle.std.specs.Cmp.Lexicographic.{slice_cmp}
 use Rattle.std.specs.List.{AllByRecursion}
-use Rattle.std.specs.Ordering.{match_ordering}
 use Rattle.serde_json.specs.Data as json
 use Rattle.serde_json.specs.Find.{get}
 use Rattle.fv_datum.specs.Forms.{map2, map3, maybe, each_member, required}
@@ -23,6 +22,7 @@ use Rattle.fv_declare.specs.Judging.{IsLed, AreLed}
 use Rattle.fv_declare.specs.Ordered.{held_after, held_inside}
 use Rattle.fv_types.proofs.Lists.{each_of}
 use Rattle.fv_declare.proofs.Alls.{all_append, all_mapped}
+use Rattle.fv_declare.proofs.Depths.{Deepen, place_deep, chosen, found}
 
 -- ---- one place
 
@@ -89,15 +89,6 @@ map_led steps (Some keys) (Some held) h =
       inner.1,
     )
 
-chosen : (steps : List Step) (b : Bool) (x y : Option Held) → Led steps x → Led steps y → Led steps (if b then x else y)
-chosen steps true x y h k = h
-chosen steps false x y h k = k
-
-found : (steps : List Step) (o : Ordering) (here rest : Option Held) → Led steps here → Led steps rest → Led steps (match_ordering o rest here rest)
-found steps Less here rest h k = k
-found steps Equal here rest h k = h
-found steps Greater here rest h k = k
-
 mutual
   place_led : (steps : List Step) (j : json.Data) → Led steps (place_of steps j)
   place_led steps json.null = tt
@@ -109,7 +100,7 @@ mutual
 
   type_led : (steps : List Step) (ms : json.Members) → Led steps (type_in steps ms)
   type_led steps json.no_members = tt
-  type_led steps (json.member name j ms) = found steps (slice_cmp nat_cmp (codes "type") name) (held_of steps j) (type_in steps ms) (held_led steps j) (type_led steps ms)
+  type_led steps (json.member name j ms) = found (Led steps) (slice_cmp nat_cmp (codes "type") name) (held_of steps j) (type_in steps ms) (held_led steps j) (type_led steps ms)
 
   held_led : (steps : List Step) (j : json.Data) → Led steps (held_of steps j)
   held_led steps json.null = tt
@@ -119,14 +110,14 @@ mutual
   held_led steps (json.array js) = tt
   held_led steps (json.object ms) =
       let j = json.object ms in
-      chosen steps (has_only (codes "ref" ∷ []) j) _ _ (alone_led steps (reference_of j))
-      (chosen steps (has_only (codes "list" ∷ []) j) _ _ (list_led steps (place_in (codes "list") (steps ++ element ∷ []) ms) (in_led (codes "list") (steps ++ element ∷ []) ms))
-      (chosen steps (has_only (codes "optional" ∷ []) j) _ _ (optional_led steps (place_in (codes "optional") (steps ++ content ∷ []) ms) (in_led (codes "optional") (steps ++ content ∷ []) ms))
-      (chosen steps (has_only (codes "map" ∷ codes "keys" ∷ []) j) _ None (map_led steps (uses_of (codes "keys") j) (place_in (codes "map") (steps ++ value ∷ []) ms) (in_led (codes "map") (steps ++ value ∷ []) ms)) tt)))
+      chosen (Led steps) (has_only (codes "ref" ∷ []) j) _ _ (alone_led steps (reference_of j))
+      (chosen (Led steps) (has_only (codes "list" ∷ []) j) _ _ (list_led steps (place_in (codes "list") (steps ++ element ∷ []) ms) (in_led (codes "list") (steps ++ element ∷ []) ms))
+      (chosen (Led steps) (has_only (codes "optional" ∷ []) j) _ _ (optional_led steps (place_in (codes "optional") (steps ++ content ∷ []) ms) (in_led (codes "optional") (steps ++ content ∷ []) ms))
+      (chosen (Led steps) (has_only (codes "map" ∷ codes "keys" ∷ []) j) _ None (map_led steps (uses_of (codes "keys") j) (place_in (codes "map") (steps ++ value ∷ []) ms) (in_led (codes "map") (steps ++ value ∷ []) ms)) tt)))
 
   in_led : (at : List ℕ) (steps : List Step) (ms : json.Members) → Led steps (place_in at steps ms)
   in_led at steps json.no_members = tt
-  in_led at steps (json.member name j ms) = found steps (slice_cmp nat_cmp at name) (place_of steps j) (place_in at steps ms) (place_led steps j) (in_led at steps ms)
+  in_led at steps (json.member name j ms) = found (Led steps) (slice_cmp nat_cmp at name) (place_of steps j) (place_in at steps ms) (place_led steps j) (in_led at steps ms)
 
 -- ---- fields, types and drafts
 
@@ -135,11 +126,12 @@ abbrev IfThere : {X : Type 0} → (X → Type 0) → Option X → Type 0
 IfThere P None = Unit {0}
 IfThere P (Some x) = P x
 
-field_led : (name : List ℕ) (held : Option Held) → Led [] held → IfThere IsLed (option_map (λ h. record { name = name; type = h.type; uses = h.uses; cascades = h.cascades }) held)
-field_led name None h = tt
-field_led name (Some held) h = (
+field_led : (name : List ℕ) (held : Option Held) → Led [] held → Deepen 0 held → IfThere IsLed (option_map (λ h. record { name = name; type = h.type; uses = h.uses; cascades = h.cascades }) held)
+field_led name None h deep = tt
+field_led name (Some held) h deep = (
   each_of (UseLeads [] held.type) (λ u. option_map kind_of (held_inside u.steps held.type) ≡ Some u.kind) held.uses (λ u k. ap (λ steps. option_map kind_of (held_inside steps held.type)) k.1 ∙ k.2) h.0,
   each_of (CascadeLeads [] held.type) (λ c. option_map kind_of (held_inside c.steps held.type) ≡ Some c.kind) held.cascades (λ c k. ap (λ steps. option_map kind_of (held_inside steps held.type)) k.1 ∙ k.2) h.1,
+  deep.1,
 )
 
 both : {Y : Type 0} (P : Y → Type 0) (y : Option Y) (ys : Option (List Y)) → IfThere P y → IfThere (AllByRecursion P) ys → IfThere (AllByRecursion P) (option_and_then (λ x. option_map (λ xs. x ∷ xs) ys) y)
@@ -176,7 +168,7 @@ drafted_led name true (Some fs) (Some us) (Some ns) h = h
 member_led : (m : List ℕ × json.Data) → IfThere AreFieldsLed (type_of m)
 member_led m =
     drafted_led m.0 (has_only (codes "fields" ∷ codes "constraints" ∷ codes "sequence" ∷ []) m.1) (required (each_member field_of) (codes "fields") m.1) (uses_of (codes "constraints") m.1) (maybe names_in (codes "sequence") m.1)
-    (members_there IsLed field_of (get (codes "fields") m.1) (λ f. field_led f.0 (place_of [] f.1) (place_led [] f.1)))
+    (members_there IsLed field_of (get (codes "fields") m.1) (λ f. field_led f.0 (place_of [] f.1) (place_led [] f.1) (place_deep [] f.1)))
 
 all_led : (b : Bool) (types : Option (List TypeDraft)) (forms : Option (List FormDraft)) (groups : Option Groups) (definitions : Option Definitions) (d : Drafted) → IfThere (AllByRecursion AreFieldsLed) types
     → (if b then map4 (λ ts fs gs ds. record { types = ts; forms = fs; definitions = ds; groups = gs }) types forms groups definitions else None) ≡ Some d → AreLed d

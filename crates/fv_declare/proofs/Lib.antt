@@ -1,11 +1,15 @@
 pub mod Alls
 pub mod Anys
+pub mod ByNumber
+pub mod Cascading
 pub mod Counts
+pub mod Depths
 pub mod Found
 pub mod Judged
 pub mod Led
 pub mod Lookups
 pub mod Nodes
+pub mod OfType
 pub mod Ordered
 pub mod Rising
 pub mod Steps

@@ -32,6 +32,7 @@ use Rattle.fv_declare.specs.Judging.{AreLed, placed_from}
 use Rattle.fv_declare.specs.Ordered.{Precedes, IsRising, IsPlaced, AreOrdered}
 use Rattle.fv_declare.proofs.Within.{uses_within, forms_within, sequences_within, places_within}
 use Rattle.fv_declare.proofs.Alls.{all_mapped_by}
+use Rattle.fv_declare.proofs.Cascading.{cascades_rise, places_rise}
 use Rattle.fv_declare.proofs.Rising.{Before, Rises, types_rise}
 use Rattle.fv_declare.proofs.There.{IsThere, types_there, cascades_there}
 use Rattle.fv_declare.proofs.Valid.{valid_all}
@@ -135,6 +136,7 @@ ordered gs d ds ts types uses forms valid placed each few named led some groups 
       numbered = rw uses (numbered gs 0 us ts);
       few = rw (uses, trees gs 0 us ts each) few;
       valid = rw (types, valid) (valid_all gs all (cascades_in drafts) (cascades_there all 0 drafts led (λ j. let same : 0 + j ≡ j = omega arith in ap (slice_get all) same)) placed);
+      cascading = rw valid (places_rise gs (cascades_in drafts) (cascades_rise drafts led));
       grouped = record {
         some = rw groups some;
         uses = rw (groups, uses) (uses_within gs some 0 us ts);

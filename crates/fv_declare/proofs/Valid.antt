@@ -1,15 +1,14 @@
 -- Where objects are validated there are references.
-use Rattle.std.proofs.Common.{◌≡◌, ◌⊎◌, inl, inr, List, [], ◌∷◌, Bool, true, false, not, ◌||◌, ◌&&◌, Option, Some, None, if◌then◌else◌, refl, sym, subst, true≢false}
+use Rattle.std.proofs.Common.{◌≡◌, ◌⊎◌, inl, inr, List, [], ◌∷◌, Bool, true, false, not, ◌||◌, ◌&&◌, Option, Some, None, if◌then◌else◌, refl, subst}
 use Rattle.std.specs.List.{AllByRecursion, list_any, cons_option}
 use Rattle.fv_datum.specs.declared.kind.Kind.{Kind}
 use Rattle.fv_datum.specs.declared.kind.Kind.TheVariants as kind
 use Rattle.fv_draft.specs.Drafts.{Drafted}
 use Rattle.fv_grouping.specs.First.{IsFirst}
-use Rattle.fv_grouping.specs.Grouping.{groups_in, is_reference, is_none, is_misplaced, grouping_faults, Holds}
-use Rattle.fv_grouping.specs.Numbered.{ValidPlace, valid_place, place_of, valid_places}
+use Rattle.fv_grouping.specs.Grouping.{groups_in, is_reference, is_misplaced, grouping_faults, Holds}
+use Rattle.fv_grouping.specs.Numbered.{ValidPlace, valid_place, valid_places}
 use Rattle.fv_grouping.specs.declared.fault.GroupingFault.{GroupingFault}
 use Rattle.fv_groups.specs.Groups.{Groups}
-use Rattle.fv_groups.specs.Judged.{sequence_in}
 use Rattle.fv_types.proofs.Bools.{not_false, or_left, or_right}
 use Rattle.fv_types.specs.Types.{Declared}
 use Rattle.fv_uses.specs.Cascades.{Cascade, cascades_in}

@@ -1,5 +1,5 @@
 -- Groups are named by numbers that are theirs.
-use Rattle.std.proofs.Common.{◌≡◌, ◌<◌, ◌+◌, ℕ, List, [], ◌∷◌, ◌++◌, map, length, Bool, true, false, cond, if◌then◌else◌, Option, Some, None, option_map, bytes_eq, inl, inr, refl, subst}
+use Rattle.std.proofs.Common.{◌≡◌, ◌<◌, ◌+◌, ℕ, List, [], ◌∷◌, map, length, Bool, true, false, cond, if◌then◌else◌, Option, Some, None, option_map, bytes_eq, inl, inr, refl, subst}
 use Rattle.std.specs.Prelude.{option_and_then, filter_map}
 use Rattle.std.specs.List.{cons_option, flat_map, AllByRecursion}
 use Rattle.std.specs.Option.{option_map_or, IfSome}
@@ -7,9 +7,9 @@ use Rattle.fv_datum.specs.Lookup.{at_name}
 use Rattle.fv_draft.specs.Cascades.{Conversion}
 use Rattle.fv_draft.specs.Drafts.{TypeDraft, FormDraft}
 use Rattle.fv_graph.specs.Graph.{IsIn}
-use Rattle.fv_grouping.specs.Numbered.{groups_named, member_ranks, own_ranks, type_ranks, converted, valid_place, place_of, valid_places}
+use Rattle.fv_grouping.specs.Numbered.{groups_named, member_ranks, own_ranks, type_ranks, converted, valid_place, valid_places}
 use Rattle.fv_groups.specs.Groups.{Groups, number_of, numbers_of, ranks}
-use Rattle.fv_groups.specs.Once.{mem, once_after, once}
+use Rattle.fv_groups.specs.Once.{mem, once_after}
 use Rattle.fv_groups.proofs.Edges.{numbers_below}
 use Rattle.fv_groups.proofs.Plain.{ranks_plain}
 use Rattle.fv_occurrence.specs.Nodes.{Node}

@@ -1,7 +1,8 @@
 -- What is found on the way to a schema; for private clauses.
-use Rattle.std.specs.Prelude.{◌≡◌, ℕ, ◌+◌, List, [], ◌∷◌, Option, Some, None, option_map, if◌then◌else◌}
+use Rattle.std.specs.Prelude.{◌≡◌, ℕ, ◌+◌, ◌<◌, List, [], ◌∷◌, length, Option, Some, None, option_map, if◌then◌else◌}
 use Rattle.std.specs.List.{AllByRecursion}
 use Rattle.fv_draft.specs.Drafts.{FieldDraft, Drafted}
+use Rattle.fv_draft.specs.Places.{PlacedCascade}
 use Rattle.fv_types.specs.Types.{Declared, kind_of, too_many}
 use Rattle.fv_occurrence.specs.Nodes.{Node}
 use Rattle.fv_occurrence.specs.Trees.{Tree, size}
@@ -15,11 +16,17 @@ use Rattle.fv_uses.specs.Uses.{Use}
 abbrev pub unless_many : Declared → Option Declared
 unless_many ts = if too_many ts then None else Some ts
 
--- the steps of each use and of each cascade in a field lead in what the field holds to data of its kind
+-- each cascade stands fewer steps inside than those after it
+abbrev pub AreDeepening : List PlacedCascade → Type 0
+AreDeepening [] = Unit {0}
+AreDeepening (c ∷ cs) = AllByRecursion (λ d. length c.steps < length d.steps) cs × AreDeepening cs
+
+-- the steps of each use and of each cascade in a field lead in what the field holds to data of its kind, and the cascades go inwards
 abbrev pub IsLed : FieldDraft → Type 0
 IsLed f =
     AllByRecursion (λ u. option_map kind_of (held_inside u.steps f.type) ≡ Some u.kind) f.uses
     × AllByRecursion (λ c. option_map kind_of (held_inside c.steps f.type) ≡ Some c.kind) f.cascades
+    × AreDeepening f.cascades
 
 -- the same, of the fields of each type
 abbrev pub AreLed : Drafted → Type 0

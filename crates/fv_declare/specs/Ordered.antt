@@ -52,6 +52,17 @@ IsPlaced ts u = (t : List ℕ × DeclaredFields) × (slice_get ts u.type ≡ Som
 abbrev pub IsValidIn : Declared → ValidPlace → Type 0
 IsValidIn ts p = (t : List ℕ × DeclaredFields) × (slice_get ts p.type ≡ Some t) × IsAmong t.1 (field p.field p.steps kind.Ref)
 
+-- in an earlier type, or in the same type in an earlier field, or in the same field fewer steps inside
+abbrev pub PrecedesPlace : ValidPlace → ValidPlace → Type 0
+PrecedesPlace p q =
+    (p.type < q.type)
+    ⊎ ((p.type ≡ q.type) × ((p.field < q.field) ⊎ ((p.field ≡ q.field) × (length p.steps < length q.steps))))
+
+-- each place precedes those after it
+abbrev pub ArePlacesRising : List ValidPlace → Type 0
+ArePlacesRising [] = Unit {0}
+ArePlacesRising (p ∷ ps) = AllByRecursion (PrecedesPlace p) ps × ArePlacesRising ps
+
 -- each is the number of a group
 abbrev pub AreGroups : Groups → List ℕ → Type 0
 AreGroups gs groups = AllByRecursion (λ g. g < length gs) groups
@@ -70,7 +81,8 @@ pub record AreGrouped (d : Declarations) : Type 0 where
 
 -- types, forms and the fields of each type ascend by their names, fields are named as names, and the uses ascend by their types, in a type
 -- by their fields, behind those at the object itself, and their places are there; the numbers of the nodes, of which there are at most
--- 1,024, run on through all trees; where objects are validated there are references; and groups are declared
+-- 1,024, run on through all trees; where objects are validated there are references, and these places ascend by their types, in a type by
+-- their fields, in a field by how many steps lead to them; and groups are declared
 pub record AreOrdered (d : Declarations) : Type 0 where
   pub types : IsAscending (map (λ t. t.0) d.types)
   pub forms : IsAscending (map (λ f. f.0) d.forms)
@@ -81,4 +93,5 @@ pub record AreOrdered (d : Declarations) : Type 0 where
   pub numbered : AreNumbered 0 d.occurrences
   pub few : count_nodes (map (λ o. o.tree) d.occurrences) ≤ 1024
   pub valid : AllByRecursion (IsValidIn d.types) d.valid_places
+  pub cascading : ArePlacesRising d.valid_places
   pub grouped : AreGrouped d

@@ -1,5 +1,5 @@
-ghost use Rattle.std.specs.Prelude.{◌≡◌, IfSome, map, option_map, option_and_then, slice_get};
-ghost use Rattle.std.specs.List.{list_all};
+ghost use Rattle.std.specs.Prelude.{◌≡◌, IfSome, map, nat_eq, option_map, option_and_then, slice_get};
+ghost use Rattle.std.specs.List.{filter, list_all};
 ghost use Rattle.fv_datum.specs.Lookup.{at_name};
 ghost use Rattle.fv_grouping.specs.NumberViews.{valid_place_view};
 ghost use Rattle.fv_groups.specs.Tables.{indices};
@@ -128,6 +128,18 @@ impl Schema {
         ensures { map valid_place_view result.now ≡ self.now.valid_places }
     {
         &self.valid_places
+    }
+
+    /// The places of a type whose objects are validated, in order.
+    pub fn valid_places_of(&self, type_id: TypeId) -> &[ValidPlace]
+        ensures places { map valid_place_view result.now ≡ filter (λ p. nat_eq p.type type_id.index) self.now.valid_places }
+        ensures ordered { AreOrdered self.now }
+    {
+        let places = self.valid_places.as_slice();
+        let first = places.partition_point(|place| place.type_index < type_id.index);
+        let (_, rest) = places.split_at(first);
+        let count = rest.partition_point(|place| place.type_index <= type_id.index);
+        &rest[..count]
     }
 
     /// Whether each rule that is used is there for its sort, and takes the kinds of its places.

@@ -1,21 +1,17 @@
-use Rattle.std.proofs.Common.{◌≡◌, ◌<◌, ℕ, List, Option, length, map, zip, false, refl, sym, ap, subst, ◌∙◌, arith}
+use Rattle.std.proofs.Common.{◌≡◌, ◌<◌, List, length, map, zip, false, refl, sym, ap, subst, ◌∙◌, arith}
 use Rattle.std.proofs.lemmas.List.{length-map}
 use Rattle.std.specs.List.{AllZip, list_all, list_any}
-use Rattle.fv_types.specs.TypesView.{types_view}
 use Rattle.fv_draft.specs.DraftViews.{type_view, form_view, draft_view}
-use Rattle.fv_draft.specs.declared.draft.FormDraft.{FormDraft}
 use Rattle.fv_draft.specs.declared.draft.TypeDraft.{TypeDraft}
 use Rattle.fv_declare.specs.Declarations.{Placed}
 use Rattle.fv_declare.specs.Declares.{form_declared, form_grouped, IsPlacedAs}
 use Rattle.fv_declare.specs.Fits.{placed_fits}
 use Rattle.fv_declare.specs.Judging.{placed_from}
 use Rattle.fv_declare.specs.PlacedView.{placed_view}
-use Rattle.fv_declare.specs.SchemaView.{forms_view, form_groups_view}
 use Rattle.fv_grouping.specs.Grouping.{is_misplaced}
 use Rattle.fv_grouping.specs.Numbered.{type_ranks, valid_places}
-use Rattle.fv_grouping.specs.NumberViews.{sequences_view, valid_place_view}
 use Rattle.fv_groups.specs.Groups.{Groups}
-use Rattle.fv_uses.specs.Cascades.{Cascade, cascades_in}
+use Rattle.fv_uses.specs.Cascades.{cascades_in}
 use Rattle.fv_uses.specs.UseViews.{use_view}
 use Rattle.fv_uses.specs.Uses.{Use, uses_in}
 use Rattle.fv_declare.proofs.Ordered.{ordered, placed, placed_fit}

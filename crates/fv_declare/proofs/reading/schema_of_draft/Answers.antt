@@ -1,16 +1,13 @@
-use Rattle.std.proofs.Common.{◌≡◌, ◌≢◌, Option, Some, None, Result, Ok, Err, IfOk, IfErr, refl, ap, ◌∙◌}
+use Rattle.std.proofs.Common.{◌≡◌, Option, Some, None, Result, Ok, Err, refl, ap, ◌∙◌}
 use Rattle.std.proofs.lemmas.Result.{IfOk-weaker, IfErr-weaker, err_from_is_err_and}
 use Rattle.fv_datum.specs.Outcomes.{first, unless_fault}
 use Rattle.fv_draft.specs.Drafts.{Drafted}
 use Rattle.fv_draft.specs.DraftViews.{draft_view}
-use Rattle.fv_grouping.specs.First.{IsFirst}
-use Rattle.fv_grouping.specs.Grouping.{grouping_faults, Holds}
 use Rattle.fv_registry.specs.Rules.{Known}
 use Rattle.fv_declare.specs.Declarations.{Declarations}
-use Rattle.fv_declare.specs.Declares.{name_conditions, IsComposed, IsGrouped, IsNamed}
+use Rattle.fv_declare.specs.Declares.{name_conditions, IsGrouped, IsNamed}
 use Rattle.fv_declare.specs.FaultNames.{grouping_fault}
 use Rattle.fv_declare.specs.declared.fault.DeclFault.{DeclFault}
-use Rattle.fv_declare.specs.declared.fault.DeclFault.TheVariants.{Memory}
 use Rattle.fv_declare.proofs.reading.schema_of_draft.Goals as goal
 
 no_fault : {Y : Type 0} (o : Option DeclFault) (y z : Y) → unless_fault o y ≡ Ok z → o ≡ None
