@@ -1,8 +1,10 @@
 //! The store.
-ghost use Rattle.std.specs.Prelude.{◌≡◌, ◌≢◌, false, length, IfOk, IfErr, OnOk, OnErr, MatchResult, option_map, Some, None};
+ghost use Rattle.std.specs.Prelude.{◌≡◌, ◌≢◌, false, length, IfOk, IfErr, IfSome, OnOk, OnErr, MatchResult, option_map, Some, None};
 ghost use Rattle.sqlite.specs.State.{HasCleanDisk};
 ghost use Rattle.sqlite.specs.Held.{state};
 ghost use Rattle.fv_types.specs.TypesView.{types_view};
+ghost use Rattle.fv_model.specs.Views.{bundle_view};
+ghost use Rattle.fv_model.specs.WellTyped.{IsWellTyped};
 ghost use Rattle.fv_store.specs.Causes.{AreShort, HasFailed, HasRoom, IsShortAbout};
 ghost use Rattle.fv_store.specs.Changes.{changed, ChangesFit};
 ghost use Rattle.fv_store.specs.Stands.{Frame, Holds, HasTables, IsBlank, IsLive, Opens, Stays};
@@ -97,7 +99,7 @@ impl<S: Alter + Drop> Store<S> {
 }
 
 impl<S: Alter> Store<S> {
-    /// The record of that id, if there is one, its bundle read under these types.
+    /// The record of that id, if there is one, its bundle read under these types and well-typed.
     ///
     /// Refused by `Memory` at any place, and by `Store` only where the disk has failed during the call
     /// or the connection was shut before, if the store holds records under these types.
@@ -112,6 +114,7 @@ impl<S: Alter> Store<S> {
         ensures found { HasCleanDisk (state S.Store self.new)
             → IfOk result (λ o. (c : _) → c.types ≡ types_view types.now → Holds (state S.Store self.old) c
             → option_map stored_view o ≡ c.records id.now) }
+        ensures typed { IfOk result (λ o. IfSome o (λ s. IsWellTyped (types_view types.now) (bundle_view s.bundle))) }
         ensures cause { HasCleanDisk (state S.Store self.new) → IfErr result (λ e. e ≡ StoreFault.Store → (c : _)
             → c.types ≡ types_view types.now → Holds (state S.Store self.old) c
             → HasFailed (state S.Store self.old) (state S.Store self.new)) }

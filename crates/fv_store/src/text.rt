@@ -21,10 +21,11 @@ pub(crate) fn text_of(alloc: Global, bundle: &Bundle) -> Result<String, AllocErr
     write_text(alloc, bundle)
 }
 
-/// The bundle that a text spells. `Store` where it spells none.
+/// The bundle that a text spells, well-typed. `Store` where it spells none.
 pub(crate) fn bundle_of(alloc: Global, types: &Types, text: &str) -> Result<Bundle, StoreFault>
-    ensures { (b : Bundled) → IsWellTyped (types_view types.now) b → text.now ≡ bundle_text b
+    ensures read { (b : Bundled) → IsWellTyped (types_view types.now) b → text.now ≡ bundle_text b
         → Gives StoreFault.Memory bundle_view result (Ok b) }
+    ensures typed { IfOk result (λ b. IsWellTyped (types_view types.now) (bundle_view b)) }
 {
     let value = Value::from_str(alloc, text)?;
     Ok(read_bundle(alloc, types, None, &value)?)

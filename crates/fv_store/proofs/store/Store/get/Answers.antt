@@ -9,7 +9,7 @@ use Rattle.fv_store.proofs.store.Store.get.Goals as goal
 pub returns-clause-found : goal.returns-clause-found
 returns-clause-found g c clean =
     let found = rw c.self.view_is at (c.in_ok-shown.ensures.found clean) in
-    handed_out (state g.S.Store c.args.self.now) (types_view c.args.types.now) c.args.id.now c.in_ok-shown.shown c.stored_if.result (rw c.self.view_is at (c.find.ensures.frame.clean clean)) found.0 found.1 c.stored_if.ensures
+    handed_out (state g.S.Store c.args.self.now) (types_view c.args.types.now) c.args.id.now c.in_ok-shown.shown c.stored_if.result (rw c.self.view_is at (c.find.ensures.frame.clean clean)) found.0 found.1 c.stored_if.ensures.read
 
 pub returns-clause-stays : goal.returns-clause-stays
 returns-clause-stays g c =
@@ -22,7 +22,7 @@ returns-in_err-shown-clause-stays g c =
 pub returns-clause-cause : goal.returns-clause-cause
 returns-clause-cause g c clean =
     let found = rw c.self.view_is at (c.in_ok-shown.ensures.found clean) in
-    never_refused (state g.S.Store c.args.self.now) (types_view c.args.types.now) c.args.id.now c.in_ok-shown.shown c.stored_if.result (rw c.self.view_is at (c.find.ensures.frame.clean clean)) found.0 found.1 c.stored_if.ensures _
+    never_refused (state g.S.Store c.args.self.now) (types_view c.args.types.now) c.args.id.now c.in_ok-shown.shown c.stored_if.result (rw c.self.view_is at (c.find.ensures.frame.clean clean)) found.0 found.1 c.stored_if.ensures.read _
 
 pub returns-in_err-shown-clause-cause : goal.returns-in_err-shown-clause-cause
 returns-in_err-shown-clause-cause g c clean =
