@@ -4,17 +4,19 @@ use Rattle.std.proofs.lemmas.Bool.{lt-ltb, le-ltb}
 use Rattle.sqlite.specs.State.{State, HasCleanDisk}
 use Rattle.serde_json.specs.Data as json
 use Rattle.serde_json.specs.Find.{as_str, get as get_at}
-use Rattle.fv_datum.specs.Forms.{required, map3}
+use Rattle.fv_datum.specs.Forms.{required, map2, map3}
 use Rattle.fv_datum.specs.Members.{has_only}
 use Rattle.fv_datum.specs.Lookup.{at_name}
 use Rattle.fv_datum.specs.Parsing.{json_of}
 use Rattle.fv_declare.specs.Declarations.{Declarations}
-use Rattle.fv_engine.specs.Keeping.{Replies, Fails, Keeps, Settles, unread}
+use Rattle.fv_engine.specs.Keeping.{Replies, Fails, Keeps, Settles, Checks, unread, unjudged}
 use Rattle.fv_engine.specs.Machines.{Machine, over, with_map, contents, Becomes}
 use Rattle.fv_engine.specs.Refusals.{bundle_under, is_misread, fault_of, when, first_of, is_too_long, refusal}
-use Rattle.fv_engine.specs.Commands.{Request, too_long, not_json, shape, put, get, id_at, put_of, get_of, done_by, or_shape, command_of, of_json, asked}
-use Rattle.fv_engine.specs.Failures.{StoreHasFailed, HasRoomFor, MayFail, FindsOut}
+use Rattle.fv_engine.specs.Commands.{Request, too_long, not_json, shape, put, get, check, id_at, put_of, get_of, groups_at, check_of, done_by, or_shape, command_of, of_json, asked}
+use Rattle.fv_engine.specs.Failures.{StoreHasFailed, HasRoomFor, MayFail}
 use Rattle.fv_engine.specs.Step.{Unchanged, Decided, Does, Handles, Told}
+use Rattle.fv_groups.specs.Groups.{numbers_of}
+use Rattle.fv_groups.specs.Judged.{unknown_in}
 use Rattle.fv_model.specs.Bundles.{Bundled}
 use Rattle.fv_model.specs.declared.fault.BundleFault.{BundleFault}
 use Rattle.fv_model.specs.declared.fault.BundleFault.TheVariants as fault
@@ -22,13 +24,16 @@ use Rattle.fv_registry.specs.Meanings.{Meanings}
 use Rattle.fv_reply.specs.Answers.{Answer, taken, shown, violated, refused}
 use Rattle.fv_reply.specs.Texts.{refusal_text, TakesMemory, Tells}
 use Rattle.fv_reply.specs.declared.answer.Refusal.{Refusal}
-use Rattle.fv_reply.specs.declared.answer.Refusal.TheVariants.{LineTooLong, NotJson, Shape, UnknownForm, Bundle, NoRecord, Store, Memory}
+use Rattle.fv_reply.specs.declared.answer.Refusal.TheVariants.{LineTooLong, NotJson, Shape, UnknownForm, Bundle, NoRecord, UnknownGroup, TooManyVisits, Store, Memory}
 use Rattle.fv_store.specs.Records.{Kept, Records, with_record}
 use Rattle.fv_store.specs.declared.fault.StoreFault.{StoreFault}
 use Rattle.fv_store.specs.declared.fault.StoreFault.TheVariants as store
 use Rattle.fv_store.specs.Stands.{Frame, Holds}
 use Rattle.fv_validate.specs.Violations.{Reported}
-use Rattle.fv_engine.specs.Asked.{IsListingOf}
+use Rattle.fv_validate.specs.declared.fault.ValidateFault.{ValidateFault}
+use Rattle.fv_validate.specs.declared.fault.ValidateFault.TheVariants as validate
+use Rattle.fv_walk.specs.Visits.{HasTooManyVisits}
+use Rattle.fv_engine.specs.Asked.{Verdict, too_many_visits, listed, IsVerdictOf}
 
 -- a relation between machines
 abbrev Relation : Type 1
@@ -99,17 +104,17 @@ module _ {H : Type 0} (held : H → State) where
 
 -- ---- judging
 
-decided_some : (id : List ℕ) (kept : Kept) (vs : List Reported) (x : Machine Records) → (vs ≡ [] → ⊥) → Decided id kept vs x (violated id vs) x
+decided_some : (id : List ℕ) (kept : Kept) (vs : List Reported) (x : Machine Records) → (vs ≡ [] → ⊥) → Decided id kept (listed vs) x (violated id vs) x
 decided_some id kept [] x some = absurd (some refl)
 decided_some id kept (v ∷ vs) x some = (refl, stays_itself x)
 
 module _ (means : Meanings) (now : ℤ) (id : List ℕ) (kept : Kept) where
   -- a record without violations is decided by the store
-  settled_empty : (x y : Machine Records) (answer : Answer) → IsListingOf means x.declared now kept [] → Keeps id kept x answer y → Settles means now id kept x answer y
-  settled_empty x y answer none (inl took) = inl ([], none, took)
+  settled_empty : (x y : Machine Records) (answer : Answer) → IsVerdictOf means x.declared now kept (listed []) → Keeps id kept x answer y → Settles means now id kept x answer y
+  settled_empty x y answer none (inl took) = inl (listed [], none, took)
   settled_empty x y answer none (inr failed) = inr (failed.0, failing failed.0 failed.1, failed.2, failed.3)
     where
-      failing : (why : Refusal) → Fails why (HasRoomFor id kept x → StoreHasFailed x y) → Fails why (IsListingOf means x.declared now kept [] × (HasRoomFor id kept x → StoreHasFailed x y))
+      failing : (why : Refusal) → Fails why (HasRoomFor id kept x → StoreHasFailed x y) → Fails why (IsVerdictOf means x.declared now kept (listed []) × (HasRoomFor id kept x → StoreHasFailed x y))
       failing Memory f = tt
       failing Store f = (none, f)
       failing LineTooLong f = absurd f
@@ -118,28 +123,36 @@ module _ (means : Meanings) (now : ℤ) (id : List ℕ) (kept : Kept) where
       failing UnknownForm f = absurd f
       failing (Bundle e) f = absurd f
       failing NoRecord f = absurd f
+      failing UnknownGroup f = absurd f
+      failing TooManyVisits f = absurd f
 
-  pub judged_empty : {H : Type 0} (held : H → State) (ds : Declarations) (old new : H) (answer : Answer) (vs : List Reported) → vs ≡ [] → IsListingOf means ds now kept vs
+  pub judged_empty : {H : Type 0} (held : H → State) (ds : Declarations) (old new : H) (answer : Answer) (vs : List Reported) → vs ≡ [] → IsVerdictOf means ds now kept (listed vs)
       → Becomes held (over held ds old) (over held ds new) (λ x y. Keeps id kept x answer y) → Becomes held (over held ds old) (over held ds new) (λ x y. Settles means now id kept x answer y)
-  judged_empty held ds old new answer vs none listing becoming = record {
+  judged_empty held ds old new answer vs none verdict becoming = record {
     declared = becoming.declared;
     clean = becoming.clean;
-    related = λ c bytes m stands. let t = becoming.related c bytes m stands in (t.0, settled_empty _ _ answer (subst (IsListingOf means ds now kept) none listing) t.1, t.2);
+    related = λ c bytes m stands. let t = becoming.related c bytes m stands in (t.0, settled_empty _ _ answer (subst (λ (us : List Reported). IsVerdictOf means ds now kept (listed us)) none verdict) t.1, t.2);
   }
 
-  pub judged_some : {H : Type 0} (held : H → State) (ds : Declarations) (h : H) (vs : List Reported) → (vs ≡ [] → ⊥) → IsListingOf means ds now kept vs
+  pub judged_some : {H : Type 0} (held : H → State) (ds : Declarations) (h : H) (vs : List Reported) → (vs ≡ [] → ⊥) → IsVerdictOf means ds now kept (listed vs)
       → Becomes held (over held ds h) (over held ds h) (λ x y. Settles means now id kept x (violated id vs) y)
-  judged_some held ds h vs some listing = record {
+  judged_some held ds h vs some verdict = record {
     declared = refl;
     clean = λ c. c;
-    related = λ c bytes m stands. (m, inl (vs, listing, decided_some id kept vs _ some), stands);
+    related = λ c bytes m stands. (m, inl (listed vs, verdict, decided_some id kept vs _ some), stands);
   }
+
+  -- one that isn't validated
+  pub judged_not : {H : Type 0} (held : H → State) (ds : Declarations) (h : H) (fault : ValidateFault) → (fault ≡ validate.TooManyVisits → IsVerdictOf means ds now kept too_many_visits)
+      → Becomes held (over held ds h) (over held ds h) (λ x y. Settles means now id kept x (refused (unjudged fault)) y)
+  judged_not held ds h validate.TooManyVisits many = unmoved held ds h _ (λ m. inl (too_many_visits, many refl, (refl, stays_itself _)))
+  judged_not held ds h validate.Memory many = unmoved held ds h _ (λ m. inr (Memory, tt, refl, stays_itself _))
 
 -- ---- puts
 
 -- the refusals of a put by what its bundle spells and by whether its form is declared
 put_refusal : Result Bundled BundleFault → Bool → Option Refusal
-put_refusal read declared = first_of (None ∷ None ∷ when (is_misread read) Shape ∷ when (not declared) UnknownForm ∷ fault_of read ∷ None ∷ [])
+put_refusal read declared = first_of (None ∷ None ∷ when (is_misread read) Shape ∷ when (not declared) UnknownForm ∷ fault_of read ∷ None ∷ None ∷ [])
 
 unread_first : (f : BundleFault) (declared : Bool) → f ≢ fault.Memory → put_refusal (Err f) declared ≡ Some (unread f declared)
 unfolding put_refusal
@@ -215,7 +228,7 @@ module _ (means : Meanings) (now : ℤ) (id form : List ℕ) (bundle : json.Data
       inl (subst (λ (o : Option Refusal). Does o means now (put id form bundle) x answer y) (sym (unrefused x b type is some)) (b, is, judged), tt)
   put_judged x y b type answer is some (inr failed) = inr (failed.0, failing failed.0 failed.1, failed.2, failed.3)
     where
-      failing : (why : Refusal) → Fails why (IsListingOf means x.declared now (record { form = form; bundle = b }) [] × (HasRoomFor id (record { form = form; bundle = b }) x → StoreHasFailed x y))
+      failing : (why : Refusal) → Fails why (IsVerdictOf means x.declared now (record { form = form; bundle = b }) (listed []) × (HasRoomFor id (record { form = form; bundle = b }) x → StoreHasFailed x y))
           → MayFail why means now (put id form bundle) x y
       failing Memory f = refl
       failing Store f = (unrefused x b type is some, (b, is, f.0, f.1))
@@ -225,6 +238,8 @@ module _ (means : Meanings) (now : ℤ) (id form : List ℕ) (bundle : json.Data
       failing UnknownForm f = absurd f
       failing (Bundle e) f = absurd f
       failing NoRecord f = absurd f
+      failing UnknownGroup f = absurd f
+      failing TooManyVisits f = absurd f
 
 -- ---- gets
 
@@ -235,12 +250,12 @@ fails_so store.Memory why Cause as_store as_memory cause = subst (λ (r : Refusa
 
 module _ (means : Meanings) (now : ℤ) (id : List ℕ) (x y : Machine Records) (stay : Unchanged x y) where
   pub got_none : IsTrue x.is_open → x.records id ≡ None → Handles means now (get id) x (refused NoRecord) y
-  got_none live none = inl (subst (λ (o : Option Refusal). Does o means now (get id) x (refused NoRecord) y) (sym (ap (λ (o : Option Kept). first_of (when (not (is_some o)) NoRecord ∷ [])) none)) (refl, stay), live)
+  got_none live none = inl (subst (λ (o : Option Refusal). Does o means now (get id) x (refused NoRecord) y) (sym (ap (λ (o : Option Kept). first_of (when (not (is_some o)) NoRecord ∷ None ∷ [])) none)) (refl, stay), live)
 
   pub got_some : IsTrue x.is_open → (kept : Kept) → x.records id ≡ Some kept → Handles means now (get id) x (shown id kept.form kept.bundle) y
   got_some live kept some = inl (
     subst (λ (o : Option Refusal). Does o means now (get id) x (shown id kept.form kept.bundle) y)
-        (sym (ap (λ (o : Option Kept). first_of (when (not (is_some o)) NoRecord ∷ [])) some)) (kept, some, refl, stay),
+        (sym (ap (λ (o : Option Kept). first_of (when (not (is_some o)) NoRecord ∷ None ∷ [])) some)) (kept, some, refl, stay),
     live,
   )
 
@@ -256,6 +271,54 @@ module _ (means : Meanings) (now : ℤ) (id : List ℕ) (x y : Machine Records) 
       failing UnknownForm g = absurd g
       failing (Bundle e) g = absurd g
       failing NoRecord g = absurd g
+      failing UnknownGroup g = absurd g
+      failing TooManyVisits g = absurd g
+
+-- ---- checks
+
+-- the refusals of a check by whether its id has a record and by whether it names a group that isn't declared
+check_refusal : Option Kept → Bool → Option Refusal
+check_refusal o unknown = first_of (when (not (is_some o)) NoRecord ∷ when unknown UnknownGroup ∷ [])
+
+-- a bundle that isn't validated
+pub not_checked : (means : Meanings) (ds : Declarations) (now : ℤ) (b : Bundled) (names : List (List ℕ)) (fault : ValidateFault) → unknown_in ds.groups names ≡ false
+    → (fault ≡ validate.TooManyVisits → HasTooManyVisits ds b (numbers_of ds.groups names)) → Checks means ds now b names (refused (unjudged fault))
+not_checked means ds now b names validate.TooManyVisits known many = inr (inl (known, (too_many_visits, many refl, refl)))
+not_checked means ds now b names validate.Memory known many = inr (inr refl)
+
+module _ (means : Meanings) (now : ℤ) (id : List ℕ) (names : List (List ℕ)) (x y : Machine Records) (stay : Unchanged x y) where
+  pub checked_none : IsTrue x.is_open → x.records id ≡ None → Handles means now (check id names) x (refused NoRecord) y
+  unfolding check_refusal
+  checked_none live none = inl (
+    subst (λ (o : Option Refusal). Does o means now (check id names) x (refused NoRecord) y) (sym (ap (λ (o : Option Kept). check_refusal o (unknown_in x.declared.groups names)) none)) (refl, stay),
+    live,
+  )
+
+  -- the refusals of a check of a record that is there
+  there : (kept : Kept) (unknown : Bool) → x.records id ≡ Some kept → unknown_in x.declared.groups names ≡ unknown → refusal x (check id names) ≡ when unknown UnknownGroup
+  unfolding check_refusal
+  there kept true some is = ap (λ (o : Option Kept). check_refusal o (unknown_in x.declared.groups names)) some ∙ ap (check_refusal (Some kept)) is
+  there kept false some is = ap (λ (o : Option Kept). check_refusal o (unknown_in x.declared.groups names)) some ∙ ap (check_refusal (Some kept)) is
+
+  pub checked_some : IsTrue x.is_open → (kept : Kept) → x.records id ≡ Some kept → (answer : Answer) → Checks means x.declared now kept.bundle names answer → Handles means now (check id names) x answer y
+  checked_some live kept some answer (inl (unknown, is)) = inl (subst (λ (o : Option Refusal). Does o means now (check id names) x answer y) (sym (there kept true some unknown)) (is, stay), live)
+  checked_some live kept some answer (inr (inl (known, told))) = inl (subst (λ (o : Option Refusal). Does o means now (check id names) x answer y) (sym (there kept false some known)) (kept, some, told, stay), live)
+  checked_some live kept some answer (inr (inr is)) = inr (Memory, refl, is, stay)
+
+  pub checked_not : (why : Refusal) → Fails why (StoreHasFailed x y) → Handles means now (check id names) x (refused why) y
+  checked_not why f = inr (why, failing why f, refl, stay)
+    where
+      failing : (r : Refusal) → Fails r (StoreHasFailed x y) → MayFail r means now (check id names) x y
+      failing Memory g = refl
+      failing Store g = g
+      failing LineTooLong g = absurd g
+      failing NotJson g = absurd g
+      failing Shape g = absurd g
+      failing UnknownForm g = absurd g
+      failing (Bundle e) g = absurd g
+      failing NoRecord g = absurd g
+      failing UnknownGroup g = absurd g
+      failing TooManyVisits g = absurd g
 
 -- ---- the text of an answer
 
@@ -268,10 +331,12 @@ module _ (means : Meanings) (now : ℤ) where
   not_taken_stays None shape x y answer other does = absurd does
   not_taken_stays None (put id form bundle) x y answer other does = decided does.2.0 does.2.2
     where
-      decided : (vs : List Reported) → Decided id (record { form = form; bundle = does.0 }) vs x answer y → Unchanged x y
-      decided [] d = absurd (other d.0)
-      decided (v ∷ vs) d = d.1
+      decided : (v : Verdict) → Decided id (record { form = form; bundle = does.0 }) v x answer y → Unchanged x y
+      decided too_many_visits d = d.1
+      decided (listed []) d = absurd (other d.0)
+      decided (listed (v ∷ vs)) d = d.1
   not_taken_stays None (get id) x y answer other does = does.3
+  not_taken_stays None (check id names) x y answer other does = does.3
 
   -- a text that tells an answer is a reply, also where memory was refused for it
   pub told_answer : (r : Request) → is_too_long r ≡ false → (x y : Machine Records) (answer : Answer) (text : List ℕ) → Tells text answer → Handles means now r x answer y → Replies means now r x text y
@@ -300,6 +365,11 @@ short_map3 f (Some a) None z each = refl
 short_map3 f (Some a) (Some b) None each = refl
 short_map3 f (Some a) (Some b) (Some c) each = each a b c
 
+short_map2 : {X Y : Type 0} (f : X → Y → Request) (x : Option X) (y : Option Y) → ((a : X) (b : Y) → is_too_long (f a b) ≡ false) → is_too_long (or_shape (map2 f x y)) ≡ false
+short_map2 f None y each = refl
+short_map2 f (Some a) None each = refl
+short_map2 f (Some a) (Some b) each = each a b
+
 short_put : (j : json.Data) → is_too_long (or_shape (put_of j)) ≡ false
 short_put j =
     let form = required as_str (codes "form") j in
@@ -310,9 +380,15 @@ short_put j =
 short_get : (j : json.Data) → is_too_long (or_shape (get_of j)) ≡ false
 short_get j = short_if (has_only (codes "do" ∷ codes "id" ∷ []) j) (option_map get (id_at j)) None (short_map get (id_at j) (λ id. refl)) refl
 
+short_check : (j : json.Data) → is_too_long (or_shape (check_of j)) ≡ false
+short_check j = short_if (has_only (codes "do" ∷ codes "id" ∷ codes "groups" ∷ []) j) (map2 check (id_at j) (groups_at j)) None (short_map2 check (id_at j) (groups_at j) (λ id names. refl)) refl
+
 short_done : (name : List ℕ) (j : json.Data) → is_too_long (or_shape (done_by name j)) ≡ false
-short_done name j = short_if (bytes_eq name (codes "put")) (put_of j) (if bytes_eq name (codes "get") then get_of j else None) (short_put j)
-    (short_if (bytes_eq name (codes "get")) (get_of j) None (short_get j) refl)
+short_done name j =
+    let checks : Option Request = if bytes_eq name (codes "check") then check_of j else None in
+    let gets : Option Request = if bytes_eq name (codes "get") then get_of j else checks in
+    short_if (bytes_eq name (codes "put")) (put_of j) gets (short_put j)
+    (short_if (bytes_eq name (codes "get")) (get_of j) checks (short_get j) (short_if (bytes_eq name (codes "check")) (check_of j) None (short_check j) refl))
 
 -- a command isn't a line that is too long
 pub short_command : (j : json.Data) → is_too_long (or_shape (command_of j)) ≡ false

@@ -1,27 +1,33 @@
 -- Laws of a call: each from the step that it is.
-use Rattle.std.proofs.Common.{◌≡◌, ◌≢◌, ◌⊎◌, ℕ, ℤ, not, bytes_eq, Bool, true, false, if◌then◌else◌, List, [], ◌∷◌, Option, Some, None, is_some, Ok, inl, inr, refl, sym, ap, subst, ◌∙◌}
+use Rattle.std.proofs.Common.{arith, ◌<◌, ◌≤◌, ◌≡◌, ◌≢◌, ◌⊎◌, ℕ, ℤ, not, bytes_eq, Bool, true, false, if◌then◌else◌, List, [], ◌∷◌, Option, Some, None, is_some, Ok, inl, inr, refl, sym, ap, subst, ◌∙◌}
 use Rattle.std.proofs.Math.Path.{fun_ext}
 use Rattle.std.proofs.lemmas.Slice.Eq.{bytes_eq-Decides}
 use Rattle.sqlite.specs.State.{State}
 use Rattle.serde_json.specs.Data as json
 use Rattle.fv_declare.specs.Declarations.{Declarations}
-use Rattle.fv_engine.specs.Laws.{IsTaken, IsFailure, ShowsWhatWasPut, ChangesNoGet, HasSome, ListsSome, MayChangePlaces, FailsWhereShut}
+use Rattle.fv_engine.specs.Laws.{IsTaken, IsFailure, ShowsWhatWasPut, ChangesNoGet, HasSome, ListsSome, MayChangePlaces, LooksFor, FailsWhereShut, LeavesNothingToList}
 use Rattle.fv_engine.specs.Machines.{Machine, Becomes}
 use Rattle.fv_engine.specs.Refusals.{bundle_under, when, first_of, refusal}
-use Rattle.fv_engine.specs.Commands.{Request, too_long, not_json, shape, put, get, asked}
+use Rattle.fv_engine.specs.Commands.{Request, too_long, not_json, shape, put, get, check, asked}
 use Rattle.fv_engine.specs.Failures.{MayFail, FindsOut}
-use Rattle.fv_engine.specs.Step.{Takes, Decided, Does, Serves, Handles, Told}
+use Rattle.fv_engine.specs.Step.{Takes, Decided, told_of, Does, Serves, Handles, Told}
 use Rattle.fv_engine.proofs.Becoming.{not_taken_stays, weaker}
+use Rattle.fv_groups.specs.Groups.{numbers_of}
+use Rattle.fv_groups.specs.Judged.{unknown_in}
 use Rattle.fv_model.specs.Bundles.{Bundled}
 use Rattle.fv_registry.specs.Meanings.{Meanings}
-use Rattle.fv_reply.specs.Answers.{Answer, taken, shown, violated, refused}
+use Rattle.fv_reply.specs.Answers.{Answer, taken, shown, violated, checked, refused}
 use Rattle.fv_reply.specs.Texts.{answer_text}
 use Rattle.fv_reply.specs.declared.answer.Refusal.{Refusal}
-use Rattle.fv_reply.specs.declared.answer.Refusal.TheVariants.{LineTooLong, NotJson, Shape, UnknownForm, Bundle, NoRecord, Store, Memory}
+use Rattle.fv_reply.specs.declared.answer.Refusal.TheVariants.{LineTooLong, NotJson, Shape, UnknownForm, Bundle, NoRecord, UnknownGroup, TooManyVisits, Store, Memory}
 use Rattle.fv_reply.proofs.Apart.{only_taken}
 use Rattle.fv_store.specs.Records.{Kept, Records, with_record}
+use Rattle.fv_request.specs.Requests.{unjudged}
+use Rattle.fv_turns.specs.Traces.{IsVisit}
+use Rattle.fv_turns.proofs.Told.{one_number}
 use Rattle.fv_validate.specs.Violations.{Reported}
-use Rattle.fv_engine.specs.Asked.{IsListingOf}
+use Rattle.fv_validate.proofs.Alike.{one_listing}
+use Rattle.fv_engine.specs.Asked.{Verdict, too_many_visits, listed, IsVerdict, IsVerdictOf}
 
 -- ---- answers of different kinds
 
@@ -37,23 +43,25 @@ abbrev keep : List ℕ → Bundled → Kept
 keep form b = record { form = form; bundle = b }
 
 abbrev Took : Meanings → ℤ → List ℕ → List ℕ → json.Data → Machine Records → Machine Records → Type 0
-Took means now id form bundle x y = (refusal x (put id form bundle) ≡ None) × (b : Bundled) × (bundle_under x.declared form bundle ≡ Ok b) × IsListingOf means x.declared now (keep form b) [] × Takes id (keep form b) x y
+Took means now id form bundle x y = (refusal x (put id form bundle) ≡ None) × (b : Bundled) × (bundle_under x.declared form bundle ≡ Ok b) × IsVerdictOf means x.declared now (keep form b) (listed []) × Takes id (keep form b) x y
 
 module _ (means : Meanings) (now : ℤ) (id form : List ℕ) (bundle : json.Data) where
   took : (x y : Machine Records) → Handles means now (put id form bundle) x taken y → Took means now id form bundle x y
   took x y (inr failed) = absurd (taken_or_refused failed.0 failed.2)
   took x y (inl does) = by_refusal (refusal x (put id form bundle)) refl does.0
     where
-      decided : (b : Bundled) (vs : List Reported) → IsListingOf means x.declared now (keep form b) vs → Decided id (keep form b) vs x taken y → IsListingOf means x.declared now (keep form b) [] × Takes id (keep form b) x y
-      decided b [] listing d = (listing, d.1)
-      decided b (v ∷ vs) listing d = absurd (taken_or_violated id (v ∷ vs) d.0)
+      decided : (b : Bundled) (v : Verdict) → IsVerdictOf means x.declared now (keep form b) v → Decided id (keep form b) v x taken y
+          → IsVerdictOf means x.declared now (keep form b) (listed []) × Takes id (keep form b) x y
+      decided b too_many_visits verdict d = absurd (taken_or_refused TooManyVisits d.0)
+      decided b (listed []) verdict d = (verdict, d.1)
+      decided b (listed (v ∷ vs)) verdict d = absurd (taken_or_violated id (v ∷ vs) d.0)
 
       by_refusal : (o : Option Refusal) → refusal x (put id form bundle) ≡ o → Does o means now (put id form bundle) x taken y → Took means now id form bundle x y
       by_refusal (Some why) is d = absurd (taken_or_refused why d.0)
       by_refusal None is d = let t = decided d.0 d.2.0 d.2.1 d.2.2 in (is, d.0, d.1, t.0, t.1)
 
   takes : (x y : Machine Records) → Took means now id form bundle x y → Handles means now (put id form bundle) x taken y
-  takes x y t = inl (subst (λ (o : Option Refusal). Does o means now (put id form bundle) x taken y) (sym t.0) (t.1, t.2, ([], t.3, (refl, t.4))), tt)
+  takes x y t = inl (subst (λ (o : Option Refusal). Does o means now (put id form bundle) x taken y) (sym t.0) (t.1, t.2, (listed [], t.3, (refl, t.4))), tt)
 
   -- the same on another machine of these declarations
   elsewhere : (x y v w : Machine Records) → v.declared ≡ x.declared → (t : Took means now id form bundle x y) → Takes id (keep form t.1) v w → Took means now id form bundle v w
@@ -61,7 +69,7 @@ module _ (means : Meanings) (now : ℤ) (id form : List ℕ) (bundle : json.Data
     subst (λ (ds : Declarations). refusal (record v { declared = ds }) (put id form bundle) ≡ None) (sym same) t.0,
     t.1,
     subst (λ (ds : Declarations). bundle_under ds form bundle ≡ Ok t.1) (sym same) t.2,
-    subst (λ (ds : Declarations). IsListingOf means ds now (keep form t.1) []) (sym same) t.3,
+    subst (λ (ds : Declarations). IsVerdictOf means ds now (keep form t.1) (listed [])) (sym same) t.3,
     takes,
   )
 
@@ -90,17 +98,19 @@ there id kept m = ap (λ (b : Bool). if b then Some kept else m id) ((bytes_eq-D
 
 -- ---- what a get shows
 
--- how a get fails
-failing_get : (means : Meanings) (now : ℤ) (id : List ℕ) (x y : Machine Records) (answer : Answer) (why : Refusal) → MayFail why means now (get id) x y → answer ≡ refused why
+-- how a get or a check fails
+failing : (means : Meanings) (now : ℤ) (r : Request) (id : List ℕ) (x y : Machine Records) (answer : Answer) (why : Refusal) → LooksFor r id → MayFail why means now r x y → answer ≡ refused why
     → (answer ≡ refused Store) ⊎ (answer ≡ refused Memory)
-failing_get means now id x y answer Memory f is = inr is
-failing_get means now id x y answer Store f is = inl is
-failing_get means now id x y answer LineTooLong f is = absurd f
-failing_get means now id x y answer NotJson f is = absurd f
-failing_get means now id x y answer Shape f is = absurd f
-failing_get means now id x y answer UnknownForm f is = absurd f
-failing_get means now id x y answer (Bundle e) f is = absurd f
-failing_get means now id x y answer NoRecord f is = absurd f
+failing means now r id x y answer Memory looks f is = inr is
+failing means now r id x y answer Store looks f is = inl is
+failing means now r id x y answer LineTooLong looks f is = absurd f
+failing means now r id x y answer NotJson looks f is = absurd f
+failing means now r id x y answer Shape looks f is = absurd f
+failing means now r id x y answer UnknownForm looks f is = absurd f
+failing means now r id x y answer (Bundle e) looks f is = absurd f
+failing means now r id x y answer NoRecord looks f is = absurd f
+failing means now r id x y answer UnknownGroup looks f is = absurd f
+failing means now r id x y answer TooManyVisits looks f is = absurd f
 
 module _ (means : Meanings) (now : ℤ) (id : List ℕ) where
   abbrev kept_or : Kept → Option Kept → Kept
@@ -110,9 +120,9 @@ module _ (means : Meanings) (now : ℤ) (id : List ℕ) where
   -- what a get answers where there is a record
   get_shows : (kept : Kept) (x y : Machine Records) (answer : Answer) → x.records id ≡ Some kept → Handles means now (get id) x answer y
       → (answer ≡ shown id kept.form kept.bundle) ⊎ ((answer ≡ refused Store) ⊎ (answer ≡ refused Memory))
-  get_shows kept x y answer some (inr failed) = inr (failing_get means now id x y answer failed.0 failed.1 failed.2)
+  get_shows kept x y answer some (inr failed) = inr (failing means now (get id) id x y answer failed.0 (inl refl) failed.1 failed.2)
   get_shows kept x y answer some (inl does) = inl (served
-      (subst (λ (o : Option Refusal). Does o means now (get id) x answer y) (ap (λ (o : Option Kept). first_of (when (not (is_some o)) NoRecord ∷ [])) some) does.0))
+      (subst (λ (o : Option Refusal). Does o means now (get id) x answer y) (ap (λ (o : Option Kept). first_of (when (not (is_some o)) NoRecord ∷ None ∷ [])) some) does.0))
     where
       served : Serves means now (get id) x answer y → answer ≡ shown id kept.form kept.bundle
       served s = s.2 ∙ ap (λ (o : Option Kept). shown id (kept_or kept o).form (kept_or kept o).bundle) (sym s.1 ∙ some)
@@ -125,11 +135,57 @@ module _ (means : Meanings) (now : ℤ) (id : List ℕ) where
     | inr (inr e) ↦ inr (inr (told.1 ∙ ap answer_text e))
   ]
 
+-- ---- what a check lists
+
+-- there is one verdict
+number_or : (a b n : ℕ) → a ≡ b → n < a → b ≤ n → ⊥
+number_or a b n same more few = omega arith
+
+one_verdict : (means : Meanings) (ds : Declarations) (now : ℤ) (b : Bundled) (groups : List ℕ) (v : Verdict) → IsVerdict means ds now b groups v → IsVerdict means ds now b groups (listed []) → v ≡ listed []
+one_verdict means ds now b groups too_many_visits many none =
+    let few = none.0 in absurd (number_or many.0 few.0 4096 (one_number (IsVisit (unjudged ds b groups)) many.0 few.0 many.1 few.1) many.2 few.2)
+one_verdict means ds now b groups (listed vs) some none = ap listed (one_listing means ds now b groups vs [] some.1 none.1)
+
+module _ (means : Meanings) (now : ℤ) (id : List ℕ) (names : List (List ℕ)) where
+  -- what a check answers where there is a record and it has no violation
+  check_lists : (kept : Kept) (x y : Machine Records) (answer : Answer) → x.records id ≡ Some kept → unknown_in x.declared.groups names ≡ false
+      → IsVerdict means x.declared now kept.bundle (numbers_of x.declared.groups names) (listed []) → Handles means now (check id names) x answer y
+      → (answer ≡ checked []) ⊎ ((answer ≡ refused Store) ⊎ (answer ≡ refused Memory))
+  check_lists kept x y answer some known none (inr failed) = inr (failing means now (check id names) id x y answer failed.0 (inr (names, refl)) failed.1 failed.2)
+  check_lists kept x y answer some known none (inl does) = inl (served
+      (subst (λ (o : Option Refusal). Does o means now (check id names) x answer y)
+      (ap (λ (o : Option Kept). first_of (when (not (is_some o)) NoRecord ∷ when (unknown_in x.declared.groups names) UnknownGroup ∷ [])) some
+      ∙ ap (λ (u : Bool). first_of (when u UnknownGroup ∷ [])) known) does.0))
+    where
+      same_kept : (k l : Kept) → Some k ≡ Some l → k ≡ l
+      same_kept k l e = cc
+
+      served : Serves means now (check id names) x answer y → answer ≡ checked []
+      served s =
+          let kept_is : s.0 ≡ kept = same_kept s.0 kept (sym s.1 ∙ some) in
+          let verdict : IsVerdict means x.declared now kept.bundle (numbers_of x.declared.groups names) s.2.0 =
+          subst (λ (k : Kept). IsVerdict means x.declared now k.bundle (numbers_of x.declared.groups names) s.2.0) kept_is s.2.1 in
+          s.2.2 ∙ ap told_of (one_verdict means x.declared now kept.bundle (numbers_of x.declared.groups names) s.2.0 verdict none)
+
+  told_lists : (kept : Kept) (line reply : List ℕ) (x y : Machine Records) → asked line ≡ check id names → x.records id ≡ Some kept → unknown_in x.declared.groups names ≡ false
+      → IsVerdict means x.declared now kept.bundle (numbers_of x.declared.groups names) (listed []) → Told means x line now reply y
+      → (reply ≡ answer_text (checked [])) ⊎ IsFailure reply
+  told_lists kept line reply x y asks some known none told = elim (check_lists kept x y told.0 some known none (subst (λ (r : Request). Handles means now r x told.0 y) asks told.2)) [
+    | inl e ↦ inl (told.1 ∙ ap answer_text e)
+    | inr (inl e) ↦ inr (inl (told.1 ∙ ap answer_text e))
+    | inr (inr e) ↦ inr (inr (told.1 ∙ ap answer_text e))
+  ]
+
 -- ---- a refusal for violations
 
-decided_some : (id : List ℕ) (kept : Kept) (vs : List Reported) (x y : Machine Records) (answer : Answer) → Decided id kept vs x answer y → HasSome answer
-decided_some id kept [] x y answer d = subst HasSome (sym d.0) tt
-decided_some id kept (v ∷ vs) x y answer d = subst HasSome (sym d.0) (λ none. cc)
+decided_some : (id : List ℕ) (kept : Kept) (v : Verdict) (x y : Machine Records) (answer : Answer) → Decided id kept v x answer y → HasSome answer
+decided_some id kept too_many_visits x y answer d = subst HasSome (sym d.0) tt
+decided_some id kept (listed []) x y answer d = subst HasSome (sym d.0) tt
+decided_some id kept (listed (v ∷ vs)) x y answer d = subst HasSome (sym d.0) (λ none. cc)
+
+told_some : (v : Verdict) → HasSome (told_of v)
+told_some too_many_visits = tt
+told_some (listed vs) = tt
 
 has_some : (means : Meanings) (now : ℤ) (o : Option Refusal) (r : Request) (x y : Machine Records) (answer : Answer) → Does o means now r x answer y → HasSome answer
 has_some means now (Some why) r x y answer does = subst HasSome (sym does.0) tt
@@ -137,6 +193,7 @@ has_some means now None too_long x y answer does = absurd does
 has_some means now None not_json x y answer does = absurd does
 has_some means now None shape x y answer does = absurd does
 has_some means now None (get id) x y answer does = subst HasSome (sym does.2) tt
+has_some means now None (check id names) x y answer does = subst HasSome (sym does.2.2) (told_some does.2.0)
 has_some means now None (put id form bundle) x y answer does = decided_some id (keep form does.0) does.2.0 x y answer does.2.2
 
 -- ---- the laws of a call
@@ -193,12 +250,28 @@ module _ {H : Type 0} (held : H → State) (means : Meanings) (line : List ℕ) 
   pub fails_where_shut : Becomes held old new (λ x y. FailsWhereShut line reply x)
   fails_where_shut = weaker held old new _ _ failed becoming
     where
-      never : (id : List ℕ) (x y : Machine Records) (answer : Answer) → x.is_open ≡ false → Handles means now (get id) x answer y → (answer ≡ refused Store) ⊎ (answer ≡ refused Memory)
-      never id x y answer shut (inl does) = let never : false ≡ true = sym shut ∙ does.1 in cc
-      never id x y answer shut (inr failure) = failing_get means now id x y answer failure.0 failure.1 failure.2
+      found_out : (r : Request) (id : List ℕ) (x : Machine Records) → LooksFor r id → FindsOut r x → x.is_open ≡ true
+      found_out r id x (inl is) out = subst (λ (q : Request). FindsOut q x) is out
+      found_out r id x (inr looks) out = subst (λ (q : Request). FindsOut q x) looks.1 out
+
+      never : (r : Request) (id : List ℕ) (x y : Machine Records) (answer : Answer) → LooksFor r id → x.is_open ≡ false → Handles means now r x answer y → (answer ≡ refused Store) ⊎ (answer ≡ refused Memory)
+      never r id x y answer looks shut (inl does) = let never : false ≡ true = sym shut ∙ found_out r id x looks does.1 in cc
+      never r id x y answer looks shut (inr failure) = failing means now r id x y answer failure.0 looks failure.1 failure.2
 
       failed : (x y : Machine Records) → Told means x line now reply y → FailsWhereShut line reply x
-      failed x y told = λ id asks shut. elim (never id x y told.0 shut (subst (λ (r : Request). Handles means now r x told.0 y) asks told.2)) [
+      failed x y told = λ id looks shut. elim (never (asked line) id x y told.0 looks shut told.2) [
         | inl e ↦ inl (told.1 ∙ ap answer_text e)
         | inr e ↦ inr (told.1 ∙ ap answer_text e)
       ]
+
+  pub leaves_nothing_to_list : Becomes held old new (LeavesNothingToList means line now reply)
+  leaves_nothing_to_list = weaker held old new _ _ nothing becoming
+    where
+      nothing : (x y : Machine Records) → Told means x line now reply y → LeavesNothingToList means line now reply x y
+      nothing x y told = λ id form bundle asks is_taken next names lists last asks_next are got.
+          let t = told_took means now id form bundle line reply asks is_taken x y told in
+          told_lists means now id names (keep form t.1) next lists y last asks_next (ap (λ (m : Records). m id) t.4.records ∙ there id (keep form t.1) x.records)
+          (ap (λ (ds : Declarations). unknown_in ds.groups names) t.4.declared ∙ are.0)
+          (subst (λ (ds : Declarations). IsVerdict means ds now t.1 (numbers_of ds.groups names) (listed [])) (sym t.4.declared)
+          (subst (λ (gs : List ℕ). IsVerdict means x.declared now t.1 gs (listed [])) (sym are.1) t.3))
+          got

@@ -5,8 +5,9 @@ use Rattle.std.specs.List.{list_all}
 use Rattle.std.specs.Str.{bytes_eq}
 use Rattle.serde_json.specs.Data as json
 use Rattle.serde_json.specs.Find.{as_str, get as get_at}
-use Rattle.fv_datum.specs.Forms.{only, required, map3}
+use Rattle.fv_datum.specs.Forms.{only, required, map2, map3}
 use Rattle.fv_datum.specs.Parsing.{json_of}
+use Rattle.fv_definition.specs.Names.{names_of}
 
 -- a command, or why a line is none
 pub data Request : Type 0 where
@@ -17,6 +18,8 @@ pub data Request : Type 0 where
   -- the id, the form and the bundle's JSON
   put : List ℕ → List ℕ → json.Data → Request
   get : List ℕ → Request
+  -- the id, and the names of the groups that are asked for
+  check : List ℕ → List (List ℕ) → Request
 
 -- an ASCII letter, an ASCII digit, `_` or `-`
 abbrev pub is_id_byte : ℕ → Bool
@@ -43,10 +46,24 @@ put_of = only (codes "do" ∷ codes "id" ∷ codes "form" ∷ codes "bundle" ∷
 abbrev pub get_of : json.Data → Option Request
 get_of = only (codes "do" ∷ codes "id" ∷ []) (λ j. option_map get (id_at j))
 
+-- names, if they are at most 32, repeats included
+abbrev pub few_names : List (List ℕ) → Option (List (List ℕ))
+few_names names = if nat_le (length names) 32 then Some names else None
+
+-- the names at the member `groups`: an array of at most 32 texts; none where there is no such member
+abbrev pub groups_at : json.Data → Option (List (List ℕ))
+groups_at j = option_and_then few_names (names_of (codes "groups") j)
+
+-- `{"do":"check","id":ID,"groups":[NAME,..]}`, where the groups may be missing
+abbrev pub check_of : json.Data → Option Request
+check_of = only (codes "do" ∷ codes "id" ∷ codes "groups" ∷ []) (λ j. map2 check (id_at j) (groups_at j))
+
 -- the command that a JSON value is, by the name of what is to be done
 abbrev pub done_by : List ℕ → json.Data → Option Request
 done_by name j =
-    if bytes_eq name (codes "put") then put_of j else (if bytes_eq name (codes "get") then get_of j else None)
+    if bytes_eq name (codes "put")
+    then put_of j
+    else (if bytes_eq name (codes "get") then get_of j else (if bytes_eq name (codes "check") then check_of j else None))
 
 -- the command that a JSON value is
 abbrev pub command_of : json.Data → Option Request

@@ -1,13 +1,17 @@
 -- Laws of a call, in a user's words: they are told of its reply, and follow from the step.
 use Rattle.std.specs.Prelude.{◌≡◌, ◌≢◌, ◌⊎◌, ℕ, ℤ, false, List, [], Ok}
 use Rattle.serde_json.specs.Data as json
+use Rattle.fv_declare.specs.Declarations.{Declarations}
+use Rattle.fv_engine.specs.Asked.{groups_of}
 use Rattle.fv_engine.specs.Machines.{Machine}
 use Rattle.fv_engine.specs.Refusals.{bundle_under}
-use Rattle.fv_engine.specs.Commands.{put, get, asked}
+use Rattle.fv_engine.specs.Commands.{Request, put, get, check, asked}
 use Rattle.fv_engine.specs.Step.{Told}
+use Rattle.fv_groups.specs.Groups.{numbers_of}
+use Rattle.fv_groups.specs.Judged.{unknown_in}
 use Rattle.fv_model.specs.Bundles.{Bundled}
 use Rattle.fv_registry.specs.Meanings.{Meanings}
-use Rattle.fv_reply.specs.Answers.{Answer, taken, shown, violated, refused}
+use Rattle.fv_reply.specs.Answers.{Answer, taken, shown, violated, checked, refused}
 use Rattle.fv_reply.specs.Texts.{answer_text}
 use Rattle.fv_reply.specs.declared.answer.Refusal.TheVariants.{Store, Memory}
 use Rattle.fv_store.specs.Records.{Records}
@@ -47,6 +51,22 @@ MayChangePlaces means line now reply old new = (id form : List ℕ) (bundle : js
     → (last : Machine Records) → Told means new next later reply last
     → (mid : Machine Records) × Told means old next later reply mid × Told means mid line now reply last
 
--- A get fails over a connection that is shut: it neither shows a record nor says that there is none.
+-- a get or a check of an id
+abbrev pub LooksFor : Request → List ℕ → Type 0
+LooksFor r id = (r ≡ get id) ⊎ ((names : List (List ℕ)) × (r ≡ check id names))
+
+-- A get and a check fail over a connection that is shut: they neither show what is there nor say that there is nothing.
 abbrev pub FailsWhereShut : List ℕ → List ℕ → Machine Records → Type 0
-FailsWhereShut line reply old = (id : List ℕ) → asked line ≡ get id → old.is_open ≡ false → IsFailure reply
+FailsWhereShut line reply old = (id : List ℕ) → LooksFor (asked line) id → old.is_open ≡ false → IsFailure reply
+
+-- these are names of the form's groups, in order
+abbrev pub AreNamesOf : Declarations → List ℕ → List (List ℕ) → Type 0
+AreNamesOf ds form names = (unknown_in ds.groups names ≡ false) × (numbers_of ds.groups names ≡ groups_of ds form)
+
+-- A taken put leaves nothing to list: a check of its id for the groups of its form, on the next line and at the same moment, finds no
+-- violation, unless that check fails.
+abbrev pub LeavesNothingToList : Meanings → List ℕ → ℤ → List ℕ → Machine Records → Machine Records → Type 0
+LeavesNothingToList means line now reply old new = (id form : List ℕ) (bundle : json.Data) → asked line ≡ put id form bundle → IsTaken reply
+    → (next : List ℕ) (names : List (List ℕ)) (lists : List ℕ) (last : Machine Records) → asked next ≡ check id names
+    → AreNamesOf old.declared form names → Told means new next now lists last
+    → (lists ≡ answer_text (checked [])) ⊎ IsFailure lists

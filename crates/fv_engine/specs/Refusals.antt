@@ -4,13 +4,14 @@ use Rattle.serde_json.specs.Data as json
 use Rattle.fv_datum.specs.Lookup.{at_name}
 use Rattle.fv_declare.specs.Declarations.{Declarations}
 use Rattle.fv_engine.specs.Machines.{Machine}
-use Rattle.fv_engine.specs.Commands.{Request, too_long, not_json, shape, put, get}
+use Rattle.fv_engine.specs.Commands.{Request, too_long, not_json, shape, put, get, check}
+use Rattle.fv_groups.specs.Judged.{unknown_in}
 use Rattle.fv_model.specs.Bundles.{Bundled}
 use Rattle.fv_model.specs.Reading.{bundle_read}
 use Rattle.fv_model.specs.declared.fault.BundleFault.{BundleFault}
 use Rattle.fv_model.specs.declared.fault.BundleFault.TheVariants as fault
 use Rattle.fv_reply.specs.declared.answer.Refusal.{Refusal}
-use Rattle.fv_reply.specs.declared.answer.Refusal.TheVariants.{LineTooLong, NotJson, Shape, UnknownForm, Bundle, NoRecord}
+use Rattle.fv_reply.specs.declared.answer.Refusal.TheVariants.{LineTooLong, NotJson, Shape, UnknownForm, Bundle, NoRecord, UnknownGroup}
 use Rattle.fv_store.specs.Records.{Records}
 
 -- ---- the conditions
@@ -51,10 +52,16 @@ abbrev pub bundle_fault : Declarations → Request → Option Refusal
 bundle_fault ds (put id form bundle) = fault_of (bundle_under ds form bundle)
 bundle_fault ds _ = None
 
--- a get whose id has no record
+-- a get or a check whose id has no record
 abbrev pub lacks_record : Records → Request → Bool
 lacks_record m (get id) = not (is_some (m id))
+lacks_record m (check id names) = not (is_some (m id))
 lacks_record m _ = false
+
+-- a check that names a group that isn't declared
+abbrev pub lacks_group : Declarations → Request → Bool
+lacks_group ds (check id names) = unknown_in ds.groups names
+lacks_group ds _ = false
 
 -- ---- the order
 
@@ -71,6 +78,7 @@ refusals machine r =
     ∷ when (lacks_form machine.declared r) UnknownForm
     ∷ bundle_fault machine.declared r
     ∷ when (lacks_record machine.records r) NoRecord
+    ∷ when (lacks_group machine.declared r) UnknownGroup
     ∷ []
 
 abbrev pub first_of : List (Option Refusal) → Option Refusal

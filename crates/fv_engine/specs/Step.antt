@@ -1,18 +1,20 @@
 -- The step of the record machine: what a line does to it, and the answer.
 use Rattle.std.specs.Prelude.{◌≡◌, ◌≤◌, ◌⊎◌, ℕ, ℤ, IsTrue, List, [], ◌∷◌, Option, Some, None, Ok}
 use Rattle.sqlite.specs.Disk.{MoreFaults}
+use Rattle.fv_declare.specs.Declarations.{Declarations}
 use Rattle.fv_engine.specs.Failures.{MayFail, FindsOut}
 use Rattle.fv_engine.specs.Machines.{Machine}
 use Rattle.fv_engine.specs.Refusals.{bundle_under, refusal}
-use Rattle.fv_engine.specs.Commands.{Request, put, get, asked}
+use Rattle.fv_engine.specs.Commands.{Request, put, get, check, asked}
+use Rattle.fv_groups.specs.Groups.{numbers_of}
 use Rattle.fv_model.specs.Bundles.{Bundled}
 use Rattle.fv_registry.specs.Meanings.{Meanings}
-use Rattle.fv_reply.specs.Answers.{Answer, taken, shown, violated, refused}
+use Rattle.fv_reply.specs.Answers.{Answer, taken, shown, violated, checked, refused}
 use Rattle.fv_reply.specs.Texts.{answer_text}
 use Rattle.fv_reply.specs.declared.answer.Refusal.{Refusal}
+use Rattle.fv_reply.specs.declared.answer.Refusal.TheVariants.{TooManyVisits}
 use Rattle.fv_store.specs.Records.{Kept, Records, with_record}
-use Rattle.fv_validate.specs.Violations.{Reported}
-use Rattle.fv_engine.specs.Asked.{IsListingOf}
+use Rattle.fv_engine.specs.Asked.{Verdict, too_many_visits, listed, IsVerdict, IsVerdictOf}
 
 -- Nothing has changed, but that a failure may have shut the connection. No fault is forgotten.
 pub record Unchanged (old new : Machine Records) : Type 0 where
@@ -30,20 +32,35 @@ pub record Takes (id : List ℕ) (kept : Kept) (old new : Machine Records) : Typ
   pub is_open : IsTrue new.is_open
   pub counts : old.faults ≤ new.faults
 
--- what the violations of a record decide: it is taken where there are none, and else refused by all of them
-abbrev pub Decided : List ℕ → Kept → List Reported → Machine Records → Answer → Machine Records → Type 0
-Decided id kept [] old answer new = (answer ≡ taken) × Takes id kept old new
-Decided id kept (v ∷ vs) old answer new = (answer ≡ violated id (v ∷ vs)) × Unchanged old new
+-- what the verdict on a record decides: it is refused for too many visits, taken where there are no violations, and else refused by all of
+-- them
+abbrev pub Decided : List ℕ → Kept → Verdict → Machine Records → Answer → Machine Records → Type 0
+Decided id kept too_many_visits old answer new = (answer ≡ refused TooManyVisits) × Unchanged old new
+Decided id kept (listed []) old answer new = (answer ≡ taken) × Takes id kept old new
+Decided id kept (listed (v ∷ vs)) old answer new = (answer ≡ violated id (v ∷ vs)) × Unchanged old new
 
 -- a record is judged at a moment
 abbrev pub Judged : Meanings → ℤ → List ℕ → Kept → Machine Records → Answer → Machine Records → Type 0
-Judged means now id kept old answer new = (vs : List Reported) × IsListingOf means old.declared now kept vs × Decided id kept vs old answer new
+Judged means now id kept old answer new =
+    (verdict : Verdict) × IsVerdictOf means old.declared now kept verdict × Decided id kept verdict old answer new
+
+-- how the verdict on a record that is checked is told
+abbrev pub told_of : Verdict → Answer
+told_of too_many_visits = refused TooManyVisits
+told_of (listed vs) = checked vs
+
+-- a bundle is checked at a moment for the groups of these names
+abbrev pub Checked : Meanings → Declarations → ℤ → Bundled → List (List ℕ) → Answer → Type 0
+Checked means ds now b names answer =
+    (verdict : Verdict) × IsVerdict means ds now b (numbers_of ds.groups names) verdict × (answer ≡ told_of verdict)
 
 -- what a request that nothing refuses does at a moment
 abbrev pub Serves : Meanings → ℤ → Request → Machine Records → Answer → Machine Records → Type 0
 Serves means now (put id form bundle) old answer new =
     (b : Bundled) × (bundle_under old.declared form bundle ≡ Ok b) × Judged means now id (record { form = form; bundle = b }) old answer new
 Serves means now (get id) old answer new = (kept : Kept) × (old.records id ≡ Some kept) × (answer ≡ shown id kept.form kept.bundle) × Unchanged old new
+Serves means now (check id names) old answer new =
+    (kept : Kept) × (old.records id ≡ Some kept) × Checked means old.declared now kept.bundle names answer × Unchanged old new
 Serves means now _ old answer new = ⊥
 
 -- by the first refusal, if there is one

@@ -4,7 +4,7 @@ ghost use Rattle.fv_datum.specs.Moments.{IsMoment};
 ghost use Rattle.fv_datum.specs.Parsing.{json_of};
 ghost use Rattle.fv_declare.specs.Declarations.{Declarations};
 ghost use Rattle.fv_engine.specs.Asked.{groups_of};
-ghost use Rattle.fv_engine.specs.Keeping.{Replies, Keeps, Settles, unread};
+ghost use Rattle.fv_engine.specs.Keeping.{Replies, Keeps, Settles};
 ghost use Rattle.fv_engine.specs.Machines.{over, Becomes};
 ghost use Rattle.fv_engine.specs.Commands.{put, get, command_of, or_shape, of_json};
 ghost use Rattle.fv_engine.specs.Step.{Handles};
@@ -20,30 +20,21 @@ ghost use Rattle.fv_store.specs.Records.{Records, Roots, Fits, with_record};
 ghost use Rattle.serde_json.specs.View.{view as json_view};
 ghost use Rattle.sqlite.specs.Held.{state};
 
+use crate::checking::check;
 use crate::command::{Command, command_of};
+use crate::refusing::{undone, unjudged, unread};
 use fv_datum::{JsonFault, read_json};
 use fv_declare::Schema;
 use fv_groups::GroupId;
 use fv_local::Rulebook;
-use fv_model::{Bundle, BundleFault, Types, read_bundle};
+use fv_model::{Bundle, Types, read_bundle};
 use fv_registry::RuleSet;
 use fv_reply::{Answer, Refusal, Reply};
-use fv_store::{Change, Store, StoreFault};
+use fv_store::{Change, Store};
 use fv_validate::validate;
 use serde_json::Value;
 use sqlite::Alter;
 use std::alloc::{AllocError, Global};
-
-/// The refusal of a command that the store couldn't do.
-fn undone(fault: StoreFault) -> Refusal
-    ensures store { fault ≡ StoreFault.Store → result ≡ Refusal.Store }
-    ensures memory { fault ≡ StoreFault.Memory → result ≡ Refusal.Memory }
-{
-    match fault {
-        StoreFault::Store => Refusal::Store,
-        StoreFault::Memory => Refusal::Memory,
-    }
-}
 
 /// The one change of a put, as short as its record.
 fn changes_of(
@@ -115,26 +106,11 @@ fn judge<'a, R: RuleSet, S: Alter>(
         (answer_view result) y) }
 {
     match validate(alloc, book, &bundle, asked_by(book.schema(), form), now) {
-        Err(_) => Answer::Refused(Refusal::Memory),
+        Err(fault) => Answer::Refused(unjudged(fault)),
         Ok(violations) => if violations.is_empty() {
             keep(store, alloc, id, form, bundle)
         } else {
             Answer::Violated { id, violations }
-        },
-    }
-}
-
-/// The refusal of a put whose bundle has a fault, under a form that is declared or not.
-fn unread(fault: BundleFault, declared: bool) -> Refusal
-    ensures { result ≡ unread fault declared }
-{
-    match fault {
-        BundleFault::Memory => Refusal::Memory,
-        BundleFault::Shape => Refusal::Shape,
-        _ => if declared {
-            Refusal::Bundle(fault)
-        } else {
-            Refusal::UnknownForm
         },
     }
 }
@@ -195,12 +171,14 @@ fn answer<'a, R: RuleSet, S: Alter>(
         (over (state S.Store) book.now store.new)
         (λ x y. Handles R.meaning now (or_shape (command_of (json_view value.now))) x (answer_view result) y) }
 {
-    match command_of(value) {
-        None => Answer::Refused(Refusal::Shape),
-        Some(Command::Put { id, form, bundle }) => {
+    match command_of(alloc, value) {
+        Err(_) => Answer::Refused(Refusal::Memory),
+        Ok(None) => Answer::Refused(Refusal::Shape),
+        Ok(Some(Command::Put { id, form, bundle })) => {
             put(store, alloc, book, id, form, bundle, now)
         }
-        Some(Command::Get { id }) => get(store, alloc, book.schema().types(), id),
+        Ok(Some(Command::Get { id })) => get(store, alloc, book.schema().types(), id),
+        Ok(Some(Command::Check { id, groups })) => check(store, alloc, book, id, &groups, now),
     }
 }
 

@@ -1,17 +1,23 @@
 //! What a line asks for.
-ghost use Rattle.std.specs.Prelude.{◌≡◌, option_map};
+ghost use Rattle.std.specs.Prelude.{◌≡◌, IfOk, map, option_map};
 ghost use Rattle.std.specs.List.{list_all};
 ghost use Rattle.serde_json.specs.View.{view as json_view};
 ghost use Rattle.fv_engine.specs.CommandView.{command_view};
-ghost use Rattle.fv_engine.specs.Commands.{is_id_byte, is_id, id_at, put_of, get_of, command_of};
+ghost use Rattle.fv_engine.specs.Commands.{is_id_byte, is_id, id_at, put_of, get_of, groups_at, check_of, command_of};
 
 use fv_datum::has_only;
+use fv_definition::names_of;
 use serde_json::Value;
+use std::alloc::{AllocError, Global};
 
 /// The most bytes of an id.
 const LONGEST_ID: usize = 64;
 
+/// The most groups that a check names, repeats included.
+const MOST_GROUPS: usize = 32;
+
 /// A command, its parts borrowed from the line's JSON.
+#[derive(Drop)]
 pub(crate) enum Command<'a> {
     Put {
         id: &'a str,
@@ -20,6 +26,10 @@ pub(crate) enum Command<'a> {
     },
     Get {
         id: &'a str,
+    },
+    Check {
+        id: &'a str,
+        groups: Vec<&'a str>,
     },
 }
 
@@ -79,17 +89,50 @@ fn get_of<'a>(value: &'a Value) -> Option<Command<'a>>
     Some(Command::Get { id })
 }
 
-/// The command that a JSON value is: an object with the members of the command that `do` names, and
-/// no others. A put's bundle is any value here.
-pub(crate) fn command_of<'a>(value: &'a Value) -> Option<Command<'a>>
-    ensures { option_map command_view result ≡ command_of (json_view value.now) }
+/// The names at the member `groups`: an array of at most 32 texts, and none where it is missing.
+fn groups_of<'a>(alloc: Global, value: &'a Value) -> Result<Option<Vec<&'a str>>, AllocError>
+    ensures { IfOk result (λ o. option_map (λ v. map (λ n. n.now) v.items) o ≡ groups_at (json_view value.now)) }
 {
-    let name = value.get("do").and_then(Value::as_str)?;
+    match names_of(alloc, value.get("groups"))? {
+        Some(names) if names.len() <= MOST_GROUPS => Ok(Some(names)),
+        _ => Ok(None),
+    }
+}
+
+fn check_of<'a>(alloc: Global, value: &'a Value) -> Result<Option<Command<'a>>, AllocError>
+    ensures { IfOk result (λ o. option_map command_view o ≡ check_of (json_view value.now)) }
+{
+    if !has_only(value, &["do", "id", "groups"]) {
+        return Ok(None);
+    }
+    let Some(id) = id_of(value) else {
+        return Ok(None);
+    };
+    match groups_of(alloc, value)? {
+        None => Ok(None),
+        Some(groups) => Ok(Some(Command::Check { id, groups })),
+    }
+}
+
+/// The command that a JSON value is: an object with the members of the command that `do` names, and
+/// no others. A put's bundle is any value here, and a check's groups are any texts.
+pub(crate) fn command_of<'a>(
+    alloc: Global,
+    value: &'a Value,
+) -> Result<Option<Command<'a>>, AllocError>
+    ensures { IfOk result (λ o. option_map command_view o ≡ command_of (json_view value.now)) }
+{
+    let Some(name) = value.get("do").and_then(Value::as_str) else {
+        return Ok(None);
+    };
     if name == "put" {
-        return put_of(value);
+        return Ok(put_of(value));
     }
     if name == "get" {
-        return get_of(value);
+        return Ok(get_of(value));
     }
-    None
+    if name == "check" {
+        return check_of(alloc, value);
+    }
+    Ok(None)
 }

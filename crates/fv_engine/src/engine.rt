@@ -6,7 +6,7 @@ ghost use Rattle.fv_store.specs.Faults.{about_fault, IsAboutFault};
 ghost use Rattle.fv_store.specs.Causes.{HasFailed, IsShortAbout};
 ghost use Rattle.fv_store.specs.Stands.{Frame, Holds, HasTables, IsBlank, IsLive, Opens, Stays};
 ghost use Rattle.fv_declare.specs.Declares.{Declares};
-ghost use Rattle.fv_engine.specs.Laws.{ShowsWhatWasPut, ChangesNoGet, ListsSome, MayChangePlaces, FailsWhereShut};
+ghost use Rattle.fv_engine.specs.Laws.{ShowsWhatWasPut, ChangesNoGet, ListsSome, MayChangePlaces, LeavesNothingToList, FailsWhereShut};
 ghost use Rattle.fv_engine.specs.Machines.{contents, StandsFor, Becomes};
 ghost use Rattle.fv_engine.specs.Step.{Told};
 ghost use Rattle.fv_engine.specs.FaultNames.{open_fault_name};
@@ -187,7 +187,9 @@ impl<R: RuleSet, S: Alter> Engine<R, S> {
         ensures lists { Becomes (state S.Store) self.old self.new (λ x y. ListsSome result) }
         // Two taken puts of different ids may change places.
         ensures places { Becomes (state S.Store) self.old self.new (MayChangePlaces R.meaning line.now now result) }
-        // A get fails over a connection that is shut.
+        // A taken put leaves nothing to list.
+        ensures nothing { Becomes (state S.Store) self.old self.new (LeavesNothingToList R.meaning line.now now result) }
+        // A get and a check fail over a connection that is shut.
         ensures shut { Becomes (state S.Store) self.old self.new (λ x y. FailsWhereShut line.now result x) }
     {
         if line.len() > LIMIT {

@@ -1,10 +1,12 @@
 //! The record service: lines become commands, the bundle of a put is judged and stored where it has
-//! no violation, and a get shows what is stored.
+//! no violation, a get shows what is stored, and a check lists its violations.
 #![tactic(auto)]
 
 mod answering;
+mod checking;
 mod command;
 mod engine;
+mod refusing;
 mod serving;
 
 pub use engine::{Engine, OpenFault};

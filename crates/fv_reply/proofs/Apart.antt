@@ -3,9 +3,9 @@ use Rattle.std.proofs.Common.{codes, slice_index_or, ◌==◌, ◌≡◌, ℕ, L
 use Rattle.json.specs.Print.{escape_byte}
 use Rattle.serde_json.specs.Data as json
 use Rattle.serde_json.specs.Written.{compact_text}
-use Rattle.fv_reply.specs.Answers.{Answer, taken, shown, violated, refused}
-use Rattle.fv_reply.specs.Texts.{violations_refused_json, record_json, bundle_refused_json, answer_text}
-use Rattle.fv_reply.specs.declared.answer.Refusal.TheVariants.{LineTooLong, NotJson, Shape, UnknownForm, Bundle, NoRecord, Store, Memory}
+use Rattle.fv_reply.specs.Answers.{Answer, taken, shown, violated, checked, refused}
+use Rattle.fv_reply.specs.Texts.{violations_refused_json, listing_json, record_json, bundle_refused_json, violations_json, answer_text}
+use Rattle.fv_reply.specs.declared.answer.Refusal.TheVariants.{LineTooLong, NotJson, Shape, UnknownForm, Bundle, NoRecord, UnknownGroup, TooManyVisits, Store, Memory}
 
 -- the first byte of the first name of an object's text is the o of `ok`
 abbrev begins_with_o : List ℕ → Bool
@@ -28,16 +28,30 @@ error_other j d ms is = other (compact_text j) (ap (λ (k : json.Data). begins_w
 bundle_other : (j d : json.Data) (ms : json.Members) → j ≡ json.object (json.member (codes "bundle") d ms) → compact_text j ≡ answer_text taken → ⊥
 bundle_other j d ms is = other (compact_text j) (ap (λ (k : json.Data). begins_with_o (compact_text k)) is ∙ bundle_begins d ms)
 
+-- the first byte of what stands at `ok` is the p of `put`
+abbrev tells_of_p : List ℕ → Bool
+tells_of_p text = slice_index_or text 7 0 == 112
+
+check_tells : (d : json.Data) → tells_of_p (compact_text (listing_json d)) ≡ false
+unfolding escape_byte
+check_tells d = refl
+
+check_other : (d : json.Data) → compact_text (listing_json d) ≡ answer_text taken → ⊥
+check_other d is = let never : false ≡ true = sym (check_tells d) ∙ ap tells_of_p is in cc
+
 -- only the text of a put that was taken tells that a put was taken
 pub only_taken : (a : Answer) → answer_text a ≡ answer_text taken → a ≡ taken
 only_taken taken e = refl
 only_taken (shown id form b) e = absurd (bundle_other (record_json id form b) _ _ refl e)
 only_taken (violated id vs) e = absurd (error_other (violations_refused_json id vs) _ _ refl e)
+only_taken (checked vs) e = absurd (check_other (json.array (violations_json vs)) e)
 only_taken (refused LineTooLong) e = absurd (other (answer_text (refused LineTooLong)) refl e)
 only_taken (refused NotJson) e = absurd (other (answer_text (refused NotJson)) refl e)
 only_taken (refused Shape) e = absurd (other (answer_text (refused Shape)) refl e)
 only_taken (refused UnknownForm) e = absurd (other (answer_text (refused UnknownForm)) refl e)
 only_taken (refused (Bundle fault)) e = absurd (error_other (bundle_refused_json fault) _ _ refl e)
 only_taken (refused NoRecord) e = absurd (other (answer_text (refused NoRecord)) refl e)
+only_taken (refused UnknownGroup) e = absurd (other (answer_text (refused UnknownGroup)) refl e)
+only_taken (refused TooManyVisits) e = absurd (other (answer_text (refused TooManyVisits)) refl e)
 only_taken (refused Store) e = absurd (other (answer_text (refused Store)) refl e)
 only_taken (refused Memory) e = absurd (other (answer_text (refused Memory)) refl e)

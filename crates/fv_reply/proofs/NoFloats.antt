@@ -4,7 +4,7 @@ use Rattle.serde_json.specs.Data as json
 use Rattle.serde_json.specs.View.{items_of}
 use Rattle.serde_json.specs.Written.{has_float, items_have_float}
 use Rattle.fv_types.specs.Writing.{datum_json}
-use Rattle.fv_reply.specs.Texts.{violation_json, violations_json, violations_refused_json}
+use Rattle.fv_reply.specs.Texts.{violation_json, violations_json, violations_refused_json, violations_listed_json}
 use Rattle.fv_text.proofs.NoFloats.{datum_json_float}
 use Rattle.fv_validate.specs.Violations.{Reported}
 
@@ -20,6 +20,9 @@ violations_whole (v ∷ vs) = neither (has_float (violation_json v)) _ (violatio
 
 pub refusal_whole : (id : List ℕ) (vs : List Reported) → has_float (violations_refused_json id vs) ≡ false
 refusal_whole id vs = let inner : items_have_float (violations_json vs) ≡ false = violations_whole vs in rw inner refl
+
+pub listing_whole : (vs : List Reported) → has_float (violations_listed_json vs) ≡ false
+listing_whole vs = let inner : items_have_float (violations_json vs) ≡ false = violations_whole vs in rw inner refl
 
 -- the items of a list that is mapped
 pub violations_mapped : (vs : List Reported) → items_of (map violation_json vs) ≡ violations_json vs

@@ -11,5 +11,7 @@ pub data Answer : Type 0 where
   shown : List ℕ → List ℕ → Bundled → Answer
   -- a put that was refused, with all violations of the record of that id
   violated : List ℕ → List Reported → Answer
+  -- all violations of a record that was checked
+  checked : List Reported → Answer
   -- another refusal
   refused : Refusal → Answer

@@ -17,6 +17,10 @@ pub enum Answer<'a> {
         id: &'a str,
         violations: Vec<Violation>,
     },
+    /// All violations of a record that was checked.
+    Checked {
+        violations: Vec<Violation>,
+    },
     /// Another refusal.
     Refused(Refusal),
 }
@@ -34,8 +38,12 @@ pub enum Refusal {
     UnknownForm,
     /// C5: the bundle of a put has a fault.
     Bundle(BundleFault),
-    /// C6: the id of a get has no record.
+    /// C6: the id of a get or a check has no record.
     NoRecord,
+    /// C7: a group that a check names isn't declared.
+    UnknownGroup,
+    /// C9: a put or a check has more than 4,096 visits.
+    TooManyVisits,
     /// C11: the store couldn't do it.
     Store,
     /// C12: an allocation was refused.

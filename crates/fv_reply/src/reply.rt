@@ -4,7 +4,7 @@ ghost use Rattle.fv_reply.specs.AnswerView.{answer_view};
 ghost use Rattle.fv_reply.specs.Texts.{refusal_text, Tells};
 
 use crate::answer::{Answer, Refusal};
-use crate::texts::{bundle_refused, record_shown, violations_refused};
+use crate::texts::{bundle_refused, record_shown, violations_listed, violations_refused};
 use fv_lines::Text;
 use std::alloc::{AllocError, Global};
 use std::marker::Model;
@@ -19,6 +19,10 @@ const SHAPE: &str = r#"{"error":"C3","name":"Shape"}"#;
 const UNKNOWN_FORM: &str = r#"{"error":"C4","name":"UnknownForm"}"#;
 
 const NO_RECORD: &str = r#"{"error":"C6","name":"NoRecord"}"#;
+
+const UNKNOWN_GROUP: &str = r#"{"error":"C7","name":"UnknownGroup"}"#;
+
+const TOO_MANY_VISITS: &str = r#"{"error":"C9","name":"TooManyVisits"}"#;
 
 const STORE: &str = r#"{"error":"C11","name":"Store"}"#;
 
@@ -88,6 +92,9 @@ impl Reply {
             Answer::Violated { id, violations } => {
                 Reply::made_or_memory(violations_refused(alloc, id, violations))
             }
+            Answer::Checked { violations } => {
+                Reply::made_or_memory(violations_listed(alloc, violations))
+            }
             Answer::Refused(why) => Reply::refused(alloc, *why),
         }
     }
@@ -103,6 +110,8 @@ impl Reply {
             Refusal::Shape => Reply::fixed(SHAPE),
             Refusal::UnknownForm => Reply::fixed(UNKNOWN_FORM),
             Refusal::NoRecord => Reply::fixed(NO_RECORD),
+            Refusal::UnknownGroup => Reply::fixed(UNKNOWN_GROUP),
+            Refusal::TooManyVisits => Reply::fixed(TOO_MANY_VISITS),
             Refusal::Store => Reply::fixed(STORE),
             Refusal::Memory => Reply::fixed(MEMORY),
         }

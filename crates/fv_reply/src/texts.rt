@@ -3,7 +3,7 @@ ghost use Rattle.std.specs.Prelude.{◌≡◌, false, IfOk, map, string_bytes};
 ghost use Rattle.fv_datum.specs.View.{view};
 ghost use Rattle.fv_model.specs.Views.{bundle_view};
 ghost use Rattle.fv_types.specs.Writing.{datum_json};
-ghost use Rattle.fv_reply.specs.Texts.{bundle_refused_json, violation_json, judged_json, refusal_json, violations_refused_json, record_json};
+ghost use Rattle.fv_reply.specs.Texts.{bundle_refused_json, violation_json, judged_json, refusal_json, violations_refused_json, listing_json, violations_listed_json, record_json};
 ghost use Rattle.fv_validate.specs.ViolationView.{violation_view};
 ghost use Rattle.json.specs.Print.{quoted};
 ghost use Rattle.serde_json.specs.View.{view as json_view};
@@ -113,6 +113,29 @@ pub(crate) fn violations_refused(
         ≡ compact_text (violations_refused_json id.now (map violation_view violations.now))) }
 {
     let value = violations_refused_value(alloc, id, violations)?;
+    text_of(alloc, &value)
+}
+
+fn listing_value(alloc: Global, violations: Value) -> Result<Value, AllocError>
+    ensures { IfOk result (λ v. json_view v ≡ listing_json (json_view violations)) }
+{
+    json!(in alloc; {"ok": "check", "violations": violations})
+}
+
+fn violations_listed_value(alloc: Global, violations: &[Violation]) -> Result<Value, AllocError>
+    ensures { IfOk result (λ v. json_view v ≡ violations_listed_json (map violation_view violations.now)) }
+{
+    listing_value(alloc, Value::Array(violation_values(alloc, violations)?))
+}
+
+/// `{"ok":"check","violations":[..]}`.
+pub(crate) fn violations_listed(
+    alloc: Global,
+    violations: &[Violation],
+) -> Result<String, AllocError>
+    ensures { IfOk result (λ s. string_bytes s ≡ compact_text (violations_listed_json (map violation_view violations.now))) }
+{
+    let value = violations_listed_value(alloc, violations)?;
     text_of(alloc, &value)
 }
 

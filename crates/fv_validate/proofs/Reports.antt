@@ -13,8 +13,8 @@ use Rattle.fv_turns.proofs.Lists.{in_map, from_map}
 use Rattle.fv_turns.specs.Violations.{Violation, IsViolation}
 use Rattle.fv_validate.specs.Listing.{key_of, AreToldApart}
 use Rattle.fv_validate.specs.Violations.{Reported, reported_by, IsReported, IsAscending, IsListing}
-use Rattle.fv_walk.specs.Requests.{request_of}
-use Rattle.fv_walk.proofs.Apart.{told_apart}
+use Rattle.fv_request.specs.Requests.{request_of}
+use Rattle.fv_request.proofs.Apart.{told_apart}
 
 -- what holds of each member holds of all
 all_of : {X : Type 0} (P : X → Type 0) (xs : List X) → ((x : X) → IsIn xs x → P x) → AllByRecursion P xs

@@ -1,3 +1,4 @@
+pub mod FaultNames
 pub mod Listing
 pub mod ViolationView
 pub mod Violations

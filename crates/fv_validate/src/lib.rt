@@ -3,10 +3,12 @@
 //! "ConstraintViolation").
 #![tactic(auto)]
 
+mod fault;
 mod listing;
 mod node;
 mod validating;
 mod violation;
 
+pub use fault::ValidateFault;
 pub use validating::validate;
 pub use violation::Violation;

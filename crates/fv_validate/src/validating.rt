@@ -1,5 +1,5 @@
 //! The violations of a bundle.
-ghost use Rattle.std.specs.Prelude.{◌≡◌, ◌<◌, All, map, length, IfOk};
+ghost use Rattle.std.specs.Prelude.{◌≡◌, ◌<◌, All, map, length, IfOk, IfErr, OnOk};
 ghost use Rattle.std.specs.List.{AllByRecursion};
 ghost use Rattle.fv_datum.specs.Moments.{IsMoment};
 ghost use Rattle.fv_declare.specs.Declarations.{AreNumbered};
@@ -11,7 +11,9 @@ ghost use Rattle.fv_path.specs.Paths.{IsPath};
 ghost use Rattle.fv_validate.specs.ViolationView.{violation_view};
 ghost use Rattle.fv_validate.specs.Violations.{reported_by, IsListing};
 ghost use Rattle.fv_walk.specs.FailureView.{failure_view};
+ghost use Rattle.fv_walk.specs.Visits.{HasTooManyVisits, HasFewVisits};
 
+use crate::fault::ValidateFault;
 use crate::listing::arrange;
 use crate::node::node_of;
 use crate::violation::Violation;
@@ -65,14 +67,18 @@ fn violations_of(
 
 /// The violations of a bundle at a moment, in whole seconds since 1970-01-01T00:00:00Z, for the
 /// groups that are asked for: each once, ascending by the bytes of the path, then by the number of
-/// the constraint. The root alone is validated. Where no group is asked for, `Default` is.
+/// the constraint. The objects that the root reaches through valid references are validated, along
+/// each way to them on which no object stands twice. Where no group is asked for, `Default` is.
+///
+/// Refused by `TooManyVisits` for more than 4,096 visits, before any validator is asked; `Memory` at
+/// any place.
 pub fn validate<R: RuleSet>(
     alloc: Global,
     rulebook: &Rulebook<R>,
     bundle: &Bundle,
     asked: &[GroupId],
     now: i64,
-) -> Result<Vec<Violation>, AllocError>
+) -> Result<Vec<Violation>, ValidateFault>
     requires moment { IsMoment now }
     requires typed { IsWellTyped rulebook.now.types (bundle_view bundle.now) }
     requires asked { All (λ g. g.index < length rulebook.now.groups) asked.now }
@@ -81,6 +87,9 @@ pub fn validate<R: RuleSet>(
     // What is judged twice at one moment is judged alike.
     ensures alike { IfOk result (λ v. (vs : _) → IsListing R.meaning rulebook.now now (bundle_view bundle.now) (indices asked.now) vs
         → vs ≡ map violation_view v.items) }
+    ensures few { OnOk result (HasFewVisits rulebook.now (bundle_view bundle.now) (indices asked.now)) }
+    ensures many { IfErr result (λ fault. fault ≡ ValidateFault.TooManyVisits
+        → HasTooManyVisits rulebook.now (bundle_view bundle.now) (indices asked.now)) }
 {
     let failures = walk(alloc, rulebook, bundle, asked, now)?;
     let mut violations = violations_of(alloc, rulebook.schema().occurrences(), failures)?;

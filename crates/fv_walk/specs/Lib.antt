@@ -1,4 +1,7 @@
-pub mod Requests
+pub mod FaultNames
 pub mod FailureView
-pub mod Telling
-pub mod Sound
+pub mod Visits
+pub mod Courses
+pub mod Stacks
+pub mod Paths
+pub mod Walks

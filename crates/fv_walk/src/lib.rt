@@ -1,12 +1,17 @@
-//! What fails in a bundle, by a request for groups (Jakarta Bean Validation 3.0, "Validation
-//! routine").
+//! What fails in a bundle, by a request for groups: the objects that the root reaches through valid
+//! references, along each way to them (Jakarta Bean Validation 3.0, "Validation routine" and "Graph
+//! validation").
 #![tactic(auto)]
 
+mod counting;
+mod course;
 mod failure;
-mod laws;
+mod fault;
+mod frame;
 mod telling;
 mod walking;
 
+pub use counting::visits;
 pub use failure::Failure;
-pub use laws::violations_are_told_apart;
-pub use walking::walk;
+pub use fault::WalkFault;
+pub use walking::{Walked, walk, walk_counted};

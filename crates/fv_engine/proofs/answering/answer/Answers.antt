@@ -1,21 +1,33 @@
-use Rattle.std.proofs.Common.{Option, inl, refl, sym, subst, ◌∙◌, ap}
+use Rattle.std.proofs.Common.{◌≡◌, Option, None, inl, inr, refl, sym, subst, ◌∙◌, ap}
 use Rattle.std.proofs.lemmas.Int.{to_z-of_z}
 use mir.Syntax.{w64}
 use Rattle.sqlite.specs.Held.{state}
+use Rattle.serde_json.specs.View.{view as json_view}
 use Rattle.fv_declare.specs.Declarations.{Declarations}
-use Rattle.fv_engine.specs.Commands.{Request, or_shape}
+use Rattle.fv_engine.specs.Commands.{Request, command_of, or_shape}
 use Rattle.fv_engine.specs.Step.{Handles}
 use Rattle.fv_reply.specs.Answers.{refused}
-use Rattle.fv_reply.specs.declared.answer.Refusal.TheVariants.{Shape}
-use Rattle.fv_engine.proofs.Becoming.{rests, stays_itself, asked_of}
+use Rattle.fv_reply.specs.declared.answer.Refusal.TheVariants.{Shape, Memory}
+use Rattle.fv_engine.proofs.Becoming.{rests, stays_itself, short_command, asked_of}
 use Rattle.fv_engine.proofs.answering.answer.Goals as goal
 
-pub returns-in-None : goal.returns-in-None
-returns-in-None g c = rests (state g.S.Store) _ _ (λ x. subst (λ (o : Option Request). Handles g.R.RuleSet.meaning c.args.now (or_shape o) x (refused Shape) x) c.in-None.ensures (inl ((refl, stays_itself x), tt)))
+pub returns-in-Err : goal.returns-in-Err
+returns-in-Err g c =
+    let short = short_command (json_view c.args.value.now) in
+    rests (state g.S.Store) _ _ (λ x. inr (Memory, short, refl, stays_itself x))
 
-pub returns-in-Some-Put : goal.returns-in-Some-Put
-returns-in-Some-Put g c = asked_of (state g.S.Store) _ _ g.R.RuleSet.meaning c.args.now _ _ _ (rw c.in-Some-Put.field-0-is at c.in-Some-Put.ensures) (rw (to_z-of_z w64 c.args.now c.ranges.now) at c.put.ensures)
+pub returns-in-Ok-None : goal.returns-in-Ok-None
+returns-in-Ok-None g c =
+    let none : None ≡ command_of (json_view c.args.value.now) = rw c.in-Ok-None.field-0-is at c.in-Ok-None.ensures in
+    rests (state g.S.Store) _ _ (λ x. subst (λ (o : Option Request). Handles g.R.RuleSet.meaning c.args.now (or_shape o) x (refused Shape) x) none (inl ((refl, stays_itself x), tt)))
 
-pub returns-in-Some-Get : goal.returns-in-Some-Get
-returns-in-Some-Get g c = asked_of (state g.S.Store) _ _ g.R.RuleSet.meaning c.args.now _ _ _ (rw c.in-Some-Get.field-0-is at c.in-Some-Get.ensures)
+pub returns-in-Ok-Some-Put : goal.returns-in-Ok-Some-Put
+returns-in-Ok-Some-Put g c = asked_of (state g.S.Store) _ _ g.R.RuleSet.meaning c.args.now _ _ _ (rw (c.in-Ok-Some-Put.field-0-is, c.in-Ok-Some-Put.field-0-0-is) at c.in-Ok-Some-Put.ensures) (rw (to_z-of_z w64 c.args.now c.ranges.now) at c.put.ensures)
+
+pub returns-in-Ok-Some-Get : goal.returns-in-Ok-Some-Get
+returns-in-Ok-Some-Get g c = asked_of (state g.S.Store) _ _ g.R.RuleSet.meaning c.args.now _ _ _ (rw (c.in-Ok-Some-Get.field-0-is, c.in-Ok-Some-Get.field-0-0-is) at c.in-Ok-Some-Get.ensures)
     (c.get.ensures c.args.book.now g.R.RuleSet.meaning c.args.now (sym (c.types.ensures ∙ ap (λ (ds : Declarations). ds.types) c.schema.ensures)))
+
+pub returns-in-Ok-Some-Check : goal.returns-in-Ok-Some-Check
+returns-in-Ok-Some-Check g c = asked_of (state g.S.Store) _ _ g.R.RuleSet.meaning c.args.now _ _ _ (rw (c.in-Ok-Some-Check.field-0-is, c.in-Ok-Some-Check.field-0-0-is) at c.in-Ok-Some-Check.ensures)
+    (rw (c.deref.ensures.value, to_z-of_z w64 c.args.now c.ranges.now) at c.check.ensures)

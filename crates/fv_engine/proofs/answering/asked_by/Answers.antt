@@ -1,4 +1,4 @@
-use Rattle.std.proofs.Common.{◌≡◌, ℕ, List, [], Option, length, sym, ap, subst, ◌∙◌}
+use Rattle.std.proofs.Common.{ℕ, List, [], Option, length, ap}
 use Rattle.std.specs.Prelude.{unwrap_or}
 use Rattle.fv_engine.proofs.Groups.{all_below}
 use Rattle.fv_engine.proofs.answering.asked_by.Goals as goal

@@ -1,0 +1,13 @@
+pub mod Numbers
+pub mod Objects
+pub mod Parts
+pub mod Places
+pub mod Ways
+pub mod Linked
+pub mod Listed
+pub mod Tidy
+pub mod Visits
+pub mod Segments
+pub mod Chains
+pub mod OneReference
+pub mod Apart

@@ -1,0 +1,49 @@
+ghost use Rattle.std.specs.Prelude.{◌≡◌};
+ghost use Rattle.fv_validate.specs.FaultNames.{validate_fault_name, walk_fault};
+ghost use Rattle.fv_validate.specs.declared.fault.ValidateFault.TheVariants.{Memory};
+
+use fv_walk::WalkFault;
+use std::alloc::AllocError;
+use thiserror::Error;
+
+/// Why a bundle wasn't validated.
+#[derive(Clone, Copy, Debug, PartialEq, Eq, Drop, Error)]
+pub enum ValidateFault {
+    /// The request has more than 4,096 visits.
+    #[error("too many visits")]
+    TooManyVisits,
+    /// Memory was refused.
+    #[error("memory")]
+    Memory,
+}
+
+impl ValidateFault {
+    /// The fault's name.
+    pub fn name(&self) -> &str
+        ensures { result.now ≡ validate_fault_name self.now }
+    {
+        match self {
+            ValidateFault::TooManyVisits => "TooManyVisits",
+            ValidateFault::Memory => "Memory",
+        }
+    }
+}
+
+impl From<WalkFault> for ValidateFault {
+    ghost from_gives = { λ f e. e ≡ walk_fault f };
+
+    fn from(fault: WalkFault) -> ValidateFault {
+        match fault {
+            WalkFault::TooManyVisits => ValidateFault::TooManyVisits,
+            WalkFault::Memory => ValidateFault::Memory,
+        }
+    }
+}
+
+impl From<AllocError> for ValidateFault {
+    ghost from_gives = { λ _ e. e ≡ Memory };
+
+    fn from(_e: AllocError) -> ValidateFault {
+        ValidateFault::Memory
+    }
+}
