@@ -11,6 +11,7 @@ mod fields;
 mod flaws;
 mod parts;
 mod reading;
+mod singles;
 mod value;
 mod writing;
 
@@ -19,5 +20,6 @@ pub use fault::BundleFault;
 pub use fields::ObjectFields;
 pub use fv_types::{Fields, TypeId, TypeUse, Types, TypesFault};
 pub use reading::read_bundle;
+pub use singles::single;
 pub use value::read_value;
 pub use writing::write_bundle;
