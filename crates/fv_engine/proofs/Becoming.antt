@@ -1,10 +1,12 @@
 -- What a call makes of the machine.
 use Rattle.std.proofs.Common.{codes, bytes_eq, ◌≡◌, ◌≢◌, ◌⊎◌, ℕ, ℤ, ◌≤◌, ◌<◌, length, map, not, nat_lt, IsTrue, if◌then◌else◌, List, [], ◌∷◌, Bool, true, false, Option, Some, None, is_some, option_map, option_and_then, Result, Ok, Err, inl, inr, refl, sym, ap, subst, ◌∙◌, arith}
+use Rattle.std.specs.List.{AllByRecursion}
 use Rattle.std.proofs.lemmas.Bool.{lt-ltb, le-ltb}
 use Rattle.sqlite.specs.State.{State, HasCleanDisk}
 use Rattle.serde_json.specs.Data as json
 use Rattle.serde_json.specs.Find.{as_str, get as get_at}
 use Rattle.fv_datum.specs.Forms.{required, map2, map3}
+use Rattle.fv_definition.specs.Definitions.{map4}
 use Rattle.fv_datum.specs.Members.{has_only}
 use Rattle.fv_datum.specs.Lookup.{at_name}
 use Rattle.fv_datum.specs.Parsing.{json_of}
@@ -12,7 +14,7 @@ use Rattle.fv_declare.specs.Declarations.{Declarations}
 use Rattle.fv_engine.specs.Keeping.{Replies, Fails, Keeps, Settles, Checks, unread, unjudged}
 use Rattle.fv_engine.specs.Machines.{Machine, over, with_map, contents, Becomes}
 use Rattle.fv_engine.specs.Refusals.{bundle_under, is_misread, fault_of, when, first_of, is_too_long, refusal}
-use Rattle.fv_engine.specs.Commands.{Request, too_long, not_json, shape, put, get, check, id_at, put_of, get_of, groups_at, check_of, done_by, or_shape, command_of, of_json, asked}
+use Rattle.fv_command.specs.Commands.{Request, too_long, not_json, shape, put, get, check, check_field, check_value, id_at, put_of, get_of, groups_at, check_of, check_field_of, check_value_of, forms, done_by, or_shape, command_of, of_json, asked}
 use Rattle.fv_engine.specs.Failures.{StoreHasFailed, HasRoomFor, MayFail}
 use Rattle.fv_engine.specs.Step.{Unchanged, Decided, Does, Handles, Told}
 use Rattle.fv_groups.specs.Groups.{numbers_of}
@@ -24,7 +26,7 @@ use Rattle.fv_registry.specs.Meanings.{Meanings}
 use Rattle.fv_reply.specs.Answers.{Answer, taken, shown, violated, refused}
 use Rattle.fv_reply.specs.Texts.{refusal_text, TakesMemory, Tells}
 use Rattle.fv_reply.specs.declared.answer.Refusal.{Refusal}
-use Rattle.fv_reply.specs.declared.answer.Refusal.TheVariants.{LineTooLong, NotJson, Shape, UnknownForm, Bundle, NoRecord, UnknownGroup, TooManyVisits, Store, Memory}
+use Rattle.fv_reply.specs.declared.answer.Refusal.TheVariants.{LineTooLong, NotJson, Shape, UnknownForm, Bundle, NoRecord, UnknownGroup, NoSuchField, TooManyVisits, Store, Memory}
 use Rattle.fv_store.specs.Records.{Kept, Records, with_record}
 use Rattle.fv_store.specs.declared.fault.StoreFault.{StoreFault}
 use Rattle.fv_store.specs.declared.fault.StoreFault.TheVariants as store
@@ -102,6 +104,22 @@ module _ {H : Type 0} (held : H → State) where
       related = λ c bytes m stands. (with_record id kept m, inl (refl, record { declared = refl; records = refl; was_open = frame.was_open c (live c); is_open = live c; counts = frame.counts }), done bytes m stands);
     }
 
+-- ---- failures
+
+-- what holds of want of memory, and of the store by its cause, holds of a failure
+pub fails_by : (P : Refusal → Type 0) (Cause : Type 0) (why : Refusal) → Fails why Cause → P Memory → (Cause → P Store) → P why
+fails_by P Cause Memory f memory store = memory
+fails_by P Cause Store f memory store = store f
+fails_by P Cause LineTooLong f memory store = absurd f
+fails_by P Cause NotJson f memory store = absurd f
+fails_by P Cause Shape f memory store = absurd f
+fails_by P Cause UnknownForm f memory store = absurd f
+fails_by P Cause (Bundle e) f memory store = absurd f
+fails_by P Cause NoRecord f memory store = absurd f
+fails_by P Cause UnknownGroup f memory store = absurd f
+fails_by P Cause NoSuchField f memory store = absurd f
+fails_by P Cause TooManyVisits f memory store = absurd f
+
 -- ---- judging
 
 decided_some : (id : List ℕ) (kept : Kept) (vs : List Reported) (x : Machine Records) → (vs ≡ [] → ⊥) → Decided id kept (listed vs) x (violated id vs) x
@@ -112,19 +130,12 @@ module _ (means : Meanings) (now : ℤ) (id : List ℕ) (kept : Kept) where
   -- a record without violations is decided by the store
   settled_empty : (x y : Machine Records) (answer : Answer) → IsVerdictOf means x.declared now kept (listed []) → Keeps id kept x answer y → Settles means now id kept x answer y
   settled_empty x y answer none (inl took) = inl (listed [], none, took)
-  settled_empty x y answer none (inr failed) = inr (failed.0, failing failed.0 failed.1, failed.2, failed.3)
-    where
-      failing : (why : Refusal) → Fails why (HasRoomFor id kept x → StoreHasFailed x y) → Fails why (IsVerdictOf means x.declared now kept (listed []) × (HasRoomFor id kept x → StoreHasFailed x y))
-      failing Memory f = tt
-      failing Store f = (none, f)
-      failing LineTooLong f = absurd f
-      failing NotJson f = absurd f
-      failing Shape f = absurd f
-      failing UnknownForm f = absurd f
-      failing (Bundle e) f = absurd f
-      failing NoRecord f = absurd f
-      failing UnknownGroup f = absurd f
-      failing TooManyVisits f = absurd f
+  settled_empty x y answer none (inr failed) = inr (
+    failed.0,
+    fails_by (λ (why : Refusal). Fails why (IsVerdictOf means x.declared now kept (listed []) × (HasRoomFor id kept x → StoreHasFailed x y))) _ failed.0 failed.1 tt (λ cause. (none, cause)),
+    failed.2,
+    failed.3,
+  )
 
   pub judged_empty : {H : Type 0} (held : H → State) (ds : Declarations) (old new : H) (answer : Answer) (vs : List Reported) → vs ≡ [] → IsVerdictOf means ds now kept (listed vs)
       → Becomes held (over held ds old) (over held ds new) (λ x y. Keeps id kept x answer y) → Becomes held (over held ds old) (over held ds new) (λ x y. Settles means now id kept x answer y)
@@ -143,16 +154,17 @@ module _ (means : Meanings) (now : ℤ) (id : List ℕ) (kept : Kept) where
   }
 
   -- one that isn't validated
-  pub judged_not : {H : Type 0} (held : H → State) (ds : Declarations) (h : H) (fault : ValidateFault) → (fault ≡ validate.TooManyVisits → IsVerdictOf means ds now kept too_many_visits)
+  pub judged_not : {H : Type 0} (held : H → State) (ds : Declarations) (h : H) (fault : ValidateFault) → fault ≢ validate.NoSuchField → (fault ≡ validate.TooManyVisits → IsVerdictOf means ds now kept too_many_visits)
       → Becomes held (over held ds h) (over held ds h) (λ x y. Settles means now id kept x (refused (unjudged fault)) y)
-  judged_not held ds h validate.TooManyVisits many = unmoved held ds h _ (λ m. inl (too_many_visits, many refl, (refl, stays_itself _)))
-  judged_not held ds h validate.Memory many = unmoved held ds h _ (λ m. inr (Memory, tt, refl, stays_itself _))
+  judged_not held ds h validate.NoSuchField other many = absurd (other refl)
+  judged_not held ds h validate.TooManyVisits other many = unmoved held ds h _ (λ m. inl (too_many_visits, many refl, (refl, stays_itself _)))
+  judged_not held ds h validate.Memory other many = unmoved held ds h _ (λ m. inr (Memory, tt, refl, stays_itself _))
 
 -- ---- puts
 
 -- the refusals of a put by what its bundle spells and by whether its form is declared
 put_refusal : Result Bundled BundleFault → Bool → Option Refusal
-put_refusal read declared = first_of (None ∷ None ∷ when (is_misread read) Shape ∷ when (not declared) UnknownForm ∷ fault_of read ∷ None ∷ None ∷ [])
+put_refusal read declared = first_of (None ∷ None ∷ when (is_misread read) Shape ∷ when (not declared) UnknownForm ∷ fault_of read ∷ None ∷ None ∷ None ∷ [])
 
 unread_first : (f : BundleFault) (declared : Bool) → f ≢ fault.Memory → put_refusal (Err f) declared ≡ Some (unread f declared)
 unfolding put_refusal
@@ -182,7 +194,7 @@ pub declared_when : {X : Type 0} (f : X → List ℕ) (o : Option X) (root : Opt
 declared_when f None root b is told = sym (ap is_some is) ∙ sym told
 declared_when f (Some x) root b is told = sym (ap is_some is) ∙ sym told
 
-is_memory : (f : BundleFault) → (f ≡ fault.Memory) ⊎ (f ≢ fault.Memory)
+pub is_memory : (f : BundleFault) → (f ≡ fault.Memory) ⊎ (f ≢ fault.Memory)
 is_memory fault.Memory = inl refl
 is_memory fault.Shape = inr (λ e. cc)
 is_memory fault.BadName = inr (λ e. cc)
@@ -226,20 +238,12 @@ module _ (means : Meanings) (now : ℤ) (id form : List ℕ) (bundle : json.Data
       → Settles means now id (record { form = form; bundle = b }) x answer y → Handles means now (put id form bundle) x answer y
   put_judged x y b type answer is some (inl judged) =
       inl (subst (λ (o : Option Refusal). Does o means now (put id form bundle) x answer y) (sym (unrefused x b type is some)) (b, is, judged), tt)
-  put_judged x y b type answer is some (inr failed) = inr (failed.0, failing failed.0 failed.1, failed.2, failed.3)
-    where
-      failing : (why : Refusal) → Fails why (IsVerdictOf means x.declared now (record { form = form; bundle = b }) (listed []) × (HasRoomFor id (record { form = form; bundle = b }) x → StoreHasFailed x y))
-          → MayFail why means now (put id form bundle) x y
-      failing Memory f = refl
-      failing Store f = (unrefused x b type is some, (b, is, f.0, f.1))
-      failing LineTooLong f = absurd f
-      failing NotJson f = absurd f
-      failing Shape f = absurd f
-      failing UnknownForm f = absurd f
-      failing (Bundle e) f = absurd f
-      failing NoRecord f = absurd f
-      failing UnknownGroup f = absurd f
-      failing TooManyVisits f = absurd f
+  put_judged x y b type answer is some (inr failed) = inr (
+    failed.0,
+    fails_by (λ (why : Refusal). MayFail why means now (put id form bundle) x y) _ failed.0 failed.1 refl (λ cause. (unrefused x b type is some, (b, is, cause.0, cause.1))),
+    failed.2,
+    failed.3,
+  )
 
 -- ---- gets
 
@@ -250,41 +254,30 @@ fails_so store.Memory why Cause as_store as_memory cause = subst (λ (r : Refusa
 
 module _ (means : Meanings) (now : ℤ) (id : List ℕ) (x y : Machine Records) (stay : Unchanged x y) where
   pub got_none : IsTrue x.is_open → x.records id ≡ None → Handles means now (get id) x (refused NoRecord) y
-  got_none live none = inl (subst (λ (o : Option Refusal). Does o means now (get id) x (refused NoRecord) y) (sym (ap (λ (o : Option Kept). first_of (when (not (is_some o)) NoRecord ∷ None ∷ [])) none)) (refl, stay), live)
+  got_none live none = inl (subst (λ (o : Option Refusal). Does o means now (get id) x (refused NoRecord) y) (sym (ap (λ (o : Option Kept). first_of (when (not (is_some o)) NoRecord ∷ None ∷ None ∷ [])) none)) (refl, stay), live)
 
   pub got_some : IsTrue x.is_open → (kept : Kept) → x.records id ≡ Some kept → Handles means now (get id) x (shown id kept.form kept.bundle) y
   got_some live kept some = inl (
     subst (λ (o : Option Refusal). Does o means now (get id) x (shown id kept.form kept.bundle) y)
-        (sym (ap (λ (o : Option Kept). first_of (when (not (is_some o)) NoRecord ∷ None ∷ [])) some)) (kept, some, refl, stay),
+        (sym (ap (λ (o : Option Kept). first_of (when (not (is_some o)) NoRecord ∷ None ∷ None ∷ [])) some)) (kept, some, refl, stay),
     live,
   )
 
   pub got_not : (why : Refusal) → Fails why (StoreHasFailed x y) → Handles means now (get id) x (refused why) y
-  got_not why f = inr (why, failing why f, refl, stay)
-    where
-      failing : (r : Refusal) → Fails r (StoreHasFailed x y) → MayFail r means now (get id) x y
-      failing Memory g = refl
-      failing Store g = g
-      failing LineTooLong g = absurd g
-      failing NotJson g = absurd g
-      failing Shape g = absurd g
-      failing UnknownForm g = absurd g
-      failing (Bundle e) g = absurd g
-      failing NoRecord g = absurd g
-      failing UnknownGroup g = absurd g
-      failing TooManyVisits g = absurd g
+  got_not why f = inr (why, fails_by (λ (r : Refusal). MayFail r means now (get id) x y) _ why f refl (λ cause. cause), refl, stay)
 
 -- ---- checks
 
 -- the refusals of a check by whether its id has a record and by whether it names a group that isn't declared
 check_refusal : Option Kept → Bool → Option Refusal
-check_refusal o unknown = first_of (when (not (is_some o)) NoRecord ∷ when unknown UnknownGroup ∷ [])
+check_refusal o unknown = first_of (when (not (is_some o)) NoRecord ∷ when unknown UnknownGroup ∷ None ∷ [])
 
 -- a bundle that isn't validated
-pub not_checked : (means : Meanings) (ds : Declarations) (now : ℤ) (b : Bundled) (names : List (List ℕ)) (fault : ValidateFault) → unknown_in ds.groups names ≡ false
+pub not_checked : (means : Meanings) (ds : Declarations) (now : ℤ) (b : Bundled) (names : List (List ℕ)) (fault : ValidateFault) → unknown_in ds.groups names ≡ false → fault ≢ validate.NoSuchField
     → (fault ≡ validate.TooManyVisits → HasTooManyVisits ds b (numbers_of ds.groups names)) → Checks means ds now b names (refused (unjudged fault))
-not_checked means ds now b names validate.TooManyVisits known many = inr (inl (known, (too_many_visits, many refl, refl)))
-not_checked means ds now b names validate.Memory known many = inr (inr refl)
+not_checked means ds now b names validate.NoSuchField known other many = absurd (other refl)
+not_checked means ds now b names validate.TooManyVisits known other many = inr (inl (known, (too_many_visits, many refl, refl)))
+not_checked means ds now b names validate.Memory known other many = inr (inr refl)
 
 module _ (means : Meanings) (now : ℤ) (id : List ℕ) (names : List (List ℕ)) (x y : Machine Records) (stay : Unchanged x y) where
   pub checked_none : IsTrue x.is_open → x.records id ≡ None → Handles means now (check id names) x (refused NoRecord) y
@@ -306,19 +299,7 @@ module _ (means : Meanings) (now : ℤ) (id : List ℕ) (names : List (List ℕ)
   checked_some live kept some answer (inr (inr is)) = inr (Memory, refl, is, stay)
 
   pub checked_not : (why : Refusal) → Fails why (StoreHasFailed x y) → Handles means now (check id names) x (refused why) y
-  checked_not why f = inr (why, failing why f, refl, stay)
-    where
-      failing : (r : Refusal) → Fails r (StoreHasFailed x y) → MayFail r means now (check id names) x y
-      failing Memory g = refl
-      failing Store g = g
-      failing LineTooLong g = absurd g
-      failing NotJson g = absurd g
-      failing Shape g = absurd g
-      failing UnknownForm g = absurd g
-      failing (Bundle e) g = absurd g
-      failing NoRecord g = absurd g
-      failing UnknownGroup g = absurd g
-      failing TooManyVisits g = absurd g
+  checked_not why f = inr (why, fails_by (λ (r : Refusal). MayFail r means now (check id names) x y) _ why f refl (λ cause. cause), refl, stay)
 
 -- ---- the text of an answer
 
@@ -337,6 +318,8 @@ module _ (means : Meanings) (now : ℤ) where
       decided (listed (v ∷ vs)) d = d.1
   not_taken_stays None (get id) x y answer other does = does.3
   not_taken_stays None (check id names) x y answer other does = does.3
+  not_taken_stays None (check_field id object field names) x y answer other does = does.3
+  not_taken_stays None (check_value type field value names) x y answer other does = does.3
 
   -- a text that tells an answer is a reply, also where memory was refused for it
   pub told_answer : (r : Request) → is_too_long r ≡ false → (x y : Machine Records) (answer : Answer) (text : List ℕ) → Tells text answer → Handles means now r x answer y → Replies means now r x text y
@@ -383,12 +366,38 @@ short_get j = short_if (has_only (codes "do" ∷ codes "id" ∷ []) j) (option_m
 short_check : (j : json.Data) → is_too_long (or_shape (check_of j)) ≡ false
 short_check j = short_if (has_only (codes "do" ∷ codes "id" ∷ codes "groups" ∷ []) j) (map2 check (id_at j) (groups_at j)) None (short_map2 check (id_at j) (groups_at j) (λ id names. refl)) refl
 
+short_map4 : {V X Y Z : Type 0} (f : V → X → Y → Z → Request) (v : Option V) (x : Option X) (y : Option Y) (z : Option Z)
+    → ((a : V) (b : X) (c : Y) (d : Z) → is_too_long (f a b c d) ≡ false) → is_too_long (or_shape (map4 f v x y z)) ≡ false
+short_map4 f None x y z each = refl
+short_map4 f (Some a) x y z each = short_map3 (f a) x y z (each a)
+
+short_check_field : (j : json.Data) → is_too_long (or_shape (check_field_of j)) ≡ false
+short_check_field j =
+    let object = required as_str (codes "object") j in
+    let field = required as_str (codes "field") j in
+    short_if (has_only (codes "do" ∷ codes "id" ∷ codes "object" ∷ codes "field" ∷ codes "groups" ∷ []) j) (map4 check_field (id_at j) object field (groups_at j)) None
+    (short_map4 check_field (id_at j) object field (groups_at j) (λ i o f names. refl)) refl
+
+short_check_value : (j : json.Data) → is_too_long (or_shape (check_value_of j)) ≡ false
+short_check_value j =
+    let type = required as_str (codes "type") j in
+    let field = required as_str (codes "field") j in
+    let value = get_at (codes "value") j in
+    short_if (has_only (codes "do" ∷ codes "type" ∷ codes "field" ∷ codes "value" ∷ codes "groups" ∷ []) j) (map4 check_value type field value (groups_at j)) None
+    (short_map4 check_value type field value (groups_at j) (λ t f v names. refl)) refl
+
+short_among : (fs : List (List ℕ × (json.Data → Option Request))) → AllByRecursion (λ f. (j : json.Data) → is_too_long (or_shape (f.1 j)) ≡ false) fs → (name : List ℕ) (j : json.Data)
+    → is_too_long (or_shape (option_and_then (λ form. form j) (at_name name fs))) ≡ false
+short_among [] each name j = refl
+short_among (f ∷ fs) each name j = picked (bytes_eq name f.0) (short_among fs each.1 name j)
+  where
+    picked : (same : Bool) → is_too_long (or_shape (option_and_then (λ (form : json.Data → Option Request). form j) (at_name name fs))) ≡ false
+        → is_too_long (or_shape (option_and_then (λ (form : json.Data → Option Request). form j) (if same then Some f.1 else at_name name fs))) ≡ false
+    picked true rest = each.0 j
+    picked false rest = rest
+
 short_done : (name : List ℕ) (j : json.Data) → is_too_long (or_shape (done_by name j)) ≡ false
-short_done name j =
-    let checks : Option Request = if bytes_eq name (codes "check") then check_of j else None in
-    let gets : Option Request = if bytes_eq name (codes "get") then get_of j else checks in
-    short_if (bytes_eq name (codes "put")) (put_of j) gets (short_put j)
-    (short_if (bytes_eq name (codes "get")) (get_of j) checks (short_get j) (short_if (bytes_eq name (codes "check")) (check_of j) None (short_check j) refl))
+short_done name j = short_among forms (short_put, (short_get, (short_check, (short_check_field, (short_check_value, tt))))) name j
 
 -- a command isn't a line that is too long
 pub short_command : (j : json.Data) → is_too_long (or_shape (command_of j)) ≡ false

@@ -8,7 +8,7 @@ use Rattle.fv_declare.specs.Declarations.{Declarations}
 use Rattle.fv_engine.specs.Laws.{IsTaken, IsFailure, ShowsWhatWasPut, ChangesNoGet, HasSome, ListsSome, MayChangePlaces, LooksFor, FailsWhereShut, LeavesNothingToList}
 use Rattle.fv_engine.specs.Machines.{Machine, Becomes}
 use Rattle.fv_engine.specs.Refusals.{bundle_under, when, first_of, refusal}
-use Rattle.fv_engine.specs.Commands.{Request, too_long, not_json, shape, put, get, check, asked}
+use Rattle.fv_command.specs.Commands.{Request, too_long, not_json, shape, put, get, check, check_field, check_value, asked}
 use Rattle.fv_engine.specs.Failures.{MayFail, FindsOut}
 use Rattle.fv_engine.specs.Step.{Takes, Decided, told_of, Does, Serves, Handles, Told}
 use Rattle.fv_engine.proofs.Becoming.{not_taken_stays, weaker}
@@ -16,18 +16,20 @@ use Rattle.fv_groups.specs.Groups.{numbers_of}
 use Rattle.fv_groups.specs.Judged.{unknown_in}
 use Rattle.fv_model.specs.Bundles.{Bundled}
 use Rattle.fv_registry.specs.Meanings.{Meanings}
-use Rattle.fv_reply.specs.Answers.{Answer, taken, shown, violated, checked, refused}
+use Rattle.fv_reply.specs.Answers.{Answer, taken, shown, violated, checked, field_checked, value_checked, refused}
 use Rattle.fv_reply.specs.Texts.{answer_text}
 use Rattle.fv_reply.specs.declared.answer.Refusal.{Refusal}
-use Rattle.fv_reply.specs.declared.answer.Refusal.TheVariants.{LineTooLong, NotJson, Shape, UnknownForm, Bundle, NoRecord, UnknownGroup, TooManyVisits, Store, Memory}
+use Rattle.fv_reply.specs.declared.answer.Refusal.TheVariants.{LineTooLong, NotJson, Shape, UnknownForm, Bundle, NoRecord, UnknownGroup, NoSuchField, TooManyVisits, Store, Memory}
 use Rattle.fv_reply.proofs.Apart.{only_taken}
 use Rattle.fv_store.specs.Records.{Kept, Records, with_record}
-use Rattle.fv_request.specs.Requests.{unjudged}
+use Rattle.fv_request.specs.Requests.{asked_groups, judging, request_of, unjudged, visiting}
+use Rattle.fv_turns.specs.Finite.{AreSoMany}
 use Rattle.fv_turns.specs.Traces.{IsVisit}
+use Rattle.fv_turns.specs.Violations.{IsViolation}
 use Rattle.fv_turns.proofs.Told.{one_number}
-use Rattle.fv_validate.specs.Violations.{Reported}
+use Rattle.fv_validate.specs.Violations.{Reported, AreListed}
 use Rattle.fv_validate.proofs.Alike.{one_listing}
-use Rattle.fv_engine.specs.Asked.{Verdict, too_many_visits, listed, IsVerdict, IsVerdictOf}
+use Rattle.fv_engine.specs.Asked.{groups_of, Verdict, too_many_visits, listed, IsVerdict, IsVerdictOf}
 
 -- ---- answers of different kinds
 
@@ -98,7 +100,7 @@ there id kept m = ap (λ (b : Bool). if b then Some kept else m id) ((bytes_eq-D
 
 -- ---- what a get shows
 
--- how a get or a check fails
+-- how a get, a check or a checkfield fails
 failing : (means : Meanings) (now : ℤ) (r : Request) (id : List ℕ) (x y : Machine Records) (answer : Answer) (why : Refusal) → LooksFor r id → MayFail why means now r x y → answer ≡ refused why
     → (answer ≡ refused Store) ⊎ (answer ≡ refused Memory)
 failing means now r id x y answer Memory looks f is = inr is
@@ -110,6 +112,7 @@ failing means now r id x y answer UnknownForm looks f is = absurd f
 failing means now r id x y answer (Bundle e) looks f is = absurd f
 failing means now r id x y answer NoRecord looks f is = absurd f
 failing means now r id x y answer UnknownGroup looks f is = absurd f
+failing means now r id x y answer NoSuchField looks f is = absurd f
 failing means now r id x y answer TooManyVisits looks f is = absurd f
 
 module _ (means : Meanings) (now : ℤ) (id : List ℕ) where
@@ -120,9 +123,9 @@ module _ (means : Meanings) (now : ℤ) (id : List ℕ) where
   -- what a get answers where there is a record
   get_shows : (kept : Kept) (x y : Machine Records) (answer : Answer) → x.records id ≡ Some kept → Handles means now (get id) x answer y
       → (answer ≡ shown id kept.form kept.bundle) ⊎ ((answer ≡ refused Store) ⊎ (answer ≡ refused Memory))
-  get_shows kept x y answer some (inr failed) = inr (failing means now (get id) id x y answer failed.0 (inl refl) failed.1 failed.2)
+  get_shows kept x y answer some (inr failed) = inr (failing means now (get id) id x y answer failed.0 refl failed.1 failed.2)
   get_shows kept x y answer some (inl does) = inl (served
-      (subst (λ (o : Option Refusal). Does o means now (get id) x answer y) (ap (λ (o : Option Kept). first_of (when (not (is_some o)) NoRecord ∷ None ∷ [])) some) does.0))
+      (subst (λ (o : Option Refusal). Does o means now (get id) x answer y) (ap (λ (o : Option Kept). first_of (when (not (is_some o)) NoRecord ∷ None ∷ None ∷ [])) some) does.0))
     where
       served : Serves means now (get id) x answer y → answer ≡ shown id kept.form kept.bundle
       served s = s.2 ∙ ap (λ (o : Option Kept). shown id (kept_or kept o).form (kept_or kept o).bundle) (sym s.1 ∙ some)
@@ -144,18 +147,18 @@ number_or a b n same more few = omega arith
 one_verdict : (means : Meanings) (ds : Declarations) (now : ℤ) (b : Bundled) (groups : List ℕ) (v : Verdict) → IsVerdict means ds now b groups v → IsVerdict means ds now b groups (listed []) → v ≡ listed []
 one_verdict means ds now b groups too_many_visits many none =
     let few = none.0 in absurd (number_or many.0 few.0 4096 (one_number (IsVisit (unjudged ds b groups)) many.0 few.0 many.1 few.1) many.2 few.2)
-one_verdict means ds now b groups (listed vs) some none = ap listed (one_listing means ds now b groups vs [] some.1 none.1)
+one_verdict means ds now b groups (listed vs) some none = ap listed (one_listing ds.occurrences (IsViolation (request_of means ds now b groups)) vs [] some.1 none.1)
 
 module _ (means : Meanings) (now : ℤ) (id : List ℕ) (names : List (List ℕ)) where
   -- what a check answers where there is a record and it has no violation
   check_lists : (kept : Kept) (x y : Machine Records) (answer : Answer) → x.records id ≡ Some kept → unknown_in x.declared.groups names ≡ false
       → IsVerdict means x.declared now kept.bundle (numbers_of x.declared.groups names) (listed []) → Handles means now (check id names) x answer y
       → (answer ≡ checked []) ⊎ ((answer ≡ refused Store) ⊎ (answer ≡ refused Memory))
-  check_lists kept x y answer some known none (inr failed) = inr (failing means now (check id names) id x y answer failed.0 (inr (names, refl)) failed.1 failed.2)
+  check_lists kept x y answer some known none (inr failed) = inr (failing means now (check id names) id x y answer failed.0 refl failed.1 failed.2)
   check_lists kept x y answer some known none (inl does) = inl (served
       (subst (λ (o : Option Refusal). Does o means now (check id names) x answer y)
-      (ap (λ (o : Option Kept). first_of (when (not (is_some o)) NoRecord ∷ when (unknown_in x.declared.groups names) UnknownGroup ∷ [])) some
-      ∙ ap (λ (u : Bool). first_of (when u UnknownGroup ∷ [])) known) does.0))
+      (ap (λ (o : Option Kept). first_of (when (not (is_some o)) NoRecord ∷ when (unknown_in x.declared.groups names) UnknownGroup ∷ None ∷ [])) some
+      ∙ ap (λ (u : Bool). first_of (when u UnknownGroup ∷ None ∷ [])) known) does.0))
     where
       same_kept : (k l : Kept) → Some k ≡ Some l → k ≡ l
       same_kept k l e = cc
@@ -165,7 +168,7 @@ module _ (means : Meanings) (now : ℤ) (id : List ℕ) (names : List (List ℕ)
           let kept_is : s.0 ≡ kept = same_kept s.0 kept (sym s.1 ∙ some) in
           let verdict : IsVerdict means x.declared now kept.bundle (numbers_of x.declared.groups names) s.2.0 =
           subst (λ (k : Kept). IsVerdict means x.declared now k.bundle (numbers_of x.declared.groups names) s.2.0) kept_is s.2.1 in
-          s.2.2 ∙ ap told_of (one_verdict means x.declared now kept.bundle (numbers_of x.declared.groups names) s.2.0 verdict none)
+          s.2.2 ∙ ap (told_of checked) (one_verdict means x.declared now kept.bundle (numbers_of x.declared.groups names) s.2.0 verdict none)
 
   told_lists : (kept : Kept) (line reply : List ℕ) (x y : Machine Records) → asked line ≡ check id names → x.records id ≡ Some kept → unknown_in x.declared.groups names ≡ false
       → IsVerdict means x.declared now kept.bundle (numbers_of x.declared.groups names) (listed []) → Told means x line now reply y
@@ -176,6 +179,14 @@ module _ (means : Meanings) (now : ℤ) (id : List ℕ) (names : List (List ℕ)
     | inr (inr e) ↦ inr (inr (told.1 ∙ ap answer_text e))
   ]
 
+-- lists of groups that ask for the same have the same verdict
+same_groups : (means : Meanings) (ds : Declarations) (now : ℤ) (b : Bundled) (gs hs : List ℕ) → asked_groups gs ≡ asked_groups hs → IsVerdict means ds now b gs (listed [])
+    → IsVerdict means ds now b hs (listed [])
+same_groups means ds now b gs hs same verdict =
+    subst
+    (λ (g : List ℕ). ((n : ℕ) × AreSoMany (IsVisit (visiting ds b g)) n × (n ≤ 4096)) × AreListed ds.occurrences (IsViolation (judging means ds now b g)) [])
+    same verdict
+
 -- ---- a refusal for violations
 
 decided_some : (id : List ℕ) (kept : Kept) (v : Verdict) (x y : Machine Records) (answer : Answer) → Decided id kept v x answer y → HasSome answer
@@ -183,9 +194,9 @@ decided_some id kept too_many_visits x y answer d = subst HasSome (sym d.0) tt
 decided_some id kept (listed []) x y answer d = subst HasSome (sym d.0) tt
 decided_some id kept (listed (v ∷ vs)) x y answer d = subst HasSome (sym d.0) (λ none. cc)
 
-told_some : (v : Verdict) → HasSome (told_of v)
-told_some too_many_visits = tt
-told_some (listed vs) = tt
+told_some : (lists : List Reported → Answer) → ((vs : List Reported) → HasSome (lists vs)) → (v : Verdict) → HasSome (told_of lists v)
+told_some lists each too_many_visits = tt
+told_some lists each (listed vs) = each vs
 
 has_some : (means : Meanings) (now : ℤ) (o : Option Refusal) (r : Request) (x y : Machine Records) (answer : Answer) → Does o means now r x answer y → HasSome answer
 has_some means now (Some why) r x y answer does = subst HasSome (sym does.0) tt
@@ -193,7 +204,9 @@ has_some means now None too_long x y answer does = absurd does
 has_some means now None not_json x y answer does = absurd does
 has_some means now None shape x y answer does = absurd does
 has_some means now None (get id) x y answer does = subst HasSome (sym does.2) tt
-has_some means now None (check id names) x y answer does = subst HasSome (sym does.2.2) (told_some does.2.0)
+has_some means now None (check id names) x y answer does = subst HasSome (sym does.2.2) (told_some checked (λ vs. tt) does.2.0)
+has_some means now None (check_field id object field names) x y answer does = subst HasSome (sym does.2.2.2) (told_some field_checked (λ vs. tt) does.2.2.0)
+has_some means now None (check_value type field value names) x y answer does = subst HasSome (sym does.2.2.2) (told_some value_checked (λ vs. tt) does.2.2.0)
 has_some means now None (put id form bundle) x y answer does = decided_some id (keep form does.0) does.2.0 x y answer does.2.2
 
 -- ---- the laws of a call
@@ -251,8 +264,14 @@ module _ {H : Type 0} (held : H → State) (means : Meanings) (line : List ℕ) 
   fails_where_shut = weaker held old new _ _ failed becoming
     where
       found_out : (r : Request) (id : List ℕ) (x : Machine Records) → LooksFor r id → FindsOut r x → x.is_open ≡ true
-      found_out r id x (inl is) out = subst (λ (q : Request). FindsOut q x) is out
-      found_out r id x (inr looks) out = subst (λ (q : Request). FindsOut q x) looks.1 out
+      found_out too_long id x looks out = absurd looks
+      found_out not_json id x looks out = absurd looks
+      found_out shape id x looks out = absurd looks
+      found_out (put i form bundle) id x looks out = absurd looks
+      found_out (get i) id x looks out = out
+      found_out (check i names) id x looks out = out
+      found_out (check_field i object field names) id x looks out = out
+      found_out (check_value type field value names) id x looks out = absurd looks
 
       never : (r : Request) (id : List ℕ) (x y : Machine Records) (answer : Answer) → LooksFor r id → x.is_open ≡ false → Handles means now r x answer y → (answer ≡ refused Store) ⊎ (answer ≡ refused Memory)
       never r id x y answer looks shut (inl does) = let never : false ≡ true = sym shut ∙ found_out r id x looks does.1 in cc
@@ -273,5 +292,5 @@ module _ {H : Type 0} (held : H → State) (means : Meanings) (line : List ℕ) 
           told_lists means now id names (keep form t.1) next lists y last asks_next (ap (λ (m : Records). m id) t.4.records ∙ there id (keep form t.1) x.records)
           (ap (λ (ds : Declarations). unknown_in ds.groups names) t.4.declared ∙ are.0)
           (subst (λ (ds : Declarations). IsVerdict means ds now t.1 (numbers_of ds.groups names) (listed [])) (sym t.4.declared)
-          (subst (λ (gs : List ℕ). IsVerdict means x.declared now t.1 gs (listed [])) (sym are.1) t.3))
+          (same_groups means x.declared now t.1 (groups_of x.declared form) (numbers_of x.declared.groups names) (sym are.1) t.3))
           got

@@ -1,4 +1,5 @@
 pub mod Becoming
+pub mod OneField
 pub mod Groups
 pub mod Laws
 pub mod Lifts

@@ -9,7 +9,7 @@ use Rattle.fv_reply.specs.Texts.{refusal_text}
 use Rattle.fv_reply.specs.declared.answer.Refusal.TheVariants.{LineTooLong}
 use Rattle.fv_engine.specs.Keeping.{Replies}
 use Rattle.fv_engine.specs.Machines.{Machine, over, Becomes}
-use Rattle.fv_engine.specs.Commands.{of_json}
+use Rattle.fv_command.specs.Commands.{of_json}
 use Rattle.fv_engine.specs.Step.{Told}
 use Rattle.fv_engine.proofs.Becoming.{weaker, rests, onwards, long_told, short_told}
 

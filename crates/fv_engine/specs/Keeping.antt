@@ -1,19 +1,28 @@
 -- For private clauses: what a request is replied, and what a put and a check do on their way.
-use Rattle.std.specs.Prelude.{◌≡◌, ◌⊎◌, ℕ, ℤ, List, [], Bool, true, false}
+use Rattle.std.specs.Prelude.{◌≡◌, ◌≢◌, ◌⊎◌, ℕ, ℤ, List, [], Bool, true, false, Option, Some, None, IsSome, option_map, Ok, Err}
+use Rattle.serde_json.specs.Data as json
+use Rattle.fv_datum.specs.Data.{Data}
 use Rattle.fv_declare.specs.Declarations.{Declarations}
 use Rattle.fv_engine.specs.Failures.{StoreHasFailed, HasRoomFor}
 use Rattle.fv_engine.specs.Machines.{Machine}
-use Rattle.fv_engine.specs.Commands.{Request}
-use Rattle.fv_engine.specs.Step.{Unchanged, Takes, Judged, Checked, Handles}
+use Rattle.fv_command.specs.Commands.{Request}
+use Rattle.fv_engine.specs.Refusals.{field_in}
+use Rattle.fv_engine.specs.Step.{Unchanged, Takes, Judged, Checked, FieldChecked, Handles}
 use Rattle.fv_groups.specs.Judged.{unknown_in}
-use Rattle.fv_model.specs.Bundles.{Bundled}
+use Rattle.fv_model.specs.Bundles.{Thing, Bundled}
+use Rattle.fv_model.specs.Reading.{value_read}
+use Rattle.fv_model.specs.WellTyped.{AnyName}
+use Rattle.fv_types.specs.Fits.{Fits}
+use Rattle.fv_types.specs.Types.{TypeUse, Declared}
+use Rattle.fv_validate.specs.Values.{field_use, valued}
 use Rattle.fv_model.specs.declared.fault.BundleFault.{BundleFault}
 use Rattle.fv_model.specs.declared.fault.BundleFault.TheVariants as fault
 use Rattle.fv_registry.specs.Meanings.{Meanings}
 use Rattle.fv_reply.specs.Answers.{Answer, taken, refused}
 use Rattle.fv_reply.specs.Texts.{answer_text}
 use Rattle.fv_reply.specs.declared.answer.Refusal.{Refusal}
-use Rattle.fv_reply.specs.declared.answer.Refusal.TheVariants.{Shape, UnknownForm, Bundle, UnknownGroup, TooManyVisits, Store, Memory}
+use Rattle.fv_reply.specs.declared.answer.Refusal.TheVariants.{Shape, UnknownForm, Bundle, UnknownGroup, NoSuchField, TooManyVisits, Store, Memory}
+use Rattle.fv_validate.specs.Violations.{Reported}
 use Rattle.fv_store.specs.Records.{Kept, Records}
 use Rattle.fv_validate.specs.declared.fault.ValidateFault.{ValidateFault}
 use Rattle.fv_validate.specs.declared.fault.ValidateFault.TheVariants as validate
@@ -49,8 +58,14 @@ unread fault.Shape declared = Shape
 unread fault false = UnknownForm
 unread fault true = Bundle fault
 
--- the refusal of a bundle that isn't validated
+-- the refusal of a value that has a fault
+abbrev pub misread : BundleFault → Refusal
+misread fault.Memory = Memory
+misread fault = Bundle fault
+
+-- the refusal of a bundle, or of a field of an object, that isn't validated
 abbrev pub unjudged : ValidateFault → Refusal
+unjudged validate.NoSuchField = NoSuchField
 unjudged validate.TooManyVisits = TooManyVisits
 unjudged validate.Memory = Memory
 
@@ -59,3 +74,35 @@ abbrev pub Checks : Meanings → Declarations → ℤ → Bundled → List (List
 Checks means ds now b names answer =
     ((unknown_in ds.groups names ≡ true) × (answer ≡ refused UnknownGroup))
     ⊎ (((unknown_in ds.groups names ≡ false) × Checked means ds now b names answer) ⊎ (answer ≡ refused Memory))
+
+-- the field of that name of an object is checked, or the type has no such field or there is no such object
+abbrev pub FieldAnswers : Meanings → Declarations → ℤ → Option Thing → List ℕ → List (List ℕ) → (List Reported → Answer) → Answer → Type 0
+FieldAnswers means ds now None field names lists answer = answer ≡ refused NoSuchField
+FieldAnswers means ds now (Some o) field names lists answer =
+    ((field_in ds.types field o ≡ None) × (answer ≡ refused NoSuchField))
+    ⊎ (IsSome (field_in ds.types field o) × FieldChecked means ds now o field names lists answer)
+
+-- the field of that name of an object is checked for the groups of these names, and its violations are told so, unless a name is no group's, or
+-- then there is no such object or field, or memory is refused
+abbrev pub ChecksField : Meanings → Declarations → ℤ → Option Thing → List ℕ → List (List ℕ) → (List Reported → Answer) → Answer → Type 0
+ChecksField means ds now o field names lists answer =
+    ((unknown_in ds.groups names ≡ true) × (answer ≡ refused UnknownGroup))
+    ⊎ (((unknown_in ds.groups names ≡ false) × FieldAnswers means ds now o field names lists answer) ⊎ (answer ≡ refused Memory))
+
+-- a value's JSON is read as what the field of that name in the type of that name holds: as nothing where there is no such field, else as the
+-- datum, which is of that
+abbrev pub IsReadAt : Declared → List ℕ → List ℕ → json.Data → Option Data → Type 0
+IsReadAt ts type field j None = field_use ts type field ≡ None
+IsReadAt ts type field j (Some d) = (held : TypeUse) × (field_use ts type field ≡ Some held) × (value_read held j ≡ Ok d) × Fits AnyName held d
+
+-- it has a fault there, memory aside
+abbrev pub IsMisreadAt : Declared → List ℕ → List ℕ → json.Data → BundleFault → Type 0
+IsMisreadAt ts type field j why = (held : TypeUse) × (field_use ts type field ≡ Some held) × (why ≢ fault.Memory → value_read held j ≡ Err why)
+
+-- a datum is of what the field of that name in the type of that name holds, and the field is there
+abbrev pub IsValueOf : Declared → List ℕ → List ℕ → Data → Type 0
+IsValueOf ts type field d = (held : TypeUse) × (field_use ts type field ≡ Some held) × Fits AnyName held d
+
+-- the object with a datum in a field alone, where there is a datum
+abbrev pub valued_by : Declared → List ℕ → List ℕ → Option Data → Option Thing
+valued_by ts type field = option_map (valued ts type field)

@@ -5,7 +5,7 @@ use Rattle.fv_declare.specs.Declarations.{Declarations}
 use Rattle.fv_engine.specs.Asked.{groups_of}
 use Rattle.fv_engine.specs.Machines.{Machine}
 use Rattle.fv_engine.specs.Refusals.{bundle_under}
-use Rattle.fv_engine.specs.Commands.{Request, put, get, check, asked}
+use Rattle.fv_command.specs.Commands.{Request, put, get, check, check_field, asked}
 use Rattle.fv_engine.specs.Step.{Told}
 use Rattle.fv_groups.specs.Groups.{numbers_of}
 use Rattle.fv_groups.specs.Judged.{unknown_in}
@@ -14,6 +14,7 @@ use Rattle.fv_registry.specs.Meanings.{Meanings}
 use Rattle.fv_reply.specs.Answers.{Answer, taken, shown, violated, checked, refused}
 use Rattle.fv_reply.specs.Texts.{answer_text}
 use Rattle.fv_reply.specs.declared.answer.Refusal.TheVariants.{Store, Memory}
+use Rattle.fv_request.specs.Requests.{asked_groups}
 use Rattle.fv_store.specs.Records.{Records}
 
 -- the reply tells that a put was taken
@@ -51,17 +52,20 @@ MayChangePlaces means line now reply old new = (id form : List ℕ) (bundle : js
     → (last : Machine Records) → Told means new next later reply last
     → (mid : Machine Records) × Told means old next later reply mid × Told means mid line now reply last
 
--- a get or a check of an id
+-- a get, a check or a checkfield of an id
 abbrev pub LooksFor : Request → List ℕ → Type 0
-LooksFor r id = (r ≡ get id) ⊎ ((names : List (List ℕ)) × (r ≡ check id names))
+LooksFor (get i) id = i ≡ id
+LooksFor (check i names) id = i ≡ id
+LooksFor (check_field i object field names) id = i ≡ id
+LooksFor _ id = ⊥
 
--- A get and a check fail over a connection that is shut: they neither show what is there nor say that there is nothing.
+-- A get, a check and a checkfield fail over a connection that is shut: they neither show what is there nor say that there is nothing.
 abbrev pub FailsWhereShut : List ℕ → List ℕ → Machine Records → Type 0
 FailsWhereShut line reply old = (id : List ℕ) → LooksFor (asked line) id → old.is_open ≡ false → IsFailure reply
 
--- these are names of the form's groups, in order
+-- these are names of the form's groups, in order; each counts where it stands first, and none stand for `Default`
 abbrev pub AreNamesOf : Declarations → List ℕ → List (List ℕ) → Type 0
-AreNamesOf ds form names = (unknown_in ds.groups names ≡ false) × (numbers_of ds.groups names ≡ groups_of ds form)
+AreNamesOf ds form names = (unknown_in ds.groups names ≡ false) × (asked_groups (numbers_of ds.groups names) ≡ asked_groups (groups_of ds form))
 
 -- A taken put leaves nothing to list: a check of its id for the groups of its form, on the next line and at the same moment, finds no
 -- violation, unless that check fails.

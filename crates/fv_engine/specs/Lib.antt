@@ -1,6 +1,4 @@
 pub mod Asked
-pub mod CommandView
-pub mod Commands
 pub mod Failures
 pub mod FaultNames
 pub mod Keeping

@@ -1,18 +1,21 @@
 -- The refusals of a request, in their order.
-use Rattle.std.specs.Prelude.{ℕ, List, [], ◌∷◌, Bool, true, false, not, if◌then◌else◌, Option, Some, None, is_some, Result, Ok, Err}
+use Rattle.std.specs.Prelude.{ℕ, List, [], ◌∷◌, Bool, true, false, not, if◌then◌else◌, Option, Some, None, is_some, option_and_then, Result, Ok, Err}
 use Rattle.serde_json.specs.Data as json
 use Rattle.fv_datum.specs.Lookup.{at_name}
 use Rattle.fv_declare.specs.Declarations.{Declarations}
 use Rattle.fv_engine.specs.Machines.{Machine}
-use Rattle.fv_engine.specs.Commands.{Request, too_long, not_json, shape, put, get, check}
+use Rattle.fv_command.specs.Commands.{Request, too_long, not_json, shape, put, get, check, check_field, check_value}
 use Rattle.fv_groups.specs.Judged.{unknown_in}
-use Rattle.fv_model.specs.Bundles.{Bundled}
-use Rattle.fv_model.specs.Reading.{bundle_read}
+use Rattle.fv_model.specs.Bundles.{Thing, Bundled}
+use Rattle.fv_model.specs.Reading.{bundle_read, value_read}
 use Rattle.fv_model.specs.declared.fault.BundleFault.{BundleFault}
 use Rattle.fv_model.specs.declared.fault.BundleFault.TheVariants as fault
+use Rattle.fv_property.specs.Properties.{field_number}
 use Rattle.fv_reply.specs.declared.answer.Refusal.{Refusal}
-use Rattle.fv_reply.specs.declared.answer.Refusal.TheVariants.{LineTooLong, NotJson, Shape, UnknownForm, Bundle, NoRecord, UnknownGroup}
+use Rattle.fv_reply.specs.declared.answer.Refusal.TheVariants.{LineTooLong, NotJson, Shape, UnknownForm, Bundle, NoRecord, UnknownGroup, NoSuchField}
 use Rattle.fv_store.specs.Records.{Records}
+use Rattle.fv_types.specs.Types.{Declared}
+use Rattle.fv_validate.specs.Values.{field_use}
 
 -- ---- the conditions
 
@@ -43,25 +46,41 @@ abbrev pub lacks_form : Declarations → Request → Bool
 lacks_form ds (put id form bundle) = not (is_some (at_name form ds.forms))
 lacks_form ds _ = false
 
-abbrev pub fault_of : Result Bundled BundleFault → Option Refusal
-fault_of (Ok b) = None
+abbrev pub fault_of : {X : Type 0} → Result X BundleFault → Option Refusal
+fault_of (Ok x) = None
 fault_of (Err fault) = Some (Bundle fault)
 
--- the fault of a put's bundle
+-- the fault of a put's bundle, or of the value of a checkvalue whose field is there
 abbrev pub bundle_fault : Declarations → Request → Option Refusal
 bundle_fault ds (put id form bundle) = fault_of (bundle_under ds form bundle)
+bundle_fault ds (check_value type field value names) = option_and_then (λ u. fault_of (value_read u value)) (field_use ds.types type field)
 bundle_fault ds _ = None
 
--- a get or a check whose id has no record
+-- a get, a check or a checkfield whose id has no record
 abbrev pub lacks_record : Records → Request → Bool
 lacks_record m (get id) = not (is_some (m id))
 lacks_record m (check id names) = not (is_some (m id))
+lacks_record m (check_field id object field names) = not (is_some (m id))
 lacks_record m _ = false
 
--- a check that names a group that isn't declared
+-- a check of any sort that names a group that isn't declared
 abbrev pub lacks_group : Declarations → Request → Bool
 lacks_group ds (check id names) = unknown_in ds.groups names
+lacks_group ds (check_field id object field names) = unknown_in ds.groups names
+lacks_group ds (check_value type field value names) = unknown_in ds.groups names
 lacks_group ds _ = false
+
+-- the number of the field of that name in an object's type; none where the type has no such field
+abbrev pub field_in : Declared → List ℕ → Thing → Option ℕ
+field_in ts field object = field_number ts object.type_name field
+
+-- a checkfield whose record has no such object, or whose object's type has no such field; a checkvalue whose type isn't declared or has no
+-- such field
+abbrev pub lacks_field : Machine Records → Request → Bool
+lacks_field machine (check_field id object field names) =
+    not (is_some (option_and_then (field_in machine.declared.types field) (option_and_then (λ kept. at_name object kept.bundle.objects) (machine.records id))))
+lacks_field machine (check_value type field value names) = not (is_some (field_use machine.declared.types type field))
+lacks_field machine _ = false
 
 -- ---- the order
 
@@ -79,6 +98,7 @@ refusals machine r =
     ∷ bundle_fault machine.declared r
     ∷ when (lacks_record machine.records r) NoRecord
     ∷ when (lacks_group machine.declared r) UnknownGroup
+    ∷ when (lacks_field machine r) NoSuchField
     ∷ []
 
 abbrev pub first_of : List (Option Refusal) → Option Refusal

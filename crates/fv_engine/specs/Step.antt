@@ -1,20 +1,26 @@
 -- The step of the record machine: what a line does to it, and the answer.
 use Rattle.std.specs.Prelude.{◌≡◌, ◌≤◌, ◌⊎◌, ℕ, ℤ, IsTrue, List, [], ◌∷◌, Option, Some, None, Ok}
+use Rattle.fv_datum.specs.Data.{Data}
+use Rattle.fv_datum.specs.Lookup.{at_name}
 use Rattle.sqlite.specs.Disk.{MoreFaults}
 use Rattle.fv_declare.specs.Declarations.{Declarations}
 use Rattle.fv_engine.specs.Failures.{MayFail, FindsOut}
 use Rattle.fv_engine.specs.Machines.{Machine}
 use Rattle.fv_engine.specs.Refusals.{bundle_under, refusal}
-use Rattle.fv_engine.specs.Commands.{Request, put, get, check, asked}
+use Rattle.fv_command.specs.Commands.{Request, put, get, check, check_field, check_value, asked}
 use Rattle.fv_groups.specs.Groups.{numbers_of}
-use Rattle.fv_model.specs.Bundles.{Bundled}
+use Rattle.fv_model.specs.Bundles.{Thing, Bundled}
+use Rattle.fv_model.specs.Reading.{value_read}
 use Rattle.fv_registry.specs.Meanings.{Meanings}
-use Rattle.fv_reply.specs.Answers.{Answer, taken, shown, violated, checked, refused}
+use Rattle.fv_reply.specs.Answers.{Answer, taken, shown, violated, checked, field_checked, value_checked, refused}
 use Rattle.fv_reply.specs.Texts.{answer_text}
 use Rattle.fv_reply.specs.declared.answer.Refusal.{Refusal}
 use Rattle.fv_reply.specs.declared.answer.Refusal.TheVariants.{TooManyVisits}
 use Rattle.fv_store.specs.Records.{Kept, Records, with_record}
-use Rattle.fv_engine.specs.Asked.{Verdict, too_many_visits, listed, IsVerdict, IsVerdictOf}
+use Rattle.fv_types.specs.Types.{TypeUse}
+use Rattle.fv_validate.specs.Values.{field_use, valued}
+use Rattle.fv_validate.specs.Violations.{Reported}
+use Rattle.fv_engine.specs.Asked.{Verdict, too_many_visits, listed, IsVerdict, IsVerdictOf, IsFieldVerdict}
 
 -- Nothing has changed, but that a failure may have shut the connection. No fault is forgotten.
 pub record Unchanged (old new : Machine Records) : Type 0 where
@@ -44,15 +50,20 @@ abbrev pub Judged : Meanings → ℤ → List ℕ → Kept → Machine Records �
 Judged means now id kept old answer new =
     (verdict : Verdict) × IsVerdictOf means old.declared now kept verdict × Decided id kept verdict old answer new
 
--- how the verdict on a record that is checked is told
-abbrev pub told_of : Verdict → Answer
-told_of too_many_visits = refused TooManyVisits
-told_of (listed vs) = checked vs
+-- how the verdict on what is checked is told, where violations are told so
+abbrev pub told_of : (List Reported → Answer) → Verdict → Answer
+told_of lists too_many_visits = refused TooManyVisits
+told_of lists (listed vs) = lists vs
 
 -- a bundle is checked at a moment for the groups of these names
 abbrev pub Checked : Meanings → Declarations → ℤ → Bundled → List (List ℕ) → Answer → Type 0
 Checked means ds now b names answer =
-    (verdict : Verdict) × IsVerdict means ds now b (numbers_of ds.groups names) verdict × (answer ≡ told_of verdict)
+    (verdict : Verdict) × IsVerdict means ds now b (numbers_of ds.groups names) verdict × (answer ≡ told_of checked verdict)
+
+-- a field of an object by itself is checked at a moment for the groups of these names, and its violations are told so
+abbrev pub FieldChecked : Meanings → Declarations → ℤ → Thing → List ℕ → List (List ℕ) → (List Reported → Answer) → Answer → Type 0
+FieldChecked means ds now object field names lists answer =
+    (verdict : Verdict) × IsFieldVerdict means ds now object field (numbers_of ds.groups names) verdict × (answer ≡ told_of lists verdict)
 
 -- what a request that nothing refuses does at a moment
 abbrev pub Serves : Meanings → ℤ → Request → Machine Records → Answer → Machine Records → Type 0
@@ -61,6 +72,12 @@ Serves means now (put id form bundle) old answer new =
 Serves means now (get id) old answer new = (kept : Kept) × (old.records id ≡ Some kept) × (answer ≡ shown id kept.form kept.bundle) × Unchanged old new
 Serves means now (check id names) old answer new =
     (kept : Kept) × (old.records id ≡ Some kept) × Checked means old.declared now kept.bundle names answer × Unchanged old new
+Serves means now (check_field id object field names) old answer new =
+    (kept : Kept) × (old.records id ≡ Some kept) × ((o : Thing) × (at_name object kept.bundle.objects ≡ Some o)
+    × FieldChecked means old.declared now o field names field_checked answer) × Unchanged old new
+Serves means now (check_value type field value names) old answer new =
+    (held : TypeUse) × (field_use old.declared.types type field ≡ Some held) × ((d : Data) × (value_read held value ≡ Ok d)
+    × FieldChecked means old.declared now (valued old.declared.types type field d) field names value_checked answer) × Unchanged old new
 Serves means now _ old answer new = ⊥
 
 -- by the first refusal, if there is one

@@ -6,7 +6,7 @@ ghost use Rattle.fv_declare.specs.Declarations.{Declarations};
 ghost use Rattle.fv_engine.specs.Asked.{groups_of};
 ghost use Rattle.fv_engine.specs.Keeping.{Replies, Keeps, Settles};
 ghost use Rattle.fv_engine.specs.Machines.{over, Becomes};
-ghost use Rattle.fv_engine.specs.Commands.{put, get, command_of, or_shape, of_json};
+ghost use Rattle.fv_command.specs.Commands.{put, get, command_of, or_shape, of_json};
 ghost use Rattle.fv_engine.specs.Step.{Handles};
 ghost use Rattle.fv_groups.specs.Tables.{indices};
 ghost use Rattle.fv_types.specs.Types.{Declared};
@@ -21,8 +21,9 @@ ghost use Rattle.serde_json.specs.View.{view as json_view};
 ghost use Rattle.sqlite.specs.Held.{state};
 
 use crate::checking::check;
-use crate::command::{Command, command_of};
+use crate::fields::{check_field, check_value};
 use crate::refusing::{undone, unjudged, unread};
+use fv_command::{Command, command_of};
 use fv_datum::{JsonFault, read_json};
 use fv_declare::Schema;
 use fv_groups::GroupId;
@@ -179,6 +180,26 @@ fn answer<'a, R: RuleSet, S: Alter>(
         }
         Ok(Some(Command::Get { id })) => get(store, alloc, book.schema().types(), id),
         Ok(Some(Command::Check { id, groups })) => check(store, alloc, book, id, &groups, now),
+        Ok(
+            Some(
+                Command::CheckField {
+                    id,
+                    object,
+                    field,
+                    groups,
+                },
+            ),
+        ) => check_field(store, alloc, book, id, object, field, &groups, now),
+        Ok(
+            Some(
+                Command::CheckValue {
+                    type_name,
+                    field,
+                    value,
+                    groups,
+                },
+            ),
+        ) => check_value(alloc, book, type_name, field, value, &groups, now),
     }
 }
 

@@ -2,7 +2,7 @@
 ghost use Rattle.std.specs.Prelude.{◌≡◌, ◌<◌, All, length, map, option_map, IfOk, IfSome};
 ghost use Rattle.fv_datum.specs.Members.{each_some};
 ghost use Rattle.fv_datum.specs.Moments.{IsMoment};
-ghost use Rattle.fv_engine.specs.Commands.{check};
+ghost use Rattle.fv_command.specs.Commands.{check};
 ghost use Rattle.fv_engine.specs.Keeping.{Checks};
 ghost use Rattle.fv_engine.specs.Machines.{over, Becomes};
 ghost use Rattle.fv_engine.specs.Step.{Handles};
@@ -25,7 +25,7 @@ use sqlite::Alter;
 use std::alloc::{AllocError, Global};
 
 /// The groups of these names, in order; none where one of them isn't declared.
-fn groups_named(
+pub(crate) fn groups_named(
     alloc: Global,
     groups: &Groups,
     names: &[&str],

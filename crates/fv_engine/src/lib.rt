@@ -4,8 +4,8 @@
 
 mod answering;
 mod checking;
-mod command;
 mod engine;
+mod fields;
 mod refusing;
 mod serving;
 

@@ -1,6 +1,6 @@
 //! The refusals that faults below are told as.
 ghost use Rattle.std.specs.Prelude.{◌≡◌};
-ghost use Rattle.fv_engine.specs.Keeping.{unread, unjudged};
+ghost use Rattle.fv_engine.specs.Keeping.{unread, misread, unjudged};
 
 use fv_model::BundleFault;
 use fv_reply::Refusal;
@@ -33,11 +33,22 @@ pub(crate) fn unread(fault: BundleFault, declared: bool) -> Refusal
     }
 }
 
-/// The refusal of a bundle that isn't validated.
+/// The refusal of a value that has a fault.
+pub(crate) fn misread(fault: BundleFault) -> Refusal
+    ensures { result ≡ misread fault }
+{
+    match fault {
+        BundleFault::Memory => Refusal::Memory,
+        _ => Refusal::Bundle(fault),
+    }
+}
+
+/// The refusal of a bundle, or of a field of an object, that isn't validated.
 pub(crate) fn unjudged(fault: ValidateFault) -> Refusal
     ensures { result ≡ unjudged fault }
 {
     match fault {
+        ValidateFault::NoSuchField => Refusal::NoSuchField,
         ValidateFault::TooManyVisits => Refusal::TooManyVisits,
         ValidateFault::Memory => Refusal::Memory,
     }

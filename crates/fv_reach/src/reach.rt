@@ -44,7 +44,7 @@ impl Reach {
     }
 
     /// The uses at a type that a group reaches, by their numbers among all; where the type has a
-    /// sequence in place of `Default`, those that are in `Default` alone are left out. None where no
+    /// sequence in place of `Default`, those that are in `Default` alone are left out. Empty where no
     /// type or group has the number.
     pub fn uses(&self, type_id: TypeId, group: GroupId) -> &[usize]
         ensures { result.now ≡ entry self.now.plain type_id.index group.index }

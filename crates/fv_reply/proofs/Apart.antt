@@ -3,9 +3,9 @@ use Rattle.std.proofs.Common.{codes, slice_index_or, ◌==◌, ◌≡◌, ℕ, L
 use Rattle.json.specs.Print.{escape_byte}
 use Rattle.serde_json.specs.Data as json
 use Rattle.serde_json.specs.Written.{compact_text}
-use Rattle.fv_reply.specs.Answers.{Answer, taken, shown, violated, checked, refused}
+use Rattle.fv_reply.specs.Answers.{Answer, taken, shown, violated, checked, field_checked, value_checked, refused}
 use Rattle.fv_reply.specs.Texts.{violations_refused_json, listing_json, record_json, bundle_refused_json, violations_json, answer_text}
-use Rattle.fv_reply.specs.declared.answer.Refusal.TheVariants.{LineTooLong, NotJson, Shape, UnknownForm, Bundle, NoRecord, UnknownGroup, TooManyVisits, Store, Memory}
+use Rattle.fv_reply.specs.declared.answer.Refusal.TheVariants.{LineTooLong, NotJson, Shape, UnknownForm, Bundle, NoRecord, UnknownGroup, NoSuchField, TooManyVisits, Store, Memory}
 
 -- the first byte of the first name of an object's text is the o of `ok`
 abbrev begins_with_o : List ℕ → Bool
@@ -32,19 +32,29 @@ bundle_other j d ms is = other (compact_text j) (ap (λ (k : json.Data). begins_
 abbrev tells_of_p : List ℕ → Bool
 tells_of_p text = slice_index_or text 7 0 == 112
 
-check_tells : (d : json.Data) → tells_of_p (compact_text (listing_json d)) ≡ false
+check_tells : (d : json.Data) → tells_of_p (compact_text (listing_json (codes "check") d)) ≡ false
 unfolding escape_byte
 check_tells d = refl
 
-check_other : (d : json.Data) → compact_text (listing_json d) ≡ answer_text taken → ⊥
-check_other d is = let never : false ≡ true = sym (check_tells d) ∙ ap tells_of_p is in cc
+field_tells : (d : json.Data) → tells_of_p (compact_text (listing_json (codes "checkfield") d)) ≡ false
+unfolding escape_byte
+field_tells d = refl
+
+value_tells : (d : json.Data) → tells_of_p (compact_text (listing_json (codes "checkvalue") d)) ≡ false
+unfolding escape_byte
+value_tells d = refl
+
+check_other : (name : List ℕ) (d : json.Data) → tells_of_p (compact_text (listing_json name d)) ≡ false → compact_text (listing_json name d) ≡ answer_text taken → ⊥
+check_other name d tells is = let never : false ≡ true = sym tells ∙ ap tells_of_p is in cc
 
 -- only the text of a put that was taken tells that a put was taken
 pub only_taken : (a : Answer) → answer_text a ≡ answer_text taken → a ≡ taken
 only_taken taken e = refl
 only_taken (shown id form b) e = absurd (bundle_other (record_json id form b) _ _ refl e)
 only_taken (violated id vs) e = absurd (error_other (violations_refused_json id vs) _ _ refl e)
-only_taken (checked vs) e = absurd (check_other (json.array (violations_json vs)) e)
+only_taken (checked vs) e = absurd (check_other (codes "check") (json.array (violations_json vs)) (check_tells (json.array (violations_json vs))) e)
+only_taken (field_checked vs) e = absurd (check_other (codes "checkfield") (json.array (violations_json vs)) (field_tells (json.array (violations_json vs))) e)
+only_taken (value_checked vs) e = absurd (check_other (codes "checkvalue") (json.array (violations_json vs)) (value_tells (json.array (violations_json vs))) e)
 only_taken (refused LineTooLong) e = absurd (other (answer_text (refused LineTooLong)) refl e)
 only_taken (refused NotJson) e = absurd (other (answer_text (refused NotJson)) refl e)
 only_taken (refused Shape) e = absurd (other (answer_text (refused Shape)) refl e)
@@ -52,6 +62,7 @@ only_taken (refused UnknownForm) e = absurd (other (answer_text (refused Unknown
 only_taken (refused (Bundle fault)) e = absurd (error_other (bundle_refused_json fault) _ _ refl e)
 only_taken (refused NoRecord) e = absurd (other (answer_text (refused NoRecord)) refl e)
 only_taken (refused UnknownGroup) e = absurd (other (answer_text (refused UnknownGroup)) refl e)
+only_taken (refused NoSuchField) e = absurd (other (answer_text (refused NoSuchField)) refl e)
 only_taken (refused TooManyVisits) e = absurd (other (answer_text (refused TooManyVisits)) refl e)
 only_taken (refused Store) e = absurd (other (answer_text (refused Store)) refl e)
 only_taken (refused Memory) e = absurd (other (answer_text (refused Memory)) refl e)

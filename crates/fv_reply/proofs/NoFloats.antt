@@ -21,8 +21,8 @@ violations_whole (v ∷ vs) = neither (has_float (violation_json v)) _ (violatio
 pub refusal_whole : (id : List ℕ) (vs : List Reported) → has_float (violations_refused_json id vs) ≡ false
 refusal_whole id vs = let inner : items_have_float (violations_json vs) ≡ false = violations_whole vs in rw inner refl
 
-pub listing_whole : (vs : List Reported) → has_float (violations_listed_json vs) ≡ false
-listing_whole vs = let inner : items_have_float (violations_json vs) ≡ false = violations_whole vs in rw inner refl
+pub listing_whole : (name : List ℕ) (vs : List Reported) → has_float (violations_listed_json name vs) ≡ false
+listing_whole name vs = let inner : items_have_float (violations_json vs) ≡ false = violations_whole vs in rw inner refl
 
 -- the items of a list that is mapped
 pub violations_mapped : (vs : List Reported) → items_of (map violation_json vs) ≡ violations_json vs

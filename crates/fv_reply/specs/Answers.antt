@@ -13,5 +13,9 @@ pub data Answer : Type 0 where
   violated : List ℕ → List Reported → Answer
   -- all violations of a record that was checked
   checked : List Reported → Answer
+  -- those of a field of a stored object
+  field_checked : List Reported → Answer
+  -- those of a value that isn't stored
+  value_checked : List Reported → Answer
   -- another refusal
   refused : Refusal → Answer

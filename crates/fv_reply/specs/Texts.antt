@@ -8,9 +8,9 @@ use Rattle.fv_types.specs.Writing.{datum_json}
 use Rattle.fv_model.specs.Writing.{bundle_json}
 use Rattle.fv_model.specs.declared.fault.BundleFault.{BundleFault}
 use Rattle.fv_validate.specs.Violations.{Reported}
-use Rattle.fv_reply.specs.Answers.{Answer, taken, shown, violated, checked, refused}
+use Rattle.fv_reply.specs.Answers.{Answer, taken, shown, violated, checked, field_checked, value_checked, refused}
 use Rattle.fv_reply.specs.declared.answer.Refusal.{Refusal}
-use Rattle.fv_reply.specs.declared.answer.Refusal.TheVariants.{LineTooLong, NotJson, Shape, UnknownForm, Bundle, NoRecord, UnknownGroup, TooManyVisits, Store, Memory}
+use Rattle.fv_reply.specs.declared.answer.Refusal.TheVariants.{LineTooLong, NotJson, Shape, UnknownForm, Bundle, NoRecord, UnknownGroup, NoSuchField, TooManyVisits, Store, Memory}
 
 -- a violation's JSON
 abbrev pub violation_json : Reported → json.Data
@@ -43,15 +43,15 @@ refusal_json judged = json.object
 abbrev pub violations_refused_json : List ℕ → List Reported → json.Data
 violations_refused_json id vs = refusal_json (judged_json id (json.array (violations_json vs)))
 
--- the JSON of the answer to a check, with these violations
-abbrev pub listing_json : json.Data → json.Data
-listing_json violations = json.object
-    (json.member (codes "ok") (json.string (codes "check"))
+-- the JSON of the answer to a check of that name, with these violations
+abbrev pub listing_json : List ℕ → json.Data → json.Data
+listing_json name violations = json.object
+    (json.member (codes "ok") (json.string name)
     (json.member (codes "violations") violations json.no_members))
 
--- the JSON of the violations of a record that was checked
-abbrev pub violations_listed_json : List Reported → json.Data
-violations_listed_json vs = listing_json (json.array (violations_json vs))
+-- the JSON of the violations that a check of that name lists
+abbrev pub violations_listed_json : List ℕ → List Reported → json.Data
+violations_listed_json name vs = listing_json name (json.array (violations_json vs))
 
 -- the JSON of a record as it is shown, with its id and its form
 abbrev pub record_json : List ℕ → List ℕ → Bundled → json.Data
@@ -77,6 +77,7 @@ refusal_text UnknownForm = codes "{\"error\":\"C4\",\"name\":\"UnknownForm\"}"
 refusal_text (Bundle fault) = compact_text (bundle_refused_json fault)
 refusal_text NoRecord = codes "{\"error\":\"C6\",\"name\":\"NoRecord\"}"
 refusal_text UnknownGroup = codes "{\"error\":\"C7\",\"name\":\"UnknownGroup\"}"
+refusal_text NoSuchField = codes "{\"error\":\"C8\",\"name\":\"NoSuchField\"}"
 refusal_text TooManyVisits = codes "{\"error\":\"C9\",\"name\":\"TooManyVisits\"}"
 refusal_text Store = codes "{\"error\":\"C11\",\"name\":\"Store\"}"
 refusal_text Memory = codes "{\"error\":\"C12\",\"name\":\"Memory\"}"
@@ -86,7 +87,9 @@ abbrev pub answer_text : Answer → List ℕ
 answer_text taken = codes "{\"ok\":\"put\"}"
 answer_text (shown id form b) = compact_text (record_json id form b)
 answer_text (violated id vs) = compact_text (violations_refused_json id vs)
-answer_text (checked vs) = compact_text (violations_listed_json vs)
+answer_text (checked vs) = compact_text (violations_listed_json (codes "check") vs)
+answer_text (field_checked vs) = compact_text (violations_listed_json (codes "checkfield") vs)
+answer_text (value_checked vs) = compact_text (violations_listed_json (codes "checkvalue") vs)
 answer_text (refused why) = refusal_text why
 
 -- its text takes memory
@@ -94,6 +97,8 @@ abbrev pub TakesMemory : Answer → Type 0
 TakesMemory (shown id form b) = Unit {0}
 TakesMemory (violated id vs) = Unit {0}
 TakesMemory (checked vs) = Unit {0}
+TakesMemory (field_checked vs) = Unit {0}
+TakesMemory (value_checked vs) = Unit {0}
 TakesMemory (refused (Bundle fault)) = Unit {0}
 TakesMemory _ = ⊥
 

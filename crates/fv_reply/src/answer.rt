@@ -21,6 +21,14 @@ pub enum Answer<'a> {
     Checked {
         violations: Vec<Violation>,
     },
+    /// Those of a field of a stored object.
+    FieldChecked {
+        violations: Vec<Violation>,
+    },
+    /// Those of a value that isn't stored.
+    ValueChecked {
+        violations: Vec<Violation>,
+    },
     /// Another refusal.
     Refused(Refusal),
 }
@@ -36,13 +44,15 @@ pub enum Refusal {
     Shape,
     /// C4: the form of a put isn't declared.
     UnknownForm,
-    /// C5: the bundle of a put has a fault.
+    /// C5: the bundle of a put, or the value of a checkvalue, has a fault.
     Bundle(BundleFault),
-    /// C6: the id of a get or a check has no record.
+    /// C6: the id of a get, a check or a checkfield has no record.
     NoRecord,
-    /// C7: a group that a check names isn't declared.
+    /// C7: a group that a check of any sort names isn't declared.
     UnknownGroup,
-    /// C9: a put or a check has more than 4,096 visits.
+    /// C8: a checkfield's record has no such object, or a type has no such field or isn't declared.
+    NoSuchField,
+    /// C9: a put or a check of any sort has more than 4,096 visits.
     TooManyVisits,
     /// C11: the store couldn't do it.
     Store,

@@ -22,6 +22,8 @@ const NO_RECORD: &str = r#"{"error":"C6","name":"NoRecord"}"#;
 
 const UNKNOWN_GROUP: &str = r#"{"error":"C7","name":"UnknownGroup"}"#;
 
+const NO_SUCH_FIELD: &str = r#"{"error":"C8","name":"NoSuchField"}"#;
+
 const TOO_MANY_VISITS: &str = r#"{"error":"C9","name":"TooManyVisits"}"#;
 
 const STORE: &str = r#"{"error":"C11","name":"Store"}"#;
@@ -93,7 +95,13 @@ impl Reply {
                 Reply::made_or_memory(violations_refused(alloc, id, violations))
             }
             Answer::Checked { violations } => {
-                Reply::made_or_memory(violations_listed(alloc, violations))
+                Reply::made_or_memory(violations_listed(alloc, "check", violations))
+            }
+            Answer::FieldChecked { violations } => {
+                Reply::made_or_memory(violations_listed(alloc, "checkfield", violations))
+            }
+            Answer::ValueChecked { violations } => {
+                Reply::made_or_memory(violations_listed(alloc, "checkvalue", violations))
             }
             Answer::Refused(why) => Reply::refused(alloc, *why),
         }
@@ -111,6 +119,7 @@ impl Reply {
             Refusal::UnknownForm => Reply::fixed(UNKNOWN_FORM),
             Refusal::NoRecord => Reply::fixed(NO_RECORD),
             Refusal::UnknownGroup => Reply::fixed(UNKNOWN_GROUP),
+            Refusal::NoSuchField => Reply::fixed(NO_SUCH_FIELD),
             Refusal::TooManyVisits => Reply::fixed(TOO_MANY_VISITS),
             Refusal::Store => Reply::fixed(STORE),
             Refusal::Memory => Reply::fixed(MEMORY),

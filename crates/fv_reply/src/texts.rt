@@ -116,26 +116,35 @@ pub(crate) fn violations_refused(
     text_of(alloc, &value)
 }
 
-fn listing_value(alloc: Global, violations: Value) -> Result<Value, AllocError>
-    ensures { IfOk result (λ v. json_view v ≡ listing_json (json_view violations)) }
+fn listing_value(alloc: Global, name: &str, violations: Value) -> Result<Value, AllocError>
+    ensures { IfOk result (λ v. json_view v ≡ listing_json name.now (json_view violations)) }
 {
-    json!(in alloc; {"ok": "check", "violations": violations})
+    json!(in alloc; {"ok": name, "violations": violations})
 }
 
-fn violations_listed_value(alloc: Global, violations: &[Violation]) -> Result<Value, AllocError>
-    ensures { IfOk result (λ v. json_view v ≡ violations_listed_json (map violation_view violations.now)) }
+fn violations_listed_value(
+    alloc: Global,
+    name: &str,
+    violations: &[Violation],
+) -> Result<Value, AllocError>
+    ensures { IfOk result (λ v. json_view v ≡ violations_listed_json name.now (map violation_view violations.now)) }
 {
-    listing_value(alloc, Value::Array(violation_values(alloc, violations)?))
+    listing_value(
+        alloc,
+        name,
+        Value::Array(violation_values(alloc, violations)?),
+    )
 }
 
-/// `{"ok":"check","violations":[..]}`.
+/// `{"ok":NAME,"violations":[..]}`, for the check of that name.
 pub(crate) fn violations_listed(
     alloc: Global,
+    name: &str,
     violations: &[Violation],
 ) -> Result<String, AllocError>
-    ensures { IfOk result (λ s. string_bytes s ≡ compact_text (violations_listed_json (map violation_view violations.now))) }
+    ensures { IfOk result (λ s. string_bytes s ≡ compact_text (violations_listed_json name.now (map violation_view violations.now))) }
 {
-    let value = violations_listed_value(alloc, violations)?;
+    let value = violations_listed_value(alloc, name, violations)?;
     text_of(alloc, &value)
 }
 

@@ -45,13 +45,13 @@ from_mapped f (x ∷ xs) zero y e = (x, cc)
 from_mapped f (x ∷ xs) (suc i) y e = from_mapped f xs i y e
 
 -- the spot is at a place of an object: the object itself, or one of its parts there
-abbrev StandsIn : Thing → Place → Spot → Type 0
+abbrev pub StandsIn : Thing → Place → Spot → Type 0
 StandsIn object whole spot = spot ≡ turn.of_object
 StandsIn object (field number steps kind) spot =
     (p : Locus × Data) × IsIn (parts_at object (record { field = number; steps = steps })) p × (spot ≡ turn.at (record { field = number; steps = steps }) p.0)
 
 module _ (m : Meanings) (ds : Declarations) (now : ℤ) (object : Thing) where
-  abbrev IsOfUse : LocalFailure → Type 0
+  abbrev pub IsOfUse : LocalFailure → Type 0
   IsOfUse f = (u : Placed) × IsIn ds.occurrences u × IsIn (failures_of m now object u) f
 
   in_groups : (type : ℕ) (hs : List ℕ) (f : LocalFailure) → IsIn (failures_in m ds now object type hs) f → IsOfUse f
@@ -73,14 +73,14 @@ module _ (m : Meanings) (ds : Declarations) (now : ℤ) (object : Thing) where
           let rank = from_mapped (λ (r : ℕ). failures_in m ds now object type (below ds.groups r)) members k.0 k.1 k.2 in
           in_groups type (below ds.groups rank.0) f (subst (λ (l : List LocalFailure). IsIn l f) (sym rank.1) k.3)
 
-  of_use : (h : ℕ) (f : LocalFailure) → FailsIn (own_in m ds now object h) f → IsOfUse f
+  pub of_use : (h : ℕ) (f : LocalFailure) → FailsIn (own_in m ds now object h) f → IsOfUse f
   of_use h f = go (number_of ds.types object.type_name)
     where
       go : (o : Option ℕ) → FailsIn (option_map_or (λ type. own_at m ds now object type h) o (Plain [])) f → IsOfUse f
       go None k = absurd k
       go (Some type) k = at_own type h f k
 
-  stands : (u : Placed) (f : LocalFailure) → IsIn (failures_of m now object u) f → StandsIn object u.place f.spot
+  pub stands : (u : Placed) (f : LocalFailure) → IsIn (failures_of m now object u) f → StandsIn object u.place f.spot
   stands u f h =
       let p = from_flat_map (λ (s : Standing). failures_at m now s u) (standing_at object u.place) f h in
       go u.place p.0 (at_spot m now p.0 u f p.2) p.1

@@ -1,5 +1,5 @@
 pub mod Alike
 pub mod Arranged
-pub mod Faults
 pub mod Numbers
 pub mod Reports
+pub mod Values

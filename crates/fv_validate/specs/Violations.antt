@@ -7,10 +7,11 @@ use Rattle.std.specs.Cmp.Lexicographic.{slice_cmp}
 use Rattle.fv_datum.specs.Data.{Data}
 use Rattle.fv_declare.specs.Declarations.{Placed, Declarations}
 use Rattle.fv_graph.specs.Graph.{IsIn}
-use Rattle.fv_model.specs.Bundles.{Bundled}
+use Rattle.fv_model.specs.Bundles.{Thing, Bundled}
 use Rattle.fv_occurrence.specs.Nodes.{Node}
 use Rattle.fv_occurrence.specs.Preorder.{nodes}
 use Rattle.fv_path.specs.Texts.{text_of}
+use Rattle.fv_property.specs.Properties.{IsViolationIn}
 use Rattle.fv_registry.specs.Meanings.{Meanings}
 use Rattle.fv_turns.specs.Violations.{Violation, IsViolation}
 use Rattle.fv_request.specs.Requests.{request_of}
@@ -39,9 +40,9 @@ reported_by us v =
       value = v.value;
     }
 
--- it reports a violation of the request that judges a bundle for these groups at a moment
-abbrev pub IsReported : Meanings → Declarations → ℤ → Bundled → List ℕ → Reported → Type 0
-IsReported m ds now b asked r = (v : Violation) × IsViolation (request_of m ds now b asked) v × (r ≡ reported_by ds.occurrences v)
+-- it reports one of some violations
+abbrev pub IsReportOf : List Placed → (Violation → Type 0) → Reported → Type 0
+IsReportOf us IsOne r = (v : Violation) × IsOne v × (r ≡ reported_by us v)
 
 -- by the bytes of the path, then by the number of the constraint
 abbrev pub Precedes : Reported → Reported → Type 0
@@ -52,8 +53,16 @@ abbrev pub IsAscending : List Reported → Type 0
 IsAscending [] = Unit {0}
 IsAscending (v ∷ vs) = AllByRecursion (Precedes v) vs × IsAscending vs
 
--- all violations of a bundle for these groups at a moment, each once, in order
-pub record IsListing (m : Meanings) (ds : Declarations) (now : ℤ) (b : Bundled) (asked : List ℕ) (vs : List Reported) : Type 0 where
-  pub sound : AllByRecursion (IsReported m ds now b asked) vs
-  pub complete : (r : Reported) → IsReported m ds now b asked r → IsIn vs r
+-- all of some violations, each once, in order
+pub record AreListed (us : List Placed) (IsOne : Violation → Type 0) (vs : List Reported) : Type 0 where
+  pub sound : AllByRecursion (IsReportOf us IsOne) vs
+  pub complete : (r : Reported) → IsReportOf us IsOne r → IsIn vs r
   pub ascending : IsAscending vs
+
+-- the violations of the request that judges a bundle for these groups at a moment
+abbrev pub IsListing : Meanings → Declarations → ℤ → Bundled → List ℕ → List Reported → Type 0
+IsListing m ds now b asked vs = AreListed ds.occurrences (IsViolation (request_of m ds now b asked)) vs
+
+-- those in the field of that name of an object
+abbrev pub IsListingOfField : Meanings → Declarations → ℤ → Thing → List ℕ → List ℕ → List Reported → Type 0
+IsListingOfField m ds now object name asked vs = AreListed ds.occurrences (IsViolationIn m ds now object name asked) vs

@@ -1,14 +1,18 @@
 ghost use Rattle.std.specs.Prelude.{◌≡◌};
-ghost use Rattle.fv_validate.specs.FaultNames.{validate_fault_name, walk_fault};
+ghost use Rattle.fv_validate.specs.FaultNames.{validate_fault_name, walk_fault, property_fault};
 ghost use Rattle.fv_validate.specs.declared.fault.ValidateFault.TheVariants.{Memory};
 
+use fv_property::PropertyFault;
 use fv_walk::WalkFault;
 use std::alloc::AllocError;
 use thiserror::Error;
 
-/// Why a bundle wasn't validated.
+/// Why a bundle, or a field, wasn't validated.
 #[derive(Clone, Copy, Debug, PartialEq, Eq, Drop, Error)]
 pub enum ValidateFault {
+    /// The type isn't declared, or has no such field.
+    #[error("no such field")]
+    NoSuchField,
     /// The request has more than 4,096 visits.
     #[error("too many visits")]
     TooManyVisits,
@@ -23,6 +27,7 @@ impl ValidateFault {
         ensures { result.now ≡ validate_fault_name self.now }
     {
         match self {
+            ValidateFault::NoSuchField => "NoSuchField",
             ValidateFault::TooManyVisits => "TooManyVisits",
             ValidateFault::Memory => "Memory",
         }
@@ -36,6 +41,18 @@ impl From<WalkFault> for ValidateFault {
         match fault {
             WalkFault::TooManyVisits => ValidateFault::TooManyVisits,
             WalkFault::Memory => ValidateFault::Memory,
+        }
+    }
+}
+
+impl From<PropertyFault> for ValidateFault {
+    ghost from_gives = { λ f e. e ≡ property_fault f };
+
+    fn from(fault: PropertyFault) -> ValidateFault {
+        match fault {
+            PropertyFault::NoSuchField => ValidateFault::NoSuchField,
+            PropertyFault::TooManyVisits => ValidateFault::TooManyVisits,
+            PropertyFault::Memory => ValidateFault::Memory,
         }
     }
 }

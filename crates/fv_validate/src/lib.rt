@@ -1,14 +1,16 @@
-//! Validation: the violations of a bundle's declared constraints at a moment, for the groups that are
+//! Validation: the violations of declared constraints of a bundle, or of one field, at a moment, for the groups that are
 //! asked for, as a listing (Jakarta Bean Validation 3.0, "Validation routine" and
 //! "ConstraintViolation").
 #![tactic(auto)]
 
 mod fault;
+mod fields;
 mod listing;
 mod node;
 mod validating;
 mod violation;
 
 pub use fault::ValidateFault;
+pub use fields::{validate_property, validate_value};
 pub use validating::validate;
 pub use violation::Violation;

@@ -1,15 +1,17 @@
 //! The violations of a bundle.
-ghost use Rattle.std.specs.Prelude.{◌≡◌, ◌<◌, All, map, length, IfOk, IfErr, OnOk};
+ghost use Rattle.std.specs.Prelude.{◌≡◌, ◌≢◌, ◌<◌, All, map, length, IfOk, IfErr, OnOk};
 ghost use Rattle.std.specs.List.{AllByRecursion};
 ghost use Rattle.fv_datum.specs.Moments.{IsMoment};
 ghost use Rattle.fv_declare.specs.Declarations.{AreNumbered};
 ghost use Rattle.fv_declare.specs.PlacedView.{placed_view};
+ghost use Rattle.fv_graph.specs.Graph.{IsIn};
 ghost use Rattle.fv_groups.specs.Tables.{indices};
 ghost use Rattle.fv_model.specs.Views.{bundle_view};
 ghost use Rattle.fv_model.specs.WellTyped.{IsWellTyped};
 ghost use Rattle.fv_path.specs.Paths.{IsPath};
+ghost use Rattle.fv_validate.specs.Listing.{AreApart};
 ghost use Rattle.fv_validate.specs.ViolationView.{violation_view};
-ghost use Rattle.fv_validate.specs.Violations.{reported_by, IsListing};
+ghost use Rattle.fv_validate.specs.Violations.{reported_by, AreListed, IsListing};
 ghost use Rattle.fv_walk.specs.FailureView.{failure_view};
 ghost use Rattle.fv_walk.specs.Visits.{HasTooManyVisits, HasFewVisits};
 
@@ -65,6 +67,21 @@ fn violations_of(
     Ok(violations)
 }
 
+/// Failures as a listing: each once, ascending by the bytes of its path, then by its number.
+pub(crate) fn listing_of(
+    alloc: Global,
+    occurrences: &[Placed],
+    failures: Vec<Failure>,
+) -> Result<Vec<Violation>, AllocError>
+    requires numbered { AreNumbered 0 (map placed_view occurrences.now) }
+    requires apart { AreApart (map failure_view failures.items) }
+    ensures { IfOk result (λ v. AreListed (map placed_view occurrences.now) (IsIn (map failure_view failures.items)) (map violation_view v.items)) }
+{
+    let mut violations = violations_of(alloc, occurrences, failures)?;
+    arrange(&mut violations);
+    Ok(violations)
+}
+
 /// The violations of a bundle at a moment, in whole seconds since 1970-01-01T00:00:00Z, for the
 /// groups that are asked for: each once, ascending by the bytes of the path, then by the number of
 /// the constraint. The objects that the root reaches through valid references are validated, along
@@ -90,9 +107,8 @@ pub fn validate<R: RuleSet>(
     ensures few { OnOk result (HasFewVisits rulebook.now (bundle_view bundle.now) (indices asked.now)) }
     ensures many { IfErr result (λ fault. fault ≡ ValidateFault.TooManyVisits
         → HasTooManyVisits rulebook.now (bundle_view bundle.now) (indices asked.now)) }
+    ensures no_field { IfErr result (λ fault. fault ≢ ValidateFault.NoSuchField) }
 {
     let failures = walk(alloc, rulebook, bundle, asked, now)?;
-    let mut violations = violations_of(alloc, rulebook.schema().occurrences(), failures)?;
-    arrange(&mut violations);
-    Ok(violations)
+    Ok(listing_of(alloc, rulebook.schema().occurrences(), failures)?)
 }

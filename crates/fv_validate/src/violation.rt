@@ -3,7 +3,8 @@ use fv_datum::Datum;
 /// A reported constraint (constraint violation).
 #[derive(Drop)]
 pub struct Violation {
-    /// The property path: of the field or of a part of it, and empty for the whole object.
+    /// The property path: of a field or of a part of it; for a constraint on an object the path to that
+    /// object, empty for the root.
     pub path: String,
     /// The constraint's name.
     pub constraint: String,

@@ -4,11 +4,11 @@ use mir.Syntax.{w64}
 use Rattle.sqlite.specs.Held.{state}
 use Rattle.serde_json.specs.View.{view as json_view}
 use Rattle.fv_declare.specs.Declarations.{Declarations}
-use Rattle.fv_engine.specs.Commands.{Request, command_of, or_shape}
+use Rattle.fv_command.specs.Commands.{Request, command_of, or_shape}
 use Rattle.fv_engine.specs.Step.{Handles}
 use Rattle.fv_reply.specs.Answers.{refused}
 use Rattle.fv_reply.specs.declared.answer.Refusal.TheVariants.{Shape, Memory}
-use Rattle.fv_engine.proofs.Becoming.{rests, stays_itself, short_command, asked_of}
+use Rattle.fv_engine.proofs.Becoming.{rests, unmoved, stays_itself, short_command, asked_of}
 use Rattle.fv_engine.proofs.answering.answer.Goals as goal
 
 pub returns-in-Err : goal.returns-in-Err
@@ -31,3 +31,13 @@ returns-in-Ok-Some-Get g c = asked_of (state g.S.Store) _ _ g.R.RuleSet.meaning 
 pub returns-in-Ok-Some-Check : goal.returns-in-Ok-Some-Check
 returns-in-Ok-Some-Check g c = asked_of (state g.S.Store) _ _ g.R.RuleSet.meaning c.args.now _ _ _ (rw (c.in-Ok-Some-Check.field-0-is, c.in-Ok-Some-Check.field-0-0-is) at c.in-Ok-Some-Check.ensures)
     (rw (c.deref.ensures.value, to_z-of_z w64 c.args.now c.ranges.now) at c.check.ensures)
+
+pub returns-in-Ok-Some-CheckField : goal.returns-in-Ok-Some-CheckField
+returns-in-Ok-Some-CheckField g c = asked_of (state g.S.Store) _ _ g.R.RuleSet.meaning c.args.now _ _ _ (rw (c.in-Ok-Some-CheckField.field-0-is, c.in-Ok-Some-CheckField.field-0-0-is) at c.in-Ok-Some-CheckField.ensures)
+    (rw (c.deref-in-Ok-Some-CheckField.ensures.value, to_z-of_z w64 c.args.now c.ranges.now) at c.check_field.ensures)
+
+pub returns-in-Ok-Some-CheckValue : goal.returns-in-Ok-Some-CheckValue
+returns-in-Ok-Some-CheckValue g c =
+    let done = rw (c.deref-in-Ok-Some-CheckValue.ensures.value, to_z-of_z w64 c.args.now c.ranges.now) at c.check_value.ensures in
+    asked_of (state g.S.Store) _ _ g.R.RuleSet.meaning c.args.now _ _ _ (rw (c.in-Ok-Some-CheckValue.field-0-is, c.in-Ok-Some-CheckValue.field-0-0-is) at c.in-Ok-Some-CheckValue.ensures)
+    (unmoved (state g.S.Store) c.args.book.now c.args.store.now _ (λ m. done _ refl))

@@ -21,7 +21,7 @@ returns-in-Err g c =
     let ds = c.args.book.now in
     let kept : Kept = record { form = c.args.form.now; bundle = bundle_view c.args.bundle } in
     let asked : indices c.asked_by.result.now ≡ groups_of ds kept.form = subst (λ (d : Declarations). indices c.asked_by.result.now ≡ groups_of d kept.form) c.schema.ensures c.asked_by.ensures.groups in
-    rw c.unjudged.ensures (judged_not g.R.RuleSet.meaning c.args.now c.args.id.now kept (state g.S.Store) ds _ c.in-Err.fault (λ is.
+    rw c.unjudged.ensures (judged_not g.R.RuleSet.meaning c.args.now c.args.id.now kept (state g.S.Store) ds _ c.in-Err.fault c.in-Err.ensures.no_field (λ is.
     subst (λ (gs : List ℕ). HasTooManyVisits ds kept.bundle gs) asked (c.in-Err.ensures.many is)))
 
 pub returns-then-is_empty : goal.returns-then-is_empty

@@ -5,7 +5,7 @@ use Rattle.sqlite.specs.Held.{state}
 use Rattle.serde_json.specs.Data as json
 use Rattle.fv_datum.specs.Parsing.{json_of}
 use Rattle.fv_engine.specs.Machines.{over, Becomes}
-use Rattle.fv_engine.specs.Commands.{of_json}
+use Rattle.fv_command.specs.Commands.{of_json}
 use Rattle.fv_engine.specs.Keeping.{Replies}
 use Rattle.fv_reply.specs.Answers.{refused}
 use Rattle.fv_reply.specs.declared.answer.Refusal.TheVariants.{NotJson, Memory}

@@ -48,4 +48,4 @@ returns g c =
     let numbers : indices c.in-Ok-Some.asked.items ≡ numbers_of ds.groups names = named.1 ∙ ap (λ (gs : Groups). numbers_of gs names) same in
     let many = rw c.deref.ensures.value at c.in-Err-validate.ensures.many in
     rw c.unjudged.ensures (not_checked g.R.RuleSet.meaning ds c.args.now b names c.in-Err-validate.fault (subst (λ (gs : Groups). unknown_in gs names ≡ false) same named.0)
-    (λ is. subst (λ (groups : List ℕ). HasTooManyVisits ds b groups) numbers (many is)))
+    c.in-Err-validate.ensures.no_field (λ is. subst (λ (groups : List ℕ). HasTooManyVisits ds b groups) numbers (many is)))

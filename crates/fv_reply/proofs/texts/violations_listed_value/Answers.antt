@@ -12,4 +12,4 @@ pub returns : goal.returns
 returns c =
     let values = c.in_ok-violation_values.field-0 in
     let listed = view-Array values ∙ ap json.array (ap items_of c.in_ok-violation_values.ensures ∙ violations_mapped (map violation_view c.args.violations.now)) in
-    IfOk-weaker c.listing_value.result _ _ (λ v e. e ∙ ap listing_json listed) c.listing_value.ensures
+    IfOk-weaker c.listing_value.result _ _ (λ v e. e ∙ ap (listing_json c.args.name.now) listed) c.listing_value.ensures

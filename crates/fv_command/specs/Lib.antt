@@ -1,0 +1,2 @@
+pub mod CommandView
+pub mod Commands

@@ -1,0 +1,6 @@
+//! Commands: the JSON of a line in, what it asks for out, or none where the form isn't kept.
+#![tactic(auto)]
+
+mod command;
+
+pub use command::{Command, command_of};

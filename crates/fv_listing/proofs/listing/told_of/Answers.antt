@@ -1,0 +1,27 @@
+use Rattle.std.proofs.Common.{map, sym, subst, arith}
+use Rattle.std.proofs.lemmas.Int.{to_z-of_z}
+use mir.Syntax.{w64}
+use Rattle.fv_walk.specs.FailureView.{failure_view}
+use Rattle.fv_listing.specs.Arrivals.{IsArrival}
+use Rattle.fv_listing.specs.Courses.{judging, visiting}
+use Rattle.fv_listing.specs.Turns.{turns_view}
+use Rattle.fv_listing.specs.Visits.{visit_view}
+use Rattle.fv_listing.specs.declared.visit.Visit.{Visit}
+use Rattle.fv_listing.proofs.Told.{told_begun, told_next, told_done}
+use Rattle.fv_listing.proofs.listing.told_of.Goals as goal
+
+pub tell_open-requires-clause-arrival : goal.tell_open-requires-clause-arrival
+tell_open-requires-clause-arrival g c =
+    subst (λ (v : Visit). IsArrival (visiting c.args.course.now) (visit_view v)) (sym c.visit-item.is) (c.requires.arrivals c.loop-visit.visit-index c.visit-item.result (omega arith))
+
+pub loop-visit-init : goal.loop-visit-init
+loop-visit-init g c = told_begun _ (map turns_view c.args.failing.now) c.new-failures.result.items c.new-failures.ensures.items
+
+pub loop-visit-preserved : goal.loop-visit-preserved
+loop-visit-preserved g c =
+    told_next _ c.args.visits.now c.loop-visit.visit-index (map turns_view c.args.failing.now) c.visit-item.result (map failure_view c.loop-visit.failures.items) _ (omega arith) c.visit-item.is c.loop-visit.invariant c.in_ok-tell_open.ensures
+
+pub returns : goal.returns
+returns g c =
+    told_done (judging g.R.RuleSet.meaning c.args.now c.args.course.now) c.args.visits.now c.loop-visit.visit-index (map turns_view c.args.failing.now) (map failure_view c.loop-visit.failures.items) (omega arith)
+    (rw (to_z-of_z w64 c.args.now c.ranges.now) at c.loop-visit.invariant)

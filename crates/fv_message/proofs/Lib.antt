@@ -1,0 +1,13 @@
+pub mod Pieces
+pub mod Cuts
+pub mod Seen
+pub mod Numbers
+pub mod Shown
+pub mod Plain
+pub mod Expansions
+pub mod Keys
+pub mod Cycles
+pub mod Weights
+pub mod Built
+pub mod Skeleton
+pub mod Spelled

@@ -1,0 +1,9 @@
+use Rattle.std.proofs.Common.{refl}
+use Rattle.fv_message.proofs.Skeleton.{template_spread, put_in_last}
+use Rattle.fv_message.proofs.laws.attributes_are_not_read.Goals as goal
+
+pub returns-clause-inserted : goal.returns-clause-inserted
+returns-clause-inserted c = λ ms attributes name value none found. rw (none, found) refl
+
+pub returns-clause-unread : goal.returns-clause-unread
+returns-clause-unread c = λ ms template. (template_spread ms template, λ attributes. put_in_last ms attributes template)

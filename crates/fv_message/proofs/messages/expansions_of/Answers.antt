@@ -1,0 +1,66 @@
+use Rattle.std.proofs.Common.{◌≡◌, ◌∙◌, List, ℕ, length, Vec, sym, ap, subst, arith}
+use Rattle.std.specs.declared.alloc.Global.{Global}
+use Rattle.std.proofs.lemmas.Bool.{iff_false}
+use Rattle.fv_graph.specs.Graph.{AreWithin, IsBelow, IsCyclic, IsIn, IsOrder, IsPartOrder, IsRestOrder, next_of}
+use Rattle.fv_message.specs.Table.{next_keys}
+use Rattle.fv_message.proofs.Cycles.{edges_within, cycle_found, none_found}
+use Rattle.fv_message.proofs.Keys.{next_below}
+use Rattle.fv_message.proofs.messages.expansions_of.Goals as goal
+
+-- what was ordered, of the edges themselves
+ordered : (seen edges : List (Vec ℕ Global)) (order : List ℕ) → seen ≡ edges → IsRestOrder (next_of seen) (length seen) order → IsRestOrder (next_of edges) (length edges) order
+ordered seen edges order same rest = subst (λ (l : List (Vec ℕ Global)). IsRestOrder (next_of l) (length l) order) same rest
+
+-- an order of all keys, none of which meets a cycle
+whole_order : (next : ℕ → List ℕ) (n m : ℕ) (order seen : List ℕ) → m ≡ n → seen ≡ order → (IsCyclic next → ⊥) × IsOrder next n order → IsPartOrder next m seen
+whole_order next n m order seen count same h =
+    subst (λ (k : ℕ). IsPartOrder next k seen) (sym count)
+    (subst (λ (l : List ℕ). IsPartOrder next n l) (sym same) ((λ i is. ((h.1.1 i).0 is, λ meets. h.0 (meets.0, meets.2))), h.1.2))
+
+pub order_rest-requires : goal.order_rest-requires
+order_rest-requires c =
+    subst (λ (l : List (Vec ℕ Global)). AreWithin l) (sym c.deref.ensures.value) (edges_within c.args.keys.now c.in_ok-edges.edges.items c.in_ok-edges.ensures)
+
+pub returns-then-branch : goal.returns-then-branch
+returns-then-branch c = c.in_ok-has_long_key.ensures.0 c.if-branch.true
+
+pub returns-then-misspelt : goal.returns-then-misspelt
+returns-then-misspelt c = (iff_false c.in_ok-has_long_key.ensures c.if-branch.false, c.if-misspelt.true)
+
+pub returns-then-len : goal.returns-then-len
+returns-then-len c =
+    let edges = c.in_ok-edges.edges.items in
+    let order = c.in_ok-order.order.items in (
+      iff_false c.in_ok-has_long_key.ensures c.if-branch.false,
+      c.if-misspelt.false,
+      cycle_found c.args.keys.now edges order c.in_ok-edges.ensures (c.requires c.if-misspelt.false) (ordered c.deref.result.now edges order c.deref.ensures.value c.in_ok-order.ensures)
+          (omega (arith, c.len.ensures, c.len-2.ensures, c.if-len.true)),
+    )
+
+pub table-requires-clause-count : goal.table-requires-clause-count
+table-requires-clause-count c = c.len-3.ensures ∙ sym c.deref.ensures.len ∙ ap length c.deref.ensures.value ∙ c.in_ok-edges.ensures.0
+
+pub table-requires-clause-within : goal.table-requires-clause-within
+table-requires-clause-within c =
+    subst (λ (n : ℕ). IsBelow (next_keys c.args.keys.now) n) (sym (c.len-3.ensures ∙ sym c.deref.ensures.len ∙ ap length c.deref.ensures.value ∙ c.in_ok-edges.ensures.0)) (next_below c.args.keys.now)
+
+pub table-requires-clause-order : goal.table-requires-clause-order
+table-requires-clause-order c =
+    let edges = c.in_ok-edges.edges.items in
+    let order = c.in_ok-order.order.items in
+    whole_order (next_keys c.args.keys.now) (length c.args.keys.now) c.len-3.result order c.deref-4.result.now (c.len-3.ensures ∙ sym c.deref.ensures.len ∙ ap length c.deref.ensures.value ∙ c.in_ok-edges.ensures.0) c.deref-4.ensures.value
+    (none_found c.args.keys.now edges order c.in_ok-edges.ensures (c.requires c.if-misspelt.false) (ordered c.deref.result.now edges order c.deref.ensures.value c.in_ok-order.ensures)
+    (omega (arith, c.len.ensures, c.len-2.ensures, c.if-len.false)))
+
+pub returns : goal.returns
+returns c =
+    let edges = c.in_ok-edges.edges.items in
+    let order = c.in_ok-order.order.items in
+    let whole = none_found c.args.keys.now edges order c.in_ok-edges.ensures (c.requires c.if-misspelt.false) (ordered c.deref.result.now edges order c.deref.ensures.value c.in_ok-order.ensures)
+    (omega (arith, c.len.ensures, c.len-2.ensures, c.if-len.false)) in (
+      (
+        c.in_ok-table.ensures.len ∙ c.len-3.ensures ∙ sym c.deref.ensures.len ∙ ap length c.deref.ensures.value ∙ c.in_ok-edges.ensures.0,
+        λ i d less. c.in_ok-table.ensures.right i d (subst (λ (l : List ℕ). IsIn l i) (sym c.deref-4.ensures.value) ((whole.1.1 i).1 less)),
+      ),
+      record { small = iff_false c.in_ok-has_long_key.ensures c.if-branch.false; spelt = c.if-misspelt.false; no_cycle = whole.0 },
+    )

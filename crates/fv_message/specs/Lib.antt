@@ -1,0 +1,10 @@
+pub mod Template
+pub mod Table
+pub mod BuiltIn
+pub mod Full
+pub mod Judged
+pub mod Measured
+pub mod Expanded
+pub mod Parts
+pub mod Views
+pub mod FaultNames

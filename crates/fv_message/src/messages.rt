@@ -1,0 +1,134 @@
+//! Messages by key, and the texts that templates become.
+ghost use Rattle.std.specs.Prelude.{◌≡◌, ◌++◌, true, false, IfOk, OnOk, MatchResult, string_bytes};
+ghost use Rattle.fv_message.specs.Expanded.{AreExpansions};
+ghost use Rattle.fv_message.specs.Full.{full_pieces, full_text};
+ghost use Rattle.fv_message.specs.Judged.{AreSound, AreWhole, IsFault, IsFaultOf};
+ghost use Rattle.fv_message.specs.Parts.{part_pieces};
+ghost use Rattle.fv_message.specs.Table.{all_messages, AreReadable};
+ghost use Rattle.fv_message.specs.Template.{is_template};
+ghost use Rattle.fv_message.specs.Views.{messages_view};
+
+use crate::expanding::{Expanding, at};
+use crate::expansion::Expansion;
+use crate::fault::MessageFault;
+use crate::lengths::has_long_key;
+use crate::reading::{are_large, is_misspelt};
+use crate::showing::{write_expansion, write_parameter};
+use crate::table::Table;
+use crate::template::{Part, split_part};
+use fv_datum::Attrs;
+use fv_graph::{order_rest, table};
+use indexmap::IndexMap;
+use std::alloc::{AllocError, Global};
+use std::marker::Model;
+
+/// Messages by key: the user's, and the built-in ones whose keys the user gives no text. Contracts see
+/// the keys with their texts as they are written.
+#[derive(Drop)]
+pub struct Messages {
+    keys: Table,
+    expansions: Vec<Expansion>,
+}
+
+impl Model for Messages {
+    ghost use Rattle.fv_message.specs.Table as spec;
+    ghost use Rattle.fv_message.specs.Expanded.{AreExpansions};
+
+    ghost Value = { spec.Messages };
+
+    ghost view = { λ m. m.keys };
+
+    ghost invariant = { λ m. AreExpansions m.keys m.expansions.items };
+}
+
+/// The expansions of the keys of a table. Refused by `TooLarge` where a key's text becomes too long,
+/// else by `MessageSyntax` where the user's messages are misspelt, else by `MessageCycle` where the text
+/// of a key leads back to it; `Memory` at any place.
+fn expansions_of(
+    alloc: Global,
+    keys: &Table,
+    misspelt: bool,
+) -> Result<Vec<Expansion>, MessageFault>
+    requires { misspelt ≡ false → AreReadable keys.now }
+    ensures { MatchResult result (λ found. AreExpansions keys.now found.items × AreWhole keys.now misspelt) (IsFaultOf keys.now misspelt) }
+{
+    let edges = keys.edges(alloc)?;
+    let order = order_rest(alloc, &edges)?;
+    if has_long_key(alloc, keys, &edges, &order)? {
+        return Err(MessageFault::TooLarge);
+    }
+    if misspelt {
+        return Err(MessageFault::MessageSyntax);
+    }
+    if order.len() < edges.len() {
+        return Err(MessageFault::MessageCycle);
+    }
+    let maker = Expanding { messages: keys };
+    Ok(table(alloc, &maker, edges.len(), &order)?)
+}
+
+impl Messages {
+    /// The user's messages by their keys, and the built-in ones.
+    ///
+    /// Refused by `TooLarge` for more than 1,024 messages, a text of more than 4,096 bytes as it is
+    /// written, or a key whose text becomes longer than 65,536 bytes with no attributes, where it meets
+    /// no cycle and no text that is no template; else by `MessageSyntax` where a text is no template or
+    /// a key is no parameter's name; else by `MessageCycle` where the text of a key, of the user's or of
+    /// the built-in ones, leads back to that key through parameters that are keys; `Memory` at any
+    /// place.
+    pub fn read(alloc: Global, user: IndexMap<String, String>) -> Result<Messages, MessageFault>
+        ensures { let given = messages_view user in
+            MatchResult result (λ m. (m ≡ all_messages given) × AreSound given) (IsFault given) }
+    {
+        if are_large(&user) {
+            return Err(MessageFault::TooLarge);
+        }
+        let misspelt = is_misspelt(&user);
+        let keys = Table::new(alloc, user)?;
+        let expansions = expansions_of(alloc, &keys, misspelt)?;
+        Ok(Messages { keys, expansions })
+    }
+
+    /// The text that a template becomes, which `check_template` tells is one.
+    ///
+    /// Plain characters stay. A parameter that is a key becomes what the key's text becomes, the user's
+    /// before the built-in one; else one that is an attribute becomes its text, an integer in decimal,
+    /// a text as it is, `true` or `false`, texts as `[a, b]`; else it stays with its braces. The text of
+    /// an attribute isn't read again.
+    pub fn text(
+        &self,
+        alloc: Global,
+        template: &str,
+        attributes: &Attrs,
+    ) -> Result<String, AllocError>
+        requires { is_template template.now ≡ true }
+        ensures { IfOk result (λ s. string_bytes s ≡ full_text self.now attributes.now template.now) }
+    {
+        let mut text = String::new(alloc);
+        let mut rest = template;
+        while let Some((part, behind)) = split_part(rest) {
+            self.write_part(alloc, &mut text, part, attributes)?;
+            rest = behind;
+        }
+        Ok(text)
+    }
+
+    /// Writes what a part of a template becomes.
+    fn write_part(
+        &self,
+        alloc: Global,
+        text: &mut String,
+        part: Part<'_>,
+        attributes: &Attrs,
+    ) -> Result<(), AllocError>
+        ensures { OnOk result (string_bytes text.new ≡ string_bytes text.old ++ full_pieces self.now attributes.now (part_pieces part.entry)) }
+    {
+        match part {
+            Part::Plain(plain) => text.push_str(plain),
+            Part::Parameter(name) => match self.keys.number_of(name) {
+                Some(key) => write_expansion(alloc, text, at(&self.expansions, key), attributes),
+                None => write_parameter(alloc, text, name, attributes),
+            },
+        }
+    }
+}

@@ -1,0 +1,23 @@
+use Rattle.std.proofs.Common.{◌↔◌, List, map, sym, subst}
+use Rattle.fv_declare.specs.PlacedView.{placed_view}
+use Rattle.fv_graph.specs.Graph.{IsIn}
+use Rattle.fv_turns.specs.Violations.{Violation}
+use Rattle.fv_validate.specs.Listing.{AreToldApart}
+use Rattle.fv_validate.specs.ViolationView.{violation_view}
+use Rattle.fv_validate.specs.Violations.{Reported, reported_by}
+use Rattle.fv_validate.proofs.Reports.{reports_apart, listed}
+use Rattle.fv_walk.specs.FailureView.{failure_view}
+use Rattle.fv_validate.proofs.validating.listing_of.Goals as goal
+
+pub arrange-requires : goal.arrange-requires
+arrange-requires c =
+    subst AreToldApart (sym c.in_ok-violations.ensures.reports)
+    (reports_apart (map placed_view c.args.occurrences.now) (map failure_view c.args.failures.items) c.requires.apart c.in_ok-violations.ensures.paths)
+
+pub returns : goal.returns
+returns c =
+    let us = map placed_view c.args.occurrences.now in
+    let fs : List Violation = map failure_view c.args.failures.items in
+    let vs : List Reported = map violation_view c.arrange.new.violations.items in
+    let same : (r : Reported) → IsIn vs r ↔ IsIn (map (reported_by us) fs) r = rw c.in_ok-violations.ensures.reports at c.arrange.ensures.same in
+    listed us fs vs same c.arrange.ensures.ascending
