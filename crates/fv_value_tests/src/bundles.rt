@@ -1,11 +1,35 @@
-//! What a bundle holds, bundles whose root may be of any type, and the faults' codes and names.
-use crate::given::{built, check, check_that};
+//! What a bundle holds, bundles whose root may be of any type, and bundles written again.
+use crate::given::{Rows, built, check, check_rows, numbered};
 use fv_datum::Datum;
-use fv_model::{Bundle, BundleFault, Types, read_bundle, write_bundle};
+use fv_model::{Bundle, BundleFault, Object, Types, read_bundle, write_bundle};
 use fv_text::write_text;
 use serde_json::Value;
 use std::alloc::Global;
 use std::test::Fail;
+
+/// A bundle as JSON, which is its text too.
+fn written(alloc: Global, bundle: &Bundle) -> Result<String, Fail> {
+    let json = write_bundle(alloc, bundle)?.to_string(alloc)?;
+    let text = write_text(alloc, bundle)?;
+    if json.as_str() == text.as_str() {
+        return Ok(text);
+    }
+    Ok(format!(in alloc; "{json} but {text}")?)
+}
+
+/// The names of an object's fields, `0` before one that is null.
+fn fields_shown(alloc: Global, object: &Object) -> Result<String, Fail> {
+    let mut text = String::new(alloc);
+    for (name, datum) in object.fields() {
+        let mark = if matches!(datum, Datum::Null) {
+            " 0"
+        } else {
+            " "
+        };
+        write!(text, "{mark}{name}")?;
+    }
+    Ok(text)
+}
 
 /// A bundle as a text: its root, its objects with their types and with the names of their fields, `0`
 /// before one that is null, and the bundle as JSON.
@@ -14,19 +38,19 @@ fn shown(alloc: Global, bundle: &Bundle) -> Result<String, Fail> {
     let mut text = format!(in alloc; "root {root}")?;
     for (name, object) in bundle.objects().iter() {
         let type_name = object.type_name();
-        text.push_str(format!(in alloc; "; {name} {type_name}")?.as_str())?;
-        for (name, datum) in object.fields() {
-            text.push_str(if matches!(datum, Datum::Null) {
-                " 0"
-            } else {
-                " "
-            })?;
-            text.push_str(name)?;
-        }
+        let fields = fields_shown(alloc, object)?;
+        write!(text, "; {name} {type_name}{fields}")?;
     }
-    text.push_str(" => ")?;
-    text.push_str(write_bundle(alloc, bundle)?.to_string(alloc)?.as_str())?;
+    let json = written(alloc, bundle)?;
+    write!(text, " => {json}")?;
     Ok(text)
+}
+
+/// The code and the name of a fault.
+fn told(alloc: Global, fault: BundleFault) -> Result<String, Fail> {
+    let code = fault.code();
+    let name = fault.name();
+    Ok(format!(in alloc; "{code} {name}")?)
 }
 
 const TYPES: &str = "P = to: &P, q: &Q\nQ\nItem = name: T, count: I\nNote = text: T";
@@ -49,60 +73,79 @@ const BUNDLES: &str = r#"
 {"root":"a","objects":{"a":{"type":"Item","fields":{"name":"\ud83d\ude00bc\u0000"}}}} => root a; a Item name 0count => {"objects":{"a":{"fields":{"name":"😀bc\u0000"},"type":"Item"}},"root":"a"}
 "#;
 
-/// What a text of JSON is read as.
-pub(crate) fn read(alloc: Global, types: &Types, given: &str) -> Result<String, Fail> {
-    let value = Value::from_str(alloc, given)?;
-    match read_bundle(alloc, types, None, &value) {
-        Ok(bundle) => shown(alloc, &bundle),
-        Err(fault) => Ok(format!(in alloc; "{} {}", fault.code(), fault.name())?),
+struct AnyRoot;
+
+impl Rows for AnyRoot {
+    fn found(alloc: Global, given: &str) -> Result<String, Fail> {
+        let types = built(alloc, TYPES)?;
+        let value = Value::from_str(alloc, given)?;
+        match read_bundle(alloc, &types, None, &value) {
+            Ok(bundle) => shown(alloc, &bundle),
+            Err(fault) => told(alloc, fault),
+        }
     }
 }
 
 #[test]
 fn roots_may_be_of_any_type(rt: HostRuntime) -> Result<(), Fail> {
-    let types = built(rt.alloc(), TYPES)?;
-    for row in BUNDLES.trim().lines() {
-        let (given, wanted) = row.split_once(" => ").ok_or("a row")?;
-        let found = read(rt.alloc(), &types, given)?;
-        check(&rt, found.as_str(), wanted, given);
-    }
-    Ok(())
+    check_rows::<AnyRoot>(&rt, rt.alloc(), BUNDLES)
 }
 
 #[test]
 fn other_faults_have_names(rt: HostRuntime) {
-    for (fault, name) in [
-        (BundleFault::TooLarge, "TooLarge"),
-        (BundleFault::RootType, "RootType"),
-        (BundleFault::Memory, "Memory"),
-    ] {
-        check(&rt, fault.name(), name, name);
-    }
+    check(&rt, BundleFault::TooLarge.name(), "TooLarge", "B8");
+    check(&rt, BundleFault::RootType.name(), "RootType", "B9");
+    check(&rt, BundleFault::Memory.name(), "Memory", "memory");
 }
 
 /// The bundle of a text of JSON, whose root is of that type.
-pub(crate) fn bundle_of(
-    alloc: Global,
-    types: &Types,
-    root: &str,
-    text: &str,
-) -> Result<Bundle, Fail> {
+fn bundle_of(alloc: Global, types: &Types, root: &str, text: &str) -> Result<Bundle, Fail> {
     let value = Value::from_str(alloc, text)?;
     Ok(read_bundle(alloc, types, types.find(root), &value)?)
 }
 
+/// An object `a` that refers to `b`, the root.
+const PAIR: &str =
+    r#"{"root":"b","objects":{"b":{"type":"Q"},"a":{"type":"P","fields":{"q":"b"}}}}"#;
+
+/// Names of objects and fields, and what stands there.
+const NAMED: &str = "
+a q => b
+a to => null
+a text => nothing
+b q => nothing
+c q => no object
+";
+
+/// What a field of an object of the pair is.
+fn field_shown(alloc: Global, bundle: &Bundle, name: &str, field: &str) -> Result<String, Fail> {
+    let Some(object) = bundle.object(name) else {
+        return Ok(String::from_str(alloc, "no object")?);
+    };
+    Ok(String::from_str(
+        alloc,
+        match object.field(field) {
+            Some(Datum::Ref(name)) => name.as_str(),
+            Some(Datum::Null) => "null",
+            Some(_) => "another datum",
+            None => "nothing",
+        },
+    )?)
+}
+
+struct Named;
+
+impl Rows for Named {
+    fn found(alloc: Global, given: &str) -> Result<String, Fail> {
+        let (name, field) = given.split_once(' ').ok_or("a field")?;
+        let bundle = bundle_of(alloc, &built(alloc, TYPES)?, "Q", PAIR)?;
+        field_shown(alloc, &bundle, name, field)
+    }
+}
+
 #[test]
 fn objects_and_fields_are_found_by_their_names(rt: HostRuntime) -> Result<(), Fail> {
-    let text = r#"{"root":"b","objects":{"b":{"type":"Q"},"a":{"type":"P","fields":{"q":"b"}}}}"#;
-    let types = built(rt.alloc(), TYPES)?;
-    let bundle = bundle_of(rt.alloc(), &types, "Q", text)?;
-    let object = bundle.object("a").ok_or("an object")?;
-    let refers = matches!(object.field("q"), Some(Datum::Ref(name)) if name.as_str() == "b");
-    check_that(&rt, refers, "q");
-    check_that(&rt, matches!(object.field("to"), Some(Datum::Null)), "to");
-    check_that(&rt, object.field("text").is_none(), "text");
-    check_that(&rt, bundle.object("c").is_none(), "c");
-    Ok(())
+    check_rows::<Named>(&rt, rt.alloc(), NAMED)
 }
 
 /// Types with fields in the order of their names, and one whose fields are in another.
@@ -118,56 +161,119 @@ const TEXTS: &str = r#"
 {"root":"a","objects":{"a":{"type":"Item","fields":{"name":"x","count":1}}}} => {"objects":{"a":{"fields":{"count":1,"name":"x"},"type":"Item"}},"root":"a"}
 "#;
 
-#[test]
-fn bundles_are_written_as_texts(rt: HostRuntime) -> Result<(), Fail> {
-    let types = built(rt.alloc(), ORDERED)?;
-    for row in TEXTS.trim().lines() {
-        let (given, wanted) = row.split_once(" => ").ok_or("a row")?;
-        let bundle = bundle_of(rt.alloc(), &types, "", given)?;
-        let written = write_text(rt.alloc(), &bundle)?;
-        check(&rt, written.as_str(), wanted, given);
+struct Rewritten;
+
+impl Rows for Rewritten {
+    fn found(alloc: Global, given: &str) -> Result<String, Fail> {
+        written(
+            alloc,
+            &bundle_of(alloc, &built(alloc, ORDERED)?, "", given)?,
+        )
     }
-    Ok(())
 }
 
-/// Items for the numbers from 1000 to 1255, with commas between: `#` in an item is the number.
-fn items(alloc: Global, item: &str, comma: &str) -> Result<String, Fail> {
-    let mut text = String::new(alloc);
-    for i in 1000..1256 {
-        if i > 1000 {
-            text.push_str(comma)?;
+#[test]
+fn bundles_are_written_as_texts(rt: HostRuntime) -> Result<(), Fail> {
+    check_rows::<Rewritten>(&rt, rt.alloc(), TEXTS)
+}
+
+const CONTAINERS: &str =
+    "Item = all: &Item in L, by: &Note in P, maybe: &Item in O in L, n: I, texts: T in P in L\nNote = text: T in O";
+
+/// Around the fields of an item `a`, beside which there are a note `b` and an item `c`.
+const AROUND: (&str, &str) = (
+    r#"{"objects":{"a":{"fields":"#,
+    r#","type":"Item"},"b":{"fields":{},"type":"Note"},"c":{"fields":{},"type":"Item"}},"root":"a"}"#,
+);
+
+/// The fields of the item, and those that are written of them, or the code and the name of the fault.
+const FIELDS: &str = r#"
+{} => {}
+{"all":[],"by":{},"maybe":[],"texts":[]} => {"all":[],"by":{},"maybe":[],"texts":[]}
+{"all":null,"by":null} => {}
+{"all":["a","c",null,"c"],"by":{"x":"b","y":null},"maybe":[null,[],["c"]],"n":1,"texts":[{},null,{"a":null,"b":"x"}]} => {"all":["a","c",null,"c"],"by":{"x":"b","y":null},"maybe":[null,[],["c"]],"n":1,"texts":[{},null,{"a":null,"b":"x"}]}
+{"texts":[{"b\"":"\\","\u0001":"\n","":null}]} => {"texts":[{"":null,"\u0001":"\n","b\"":"\\"}]}
+{"all":["a","d"]} => B6 DanglingRef
+{"by":{"x":"b","y":"d"}} => B6 DanglingRef
+{"maybe":[[],["d"]]} => B6 DanglingRef
+{"all":["b"]} => B7 RefType
+{"by":{"x":"a"}} => B7 RefType
+{"maybe":[["b"]]} => B7 RefType
+{"all":["a b"]} => B5 WrongKind
+{"all":["d"],"n":1.5} => B5 WrongKind
+{"all":["d"],"maybe":[[null]]} => B5 WrongKind
+{"all":["b"],"by":{"x":"d"}} => B6 DanglingRef
+{"all":{}} => B5 WrongKind
+{"all":["d"],"no":[]} => B4 UnknownField
+"#;
+
+struct Contained;
+
+impl Rows for Contained {
+    fn found(alloc: Global, given: &str) -> Result<String, Fail> {
+        let (before, behind) = AROUND;
+        let types = built(alloc, CONTAINERS)?;
+        let text = format!(in alloc; "{before}{given}{behind}")?;
+        let value = Value::from_str(alloc, text.as_str())?;
+        match read_bundle(alloc, &types, types.find("Item"), &value) {
+            Ok(bundle) => inside(alloc, &bundle),
+            Err(fault) => told(alloc, fault),
         }
-        let number = format!(in alloc; "{i}")?;
-        text.push_str(item.replace(alloc, "#", number.as_str())?.as_str())?;
     }
+}
+
+/// What a bundle is written as between the texts around.
+fn inside(alloc: Global, bundle: &Bundle) -> Result<String, Fail> {
+    let (before, behind) = AROUND;
+    let text = written(alloc, bundle)?;
+    let rest = text.as_str().strip_prefix(before).ok_or("a front")?;
+    let fields = rest.strip_suffix(behind).ok_or("an end")?;
+    Ok(String::from_str(alloc, fields)?)
+}
+
+#[test]
+fn bundles_hold_containers(rt: HostRuntime) -> Result<(), Fail> {
+    check_rows::<Contained>(&rt, rt.alloc(), FIELDS)
+}
+
+/// References to the hubs from 1000 to 1255 in as many fields.
+fn spokes(alloc: Global) -> Result<String, Fail> {
+    let mut text = String::new(alloc);
+    for number in 1000..1255 {
+        write!(text, "\"f{number}\":\"h{number}\",")?;
+    }
+    text.push_str("\"f1255\":\"h1255\"")?;
     Ok(text)
 }
 
 /// The type `Hub`, with a reference to a `Hub` for each number.
 fn hub(alloc: Global) -> Result<Types, Fail> {
-    let fields = items(alloc, "f#: &Hub", ", ")?;
-    let line = format!(in alloc; "Hub = {fields}")?;
+    let fields = numbered(alloc, (1000, 1255), "f", ": &Hub, ")?;
+    let line = format!(in alloc; "Hub = {fields}f1255: &Hub")?;
     built(alloc, line.as_str())
 }
 
 /// A bundle of hubs, each of which refers to all of them.
 fn net(alloc: Global) -> Result<String, Fail> {
-    let spokes = items(alloc, "\"f#\":\"h#\"", ",")?;
-    let hub = format!(in alloc; "\"h#\":{{\"fields\":{{{spokes}}},\"type\":\"Hub\"}}")?;
-    let hubs = items(alloc, hub.as_str(), ",")?;
-    Ok(format!(in alloc; "{{\"objects\":{{{hubs}}},\"root\":\"h1000\"}}")?)
+    let spokes = spokes(alloc)?;
+    let behind = format!(in alloc; "\":{{\"fields\":{{{spokes}}},\"type\":\"Hub\"}}")?;
+    let mut text = String::from_str(alloc, "{\"objects\":{")?;
+    for number in 1000..1256 {
+        let comma = if number > 1000 { "," } else { "" };
+        write!(text, "{comma}\"h{number}{behind}")?;
+    }
+    text.push_str("},\"root\":\"h1000\"}")?;
+    Ok(text)
 }
 
 /// The largest bundle: 256 hubs, each of which refers to all of them, 65,536 references. As a line it
 /// would have more than a mebibyte.
 #[test]
 fn all_objects_refer_to_all(rt: HostRuntime) -> Result<(), Fail> {
-    let types = hub(rt.alloc())?;
     let text = net(rt.alloc())?;
-    let bundle = bundle_of(rt.alloc(), &types, "Hub", text.as_str())?;
-    let written = write_bundle(rt.alloc(), &bundle)?.to_string(rt.alloc())?;
-    check_that(&rt, written.as_str() == text.as_str(), "the net");
-    let written = write_text(rt.alloc(), &bundle)?;
-    check_that(&rt, written.as_str() == text.as_str(), "its text");
+    let bundle = bundle_of(rt.alloc(), &hub(rt.alloc())?, "Hub", text.as_str())?;
+    let found = written(rt.alloc(), &bundle)?;
+    let same = found.as_str() == text.as_str();
+    check(&rt, if same { "the net" } else { "another" }, "the net", "");
     Ok(())
 }

@@ -3,21 +3,14 @@
 ghost use Rattle.std.specs.Prelude.{◌≡◌};
 ghost use Rattle.fv_datum.specs.Kinds.{is_container};
 
-use crate::given::{attrs_of, check, check_that, type_use};
+use crate::given::{Rows, attrs_of, check, check_rows, datum_of, numbered, type_use};
 use fv_datum::{
-    Attribute, Attrs, Datum, DatumFault, Kind, Name, is_name, is_null, read_datum, spells_datum,
-    write_datum,
+    Attribute, Attrs, Datum, Kind, Name, is_name, is_null, read_datum, spells_datum, write_datum,
 };
 use fv_house::{luhn, one_of};
 use serde_json::Value;
 use std::alloc::Global;
-use std::process::Abort;
 use std::test::Fail;
-
-/// A text.
-fn text(alloc: Global, text: &str) -> Result<Datum, Fail> {
-    Ok(Datum::Text(String::from_str(alloc, text)?))
-}
 
 /// A datum as JSON, or the name of the fault.
 fn written(alloc: Global, datum: &Datum) -> Result<String, Fail> {
@@ -25,6 +18,29 @@ fn written(alloc: Global, datum: &Datum) -> Result<String, Fail> {
         Ok(value) => Ok(value.to_string(alloc)?),
         Err(fault) => Ok(String::from_str(alloc, fault.name())?),
     }
+}
+
+/// Whether data of the kind hold others.
+fn is_container(kind: Kind) -> bool
+    ensures { result ≡ is_container kind }
+{
+    matches!(kind, Kind::List | Kind::Map | Kind::Optional)
+}
+
+/// The datum of a plain kind that a value is read as, written again, or the name of the fault.
+fn read_again(alloc: Global, kind: Kind, value: &Value) -> Result<String, Fail> {
+    if is_container(kind) {
+        return Err("a plain kind".into());
+    }
+    match read_datum(alloc, kind, value) {
+        Ok(datum) => written(alloc, &datum),
+        Err(fault) => Ok(String::from_str(alloc, fault.name())?),
+    }
+}
+
+/// Whether a value spells a datum of a plain kind.
+fn spells(kind: Kind, value: &Value) -> bool {
+    !is_container(kind) && spells_datum(kind, value)
 }
 
 /// A plain kind by its letter and a value: whether the value spells a datum of the kind, and the datum
@@ -42,106 +58,114 @@ M -62135596800 => true -62135596800
 E null => true null
 "#;
 
-/// Whether data of the kind hold others.
-fn is_container(kind: Kind) -> bool
-    ensures { result ≡ is_container kind }
-{
-    matches!(kind, Kind::List | Kind::Map | Kind::Optional)
-}
+struct Spelled;
 
-/// What a row's value spells.
-fn spelled(alloc: Global, given: &str) -> Result<String, Fail> {
-    let (letter, value) = given.split_once(' ').ok_or("a kind")?;
-    let kind = type_use(alloc, letter)?.kind();
-    if is_container(kind) {
-        return Ok(String::from_str(alloc, "no plain kind")?);
+impl Rows for Spelled {
+    fn found(alloc: Global, given: &str) -> Result<String, Fail> {
+        let (letter, value) = given.split_once(' ').ok_or("a kind")?;
+        let kind = type_use(alloc, letter)?.kind();
+        let value = Value::from_str(alloc, value)?;
+        let spells = spells(kind, &value);
+        let read = read_again(alloc, kind, &value)?;
+        Ok(format!(in alloc; "{spells} {read}")?)
     }
-    let value = Value::from_str(alloc, value)?;
-    let spells = spells_datum(kind, &value);
-    let read = match read_datum(alloc, kind, &value) {
-        Ok(datum) => written(alloc, &datum)?,
-        Err(fault) => String::from_str(alloc, fault.name())?,
-    };
-    Ok(format!(in alloc; "{spells} {read}")?)
 }
 
 #[test]
 fn plain_data_are_read_as_they_are_written(rt: HostRuntime) -> Result<(), Fail> {
-    for row in SPELLED.trim().lines() {
-        let (given, wanted) = row.split_once(" => ").ok_or("a row")?;
-        check(&rt, spelled(rt.alloc(), given)?.as_str(), wanted, row);
+    check_rows::<Spelled>(&rt, rt.alloc(), SPELLED)
+}
+
+/// Data of all kinds, most of them like the text `18` in one way or another. An optional is written as
+/// a list of what it holds, or an empty one; containers may be empty or nested.
+const DATA: &str = r#"
+T : "18" => "18"
+I : 18 => 18
+B : true => true
+M : 18 => 18
+&T : "_18" => "_18"
+&T : "left_2" => "left_2"
+D : "18" => "18"
+E : "2018-01-18" => "2018-01-18"
+T in L : ["18"] => ["18"]
+T in P : {"18":"18"} => {"18":"18"}
+T in O : ["18"] => ["18"]
+T in O : [] => []
+T in O in O in L : [null,[[]],[["18"]],[]] => [null,[[]],[["18"]],[]]
+T in L in L : [null,[],["18"]] => [null,[],["18"]]
+T in P in L : [null,{},{"18":"18"}] => [null,{},{"18":"18"}]
+"#;
+
+struct InJson;
+
+impl Rows for InJson {
+    fn found(alloc: Global, given: &str) -> Result<String, Fail> {
+        written(alloc, &datum_of(alloc, given)?)
     }
-    Ok(())
 }
 
-/// Data that are neither null nor a text, all like the text `18` in one way or another.
-fn not_texts(rt: &impl Abort, alloc: Global) -> Result<Vec<Datum>, Fail> {
-    let name = String::from_str(alloc, "_18")?;
-    assert!(rt; is_name(name.as_str()));
-    let mut data = vec![in alloc;
-        Datum::Integer(18),
-        Datum::Boolean(true),
-        Datum::Instant(18),
-        Datum::Ref(Name::new(name)),
-    ]?;
-    data.push(Datum::Decimal(String::from_str(alloc, "18")?))?;
-    data.push(Datum::Date(String::from_str(alloc, "2018-01-18")?))?;
-    data.push(Datum::List(vec![in alloc; text(alloc, "18")?]?))?;
-    let entry = (text(alloc, "18")?, text(alloc, "18")?);
-    data.push(Datum::Map(vec![in alloc; entry]?))?;
-    data.push(Datum::Optional(Box::new(alloc, text(alloc, "18")?)?))?;
-    data.push(Datum::Optional(Box::new(alloc, Datum::Null)?))?;
-    Ok(data)
-}
+struct Copied;
 
-/// Those data as JSON: an optional is written as a list of what it holds, or an empty one.
-const WRITTEN: &str = r#"[18,true,18,"_18","18","2018-01-18",["18"],{"18":"18"},["18"],[]]"#;
+impl Rows for Copied {
+    fn found(alloc: Global, given: &str) -> Result<String, Fail> {
+        let copy = datum_of(alloc, given)?.copy(alloc)?;
+        written(alloc, &copy)
+    }
+}
 
 #[test]
 fn data_of_all_kinds_are_written_and_copied(rt: HostRuntime) -> Result<(), Fail> {
-    let list = Datum::List(not_texts(&rt, rt.alloc())?);
-    check(&rt, written(rt.alloc(), &list)?.as_str(), WRITTEN, "a list");
-    let copy = list.copy(rt.alloc())?;
-    check(&rt, written(rt.alloc(), &copy)?.as_str(), WRITTEN, "a copy");
-    Ok(())
+    check_rows::<InJson>(&rt, rt.alloc(), DATA)?;
+    check_rows::<Copied>(&rt, rt.alloc(), DATA)
 }
 
-/// A list of 2,000 numbers, and the list as JSON.
-fn long_list(alloc: Global) -> Result<(Datum, String), Fail> {
-    let mut items = Vec::new(alloc);
-    let mut text = String::from_str(alloc, "[0")?;
-    items.push(Datum::Integer(0))?;
-    for number in 1..2000 {
-        items.push(Datum::Integer(number))?;
-        write!(text, ",{number}")?;
-    }
-    text.push(']')?;
-    Ok((Datum::List(items), text))
-}
-
+/// A row with a list of 2,001 numbers.
 #[test]
 fn long_lists_are_copied_whole(rt: HostRuntime) -> Result<(), Fail> {
-    let (list, wanted) = long_list(rt.alloc())?;
-    let copy = list.copy(rt.alloc())?;
-    let found = written(rt.alloc(), &copy)?;
-    check(&rt, found.as_str(), wanted.as_str(), "a copy");
-    Ok(())
+    let items = numbered(rt.alloc(), (0, 2000), "", ",")?;
+    let row = format!(in rt.alloc(); "I in L : [{items}2000] => [{items}2000]")?;
+    check_rows::<Copied>(&rt, rt.alloc(), row.as_str())
 }
 
-/// Whether a datum is null or passes one of the rules of texts.
-fn passes(datum: &Datum, attrs: &Attrs) -> bool {
-    luhn(datum) || one_of(datum, attrs) || is_null(datum)
+/// Words that are like the data that stand below.
+const WORDS: &str = r#"{"words":["","18","true","2018-01-18","_18","null"]}"#;
+
+/// Data, and whether each is null, passes the check digit and is one of the words: of what is no text
+/// null alone passes.
+const PASSING: &str = r#"
+T : null => true true true
+I : 18 => false false false
+B : true => false false false
+M : 18 => false false false
+&T : "_18" => false false false
+D : "18" => false false false
+E : "2018-01-18" => false false false
+T in L : ["18"] => false false false
+T in P : {"18":"18"} => false false false
+T in O : ["18"] => false false false
+T in O : [] => false false false
+"#;
+
+/// Which of the rules of texts a datum passes, behind whether it is null.
+fn passed(alloc: Global, datum: &Datum, attrs: &Attrs) -> Result<String, Fail> {
+    let null = is_null(datum);
+    let digit = luhn(datum);
+    let listed = one_of(datum, attrs);
+    Ok(format!(in alloc; "{null} {digit} {listed}")?)
+}
+
+struct Passing;
+
+impl Rows for Passing {
+    fn found(alloc: Global, given: &str) -> Result<String, Fail> {
+        let attrs = attrs_of(alloc, WORDS)?;
+        passed(alloc, &datum_of(alloc, given)?, &attrs)
+    }
 }
 
 #[test]
 fn of_other_data_null_alone_passes(rt: HostRuntime) -> Result<(), Fail> {
-    let words = r#"{"words":["","18","true","2018-01-18","_18","null"]}"#;
-    let attrs = attrs_of(rt.alloc(), words)?;
-    for datum in &not_texts(&rt, rt.alloc())? {
-        check_that(&rt, !passes(datum, &attrs), "data of other kinds");
-    }
-    check_that(&rt, is_null(&Datum::Null), "null");
-    Ok(())
+    check_rows::<Passing>(&rt, rt.alloc(), PASSING)
 }
 
 /// Two keys of a map, and the map as JSON, or its fault: keys ascend by their bytes.
@@ -155,42 +179,36 @@ b a => WrongKind
 ab a => WrongKind
 "#;
 
-/// The map of a row's keys.
-fn with_keys(alloc: Global, given: &str) -> Result<String, Fail> {
-    let (first, second) = given.split_once(' ').ok_or("two keys")?;
-    let mut entries = Vec::new(alloc);
-    entries.push((text(alloc, first)?, Datum::Boolean(true)))?;
-    entries.push((text(alloc, second)?, Datum::Null))?;
-    written(alloc, &Datum::Map(entries))
+struct Keys;
+
+impl Rows for Keys {
+    fn found(alloc: Global, given: &str) -> Result<String, Fail> {
+        let (first, second) = given.split_once(' ').ok_or("two keys")?;
+        let first = String::from_str(alloc, first)?;
+        let second = String::from_str(alloc, second)?;
+        let entries = vec![in alloc;
+            (Datum::Text(first), Datum::Boolean(true)),
+            (Datum::Text(second), Datum::Null),
+        ]?;
+        written(alloc, &Datum::Map(entries))
+    }
 }
 
 #[test]
 fn keys_of_maps_ascend(rt: HostRuntime) -> Result<(), Fail> {
-    for row in KEYS.lines().skip(1) {
-        let (given, wanted) = row.split_once(" => ").ok_or("a row")?;
-        check(&rt, with_keys(rt.alloc(), given)?.as_str(), wanted, row);
-    }
-    Ok(())
+    check_rows::<Keys>(&rt, rt.alloc(), KEYS)
 }
 
-/// A map in a list has a key that is no text; lists, maps and optionals may be empty or nested.
-#[test]
-fn containers_are_written(rt: HostRuntime) -> Result<(), Fail> {
-    let alloc = rt.alloc();
+/// What a list is written as that holds a map with a key of an integer.
+fn with_integer_key(alloc: Global) -> Result<String, Fail> {
     let map = Datum::Map(vec![in alloc; (Datum::Integer(1), Datum::Null)]?);
-    let list = Datum::List(vec![in alloc; map]?);
-    let found = written(alloc, &list)?;
+    written(alloc, &Datum::List(vec![in alloc; map]?))
+}
+
+#[test]
+fn keys_of_maps_are_texts(rt: HostRuntime) -> Result<(), Fail> {
+    let found = with_integer_key(rt.alloc())?;
     check(&rt, found.as_str(), "WrongKind", "a key of an integer");
-    let empty = Datum::Optional(Box::new(alloc, Datum::Null)?);
-    let nested = Datum::Optional(Box::new(alloc, empty)?);
-    let list = Datum::List(vec![in alloc;
-        Datum::Null,
-        nested,
-        Datum::List(Vec::new(alloc)),
-        Datum::Map(Vec::new(alloc)),
-    ]?);
-    let found = written(alloc, &list)?;
-    check(&rt, found.as_str(), "[null,[[]],[],{}]", "a list");
     Ok(())
 }
 
@@ -199,20 +217,33 @@ fn names_are_copied(rt: HostRuntime) -> Result<(), Fail> {
     let name = String::from_str(rt.alloc(), "left_2")?;
     assert!(rt; is_name(name.as_str()));
     check(&rt, Name::new(name).copy()?.as_str(), "left_2", "a copy");
-    check(&rt, DatumFault::Memory.name(), "Memory", "a fault's name");
     Ok(())
+}
+
+/// Names, and the integer that an attribute of the name is, among how many.
+const FOUND: &str = "
+min => -1 of 2
+max => 7 of 2
+mi => none of 2
+ => none of 2
+MIN => none of 2
+";
+
+struct Found;
+
+impl Rows for Found {
+    fn found(alloc: Global, given: &str) -> Result<String, Fail> {
+        let attrs = attrs_of(alloc, r#"{"min":-1,"max":7}"#)?;
+        let count = attrs.entries().len();
+        match attrs.find(given) {
+            Some(Attribute::Integer(number)) => Ok(format!(in alloc; "{number} of {count}")?),
+            Some(_) => Err("an integer".into()),
+            None => Ok(format!(in alloc; "none of {count}")?),
+        }
+    }
 }
 
 #[test]
 fn attributes_are_found_by_their_names(rt: HostRuntime) -> Result<(), Fail> {
-    let attrs = attrs_of(rt.alloc(), r#"{"min":-1,"max":7}"#)?;
-    check_that(&rt, attrs.entries().len() == 2, "two attributes");
-    let is_least = matches!(attrs.find("min"), Some(Attribute::Integer(-1)));
-    check_that(&rt, is_least, "min");
-    let is_most = matches!(attrs.find("max"), Some(Attribute::Integer(7)));
-    check_that(&rt, is_most, "max");
-    for name in ["mi", "", "MIN"] {
-        check_that(&rt, attrs.find(name).is_none(), name);
-    }
-    Ok(())
+    check_rows::<Found>(&rt, rt.alloc(), FOUND)
 }

@@ -1,6 +1,6 @@
-//! Kinds, attributes and types that tests are given, written as texts.
-use fv_datum::{Attribute, Attrs, Kind};
-use fv_model::{Fields, TypeUse, Types};
+//! Tables of rows, and the kinds, attributes and types that rows give, written as texts.
+use fv_datum::{Attribute, Attrs, Datum, Kind};
+use fv_model::{Fields, TypeUse, Types, read_value};
 use indexmap::IndexMap;
 use serde_json::Value;
 use std::alloc::Global;
@@ -13,9 +13,34 @@ pub(crate) fn check(rt: &impl Abort, found: &str, wanted: &str, row: &str) {
     assert_eq!(rt; found, wanted, "{row}");
 }
 
-/// What a row says holds.
-pub(crate) fn check_that(rt: &impl Abort, holds: bool, row: &str) {
-    assert!(rt; holds, "{row}");
+/// What a table is about.
+pub(crate) trait Rows {
+    /// What is found for what a row gives.
+    fn found(alloc: Global, given: &str) -> Result<String, Fail>;
+}
+
+/// What is found for each row `GIVEN => WANTED` of a table is what is wanted of it.
+pub(crate) fn check_rows<R: Rows>(rt: &impl Abort, alloc: Global, table: &str) -> Result<(), Fail> {
+    for row in table.trim().lines() {
+        let (given, wanted) = row.split_once(" => ").ok_or("a row")?;
+        let found = R::found(alloc, given)?;
+        check(rt, found.as_str(), wanted, row);
+    }
+    Ok(())
+}
+
+/// The numbers from one to below another, each between two texts.
+pub(crate) fn numbered(
+    alloc: Global,
+    (from, to): (u32, u32),
+    before: &str,
+    behind: &str,
+) -> Result<String, Fail> {
+    let mut text = String::new(alloc);
+    for number in from..to {
+        write!(text, "{before}{number}{behind}")?;
+    }
+    Ok(text)
 }
 
 /// The letters of all kinds.
@@ -47,21 +72,32 @@ pub(crate) fn kinds_of(alloc: Global, letters: &str) -> Result<Vec<Kind>, Fail> 
     Ok(kinds)
 }
 
+/// The text that a JSON value is.
+fn text_of(alloc: Global, value: &Value) -> Result<String, Fail> {
+    Ok(String::from_str(alloc, value.as_str().ok_or("a text")?)?)
+}
+
+/// The texts that JSON values are.
+fn texts_of(alloc: Global, values: &[Value]) -> Result<Vec<String>, Fail> {
+    let mut texts = Vec::new(alloc);
+    for value in values {
+        texts.push(text_of(alloc, value)?)?;
+    }
+    Ok(texts)
+}
+
+/// The attribute that a JSON value is: a whole number, a boolean, a text or texts.
 fn attribute_of(alloc: Global, value: &Value) -> Result<Attribute, Fail> {
     if let Some(number) = value.as_i64() {
         return Ok(Attribute::Integer(number));
     }
-    if let Some(text) = value.as_str() {
-        return Ok(Attribute::Text(String::from_str(alloc, text)?));
-    }
     if let Some(flag) = value.as_bool() {
         return Ok(Attribute::Boolean(flag));
     }
-    let mut texts = Vec::new(alloc);
-    for item in value.as_array().ok_or("an attribute")? {
-        texts.push(String::from_str(alloc, item.as_str().ok_or("a text")?)?)?;
+    if let Some(values) = value.as_array() {
+        return Ok(Attribute::Texts(texts_of(alloc, values)?));
     }
-    Ok(Attribute::Texts(texts))
+    Ok(Attribute::Text(text_of(alloc, value)?))
 }
 
 /// The attributes of a JSON object.
@@ -88,6 +124,13 @@ pub(crate) fn type_use(alloc: Global, held: &str) -> Result<TypeUse, Fail> {
         };
     }
     Ok(type_use)
+}
+
+/// The datum of a row `HELD : VALUE`, what a field holds and a JSON value.
+pub(crate) fn datum_of(alloc: Global, given: &str) -> Result<Datum, Fail> {
+    let (held, text) = given.split_once(" : ").ok_or("a value")?;
+    let value = Value::from_str(alloc, text)?;
+    Ok(read_value(alloc, &type_use(alloc, held)?, &value)?)
 }
 
 /// Data of the kind of a letter, or behind `&` a reference to a type.
@@ -117,7 +160,7 @@ fn fields_of(alloc: Global, text: &str) -> Result<Fields, Fail> {
 }
 
 /// Types, one a line, as `P = to: &P, count: I`, or `Q` for a type without fields.
-fn declared(alloc: Global, table: &str) -> Result<IndexMap<String, Fields>, Fail> {
+pub(crate) fn declared(alloc: Global, table: &str) -> Result<IndexMap<String, Fields>, Fail> {
     let mut types = IndexMap::new(alloc);
     for line in table.lines() {
         let (name, fields) = match line.split_once(" = ") {

@@ -10,8 +10,6 @@ mod bundles;
 #[cfg(test)]
 mod constraints;
 #[cfg(test)]
-mod containers;
-#[cfg(test)]
 mod data;
 #[cfg(test)]
 mod faults;

@@ -1,10 +1,10 @@
 //! Registries of validators that hold of everything: which are refused, which rules they have, and
 //! whether a schema fits them that was read for another one.
-use crate::given::{KINDS, check, check_that, kind_of, kinds_of};
+use crate::given::{KINDS, Rows, check, check_rows, kind_of, kinds_of, numbered};
 use fv_datum::{Attrs, Datum};
 use fv_declare::{DeclFault, Schema, read_schema};
 use fv_model::Object;
-use fv_registry::{FieldValidator, Meaning, ObjectValidator, Registry, RegistryFault};
+use fv_registry::{FieldValidator, Meaning, ObjectValidator, Registry};
 use std::alloc::Global;
 use std::test::Fail;
 
@@ -20,31 +20,62 @@ impl Meaning for Lenient {
     ghost decides_object = { λ _ _ _. true };
 }
 
-/// A registry of validators, or why it is refused: of data, as `1:T 2:EI`, each a rule's number and
-/// the letters of its kinds, and of objects, by their rules' numbers.
-fn registry_of(
-    alloc: Global,
-    fields: &str,
-    objects: &str,
-) -> Result<Result<Registry<Lenient>, RegistryFault>, Fail> {
-    let mut of_data = Vec::new(alloc);
-    for field in fields.split_whitespace() {
-        let (rule, letters) = field.split_once(':').ok_or("kinds")?;
-        of_data.push(FieldValidator {
-            rule: rule.parse::<u32>()?,
-            kinds: kinds_of(alloc, letters)?,
-            call: Box::new(alloc, |_datum: &Datum, _attrs: &Attrs| true)?,
-        })?;
-    }
-    let mut of_objects = Vec::new(alloc);
-    for rule in objects.split_whitespace() {
-        of_objects.push(ObjectValidator {
-            rule: rule.parse::<u32>()?,
-            call: Box::new(alloc, |_object: &Object, _attrs: &Attrs| true)?,
-        })?;
-    }
-    Ok(Registry::<Lenient>::new(alloc, of_data, of_objects))
+/// A validator of data, as `2:EI`: the rule's number and the letters of its kinds.
+fn field_of(alloc: Global, text: &str) -> Result<FieldValidator, Fail> {
+    let (rule, letters) = text.split_once(':').ok_or("kinds")?;
+    let rule = rule.parse::<u32>()?;
+    let kinds = kinds_of(alloc, letters)?;
+    Ok(FieldValidator {
+        rule,
+        kinds,
+        call: Box::new(alloc, |_datum: &Datum, _attrs: &Attrs| true)?,
+    })
 }
+
+/// Validators of data, as `1:T 2:EI`.
+fn fields_of(alloc: Global, text: &str) -> Result<Vec<FieldValidator>, Fail> {
+    let mut fields = Vec::new(alloc);
+    for field in text.split_whitespace() {
+        fields.push(field_of(alloc, field)?)?;
+    }
+    Ok(fields)
+}
+
+/// A validator of objects, by its rule's number.
+fn object_of(alloc: Global, text: &str) -> Result<ObjectValidator, Fail> {
+    let rule = text.parse::<u32>()?;
+    Ok(ObjectValidator {
+        rule,
+        call: Box::new(alloc, |_object: &Object, _attrs: &Attrs| true)?,
+    })
+}
+
+/// Validators of objects, by their rules' numbers.
+fn objects_of(alloc: Global, text: &str) -> Result<Vec<ObjectValidator>, Fail> {
+    let mut objects = Vec::new(alloc);
+    for object in text.split_whitespace() {
+        objects.push(object_of(alloc, object)?)?;
+    }
+    Ok(objects)
+}
+
+/// A registry of validators of data and of objects.
+fn registry_of(alloc: Global, fields: &str, objects: &str) -> Result<Registry<Lenient>, Fail> {
+    let fields = fields_of(alloc, fields)?;
+    let objects = objects_of(alloc, objects)?;
+    Ok(Registry::<Lenient>::new(alloc, fields, objects)?)
+}
+
+/// Rules, each with its sorts, `d` for data and `o` for objects, and the letters of its kinds.
+const RULES: &str = "
+0 => o.
+1 => .
+2 => dID.
+3 => o.
+4 => dT.
+5 => d.
+4294967295 => .
+";
 
 /// The rule's sorts and kinds.
 fn rule_shown(alloc: Global, registry: &Registry<Lenient>, rule: u32) -> Result<String, Fail> {
@@ -60,7 +91,22 @@ fn rule_shown(alloc: Global, registry: &Registry<Lenient>, rule: u32) -> Result<
             text.push(letter)?;
         }
     }
+    text.push('.')?;
     Ok(text)
+}
+
+struct OfRule;
+
+impl Rows for OfRule {
+    fn found(alloc: Global, given: &str) -> Result<String, Fail> {
+        let registry = registry_of(alloc, "4:T 2:DI 5:", "3 0")?;
+        rule_shown(alloc, &registry, given.parse::<u32>()?)
+    }
+}
+
+#[test]
+fn rules_are_there_in_any_order(rt: HostRuntime) -> Result<(), Fail> {
+    check_rows::<OfRule>(&rt, rt.alloc(), RULES)
 }
 
 /// The rules of the validators of data and of objects, in their order.
@@ -78,24 +124,9 @@ fn kept_shown(alloc: Global, registry: &Registry<Lenient>) -> Result<String, Fai
     Ok(text)
 }
 
-/// Rules, each with its sorts, `d` for data and `o` for objects, and the letters of its kinds.
-const RULES: [(u32, &str); 7] = [
-    (0, "o"),
-    (1, ""),
-    (2, "dID"),
-    (3, "o"),
-    (4, "dT"),
-    (5, "d"),
-    (4294967295, ""),
-];
-
 #[test]
-fn rules_are_there_in_any_order(rt: HostRuntime) -> Result<(), Fail> {
-    let registry = registry_of(rt.alloc(), "4:T 2:DI 5:", "3 0")??;
-    for (rule, wanted) in RULES {
-        let found = rule_shown(rt.alloc(), &registry, rule)?;
-        check(&rt, found.as_str(), wanted, "a rule");
-    }
+fn validators_keep_their_order(rt: HostRuntime) -> Result<(), Fail> {
+    let registry = registry_of(rt.alloc(), "4:T 2:DI 5:", "3 0")?;
     let kept = kept_shown(rt.alloc(), &registry)?;
     check(&rt, kept.as_str(), "4 2 5 | 3 0 ", "the order");
     Ok(())
@@ -123,39 +154,35 @@ const VALIDATORS: &str = "
 ";
 
 /// The validators of data of a text, with so many before them.
-fn with_count(alloc: Global, count: u32, given: &str) -> Result<String, Fail> {
-    let mut fields = String::new(alloc);
-    for rule in 0..count {
-        fields.push_str(format!(in alloc; "{rule}: ")?.as_str())?;
-    }
-    fields.push_str(given)?;
-    Ok(fields)
+fn with_count(alloc: Global, count: &str, given: &str) -> Result<String, Fail> {
+    let before = numbered(alloc, (0, count.parse::<u32>()?), "", ": ")?;
+    Ok(format!(in alloc; "{before}{given}")?)
 }
 
-/// The fault of a row's validators.
-fn fault_of(alloc: Global, given: &str) -> Result<String, Fail> {
-    let (count, rest) = given.split_once(" | ").ok_or("a count")?;
-    let (given, objects) = rest.split_once(" | ").ok_or("validators of data")?;
-    let fields = with_count(alloc, count.parse::<u32>()?, given)?;
-    match registry_of(alloc, fields.as_str(), objects)? {
+/// The fault of validators of data and of objects, or `taken`.
+fn fault_of(alloc: Global, fields: &str, objects: &str) -> Result<String, Fail> {
+    let fields = fields_of(alloc, fields)?;
+    let objects = objects_of(alloc, objects)?;
+    match Registry::<Lenient>::new(alloc, fields, objects) {
         Ok(_) => Ok(String::from_str(alloc, "taken")?),
         Err(fault) => Ok(String::from_str(alloc, fault.name())?),
     }
 }
 
+struct Refused;
+
+impl Rows for Refused {
+    fn found(alloc: Global, given: &str) -> Result<String, Fail> {
+        let (count, rest) = given.split_once(" | ").ok_or("a count")?;
+        let (given, objects) = rest.split_once(" | ").ok_or("validators of data")?;
+        let fields = with_count(alloc, count, given)?;
+        fault_of(alloc, fields.as_str(), objects)
+    }
+}
+
 #[test]
 fn numbers_stand_once_and_256_at_most(rt: HostRuntime) -> Result<(), Fail> {
-    for row in VALIDATORS.trim().lines() {
-        let (given, wanted) = row.split_once(" => ").ok_or("a row")?;
-        check(&rt, fault_of(rt.alloc(), given)?.as_str(), wanted, row);
-    }
-    check(
-        &rt,
-        RegistryFault::Memory.name(),
-        "Memory",
-        "a fault's name",
-    );
-    Ok(())
+    check_rows::<Refused>(&rt, rt.alloc(), VALIDATORS)
 }
 
 /// Rule 1 at a text field, rule 2 at a date and at an integer field, rule 3 at the type. `Idle` is
@@ -175,44 +202,52 @@ const NO_RULES: &str =
 
 /// Validators of data and of objects, and whether the schema fits them. More rules and more kinds do no
 /// harm, and a rule that isn't used may be missing. Then rule 1 is missing, of another kind, or of
-/// objects; rule 2 not of integers, or not of dates; rule 3 missing, or of data.
+/// objects; rule 2 not of integers, or not of dates; rule 3 missing, or of data. Without rules, the
+/// second schema fits.
 const FITTING: &str = "
-1:T 2:EI | 3 => true
-4:T 2:ETI 1:BT | 6 3 => true
-2:EI | 3 => false
-1:EI 2:EI | 3 => false
-2:EI | 1 3 => false
-1:T 2:E | 3 => false
-1:T 2:I | 3 => false
-1:T 2:EI |  => false
-1:T 2:EI 3:T |  => false
+rules | 1:T 2:EI | 3 => true
+rules | 4:T 2:ETI 1:BT | 6 3 => true
+rules | 2:EI | 3 => false
+rules | 1:EI 2:EI | 3 => false
+rules | 2:EI | 1 3 => false
+rules | 1:T 2:E | 3 => false
+rules | 1:T 2:I | 3 => false
+rules | 1:T 2:EI |  => false
+rules | 1:T 2:EI 3:T |  => false
+none |  |  => true
 ";
-
-/// Whether a schema fits a row's validators.
-fn fits(alloc: Global, schema: &Schema, given: &str) -> Result<String, Fail> {
-    let (fields, objects) = given.split_once(" | ").ok_or("validators")?;
-    let registry = registry_of(alloc, fields, objects)??;
-    let fits = schema.fits(&registry);
-    Ok(format!(in alloc; "{fits}")?)
-}
 
 /// A schema of declarations that were read for the rules 1, 2, 5 and 3.
 fn schema_of(alloc: Global, declarations: &str) -> Result<Schema, Fail> {
-    let rules = registry_of(alloc, "1:T 2:IE 5:", "3")??;
+    let rules = registry_of(alloc, "1:T 2:IE 5:", "3")?;
     Ok(read_schema(alloc, &rules, declarations.as_bytes())?)
+}
+
+/// Whether declarations fit validators.
+fn fits(alloc: Global, declarations: &str, validators: &str) -> Result<bool, Fail> {
+    let (fields, objects) = validators.split_once(" | ").ok_or("validators")?;
+    let registry = registry_of(alloc, fields, objects)?;
+    Ok(schema_of(alloc, declarations)?.fits(&registry))
+}
+
+struct Fitting;
+
+impl Rows for Fitting {
+    fn found(alloc: Global, given: &str) -> Result<String, Fail> {
+        let (rules, validators) = given.split_once(" | ").ok_or("declarations")?;
+        let declarations = if rules == "none" {
+            NO_RULES
+        } else {
+            RULES_1_2_3
+        };
+        let fits = fits(alloc, declarations, validators)?;
+        Ok(format!(in alloc; "{fits}")?)
+    }
 }
 
 #[test]
 fn a_schema_fits_the_rules_that_it_uses(rt: HostRuntime) -> Result<(), Fail> {
-    let schema = schema_of(rt.alloc(), RULES_1_2_3)?;
-    for row in FITTING.trim().lines() {
-        let (given, wanted) = row.split_once(" => ").ok_or("a row")?;
-        check(&rt, fits(rt.alloc(), &schema, given)?.as_str(), wanted, row);
-    }
-    let schema = schema_of(rt.alloc(), NO_RULES)?;
-    let found = fits(rt.alloc(), &schema, " | ")?;
-    check(&rt, found.as_str(), "true", "no rules");
-    Ok(())
+    check_rows::<Fitting>(&rt, rt.alloc(), FITTING)
 }
 
 /// Bytes that are no UTF-8: at the top, in names and in a text.
@@ -227,12 +262,16 @@ const BYTES: &[&[u8]] = &[
     b"{\"types\":{},\"forms\":{\"f\":{\"root\":\"\xe9\"}}}",
 ];
 
+/// Whether bytes are refused as no JSON.
+fn is_no_json(alloc: Global, bytes: &[u8]) -> Result<bool, Fail> {
+    let rules = registry_of(alloc, "", "")?;
+    Ok(read_schema(alloc, &rules, bytes).err() == Some(DeclFault::NotJson))
+}
+
 #[test]
 fn declarations_are_utf8(rt: HostRuntime) -> Result<(), Fail> {
-    let rules = registry_of(rt.alloc(), "", "")??;
     for bytes in BYTES {
-        let fault = read_schema(rt.alloc(), &rules, *bytes).err();
-        check_that(&rt, fault == Some(DeclFault::NotJson), "no UTF-8");
+        assert!(rt; is_no_json(rt.alloc(), bytes)?, "no UTF-8");
     }
     Ok(())
 }

@@ -1,7 +1,6 @@
 //! Declared types, their numbers and their limits.
-use crate::given::{built, check, check_that, type_use};
-use fv_model::{Fields, TypeId, Types, TypesFault};
-use indexmap::IndexMap;
+use crate::given::{Rows, built, check, check_rows, declared, numbered};
+use fv_model::{Fields, TypeId, Types};
 use std::alloc::Global;
 use std::test::Fail;
 
@@ -9,52 +8,47 @@ use std::test::Fail;
 const ITEM_AND_A: &str =
     "Item = name: T, count: I, next: &Item, price: D, full: B, day: E, at: M, tags: T in O in L, by: &A in P\nA = a: T";
 
+/// How many there are, the numbers of `A` and of `item`, the name of the first, and what each field of
+/// `Item` holds.
+const SHOWN: &str =
+    r#"2 types, Some(TypeId { index: 1 }), None, Item: {"name": Text, "count": Integer, "next": Ref("Item"), "price": Decimal, "full": Boolean, "day": Date, "at": Instant, "tags": List(Optional(Text)), "by": Map(Ref("A"))}"#;
+
+/// The same of types.
+fn shown(alloc: Global, types: &Types) -> Result<String, Fail> {
+    let count = types.count();
+    let found = types.find("A");
+    let missing = types.find("item");
+    let first = types.name(TypeId { index: 0 });
+    let fields = types.fields("Item").ok_or("declared")?;
+    Ok(format!(in alloc; "{count} types, {found:?}, {missing:?}, {first}: {fields:?}")?)
+}
+
 #[test]
 fn types_have_numbers_and_fields(rt: HostRuntime) -> Result<(), Fail> {
     let types = built(rt.alloc(), ITEM_AND_A)?;
-    check_that(&rt, types.count() == 2, "two types");
-    check_that(&rt, types.find("A") == Some(TypeId { index: 1 }), "A");
-    check_that(&rt, types.find("item").is_none(), "item");
-    check(&rt, types.name(TypeId { index: 0 }), "Item", "the first");
-    let fields = types.fields("Item").ok_or("declared")?;
-    let shown = format!(in rt.alloc(); "{fields:?}")?;
-    check(&rt, shown.as_str(), FIELDS, "Item");
+    let found = shown(rt.alloc(), &types)?;
+    check(&rt, found.as_str(), SHOWN, "Item");
     Ok(())
 }
 
-/// Each field of `Item`, with what it holds.
-const FIELDS: &str =
-    r#"{"name": Text, "count": Integer, "next": Ref("Item"), "price": Decimal, "full": Boolean, "day": Date, "at": Instant, "tags": List(Optional(Text)), "by": Map(Ref("A"))}"#;
+/// The names of the fields, and `!` behind each whose type use isn't its copy.
+fn copied(alloc: Global, fields: &Fields) -> Result<String, Fail> {
+    let mut text = String::new(alloc);
+    for (name, held) in fields.iter() {
+        let mark = if held.copy()? == *held { " " } else { "! " };
+        write!(text, "{name}{mark}")?;
+    }
+    Ok(text)
+}
 
 /// What each field of `Item` holds is copied.
 #[test]
 fn type_uses_are_copied(rt: HostRuntime) -> Result<(), Fail> {
     let types = built(rt.alloc(), ITEM_AND_A)?;
-    for (name, held) in types.fields("Item").ok_or("declared")?.iter() {
-        check_that(&rt, held.copy()? == *held, name.as_str());
-    }
+    let found = copied(rt.alloc(), types.fields("Item").ok_or("declared")?)?;
+    let wanted = "name count next price full day at tags by ";
+    check(&rt, found.as_str(), wanted, "Item");
     Ok(())
-}
-
-/// That many types `T0`, `T1` and so on without fields, and `Wide` of that many text fields and one
-/// more that holds the last.
-fn with_wide(
-    alloc: Global,
-    count: u32,
-    fields: u32,
-    last: &str,
-) -> Result<IndexMap<String, Fields>, Fail> {
-    let mut declared = IndexMap::new(alloc);
-    for i in 0..count {
-        declared.insert(format!(in alloc; "T{i}")?, IndexMap::new(alloc))?;
-    }
-    let mut wide = IndexMap::new(alloc);
-    for i in 0..fields {
-        wide.insert(format!(in alloc; "f{i}")?, type_use(alloc, "T")?)?;
-    }
-    wide.insert(String::from_str(alloc, "next")?, type_use(alloc, last)?)?;
-    declared.insert(String::from_str(alloc, "Wide")?, wide)?;
-    Ok(declared)
 }
 
 /// How many types there are beside `Wide`, how many fields beside its last, what the last holds, and
@@ -78,22 +72,29 @@ const LIMITS: &str = "
 256 257 &Nope => UnknownType
 ";
 
-/// The fault of a row's types.
-fn fault_of(alloc: Global, given: &str) -> Result<String, Fail> {
+/// Types `T0`, `T1` and so on without fields, and `Wide` of text fields and one more that holds the
+/// last, as a row says.
+fn with_wide(alloc: Global, given: &str) -> Result<String, Fail> {
     let (count, rest) = given.split_once(' ').ok_or("fields")?;
     let (fields, last) = rest.split_once(' ').ok_or("a last one")?;
-    let declared = with_wide(alloc, count.parse::<u32>()?, fields.parse::<u32>()?, last)?;
-    match Types::build(alloc, declared) {
-        Ok(_) => Ok(String::from_str(alloc, "-")?),
-        Err(fault) => Ok(String::from_str(alloc, fault.name())?),
+    let types = numbered(alloc, (0, count.parse::<u32>()?), "T", "\n")?;
+    let fields = numbered(alloc, (0, fields.parse::<u32>()?), "f", ": T, ")?;
+    Ok(format!(in alloc; "{types}Wide = {fields}next: {last}")?)
+}
+
+struct Limits;
+
+impl Rows for Limits {
+    fn found(alloc: Global, given: &str) -> Result<String, Fail> {
+        let text = with_wide(alloc, given)?;
+        match Types::build(alloc, declared(alloc, text.as_str())?) {
+            Ok(_) => Ok(String::from_str(alloc, "-")?),
+            Err(fault) => Ok(String::from_str(alloc, fault.name())?),
+        }
     }
 }
 
 #[test]
 fn types_have_limits_and_references(rt: HostRuntime) -> Result<(), Fail> {
-    for row in LIMITS.trim().lines() {
-        let (given, wanted) = row.split_once(" => ").ok_or("a row")?;
-        check(&rt, fault_of(rt.alloc(), given)?.as_str(), wanted, row);
-    }
-    Ok(())
+    check_rows::<Limits>(&rt, rt.alloc(), LIMITS)
 }
