@@ -187,6 +187,8 @@ unread_first fault.TooLarge true n = refl
 unread_first fault.TooLarge false n = refl
 unread_first fault.RootType true n = refl
 unread_first fault.RootType false n = refl
+unread_first fault.NoObject true n = refl
+unread_first fault.NoObject false n = refl
 unread_first fault.Memory declared n = absurd (n refl)
 
 -- whether a form is declared
@@ -206,6 +208,7 @@ is_memory fault.DanglingRef = inr (λ e. cc)
 is_memory fault.RefType = inr (λ e. cc)
 is_memory fault.TooLarge = inr (λ e. cc)
 is_memory fault.RootType = inr (λ e. cc)
+is_memory fault.NoObject = inr (λ e. cc)
 
 module _ (means : Meanings) (now : ℤ) (id form : List ℕ) (bundle : json.Data) where
   -- a put is refused for this

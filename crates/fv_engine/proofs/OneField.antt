@@ -147,6 +147,7 @@ misread_is fault.DanglingRef n = refl
 misread_is fault.RefType n = refl
 misread_is fault.TooLarge n = refl
 misread_is fault.RootType n = refl
+misread_is fault.NoObject n = refl
 misread_is fault.Memory n = absurd (n refl)
 
 module _ (means : Meanings) (now : ℤ) (type field : List ℕ) (value : json.Data) (names : List (List ℕ)) (x : Machine Records) where

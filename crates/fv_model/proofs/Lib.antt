@@ -4,6 +4,7 @@ pub mod Given
 pub mod Law
 pub mod Listed
 pub mod Made
+pub mod Put
 pub mod Typed
 pub mod Values
 pub mod Wrong

@@ -1,7 +1,7 @@
 -- The names and codes of faults.
 use Rattle.std.specs.Prelude.{ℕ, List, [], codes}
 use Rattle.fv_model.specs.declared.fault.BundleFault.{BundleFault}
-use Rattle.fv_model.specs.declared.fault.BundleFault.TheVariants.{Shape, BadName, RootMissing, UnknownType, UnknownField, WrongKind, DanglingRef, RefType, TooLarge, RootType, Memory}
+use Rattle.fv_model.specs.declared.fault.BundleFault.TheVariants.{Shape, BadName, RootMissing, UnknownType, UnknownField, WrongKind, DanglingRef, RefType, TooLarge, RootType, NoObject, Memory}
 
 -- the name of a fault of a bundle
 abbrev pub bundle_fault_name : BundleFault → List ℕ
@@ -15,6 +15,7 @@ bundle_fault_name DanglingRef = codes "DanglingRef"
 bundle_fault_name RefType = codes "RefType"
 bundle_fault_name TooLarge = codes "TooLarge"
 bundle_fault_name RootType = codes "RootType"
+bundle_fault_name NoObject = codes "NoObject"
 bundle_fault_name Memory = codes "Memory"
 
 -- a fault's code in replies, none for want of memory
@@ -29,4 +30,5 @@ bundle_fault_code DanglingRef = codes "B6"
 bundle_fault_code RefType = codes "B7"
 bundle_fault_code TooLarge = codes "B8"
 bundle_fault_code RootType = codes "B9"
+bundle_fault_code NoObject = codes "B10"
 bundle_fault_code Memory = []

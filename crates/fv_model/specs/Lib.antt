@@ -8,6 +8,7 @@ pub mod Fitting
 pub mod Limits
 pub mod PartViews
 pub mod Reading
+pub mod Replaced
 pub mod Single
 pub mod Types
 pub mod Views

@@ -4,6 +4,7 @@ ghost use Rattle.fv_datum.specs.Lookup.{at_name};
 ghost use Rattle.fv_datum.specs.View.{view};
 ghost use Rattle.fv_model.specs.FieldViews.{types_view, field_view, fields_left};
 ghost use Rattle.fv_types.specs.Types.{fields_view, fields_at};
+ghost use Rattle.fv_model.specs.Replaced.{thing_with, bundle_with};
 ghost use Rattle.fv_model.specs.Writing.{IsWritten};
 
 use crate::fields::ObjectFields;
@@ -65,6 +66,18 @@ impl Object {
         let index = self.declared().get_index_of(name)?;
         self.data.get(index)
     }
+
+    /// Puts a datum into the field of that name, where there is one.
+    fn put(&mut self, field: &str, datum: Datum)
+        requires { IsWritten (view datum) }
+        ensures { object_view self.new ≡ thing_with field.now (view datum) (object_view self.old) }
+    {
+        if let Some(index) = self.declared().get_index_of(field) {
+            if index < self.data.len() {
+                self.data[index] = datum;
+            }
+        }
+    }
 }
 
 /// Objects, each by its name.
@@ -99,5 +112,18 @@ impl Bundle {
         ensures { option_map (λ o. object_view o.now) result ≡ at_name name.now (bundle_view self.now).objects }
     {
         self.objects.get(name)
+    }
+
+    /// Puts a datum into a field of the object of that name, where there are both. The bundle need
+    /// not be well-typed afterwards.
+    ///
+    /// The keys of each map in the datum are texts in order.
+    pub fn put(&mut self, object: &str, field: &str, datum: Datum)
+        requires { IsWritten (view datum) }
+        ensures { bundle_view self.new ≡ bundle_with object.now field.now (view datum) (bundle_view self.old) }
+    {
+        if let Some(object) = self.objects.get_mut(object) {
+            object.put(field, datum);
+        }
     }
 }

@@ -5,7 +5,7 @@ ghost use Rattle.fv_model.specs.declared.fault.BundleFault.TheVariants.{Memory};
 use std::alloc::{AllocError, AllocFailed};
 use thiserror::Error;
 
-/// Why a JSON value is no bundle.
+/// Why a JSON value is no bundle, or a change isn't made in one.
 #[derive(Clone, Copy, Debug, PartialEq, Eq, Error)]
 pub enum BundleFault {
     /// The value is not of a bundle's form.
@@ -38,6 +38,9 @@ pub enum BundleFault {
     /// The root is of another type than the one that is asked.
     #[error("the root is of another type")]
     RootType,
+    /// A change names an object that the bundle doesn't have.
+    #[error("no such object")]
+    NoObject,
     /// An allocation was refused.
     #[error("out of memory")]
     Memory,
@@ -59,6 +62,7 @@ impl BundleFault {
             BundleFault::RefType => "RefType",
             BundleFault::TooLarge => "TooLarge",
             BundleFault::RootType => "RootType",
+            BundleFault::NoObject => "NoObject",
             BundleFault::Memory => "Memory",
         }
     }
@@ -78,6 +82,7 @@ impl BundleFault {
             BundleFault::RefType => "B7",
             BundleFault::TooLarge => "B8",
             BundleFault::RootType => "B9",
+            BundleFault::NoObject => "B10",
             BundleFault::Memory => "",
         }
     }

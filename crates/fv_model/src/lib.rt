@@ -21,5 +21,5 @@ pub use fields::ObjectFields;
 pub use fv_types::{Fields, TypeId, TypeUse, Types, TypesFault};
 pub use reading::read_bundle;
 pub use singles::single;
-pub use value::read_value;
+pub use value::{read_value, spelled_datum};
 pub use writing::write_bundle;

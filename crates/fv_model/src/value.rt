@@ -47,12 +47,10 @@ fn small_datum(alloc: Global, type_use: &TypeUse, value: &Value) -> Result<Datum
     Ok(datum)
 }
 
-/// The same, however large it is.
-pub(crate) fn spelled_datum(
-    alloc: Global,
-    type_use: &TypeUse,
-    value: &Value,
-) -> Result<Datum, BundleFault>
+/// The datum of a type use that a JSON value spells, however large it is. References aren't looked up.
+///
+/// Refused by `WrongKind`; `Memory` at any place.
+pub fn spelled_datum(alloc: Global, type_use: &TypeUse, value: &Value) -> Result<Datum, BundleFault>
     ensures exact { Gives BundleFault.Memory view result (unless_wrong
         (misfits (Some (type_use_view type_use.now)) (json_view value.now))
         (datum_at (type_use_view type_use.now) (Some (json_view value.now)))) }

@@ -35,6 +35,7 @@ bundle_memory bundle.DanglingRef b h = absurd (let never = h (λ e. cc) in cc)
 bundle_memory bundle.RefType b h = absurd (let never = h (λ e. cc) in cc)
 bundle_memory bundle.TooLarge b h = absurd (let never = h (λ e. cc) in cc)
 bundle_memory bundle.RootType b h = absurd (let never = h (λ e. cc) in cc)
+bundle_memory bundle.NoObject b h = absurd (let never = h (λ e. cc) in cc)
 
 -- want of memory may come whatever is given
 pub gives_memory : {X Y : Type 0} (view : X → Y) (r : Result X StoreFault) (given : Result Y StoreFault) (f : StoreFault) → IsErrAnd r (λ e. e ≡ f) → f ≡ Memory → Gives Memory view r given

@@ -1,20 +1,20 @@
 -- What a store that holds records hands out, and holds after changes.
-use Rattle.std.proofs.Common.{◌≡◌, ℕ, Bool, true, false, cond, List, [], ◌∷◌, bytes_eq, string_bytes, Option, Some, option_map, Result, Ok, Err, OnErr, IfErr, IfOk, IsTrue, sym, ap, subst, ◌∙◌}
+use Rattle.std.proofs.Common.{◌≡◌, ℕ, Bool, true, false, cond, List, [], ◌∷◌, bytes_eq, string_bytes, Option, Some, None, option_map, Result, Ok, Err, OnErr, IfErr, IfOk, IsTrue, sym, ap, subst, ◌∙◌}
 use Rattle.std.specs.Option.{ForSome}
 use Rattle.sqlite.specs.State.{State, HasCleanDisk}
 use Rattle.fv_datum.specs.Outcomes.{Gives}
 use Rattle.fv_types.specs.Types.{Declared}
 use Rattle.fv_model.specs.WellTyped.{IsWellTyped}
 use Rattle.fv_store.specs.declared.change.Change.{Change}
-use Rattle.fv_store.specs.declared.change.Change.TheVariants.{Put}
+use Rattle.fv_store.specs.declared.change.Change.TheVariants.{Put, Remove}
 use Rattle.fv_store.specs.declared.fault.StoreFault.{StoreFault}
 use Rattle.fv_store.specs.declared.fault.StoreFault.TheVariants.{Store, Memory}
-use Rattle.fv_store.specs.declared.shown.Shown.{Shown}
+use Rattle.fv_query.specs.declared.shown.Shown.{Shown}
 use Rattle.fv_store.specs.declared.stored.Stored.{Stored}
 use Rattle.sqlite.specs.declared.error.Error.{Error}
 use Rattle.fv_store.specs.Faults.{fault_of}
 use Rattle.fv_store.specs.Changes.{after, after_all, changed, ChangeFits, ChangesFit}
-use Rattle.fv_store.specs.Records.{Kept, Records, Contents, Fits, AllFit, with_record, with_records}
+use Rattle.fv_store.specs.Records.{Kept, Records, Contents, Fits, AllFit, with_record, without_record, with_records}
 use Rattle.fv_store.specs.Steps.{Keeps, IsRefusal}
 use Rattle.fv_store.specs.Showing.{kept_text, shown_view}
 use Rattle.fv_store.specs.Stands.{Frame, Holds}
@@ -63,8 +63,16 @@ fits_with k id kept fits fit other e known = go (bytes_eq other id) (k.records o
     go true o were is = let same : kept ≡ e = cc in subst (Fits k.types k.roots) same fits
     go false o were is = were is
 
+fits_without : (k : Contents) (id : List ℕ) → AllFit k → AllFit (with_records (without_record id k.records) k)
+fits_without k id fit other e known = go (bytes_eq other id) (k.records other) (fit other e) known
+  where
+    go : (b : Bool) (o : Option Kept) → (o ≡ Some e → Fits k.types k.roots e) → cond b None o ≡ Some e → Fits k.types k.roots e
+    go true o were is = cc
+    go false o were is = were is
+
 fits_after : (k : Contents) (c : Change) → ChangeFits k.types k.roots c → AllFit k → AllFit (with_records (after c k.records) k)
 fits_after k (Put id form bundle) fits fit = fits_with k (string_bytes id) _ fits fit
+fits_after k (Remove id) fits fit = fits_without k (string_bytes id) fit
 
 pub fits_after_all : (cs : List Change) (k : Contents) → ChangesFit k.types k.roots cs → AllFit k → AllFit (changed cs k)
 fits_after_all [] k fits fit = fit

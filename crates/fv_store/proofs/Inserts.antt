@@ -18,7 +18,7 @@ use Rattle.sqlite.specs.State.{State, mode_of, Executes}
 use Rattle.sqlite.proofs.Callers.{statement_of, runs_as, one_step}
 use Rattle.fv_store.specs.Tables.{store_schema}
 use Rattle.fv_store.specs.Records.{Kept, Records, with_record, bundle_text}
-use Rattle.fv_store.specs.Stands.{record_row, IsText, HasRows, Spells}
+use Rattle.fv_store.specs.Stands.{record_row, AreTexts, HasRows, Spells}
 use Rattle.fv_store.proofs.Texts.{kept_table, insert_text, insert_terms, insert_is, insert_plain}
 use Rattle.fv_store.specs.Causes.{HasRoom}
 use Rattle.fv_store.proofs.Rooms.{room_after}
@@ -43,7 +43,7 @@ went (inr on) = on
 pub same_value : {B E : Type 0} {a b : B} → ◌≡◌ {A = Result B E} (Ok a) (Ok b) → a ≡ b
 same_value e = cc
 
-pub inserts : (old new : State) (id : List ℕ) (e : Kept) (count : ℕ) (d : List ℕ) (m : Records) → Spells old.now d m → m id ≡ None → IsText e
+pub inserts : (old new : State) (id : List ℕ) (e : Kept) (count : ℕ) (d : List ℕ) (m : Records) → Spells old.now d m → m id ≡ None → AreTexts id e
     → Executes insert_text (Text id ∷ Text e.form ∷ Text (bundle_text e.bundle) ∷ []) old new (Ok count)
     → Spells new.now d (with_record id e m) × ((n : ℕ) → HasRoom (n + 1) old.now → HasRoom n new.now)
 inserts old new id e count d m spelled none utf8 h =

@@ -1,14 +1,10 @@
 pub mod Texts
 pub mod RowEdits
-pub mod OneTable
 pub mod Rooms
 pub mod OneId
 pub mod Inserts
 pub mod Updates
 pub mod Creates
-pub mod Bare
-pub mod Refusals
-pub mod Queries
 pub mod Writes
 pub mod NewTables
 pub mod Steps
@@ -18,3 +14,5 @@ pub mod Faults
 pub mod Openings
 pub mod Holdings
 pub mod Memory
+pub mod Removes
+pub mod RemoveCauses

@@ -19,8 +19,8 @@ use Rattle.sqlite_keyed.proofs.ListLemmas.{ascending-filter}
 use Rattle.sqlite_rules.specs.Lists.{Has}
 use Rattle.sqlite_rules.proofs.TableLemmas.{put_all_has, put_all_keeps, put_all_adds}
 use Rattle.sqlite_trees.proofs.TreeLemmas.{IsTable-put_row}
-use Rattle.fv_store.specs.Records.{Kept, Records, with_record}
-use Rattle.fv_store.specs.Stands.{record_row, IsRowOf, IsText, HasRows}
+use Rattle.fv_store.specs.Records.{Kept, Records, with_record, without_record}
+use Rattle.fv_store.specs.Stands.{record_row, IsRowOf, AreTexts, HasRows}
 
 equal_ints : (i n : ℤ) → is_eq (int_cmp n i) ≡ true → i ≡ n
 equal_ints i n h = grind (arith, ints, nat_tests)
@@ -54,7 +54,7 @@ same_id id = (bytes_eq-Decides id id).1 refl
 abbrev put : List Row → ℤ → List ℕ → Kept → List Row
 put rows n id e = put_all rows (record_row n id e ∷ [])
 
-module _ (rows : List Row) (m : Records) (n : ℤ) (id : List ℕ) (e : Kept) (s : HasRows rows m) (none : m id ≡ None) (text : IsText e) (free : are_fresh rows (record_row n id e ∷ []) ≡ true) where
+module _ (rows : List Row) (m : Records) (n : ℤ) (id : List ℕ) (e : Kept) (s : HasRows rows m) (none : m id ≡ None) (text : AreTexts id e) (free : are_fresh rows (record_row n id e ∷ []) ≡ true) where
   one : (row : Row) → Has (put rows n id e) row → (row ≡ record_row n id e) ⊎ Has rows row
   one row h = elim (put_all_has (record_row n id e ∷ []) rows row h) [
     | inl new ↦ elim new [ inl is ↦ inl is | inr never ↦ absurd never ]
@@ -103,10 +103,6 @@ module _ (rows : List Row) (m : Records) (n : ℤ) (id : List ℕ) (e : Kept) (s
   spells_put = record { apart = IsTable-put_row (record_row n id e) rows s.apart; sound = put_sound; complete = put_complete; once = put_once }
 
 -- ---- rows taken out
-
--- the id has no record, and the others are as before
-abbrev pub without_record : List ℕ → Records → Records
-without_record id m other = cond (bytes_eq other id) None (m other)
 
 abbrev Lacks : List ℤ → Row → Type 0
 Lacks ids x = (id : ℤ) → Has ids id → has_rowid id x ≡ false
@@ -194,7 +190,7 @@ free_again n rows = false_from_ne_true _ (λ taken.
     let other = not-true _ (has_filtered (λ y. not (has_rowid n y)) rows it.0 it.1).1 in
     true≢false (sym it.2 ∙ other))
 
-module _ (rows : List Row) (m : Records) (n : ℤ) (id : List ℕ) (e k : Kept) (s : HasRows rows m) (there : Has rows (record_row n id e)) (text : IsText k) where
+module _ (rows : List Row) (m : Records) (n : ℤ) (id : List ℕ) (e k : Kept) (s : HasRows rows m) (there : Has rows (record_row n id e)) (text : AreTexts id k) where
   only : AreOf rows id (n ∷ [])
   only = record {
     sound = λ i h. elim h [ inl is ↦ (record_row n id e, there, refl, ap Int (sym is)) | inr never ↦ absurd never ];

@@ -16,19 +16,19 @@ use Rattle.fv_store.specs.Records.{Kept, Records, with_record, bundle_text}
 use Rattle.fv_store.specs.Steps.{Advances, Makes, MakesAll, Always, IsExcused, Lacks, Keeps, Updates}
 use Rattle.fv_store.specs.Changes.{after, after_all}
 use Rattle.fv_store.specs.Causes.{AreShort, HasFailed, HasRoom, IsShort, PutsShort}
-use Rattle.fv_store.specs.Stands.{Spells, IsText, Frame}
+use Rattle.fv_store.specs.Stands.{Spells, AreTexts, Frame}
 use Rattle.fv_store.proofs.Texts.{insert_text, update_text}
 use Rattle.fv_store.proofs.Rooms.{fewer}
 use Rattle.fv_store.proofs.Inserts.{inserts, zero_is_not_one}
 use Rattle.fv_store.proofs.Updates.{updates}
 
-pub insert_step : (old new : State) (id : List ℕ) (k : Kept) (r : Result ℕ Error) → IsText k → ExecutesInside 0 insert_text (Text id ∷ Text k.form ∷ Text (bundle_text k.bundle) ∷ []) old new r
+pub insert_step : (old new : State) (id : List ℕ) (k : Kept) (r : Result ℕ Error) → AreTexts id k → ExecutesInside 0 insert_text (Text id ∷ Text k.form ∷ Text (bundle_text k.bundle) ∷ []) old new r
     → OnOk r (Advances old new (Makes 1 (Lacks id) (with_record id k)))
 insert_step old new id k (Err error) text h = tt
 insert_step old new id k (Ok count) text h =
     record { was_open = λ _. h.1.was_open; mode = h.1.mode; committed = h.1.committed_is; change = λ d m spelled none. inserts old new id k count d m spelled none text h.0 }
 
-pub update_step : (old new : State) (id : List ℕ) (k : Kept) (r : Result ℕ Error) → IsText k → ExecutesInside 0 update_text (Text id ∷ Text k.form ∷ Text (bundle_text k.bundle) ∷ []) old new r
+pub update_step : (old new : State) (id : List ℕ) (k : Kept) (r : Result ℕ Error) → AreTexts id k → ExecutesInside 0 update_text (Text id ∷ Text k.form ∷ Text (bundle_text k.bundle) ∷ []) old new r
     → IfOk r (λ count. Advances old new (Updates id k count))
 update_step old new id k (Err error) text h = tt
 update_step old new id k (Ok count) text h =

@@ -1,5 +1,5 @@
 -- What the texts of the statements mean.
-use Rattle.std.proofs.Common.{◌≡◌, ◌≤◌, ℕ, pos, negsuc, List, [], ◌∷◌, length, codes, true, false, Result, Ok, Err, None, refl, lit≤}
+use Rattle.std.proofs.Common.{◌≡◌, ℕ, pos, negsuc, List, [], ◌∷◌, codes, true, false, Ok, None, refl, lit≤}
 use Rattle.sqlite.specs.Compile.{table_defined_by}
 use Rattle.sqlite.specs.Change.{created}
 use Rattle.sqlite.specs.Term.{Term, lit, col, op2}
@@ -10,14 +10,13 @@ use Rattle.sqlite.specs.Schema.{Schema}
 use Rattle.sqlite.specs.Query.{Query, inner, end}
 use Rattle.sqlite.specs.declared.types.Value.TheVariants.{Null, Int, Text as Words, Blob}
 use Rattle.sqlite.specs.Source.TheVariants.{Values}
-use Rattle.sqlite.specs.Command.TheVariants.{Insert, Select, Update, CreateTable}
-use Rattle.sqlite_resolve.specs.declared.compiled.Compiled.{Compiled}
-use Rattle.sqlite_resolve.specs.declared.error.CompileError.{CompileError}
+use Rattle.sqlite.specs.Command.TheVariants.{Insert, Delete, Update, CreateTable}
 use Rattle.sqlite_typing.specs.Types.{accepts_program, accepts_terms}
 use Rattle.sqlite_tied.specs.Compute.{everything}
-use Rattle.sqlite.specs.Listing.{understood, reads_listing}
+use Rattle.sqlite.specs.Listing.{understood}
 use Rattle.sqlite.proofs.Callers.{IsPlain, command_of, statement_of}
 use Rattle.sqlite.specs.Table.{Table}
+use Rattle.fv_query.proofs.Texts.{IsWhole}
 use Rattle.fv_store.specs.Tables.{about_table, record_table, no_schema, store_schema}
 
 -- how the table of the version and the declarations is made
@@ -31,11 +30,6 @@ record_text = codes "CREATE TABLE record (id TEXT NOT NULL PRIMARY KEY, form TEX
 -- the table of records as it stands in that schema
 abbrev pub kept_table : Table
 kept_table = record record_table { tree = 1 }
-
--- the whole text is one statement, with so many parameters
-abbrev pub IsWhole : List ℕ → ℕ → Result Compiled CompileError → Type 0
-IsWhole sql given (Ok c) = (length sql ≤ c.tail) × (given ≡ length c.names)
-IsWhole sql given (Err e) = ⊥
 
 pub about_is : table_defined_by about_text ≡ Ok about_table
 unfolding everything
@@ -66,26 +60,6 @@ insert_accepted id form text = refl
 pub insert_plain : IsPlain (understood store_schema insert_text)
 unfolding understood everything
 insert_plain = (refl, refl)
-
-abbrev pub find_text : List ℕ
-find_text = codes "SELECT form, bundle FROM record WHERE id = ?1"
-
-abbrev pub find_query : Query
-find_query = record {
-  from = inner 1 end;
-  filter = op2 (Compare Eq Binary) (col 1 1) (col 0 0) ∷ [];
-  group = None;
-  project = col 1 2 ∷ col 1 3 ∷ [];
-  distinct = false;
-  collations = [];
-  order = [];
-  limit = lit (Int (negsuc 0));
-  offset = lit (Int (pos 0));
-}
-
-pub find_is : command_of (understood store_schema find_text) ≡ Select (record { lets = []; body = find_query }) (codes "form" ∷ codes "bundle" ∷ [])
-unfolding understood everything
-find_is = refl
 
 abbrev pub update_text : List ℕ
 update_text = codes "UPDATE record SET form = ?2, bundle = ?3 WHERE id = ?1"
@@ -123,21 +97,39 @@ pub update_plain : IsPlain (understood store_schema update_text)
 unfolding understood everything
 update_plain = (refl, refl)
 
-pub find_plain : IsPlain (understood store_schema find_text)
+-- ---- a record is taken out
+
+abbrev pub remove_text : List ℕ
+remove_text = codes "DELETE FROM record WHERE id = ?1"
+
+abbrev pub remove_query : Query
+remove_query = record {
+  from = inner 1 end;
+  filter = op2 (Compare Eq Binary) (col 1 1) (col 0 0) ∷ [];
+  group = None;
+  project = col 1 0 ∷ [];
+  distinct = false;
+  collations = [];
+  order = [];
+  limit = lit (Int (negsuc 0));
+  offset = lit (Int (pos 0));
+}
+
+pub remove_is : command_of (understood store_schema remove_text) ≡ Delete 1 (record { lets = []; body = remove_query })
 unfolding understood everything
-find_plain = (refl, refl)
+remove_is = refl
 
-pub find_whole : IsWhole find_text 1 (understood store_schema find_text)
+pub remove_plain : IsPlain (understood store_schema remove_text)
 unfolding understood everything
-find_whole = (lit≤ tt, refl)
+remove_plain = (refl, refl)
 
-pub find_accepted : (id : List ℕ) → accepts_program store_schema [] find_query (Words id ∷ []) ≡ true
-unfolding everything
-find_accepted id = refl
+pub remove_whole : IsWhole remove_text 1 (understood store_schema remove_text)
+unfolding understood everything
+remove_whole = (lit≤ tt, refl)
 
-pub find_unlisted : reads_listing store_schema find_text ≡ false
+pub remove_accepted : (id : List ℕ) → accepts_program store_schema [] remove_query (Words id ∷ []) ≡ true
 unfolding everything
-find_unlisted = refl
+remove_accepted id = refl
 
 -- ---- the tables are made
 
@@ -189,39 +181,3 @@ version_accepted declarations = refl
 pub version_plain : IsPlain (understood store_schema version_text)
 unfolding understood everything
 version_plain = (refl, refl)
-
-abbrev pub read_text : List ℕ
-read_text = codes "SELECT version, declarations FROM about"
-
-abbrev pub read_query : Query
-read_query = record {
-  from = inner 0 end;
-  filter = [];
-  group = None;
-  project = col 1 2 ∷ col 1 3 ∷ [];
-  distinct = false;
-  collations = [];
-  order = [];
-  limit = lit (Int (negsuc 0));
-  offset = lit (Int (pos 0));
-}
-
-pub read_is : command_of (understood store_schema read_text) ≡ Select (record { lets = []; body = read_query }) (codes "version" ∷ codes "declarations" ∷ [])
-unfolding understood everything
-read_is = refl
-
-pub read_plain : IsPlain (understood store_schema read_text)
-unfolding understood everything
-read_plain = (refl, refl)
-
-pub read_whole : IsWhole read_text 0 (understood store_schema read_text)
-unfolding understood everything
-read_whole = (lit≤ tt, refl)
-
-pub read_accepted : accepts_program store_schema [] read_query [] ≡ true
-unfolding everything
-read_accepted = refl
-
-pub read_unlisted : reads_listing store_schema read_text ≡ false
-unfolding everything
-read_unlisted = refl

@@ -24,12 +24,12 @@ use Rattle.sqlite_rules.specs.Lists.{Has}
 use Rattle.sqlite_rules.specs.Calls.{ids_of}
 use Rattle.fv_store.specs.Tables.{store_schema}
 use Rattle.fv_store.specs.Records.{Kept, Records, bundle_text, with_record}
-use Rattle.fv_store.specs.Stands.{HasRows, HasTables, IsText, Spells, record_row}
+use Rattle.fv_store.specs.Stands.{HasRows, HasTables, AreTexts, Spells, record_row}
 use Rattle.fv_store.specs.Causes.{HasRoom}
 use Rattle.fv_store.specs.Steps.{Lacks, Updates}
 use Rattle.fv_store.proofs.Texts.{kept_table, update_text, update_terms, update_query, update_is, update_plain}
 use Rattle.fv_store.proofs.RowEdits.{other_id, spells_replaced}
-use Rattle.fv_store.proofs.OneTable.{by_id, by_id_is, none_shown, one_shown}
+use Rattle.fv_query.proofs.OneTable.{by_id, by_id_is, none_shown, one_shown}
 use Rattle.fv_store.proofs.Rooms.{room_kept}
 use Rattle.fv_store.proofs.Inserts.{either, went, same_value, zero_is_not_one}
 
@@ -96,7 +96,7 @@ module _ (old new : State) (id : List ℕ) (k : Kept) (count : ℕ) (d : List �
         w.counted ∙ ap (λ (p : Tally × Database). unwrap_or p.0.rows 0) end ∙ ap (λ (it : Written). length it.rows) made ∙ ap (λ (e : Edit). length e.news) edit,
       )
 
-pub updates : (old new : State) (id : List ℕ) (k : Kept) (count : ℕ) → IsText k → Executes update_text (Text id ∷ Text k.form ∷ Text (bundle_text k.bundle) ∷ []) old new (Ok count)
+pub updates : (old new : State) (id : List ℕ) (k : Kept) (count : ℕ) → AreTexts id k → Executes update_text (Text id ∷ Text k.form ∷ Text (bundle_text k.bundle) ∷ []) old new (Ok count)
     → Updates id k count old.now new.now
 updates old new id k count text h d m spelled = go (m id) refl
   where

@@ -40,10 +40,10 @@ use Rattle.sqlite_rules.proofs.PlaceLemmas.{next_is_free}
 use Rattle.fv_store.specs.Tables.{store_schema}
 use Rattle.fv_store.specs.Records.{Kept, Records, with_record, bundle_text}
 use Rattle.fv_store.specs.Causes.{HasRoom, IsShort}
-use Rattle.fv_store.specs.Stands.{Spells, HasRows, IsText, record_row}
+use Rattle.fv_store.specs.Stands.{Spells, HasRows, AreTexts, record_row}
 use Rattle.fv_store.specs.Steps.{IsExcused}
 use Rattle.fv_store.proofs.Texts.{kept_table, insert_text, insert_terms, insert_is, insert_plain, insert_whole, insert_accepted, update_text, update_query, update_is, update_plain, update_whole, update_accepted}
-use Rattle.fv_store.proofs.Refusals.{no_sum, never_steps, run_cause}
+use Rattle.fv_query.proofs.Refusals.{no_sum, never_steps, run_cause}
 use Rattle.fv_store.proofs.Rooms.{next_fits, rowid_fits}
 use Rattle.fv_store.proofs.RowEdits.{spells_put, spells_replaced, fresh_again}
 use Rattle.fv_store.proofs.Inserts.{cast_null}
@@ -138,7 +138,7 @@ module _ (db : Trees) (m : Records) (rows : HasRows (db 1) m) where
   none_allowed BadReference h = never_false h
   none_allowed TooDeep h = h
 
-  one_allowed : (n : ℤ) (id : List ℕ) (e k : Kept) → Has (db 1) (record_row n id e) → fits_i64 n ≡ true → IsText k → (why : Refusal)
+  one_allowed : (n : ℤ) (id : List ℕ) (e k : Kept) → Has (db 1) (record_row n id e) → fits_i64 n ≡ true → AreTexts id k → (why : Refusal)
       → IsRefused store_schema Enforced db (exchange (n ∷ []) (record_row n id k ∷ [])) why → ⊥
   one_allowed n id e k there fits text (Violates Datatype) h = never_false h
   one_allowed n id e k there fits text (Violates NotNull) h = never_false h
@@ -151,7 +151,7 @@ module _ (db : Trees) (m : Records) (rows : HasRows (db 1) m) where
   one_allowed n id e k there fits text BadReference h = never_false h
   one_allowed n id e k there fits text TooDeep h = h
 
-module _ (s : State) (none : s.step_limit ≡ None) (id : List ℕ) (k : Kept) (d : List ℕ) (m : Records) (spelled : Spells s.now d m) (text : IsText k) (room : HasRoom 0 s.now) (short : IsShort id k) where
+module _ (s : State) (none : s.step_limit ≡ None) (id : List ℕ) (k : Kept) (d : List ℕ) (m : Records) (spelled : Spells s.now d m) (text : AreTexts id k) (room : HasRoom 0 s.now) (short : IsShort id k) where
   abbrev given : Row
   given = Text id ∷ Text k.form ∷ Text (bundle_text k.bundle) ∷ []
 
@@ -184,7 +184,7 @@ module _ (s : State) (none : s.step_limit ≡ None) (id : List ℕ) (k : Kept) (
   never_updated sql stop (inl (st, inr (rows, answers, inr (next, edited, wrong)), _)) = never_ok wrong
   never_updated sql stop (inr (w, updated, concluded)) = never_concluded s kept_table given w stop concluded
 
-pub update_cause : (old new : State) → old.step_limit ≡ None → (id : List ℕ) (k : Kept) → IsText k → (r : Result ℕ Error) → ExecutesInside 0 update_text (Text id ∷ Text k.form ∷ Text (bundle_text k.bundle) ∷ []) old new r
+pub update_cause : (old new : State) → old.step_limit ≡ None → (id : List ℕ) (k : Kept) → AreTexts id k → (r : Result ℕ Error) → ExecutesInside 0 update_text (Text id ∷ Text k.form ∷ Text (bundle_text k.bundle) ∷ []) old new r
     → IfErr r (λ e. (d : List ℕ) (m : Records) → Spells old.now d m → HasRoom 0 old.now → IsShort id k → IsExcused old new e)
 update_cause old new none id k utf8 (Ok count) h = tt
 update_cause old new none id k utf8 (Err e) h = λ d m spelled room short refused.
@@ -200,7 +200,7 @@ update_cause old new none id k utf8 (Err e) h = λ d m spelled room short refuse
 abbrev put_edit : Row → Edit
 put_edit row = record { table = kept_table; gone = []; news = row ∷ [] }
 
-module _ (db : Database) (m : Records) (rows : HasRows (db.trees 1) m) (room : HasRoom 1 db) (id : List ℕ) (k : Kept) (none : m id ≡ None) (text : IsText k) where
+module _ (db : Database) (m : Records) (rows : HasRows (db.trees 1) m) (room : HasRoom 1 db) (id : List ℕ) (k : Kept) (none : m id ≡ None) (text : AreTexts id k) where
   abbrev new_row : Row
   new_row = record_row (next_rowid (db.trees 1)) id k
 
@@ -225,7 +225,7 @@ module _ (db : Database) (m : Records) (rows : HasRows (db.trees 1) m) (room : H
   insert_allowed BadReference h = never_false h
   insert_allowed TooDeep h = h
 
-module _ (s : State) (none : s.step_limit ≡ None) (id : List ℕ) (k : Kept) (d : List ℕ) (m : Records) (spelled : Spells s.now d m) (lacks : m id ≡ None) (text : IsText k)
+module _ (s : State) (none : s.step_limit ≡ None) (id : List ℕ) (k : Kept) (d : List ℕ) (m : Records) (spelled : Spells s.now d m) (lacks : m id ≡ None) (text : AreTexts id k)
     (room : HasRoom 1 s.now) (short : IsShort id k) where
   abbrev params : Row
   params = Text id ∷ Text k.form ∷ Text (bundle_text k.bundle) ∷ []
@@ -254,7 +254,7 @@ module _ (s : State) (none : s.step_limit ≡ None) (id : List ℕ) (k : Kept) (
   never_inserted sql stop (inl (st, inr (rows, given, inr (counter, counted, inr (next, edited, inr (after, kept, wrong)))), _)) = never_ok wrong
   never_inserted sql stop (inr (w, inserted, concluded)) = never_concluded s kept_table params w stop concluded
 
-pub insert_cause : (old new : State) → old.step_limit ≡ None → (id : List ℕ) (k : Kept) → IsText k → (r : Result ℕ Error) → ExecutesInside 0 insert_text (Text id ∷ Text k.form ∷ Text (bundle_text k.bundle) ∷ []) old new r
+pub insert_cause : (old new : State) → old.step_limit ≡ None → (id : List ℕ) (k : Kept) → AreTexts id k → (r : Result ℕ Error) → ExecutesInside 0 insert_text (Text id ∷ Text k.form ∷ Text (bundle_text k.bundle) ∷ []) old new r
     → IfErr r (λ e. (d : List ℕ) (m : Records) → Spells old.now d m → m id ≡ None → HasRoom 1 old.now → IsShort id k → IsExcused old new e)
 insert_cause old new none id k utf8 (Ok count) h = tt
 insert_cause old new none id k utf8 (Err e) h = λ d m spelled lacks room short refused.

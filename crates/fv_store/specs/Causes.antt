@@ -1,20 +1,15 @@
 -- Why a store refuses.
-use Rattle.std.specs.Prelude.{◌≡◌, ◌⊎◌, ℕ, ◌+◌, ◌^◌, ◌<◌, ◌≤◌, ◌-◌, pos, negsuc, ◌+ℤ◌, ◌≤ℤ◌, ◌<ℤ◌, false, List, [], ◌∷◌, length, string_bytes}
-use Rattle.sqlite.specs.Disk.{MoreFaults}
+pub use Rattle.fv_query.specs.Excuses.{HasFailed}
+use Rattle.std.specs.Prelude.{ℕ, ◌+◌, ◌^◌, ◌<◌, ◌≤◌, ◌-◌, pos, negsuc, ◌+ℤ◌, ◌≤ℤ◌, ◌<ℤ◌, List, [], ◌∷◌, length, string_bytes}
 use Rattle.sqlite.specs.Edit.{id_in}
 use Rattle.sqlite.specs.Effect.{Database}
 use Rattle.sqlite.specs.Order.{Row}
-use Rattle.sqlite.specs.State.{State}
 use Rattle.sqlite.specs.Tree.{rowid}
 use Rattle.sqlite_rules.specs.Lists.{Has}
 use Rattle.fv_model.specs.Views.{bundle_view}
 use Rattle.fv_store.specs.declared.change.Change.{Change}
-use Rattle.fv_store.specs.declared.change.Change.TheVariants.{Put}
+use Rattle.fv_store.specs.declared.change.Change.TheVariants.{Put, Remove}
 use Rattle.fv_store.specs.Records.{Kept, bundle_text}
-
--- the disk has failed more often since, or the connection was shut before
-abbrev pub HasFailed : State → State → Type 0
-HasFailed old new = MoreFaults old.faults new.faults ⊎ (old.is_open ≡ false)
 
 -- So many more rows of `record` can be given rowids: each rowid, which is at least - 2 ^ 63, is so far below 2 ^ 63.
 pub record HasRoom (n : ℕ) (db : Database) : Type 0 where
@@ -28,6 +23,7 @@ IsShort id k = 72 + (length id + (length k.form + length (bundle_text k.bundle))
 -- what is put is short
 abbrev pub PutsShort : Change → Type 0
 PutsShort (Put id form bundle) = IsShort (string_bytes id) (record { form = string_bytes form; bundle = bundle_view bundle })
+PutsShort (Remove id) = Unit {0}
 
 -- the same of each change
 abbrev pub AreShort : List Change → Type 0

@@ -2,6 +2,7 @@ pub mod Causes
 pub mod Changes
 pub mod FaultNames
 pub mod Faults
+pub mod Lists
 pub mod Records
 pub mod Showing
 pub mod Stands

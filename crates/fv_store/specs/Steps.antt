@@ -1,11 +1,10 @@
 -- What one statement does to a database, for private clauses.
-use Rattle.std.specs.Prelude.{◌≡◌, ◌≢◌, ◌⊎◌, ℕ, ◌+◌, IsTrue, List, [], length, Some, None, IsSome}
+pub use Rattle.fv_query.specs.Keeping.{Keeps, IsSettled}
+pub use Rattle.fv_query.specs.Excuses.{IsRefusal, IsExcused}
+use Rattle.std.specs.Prelude.{◌≡◌, ◌⊎◌, ℕ, ◌+◌, IsTrue, List, [], length, Some, None, IsSome}
 use Rattle.sqlite.specs.Change.{created}
 use Rattle.sqlite.specs.Effect.{Database}
-use Rattle.sqlite.specs.State.{State, HasCleanDisk}
-use Rattle.sqlite.specs.declared.error.Error.{Error}
-use Rattle.sqlite.specs.declared.error.Error.TheVariants.{SqliteFailure}
-use Rattle.sqlite.specs.declared.error.ErrorCode.TheVariants.{OutOfMemory}
+use Rattle.sqlite.specs.State.{State}
 use Rattle.fv_store.specs.declared.change.Change.{Change}
 use Rattle.fv_store.specs.Changes.{after_all}
 use Rattle.fv_store.specs.Causes.{HasFailed, HasRoom}
@@ -63,14 +62,6 @@ HasEmptyTables db = (db.schema ≡ store_schema) × (db.trees 0 ≡ []) × (db.t
 abbrev pub HasNone : List ℕ → Database → Type 0
 HasNone declarations db = Spells db declarations no_records
 
--- what a connection outside a transaction spells, now and as committed
-abbrev pub Keeps : State → List ℕ → Records → Type 0
-Keeps s declarations m = HasCleanDisk s → IsTrue s.is_open → Spells s.now declarations m × Spells s.committed declarations m
-
--- nothing waits to be committed
-abbrev pub IsSettled : State → Type 0
-IsSettled s = IsTrue s.is_open → s.now ≡ s.committed
-
 -- the row of `about`, where there is one, is taken
 abbrev pub IsTaken : State → List ℕ → Type 0
 IsTaken s given = (version : ℕ) (stored : List ℕ) → HasTables s.now version stored → about_fault version stored given ≡ None
@@ -80,14 +71,6 @@ abbrev pub IsCaused : State → List ℕ → OpenStoreFault → Type 0
 IsCaused s given e = IsAboutFault e → IsTrue s.is_open × (IsBlank s.now → ⊥) × ((version : ℕ) (stored : List ℕ)
     → HasTables s.now version stored → about_fault version stored given ≡ Some e)
 
--- the database refused, for another cause than want of memory
-abbrev pub IsRefusal : Error → Type 0
-IsRefusal e = e ≢ SqliteFailure OutOfMemory
-
--- of a refusal only a failure of the disk or a shut connection is the cause
-abbrev pub IsExcused : State → State → Error → Type 0
-IsExcused old new e = IsRefusal e → HasFailed old new
-
--- the same of a refusal to open a store
+-- of a refusal to open a store only a failure of the disk or a shut connection is the cause
 abbrev pub IsOpenExcused : State → State → OpenStoreFault → Type 0
 IsOpenExcused old new e = e ≡ refusal.Store → HasFailed old new

@@ -11,4 +11,8 @@ pub enum Change {
         form: String,
         bundle: Bundle,
     },
+    /// The id has no record from now on, whether or not there was one.
+    Remove {
+        id: String,
+    },
 }

@@ -8,7 +8,7 @@ ghost use Rattle.fv_store.specs.Changes.{after, after_all};
 ghost use Rattle.fv_store.specs.Steps.{Advances, Makes, MakesAll, Always, IsExcused, Keeps};
 
 use crate::change::Change;
-use crate::records::put_record;
+use crate::records::{put_record, remove_record};
 use sqlite::{Alter, Connection, Error, Transaction};
 use std::alloc::Global;
 
@@ -36,6 +36,7 @@ fn apply<S: Alter>(
         Change::Put { id, form, bundle } => {
             put_record(tx, alloc, id.as_str(), form.as_str(), bundle)
         }
+        Change::Remove { id } => remove_record(tx, id.as_str()),
     }
 }
 

@@ -7,7 +7,6 @@ mod changes;
 mod fault;
 mod opening;
 mod records;
-mod shown;
 mod store;
 mod stored;
 mod tables;

@@ -8,9 +8,10 @@ ghost use Rattle.fv_store.specs.Stands.{HasTables, IsBlank, Stays, Frame, IsLive
 ghost use Rattle.fv_store.specs.Steps.{Keeps, IsSettled, IsTaken, IsCaused, IsExcused, IsOpenExcused};
 ghost use Rattle.fv_store.specs.Tables.{store_schema};
 
-use crate::about::{agrees, read_about};
+use crate::about::agrees;
 use crate::fault::OpenStoreFault;
 use crate::tables::create_tables;
+use fv_query::read_about;
 use sqlite::{Alter, Connection, Error};
 
 /// Whether the database has no table, index or view.

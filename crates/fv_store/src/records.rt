@@ -1,25 +1,23 @@
 //! The statements on the rows of `record`.
-ghost use Rattle.std.specs.Prelude.{◌≡◌, false, IsTrue, IfErr, IfOk, OnOk, None, option_map};
+ghost use Rattle.std.specs.Prelude.{◌≡◌, IsTrue, IfErr, IfOk, OnOk, None};
 ghost use Rattle.sqlite.specs.State.{HasCleanDisk, KeepsCommit};
 ghost use Rattle.sqlite.specs.Held.{state};
 ghost use Rattle.fv_model.specs.Views.{bundle_view};
-ghost use Rattle.fv_store.specs.Records.{Kept, with_record, bundle_text};
+ghost use Rattle.fv_store.specs.Records.{Kept, with_record, without_record, bundle_text};
 ghost use Rattle.fv_store.specs.Causes.{HasRoom, IsShort};
-ghost use Rattle.fv_store.specs.Stands.{Frame, IsLive, Spells};
-ghost use Rattle.fv_store.specs.Steps.{Advances, Makes, Always, IsExcused, Lacks, Keeps, Updates};
-ghost use Rattle.fv_store.specs.Showing.{kept_text, ShowsRecord, shown_view};
+ghost use Rattle.fv_store.specs.Stands.{Frame, Spells};
+ghost use Rattle.fv_store.specs.Steps.{Advances, Makes, Always, IsExcused, Lacks, Updates};
 
-use crate::shown::{Shown, shown_in};
 use crate::text::text_of;
 use fv_model::Bundle;
-use sqlite::{Alter, Connection, Error, Row, Transaction, params};
+use sqlite::{Alter, Error, Transaction, params};
 use std::alloc::Global;
 
 const UPDATE_RECORD: &str = "UPDATE record SET form = ?2, bundle = ?3 WHERE id = ?1";
 
-const INSERT_RECORD: &str = "INSERT INTO record (id, form, bundle) VALUES (?1, ?2, ?3)";
+const DELETE_RECORD: &str = "DELETE FROM record WHERE id = ?1";
 
-const FIND_RECORD: &str = "SELECT form, bundle FROM record WHERE id = ?1";
+const INSERT_RECORD: &str = "INSERT INTO record (id, form, bundle) VALUES (?1, ?2, ?3)";
 
 /// Writes the record in place of the one of that id, if there is one, and counts the rows that it changed: 1, or else 0.
 fn update_record<S: Alter>(
@@ -102,40 +100,20 @@ pub(crate) fn put_record<S: Alter>(
     }
 }
 
-/// The rows that show the record of the id: one, or none.
-fn find_record<S: Alter>(conn: &mut Connection<S>, id: &str) -> Result<Vec<Row>, Error>
-    ensures mode { conn.old.in_transaction ≡ false → conn.new.in_transaction ≡ false }
-    ensures frame { Frame (state S.Store conn.old) (state S.Store conn.new) }
-    ensures limit { conn.new.step_limit ≡ conn.old.step_limit }
-    ensures open { OnOk result (IsLive (state S.Store conn.new)) }
-    ensures shown { HasCleanDisk (state S.Store conn.new)
-        → IfOk result (λ rows. IsTrue (state S.Store conn.old).is_open
-        × ((d : _) (m : _) → Keeps (state S.Store conn.old) d m → ShowsRecord rows.items (m id.now))) }
-    ensures cause { HasCleanDisk (state S.Store conn.new) → conn.old.step_limit ≡ None → IfErr result (λ e.
-        (d : _) (m : _) → Keeps (state S.Store conn.old) d m
-        → IsExcused (state S.Store conn.old) (state S.Store conn.new) e) }
-    ensures stays { (d : _) (m : _) → Keeps (state S.Store conn.old) d m → Keeps (state S.Store conn.new) d m }
+/// Takes the record of the id out, if there is one.
+pub(crate) fn remove_record<S: Alter>(tx: &mut Transaction<'_, S>, id: &str) -> Result<usize, Error>
+    ensures same_reference { tx.new.conn.ghost_name ≡ tx.old.conn.ghost_name }
+    ensures frame { Frame (state S.Store tx.old.conn.now) (state S.Store tx.new.conn.now) }
+    ensures limit { tx.new.conn.now.step_limit ≡ tx.old.conn.now.step_limit }
+    ensures kept { HasCleanDisk (state S.Store tx.new.conn.now) → IsTrue (state S.Store tx.old.conn.now).in_transaction
+        → KeepsCommit (state S.Store tx.old.conn.now) (state S.Store tx.new.conn.now) }
+    ensures done { HasCleanDisk (state S.Store tx.new.conn.now) → IsTrue (state S.Store tx.old.conn.now).in_transaction
+        → OnOk result (Advances (state S.Store tx.old.conn.now) (state S.Store tx.new.conn.now)
+        (Makes 1 Always (without_record id.now))) }
+    ensures cause { HasCleanDisk (state S.Store tx.new.conn.now) → IsTrue (state S.Store tx.old.conn.now).in_transaction
+        → tx.old.conn.now.step_limit ≡ None → IfErr result (λ e. (d : _) (m : _)
+        → Spells (state S.Store tx.old.conn.now).now d m
+        → IsExcused (state S.Store tx.old.conn.now) (state S.Store tx.new.conn.now) e) }
 {
-    conn.query_all(FIND_RECORD, params![id])
-}
-
-/// What the database shows of the record of the id, if there is one.
-pub(crate) fn find<S: Alter>(conn: &mut Connection<S>, id: &str) -> Result<Option<Shown>, Error>
-    ensures mode { conn.old.in_transaction ≡ false → conn.new.in_transaction ≡ false }
-    ensures frame { Frame (state S.Store conn.old) (state S.Store conn.new) }
-    ensures limit { conn.new.step_limit ≡ conn.old.step_limit }
-    ensures open { OnOk result (IsLive (state S.Store conn.new)) }
-    ensures found { HasCleanDisk (state S.Store conn.new) → IfOk result (λ o. IsTrue (state S.Store conn.old).is_open
-        × ((d : _) (m : _) → Keeps (state S.Store conn.old) d m → option_map shown_view o
-        ≡ option_map kept_text (m id.now))) }
-    ensures cause { HasCleanDisk (state S.Store conn.new) → conn.old.step_limit ≡ None → IfErr result (λ e.
-        (d : _) (m : _) → Keeps (state S.Store conn.old) d m
-        → IsExcused (state S.Store conn.old) (state S.Store conn.new) e) }
-    ensures stays { (d : _) (m : _) → Keeps (state S.Store conn.old) d m → Keeps (state S.Store conn.new) d m }
-{
-    let rows = find_record(conn, id)?;
-    match rows.first() {
-        Some(row) => Ok(Some(shown_in(row)?)),
-        None => Ok(None),
-    }
+    tx.execute(DELETE_RECORD, params![id])
 }

@@ -1,5 +1,5 @@
 //! The store.
-ghost use Rattle.std.specs.Prelude.{◌≡◌, ◌≢◌, false, length, IfOk, IfErr, IfSome, OnOk, OnErr, MatchResult, option_map, Some, None};
+ghost use Rattle.std.specs.Prelude.{◌≡◌, ◌≢◌, false, length, IfOk, IfErr, IfSome, OnOk, OnErr, MatchResult, map, option_map, string_bytes, Some, None};
 ghost use Rattle.sqlite.specs.State.{HasCleanDisk};
 ghost use Rattle.sqlite.specs.Held.{state};
 ghost use Rattle.fv_types.specs.TypesView.{types_view};
@@ -9,6 +9,7 @@ ghost use Rattle.fv_store.specs.Causes.{AreShort, HasFailed, HasRoom, IsShortAbo
 ghost use Rattle.fv_store.specs.Changes.{changed, ChangesFit};
 ghost use Rattle.fv_store.specs.Stands.{Frame, Holds, HasTables, IsBlank, IsLive, Opens, Stays};
 ghost use Rattle.fv_store.specs.Faults.{about_fault, IsAboutFault};
+ghost use Rattle.fv_store.specs.Lists.{Lists, beginning};
 ghost use Rattle.fv_store.specs.Records.{AllFit};
 ghost use Rattle.fv_store.specs.Stored.{stored_view};
 
@@ -16,9 +17,9 @@ use crate::change::Change;
 use crate::changes;
 use crate::fault::{OpenStoreFault, StoreFault};
 use crate::opening::settle;
-use crate::records::find;
 use crate::stored::{Stored, stored_if};
 use fv_model::Types;
+use fv_query::{find, find_ids};
 use sqlite::{Alter, Connection};
 use std::alloc::Global;
 use std::marker::Model;
@@ -122,6 +123,32 @@ impl<S: Alter> Store<S> {
     {
         let shown = find(&mut self.connection, id)?;
         stored_if(alloc, types, shown)
+    }
+
+    /// The ids of the records of a form above one, ascending by their bytes, so many at most; from the
+    /// first on where none is given. It need not be the id of a record.
+    ///
+    /// Refused by `Memory` at any place, and by `Store` only where the disk has failed during the call
+    /// or the connection was shut before, if the store holds records.
+    pub fn list(
+        &mut self,
+        alloc: Global,
+        form: &str,
+        after: Option<&str>,
+        limit: u32,
+    ) -> Result<Vec<String>, StoreFault>
+        ensures frame { Frame (state S.Store self.old) (state S.Store self.new) }
+        ensures open { OnOk result (IsLive (state S.Store self.new)) }
+        ensures found { HasCleanDisk (state S.Store self.new)
+            → IfOk result (λ ids. (c : _) → Holds (state S.Store self.old) c
+            → Lists c.records form.now (beginning (option_map (λ s. s.now) after.entry)) limit
+            (map string_bytes ids.items)) }
+        ensures cause { HasCleanDisk (state S.Store self.new) → IfErr result (λ e. e ≡ StoreFault.Store → (c : _)
+            → Holds (state S.Store self.old) c → HasFailed (state S.Store self.old) (state S.Store self.new)) }
+        ensures stays { (c : _) → Holds (state S.Store self.old) c → Holds (state S.Store self.new) c }
+    {
+        let above = after.unwrap_or("");
+        Ok(find_ids(&mut self.connection, alloc, form, above, limit)?)
     }
 
     /// Makes the changes in order, all of them or none. The records after all of them have to fit;

@@ -10,9 +10,9 @@ ghost use Rattle.fv_store.specs.Showing.{kept_text, shown_view};
 ghost use Rattle.fv_store.specs.Stored.{stored_view};
 
 use crate::fault::StoreFault;
-use crate::shown::Shown;
 use crate::text::bundle_of;
 use fv_model::{Bundle, Types};
+use fv_query::Shown;
 use std::alloc::Global;
 
 /// A record: the name of its form, and its bundle.

@@ -9,6 +9,8 @@ mod disks;
 #[cfg(test)]
 mod faults;
 #[cfg(test)]
+mod listing;
+#[cfg(test)]
 mod refusals;
 #[cfg(test)]
 mod storing;

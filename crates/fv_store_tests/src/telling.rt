@@ -7,9 +7,14 @@ use sqlite::{Alter, Connection, Row};
 use std::alloc::Global;
 use std::test::Fail;
 
-/// The put of a record: its id, its form, and its bundle as JSON.
-fn put_of(alloc: Global, types: &Types, record: &str) -> Result<Change, Fail> {
-    let (id, rest) = record.split_once(' ').ok_or("an id")?;
+/// The change of a record: its put, by its id, its form, and its bundle as JSON; or its removal, by its
+/// id alone.
+fn change_of(alloc: Global, types: &Types, record: &str) -> Result<Change, Fail> {
+    let Some((id, rest)) = record.split_once(' ') else {
+        return Ok(Change::Remove {
+            id: String::from_str(alloc, record)?,
+        });
+    };
     let (form, bundle) = rest.split_once(' ').ok_or("a form")?;
     let value = Value::from_str(alloc, bundle)?;
     Ok(Change::Put {
@@ -19,11 +24,11 @@ fn put_of(alloc: Global, types: &Types, record: &str) -> Result<Change, Fail> {
     })
 }
 
-/// The puts of a line: a record behind each "; ".
-fn puts_of(alloc: Global, types: &Types, line: &str) -> Result<Vec<Change>, Fail> {
+/// The changes of a line: one behind each "; ".
+fn changes_of(alloc: Global, types: &Types, line: &str) -> Result<Vec<Change>, Fail> {
     let mut changes = Vec::new(alloc);
     for record in line.split("; ").skip(1) {
-        changes.push(put_of(alloc, types, record)?)?;
+        changes.push(change_of(alloc, types, record)?)?;
     }
     Ok(changes)
 }
@@ -50,7 +55,36 @@ fn add_found<S: Alter>(
     }
 }
 
-/// A line to a store: `get` of an id, or `commit` of puts, all of them in one.
+/// Adds ids, or `none`.
+fn add_ids(told: &mut String, ids: &[String]) -> Result<(), Fail> {
+    told.push('=')?;
+    for id in ids {
+        write!(told, " {id}")?;
+    }
+    if ids.is_empty() {
+        told.push_str(" none")?;
+    }
+    told.push('\n')?;
+    Ok(())
+}
+
+/// Adds what a store lists for `FORM LIMIT`, and behind that an id to begin after; or the fault's name.
+fn add_listed<S: Alter>(
+    told: &mut String,
+    alloc: Global,
+    store: &mut Store<S>,
+    asked: &str,
+) -> Result<(), Fail> {
+    let mut words = asked.split(' ');
+    let form = words.next().ok_or("a form")?;
+    let limit = words.next().ok_or("a limit")?.parse()?;
+    match store.list(alloc, form, words.next(), limit) {
+        Ok(ids) => add_ids(told, &ids),
+        Err(fault) => add(told, "= ", fault.name()),
+    }
+}
+
+/// A line to a store: `get` of an id, `list` of a form's ids, or `commit` of changes, all of them in one.
 pub(crate) fn ask_store<S: Alter>(
     told: &mut String,
     alloc: Global,
@@ -60,7 +94,10 @@ pub(crate) fn ask_store<S: Alter>(
     if let Some(id) = line.strip_prefix("get") {
         return add_found(told, alloc, (store, types), id.trim_start());
     }
-    let changes = puts_of(alloc, types, line)?;
+    if let Some(asked) = line.strip_prefix("list ") {
+        return add_listed(told, alloc, store, asked);
+    }
+    let changes = changes_of(alloc, types, line)?;
     store.commit(alloc, &changes)?;
     Ok(())
 }

@@ -95,6 +95,7 @@ fn roots_may_be_of_any_type(rt: HostRuntime) -> Result<(), Fail> {
 fn other_faults_have_names(rt: HostRuntime) {
     check(&rt, BundleFault::TooLarge.name(), "TooLarge", "B8");
     check(&rt, BundleFault::RootType.name(), "RootType", "B9");
+    check(&rt, BundleFault::NoObject.name(), "NoObject", "B10");
     check(&rt, BundleFault::Memory.name(), "Memory", "memory");
 }
 

@@ -1,9 +1,7 @@
-//! Names, kinds, attributes and messages of the built-in constraints, also of kinds and with
+//! Names, kinds and attributes of the built-in constraints, also of kinds and with
 //! attributes that no declaration gives.
-use crate::given::{KINDS, Rows, attrs_of, check, check_rows, kind_of};
-use fv_builtin::{
-    Builtin, builtin_message, builtin_named, is_builtin, message, takes_attributes, takes_kind,
-};
+use crate::given::{KINDS, Rows, attrs_of, check_rows, kind_of};
+use fv_builtin::{Builtin, builtin_named, is_builtin, takes_attributes, takes_kind};
 use fv_datum::{Attrs, Kind};
 use std::alloc::Global;
 use std::test::Fail;
@@ -107,55 +105,4 @@ impl Rows for Taken {
 #[test]
 fn attributes_and_kinds_are_taken_or_not(rt: HostRuntime) -> Result<(), Fail> {
     check_rows::<Taken>(&rt, rt.alloc(), TAKEN)
-}
-
-/// A constraint, attributes, and the message. A parameter without an attribute stays, what is put in
-/// is not read again, and values of each kind have a text.
-const MESSAGES: &str = r#"
-Min {} => must be greater than or equal to {value}
-Min {"min":1,"Value":2} => must be greater than or equal to {value}
-Digits {} => numeric value out of bounds (<{integer} digits>.<{fraction} digits> expected)
-Digits {"integer":3} => numeric value out of bounds (<3 digits>.<{fraction} digits> expected)
-DecimalMax {} => must not be above {value} (inclusive: true)
-NotNull {"value":1} => must not be null
-Pattern {"regexp":"{value}"} => must match "{value}"
-Pattern {"regexp":"{regexp}"} => must match "{regexp}"
-Pattern {"regexp":"}{"} => must match "}{"
-Pattern {"regexp":"{value}","value":1} => must match "{value}"
-DecimalMin {"value":"{inclusive}","inclusive":false} => must not be below {inclusive} (inclusive: false)
-Max {"value":"a b"} => must be less than or equal to a b
-Max {"value":true} => must be less than or equal to true
-Max {"value":false} => must be less than or equal to false
-Max {"value":[]} => must be less than or equal to []
-Max {"value":["a"]} => must be less than or equal to [a]
-Max {"value":["a","b"]} => must be less than or equal to [a, b]
-Max {"value":["a","","{value}"]} => must be less than or equal to [a, , {value}]
-"#;
-
-struct Messages;
-
-impl Rows for Messages {
-    fn found(alloc: Global, given: &str) -> Result<String, Fail> {
-        let (name, with) = given.split_once(' ').ok_or("attributes")?;
-        let which = builtin_named(name).ok_or("a name")?;
-        let attrs = attrs_of(alloc, with)?;
-        Ok(message(alloc, which, &attrs)?)
-    }
-}
-
-#[test]
-fn attributes_are_put_in_once(rt: HostRuntime) -> Result<(), Fail> {
-    check_rows::<Messages>(&rt, rt.alloc(), MESSAGES)
-}
-
-#[test]
-fn messages_have_parameters(rt: HostRuntime) -> Result<(), Fail> {
-    let size = builtin_named("Size").ok_or("a name")?;
-    check(
-        &rt,
-        builtin_message(size),
-        "size must be between {min} and {max}",
-        "Size",
-    );
-    Ok(())
 }

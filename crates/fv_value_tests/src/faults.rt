@@ -67,6 +67,7 @@ a reference to no object
 a reference to an object of another type
 too large
 the root is of another type
+no such object
 out of memory
 ";
 
@@ -83,6 +84,7 @@ fn faults_of_bundles_have_texts(rt: HostRuntime) -> Result<(), Fail> {
         BundleFault::RefType,
         BundleFault::TooLarge,
         BundleFault::RootType,
+        BundleFault::NoObject,
         BundleFault::Memory,
     ];
     check(

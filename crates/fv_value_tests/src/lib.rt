@@ -8,6 +8,8 @@ mod asking;
 #[cfg(test)]
 mod bundles;
 #[cfg(test)]
+mod changes;
+#[cfg(test)]
 mod constraints;
 #[cfg(test)]
 mod data;

@@ -6,7 +6,7 @@ use Rattle.fv_store.proofs.records.update_record.Goals as goal
 
 pub returns-clause-done : goal.returns-clause-done
 returns-clause-done g c clean inside k form text =
-    update_step (state g.S.Store c.args.tx.now.conn.now) (state g.S.Store c.execute.new.self.conn.now) c.args.id.now k c.execute.result (subst IsUtf8 (sym form) c.utf8.form, subst IsUtf8 (sym text) c.utf8.text)
+    update_step (state g.S.Store c.args.tx.now.conn.now) (state g.S.Store c.execute.new.self.conn.now) c.args.id.now k c.execute.result (c.utf8.id, (subst IsUtf8 (sym form) c.utf8.form, subst IsUtf8 (sym text) c.utf8.text))
     (rw (form, text) (rw (c.params-to_sql.ensures, c.params-to_sql-2.ensures, c.params-to_sql-3.ensures) at (c.execute.ensures.runs clean inside)))
 
 pub returns-clause-kept : goal.returns-clause-kept
@@ -17,5 +17,5 @@ returns-clause-frame g c = inside_frame g.S.Store c.args.tx.now.conn.now c.execu
 
 pub returns-clause-cause : goal.returns-clause-cause
 returns-clause-cause g c clean inside none = excused _ c.args.form.now c.args.text.now c.execute.result (λ k form text.
-    update_cause (state g.S.Store c.args.tx.now.conn.now) (state g.S.Store c.execute.new.self.conn.now) none c.args.id.now k (subst IsUtf8 (sym form) c.utf8.form, subst IsUtf8 (sym text) c.utf8.text) c.execute.result
+    update_cause (state g.S.Store c.args.tx.now.conn.now) (state g.S.Store c.execute.new.self.conn.now) none c.args.id.now k (c.utf8.id, (subst IsUtf8 (sym form) c.utf8.form, subst IsUtf8 (sym text) c.utf8.text)) c.execute.result
     (rw (form, text) (rw (c.params-to_sql.ensures, c.params-to_sql-2.ensures, c.params-to_sql-3.ensures) at (c.execute.ensures.runs clean inside))))

@@ -3,7 +3,7 @@ use Rattle.fv_types.specs.TypesView.{types_view}
 use Rattle.fv_store.specs.Faults.{fault_of}
 use Rattle.fv_store.proofs.Openings.{keeps_of, holds_still}
 use Rattle.fv_store.proofs.Holdings.{handed_out, never_refused, is_refusal}
-use Rattle.fv_store.proofs.Refusals.{handed_on}
+use Rattle.fv_query.proofs.Refusals.{handed_on}
 use Rattle.fv_store.proofs.store.Store.get.Goals as goal
 
 pub returns-clause-found : goal.returns-clause-found

@@ -1,0 +1,7 @@
+pub mod Excuses
+pub mod Keeping
+pub mod Lists
+pub mod Records
+pub mod Showing
+pub mod Stands
+pub mod Tables
