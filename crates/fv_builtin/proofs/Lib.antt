@@ -2,8 +2,6 @@ pub mod Counts
 pub mod DigitCounts
 pub mod Lookups
 pub mod Maps
-pub mod Pieces
 pub mod PutIn
 pub mod Regexes
-pub mod Templates
 pub mod Units

@@ -2,10 +2,8 @@ pub mod BuiltIns
 pub mod Codes
 pub mod FaultNames
 pub mod Given
-pub mod Interpolation
 pub mod Maps
 pub mod Matches
-pub mod Messages
 pub mod Names
 pub mod Numbers
 pub mod Passing

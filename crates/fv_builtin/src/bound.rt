@@ -14,8 +14,7 @@ use fv_datum::{Attrs, Datum, decimal_units};
 pub(crate) fn whole_bound(attrs: &Attrs) -> Option<i128>
     ensures { result ≡ whole_bound Min attrs.now }
 {
-    let value = integer_or(attrs.find("value"), None)?;
-    Some(whole_units(value))
+    Some(whole_units(integer_or(attrs.find("value"), None)?))
 }
 
 /// The `value` of DecimalMin or DecimalMax, in units of 10^-9, and whether it is included.

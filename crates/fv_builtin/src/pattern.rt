@@ -29,8 +29,7 @@ pub(crate) fn build(alloc: Global, regexp: &str) -> Result<Regex, BuiltinFault>
     answer_of(Regex::new(alloc, source.as_str()))
 }
 
-/// The answer of the `regex` crate: `BadPattern` where a pattern isn't built for another cause than
-/// memory.
+/// The answer of the `regex` crate: `BadPattern` where none is built, except for want of memory.
 fn answer_of(built: Result<Regex, Error>) -> Result<Regex, BuiltinFault>
     ensures { result ≡ answer_of built }
 {
@@ -56,6 +55,8 @@ pub(crate) fn is_match(alloc: Global, regex: &Regex, datum: &Datum) -> Result<bo
     }
 }
 
+/// Apart, since each call of a function in whose frame the matcher lies pays for its size.
+#[inline(never)]
 fn finds(alloc: Global, regex: &Regex, text: &str) -> Result<bool, AllocError>
     ensures { IfOk result (λ b. b ≡ is_some (find_str (regex_pattern regex.now) text.now 0)) }
 {

@@ -101,11 +101,11 @@ module _ (ds : Definitions) (edges : List (Vec ℕ Global)) (are : map (λ nodes
   module _ (own : ℕ → ℕ) (ones : (i : ℕ) → i < length edges → own i ≡ 1) where
     mutual
       -- a constraint's node weighs what its trees have nodes
-      pub tree_size : (t : Tree Planned) (name : List ℕ) (given : Attributes) → IsTreeOf ds name given t → weight own (next_of edges) (length edges) (number_of ds name) ≡ size t
-      tree_size (tree p below) name given is =
+      pub tree_size : (t : Tree Planned) (name : List ℕ) (own_text : Option (List ℕ)) (given : Attributes) → IsTreeOf ds name own_text given t → weight own (next_of edges) (length edges) (number_of ds name) ≡ size t
+      tree_size (tree p below) name own_text given is =
           let w = unfolds (weighed own) (next_of edges) (length edges) (is_below edges (are_within ds edges are)) acyclic (number_of ds name) in
           let next = ap (λ js. sum (map (weight own (next_of edges) (length edges)) js)) (next_meant name p.meant is.1) in
-          let kids = trees_size below (composing_of p.meant) (effective p.meant given) is.3 in
+          let kids = trees_size below (composing_of p.meant) (effective p.meant given) is.4 in
           let one = ones (number_of ds name) (omega (arith, number_within ds name, edge_count ds edges are)) in
           omega (arith, w, next, kids, one)
 
@@ -115,7 +115,7 @@ module _ (ds : Definitions) (edges : List (Vec ℕ Global)) (are : map (λ nodes
       trees_size none (c ∷ cs) above are_trees = absurd are_trees
       trees_size (more t ts) [] above are_trees = absurd are_trees
       trees_size (more t ts) (c ∷ cs) above are_trees =
-          let first = tree_size t c.constraint are_trees.0.0 are_trees.0.2 in
+          let first = tree_size t c.constraint c.message are_trees.0.0 are_trees.0.2 in
           let others = trees_size ts cs above are_trees.1 in
           let both = sum_by-cons (λ x. x) (weight own (next_of edges) (length edges) (number_of ds c.constraint)) (map (weight own (next_of edges) (length edges)) (map (number_of ds) (map (λ d. d.constraint) cs))) in
           omega (arith, first, others, both)
@@ -129,8 +129,8 @@ numbered ds edges own sizes are known ones acyclic weights = record {
   acyclic = λ cycle. acyclic (cyclic_in ds edges are cycle);
   edges_are = are;
   each = weights.0 ∙ sym (length_items edges);
-  sized = λ name given t is.
-      weights.1 (number_of ds name) (omega (arith, number_within ds name, edge_count ds edges are)) ∙ ap (min 1025) (tree_size ds edges are acyclic (own_of own) ones t name given is);
+  sized = λ name own_text given t is.
+      weights.1 (number_of ds name) (omega (arith, number_within ds name, edge_count ds edges are)) ∙ ap (min 1025) (tree_size ds edges are acyclic (own_of own) ones t name own_text given is);
 }
 
 -- ---- trees
@@ -199,20 +199,20 @@ module _ (ds : Definitions) (edges : List (Vec ℕ Global)) (are : map (λ nodes
 
   -- what is handed to a composing constraint that is known
   handed_is : (node k : ℕ) (p : Planned) (c : Composing) (m : Meant) → slice_get (composing_of p.meant) k ≡ Some c → meant_by ds c.constraint ≡ Some m
-      → hands_of ds node k p ≡ record { constraint = c.constraint; meant = m; given = handed_map c (effective p.meant p.given) }
+      → hands_of ds node k p ≡ record { constraint = c.constraint; meant = m; own = c.message; given = handed_map c (effective p.meant p.given) }
   handed_is node k p c m here is =
       ap (composing_at ds p) here
-      ∙ ap (λ o. record { constraint = c.constraint; meant = unwrap_or o p.meant; given = handed_map c (effective p.meant p.given) }) is
+      ∙ ap (λ o. record { constraint = c.constraint; meant = unwrap_or o p.meant; own = c.message; given = handed_map c (effective p.meant p.given) }) is
 
   mutual
     -- the tree that a constraint's node unfolds to is the constraint's
-    pub is_tree : (t : unfolded.Tree Planned) (p : Planned) → meant_by ds p.constraint ≡ Some p.meant → t ≡ tree_at p → IsTreeOf ds p.constraint p.given (stripped t)
+    pub is_tree : (t : unfolded.Tree Planned) (p : Planned) → meant_by ds p.constraint ≡ Some p.meant → t ≡ tree_at p → IsTreeOf ds p.constraint p.own p.given (stripped t)
     is_tree (unfolded.tree i v below) p is e =
         let all = e ∙ tree_at_is p is in
         let same : v ≡ p = cc in
         let kids : below ≡ trees_at (number_of ds p.constraint) p 0 (composing_of p.meant) = cc in
         let rest = are_trees below p (number_of ds p.constraint) (composing_of p.meant) 0 refl (all_known ds p.constraint p.meant known is) kids in
-        subst (λ (w : Planned). IsTreeOf ds p.constraint p.given (tree w (stripped_all below))) (sym same) (refl, is, refl, rest)
+        subst (λ (w : Planned). IsTreeOf ds p.constraint p.own p.given (tree w (stripped_all below))) (sym same) (refl, is, refl, refl, rest)
 
     are_trees : (ts : unfolded.Trees Planned) (p : Planned) (node : ℕ) (cs : List Composing) (k : ℕ) → drop k (composing_of p.meant) ≡ cs → list_any (is_unknown ds) cs ≡ false
         → ts ≡ trees_at node p k cs → AreTreesOf ds cs (effective p.meant p.given) (stripped_all ts)
@@ -222,17 +222,17 @@ module _ (ds : Definitions) (edges : List (Vec ℕ Global)) (are : map (λ nodes
     are_trees (unfolded.tree_and t ts) p node (c ∷ cs) k here all e =
         let parts = or_parts (is_unknown ds c) (list_any (is_unknown ds) cs) all in
         let m = some_of (meant_by ds c.constraint) parts.0 in
-        let q : Planned = record { constraint = c.constraint; meant = m.0; given = handed_map c (effective p.meant p.given) } in
+        let q : Planned = record { constraint = c.constraint; meant = m.0; own = c.message; given = handed_map c (effective p.meant p.given) } in
         let made : t ≡ unfolded.tree_of (hands_of ds) (next_of edges) (length edges) (number_of ds c.constraint) (hands_of ds node k p) = cc in
         let first = made ∙ ap (unfolded.tree_of (hands_of ds) (next_of edges) (length edges) (number_of ds c.constraint)) (handed_is node k p c m.0 (get_first (composing_of p.meant) k c cs here) m.1) in
         let others : ts ≡ trees_at node p (k + 1) cs = cc in
         ((q.given, handed_map_is c (effective p.meant p.given), is_tree t q m.1 first), are_trees ts p node cs (k + 1) (drop_next (composing_of p.meant) k c cs here) parts.1 others)
 
   -- there is a tree of each constraint that is known
-  pub tree_exists : (name : List ℕ) (given : Attributes) → is_some (meant_by ds name) ≡ true → (t : Tree Planned) × IsTreeOf ds name given t
-  tree_exists name given is =
+  pub tree_exists : (name : List ℕ) (own : Option (List ℕ)) (given : Attributes) → is_some (meant_by ds name) ≡ true → (t : Tree Planned) × IsTreeOf ds name own given t
+  tree_exists name own given is =
       let m = some_of (meant_by ds name) (ap not is) in
-      let p : Planned = record { constraint = name; meant = m.0; given = given } in
+      let p : Planned = record { constraint = name; meant = m.0; own = own; given = given } in
       (stripped (tree_at p), is_tree (tree_at p) p m.1 refl)
 
 -- spots as they are seen
@@ -254,13 +254,13 @@ module _ (ds : Definitions) (edges : List (Vec ℕ Global)) (sizes : List ℕ) (
   pub kept_within : AreWithin edges
   kept_within = are_within ds edges kept.edges_are
 
-  pub kept_tree : (name : List ℕ) (given : Attributes) → is_some (meant_by ds name) ≡ true → (t : Tree Planned) × IsTreeOf ds name given t
-  kept_tree name given is = tree_exists ds edges kept.edges_are no_cycle kept.known name given is
+  pub kept_tree : (name : List ℕ) (own : Option (List ℕ)) (given : Attributes) → is_some (meant_by ds name) ≡ true → (t : Tree Planned) × IsTreeOf ds name own given t
+  kept_tree name own given is = tree_exists ds edges kept.edges_are no_cycle kept.known name own given is
 
   -- what is listed from a constraint's node is the preorder of its tree
   pub kept_plan : {X : Type 0} (seen : X → Planned) (spots : List (Spot X)) (p : Planned) → meant_by ds p.constraint ≡ Some p.meant
       → map (unfolded.shown seen) spots ≡ unfolded.listed (unfolded.tree_of (hands_of ds) (next_of edges) (length edges) (number_of ds p.constraint) p)
-      → (t : Tree Planned) × IsTreeOf ds p.constraint p.given t × (map (λ s. (seen s.value, s.below)) spots ≡ preorder t)
+      → (t : Tree Planned) × IsTreeOf ds p.constraint p.own p.given t × (map (λ s. (seen s.value, s.below)) spots ≡ preorder t)
   kept_plan seen spots p is listed =
       let t = unfolded.tree_of (hands_of ds) (next_of edges) (length edges) (number_of ds p.constraint) p in
       (stripped t, is_tree ds edges kept.edges_are no_cycle kept.known t p is refl, entries_shown seen spots ∙ ap (map entry_of) listed ∙ listed_is t)

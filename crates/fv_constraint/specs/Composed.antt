@@ -8,24 +8,26 @@ use Rattle.fv_constraint.specs.Definitions.{Composing, Definitions, Meant, meant
 use Rattle.fv_constraint.specs.Effect.{effective, handed}
 use Rattle.fv_occurrence.specs.Trees.{Tree, tree, Trees, none, more}
 
--- a constraint in a tree: its name, what it stands for, and the attributes that it is given
+-- a constraint in a tree: its name, what it stands for, the template of its message, if it has one of its own, and the attributes that it is given
 pub record Planned : Type 0 where
   pub constraint : List ℕ
   pub meant : Meant
+  pub own : Option (List ℕ)
   pub given : Attributes
 
 abbrev mutual
-  -- the tree of a constraint with the attributes that it is given: below it stand the trees of the constraints that it is composed of
-  pub IsTreeOf : Definitions → List ℕ → Attributes → Tree Planned → Type 0
-  IsTreeOf ds name given (tree p below) =
-      (p.constraint ≡ name) × (meant_by ds name ≡ Some p.meant) × (p.given ≡ given) × AreTreesOf ds (composing_of p.meant) (effective p.meant given) below
+  -- the tree of a constraint with its own message and the attributes that it is given: below it stand the trees of the constraints that it is composed of
+  pub IsTreeOf : Definitions → List ℕ → Option (List ℕ) → Attributes → Tree Planned → Type 0
+  IsTreeOf ds name own given (tree p below) =
+      (p.constraint ≡ name) × (meant_by ds name ≡ Some p.meant) × (p.own ≡ own) × (p.given ≡ given)
+      × AreTreesOf ds (composing_of p.meant) (effective p.meant given) below
 
-  -- the trees of composing constraints, in order, by the values in effect of the constraint that they compose: each is given the one map of the
-  -- values that it is handed
+  -- the trees of composing constraints, in order, by the values in effect of the constraint that they compose: each has its own message and
+  -- is given the one map of the values that it is handed
   pub AreTreesOf : Definitions → List Composing → (List ℕ → Option AttributeValue) → Trees Planned → Type 0
   AreTreesOf ds [] above none = Unit {0}
   AreTreesOf ds (c ∷ cs) above (more t ts) =
-      ((given : Attributes) × IsMapOf (handed c above) given × IsTreeOf ds c.constraint given t) × AreTreesOf ds cs above ts
+      ((given : Attributes) × IsMapOf (handed c above) given × IsTreeOf ds c.constraint c.message given t) × AreTreesOf ds cs above ts
   AreTreesOf ds _ above _ = ⊥
 
 -- the names of the constraints that a constraint is composed of

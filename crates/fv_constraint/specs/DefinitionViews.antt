@@ -30,7 +30,12 @@ override_entry e = (string_bytes e.0, string_bytes e.1)
 
 -- a composing constraint
 abbrev pub composing_view : Composing → spec.Composing
-composing_view c = record { constraint = string_bytes c.constraint; given = c.with; overrides = map override_entry c.overrides.entries }
+composing_view c = record {
+  constraint = string_bytes c.constraint;
+  given = c.with;
+  overrides = map override_entry c.overrides.entries;
+  message = option_map string_bytes c.message;
+}
 
 -- a declared constraint
 abbrev pub definition_view : Definition → spec.Definition
@@ -39,6 +44,7 @@ definition_view d = record {
   rule = option_map rule_view d.rule;
   composing = map composing_view d.composing.items;
   single = d.single;
+  message = option_map string_bytes d.message;
 }
 
 -- a declared constraint with its name

@@ -17,19 +17,22 @@ pub record AttributeDefinition : Type 0 where
   pub kind : AttributeKind
   pub default : Option AttributeValue
 
--- a composing constraint: its name, the attributes that are given to it, and those of its attributes that are overridden, each with the
--- attribute of the composed constraint whose value it takes
+-- a composing constraint: its name, the attributes that are given to it, those of its attributes that are overridden, each with the
+-- attribute of the composed constraint whose value it takes, and the template of its message, if it has one of its own
 pub record Composing : Type 0 where
   pub constraint : List ℕ
   pub given : Attributes
   pub overrides : List (List ℕ × List ℕ)
+  pub message : Option (List ℕ)
 
--- a declared constraint: its attributes by their names, its rule, the constraints that it is composed of, and whether it reports as one
+-- a declared constraint: its attributes by their names, its rule, the constraints that it is composed of, whether it reports as one, and the
+-- template of its message, if its declaration gives one
 pub record Definition : Type 0 where
   pub attributes : List (List ℕ × AttributeDefinition)
   pub rule : Option Rule
   pub composing : List Composing
   pub single : Bool
+  pub message : Option (List ℕ)
 
 -- declared constraints by their names
 abbrev pub Definitions : Type 0

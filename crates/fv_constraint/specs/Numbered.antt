@@ -43,7 +43,8 @@ edges_of ds = map (λ d. numbers_of ds d.1.composing) ds ++ [] ∷ []
 -- a table has the size of each constraint's tree, or the limit where it is larger
 abbrev pub AreSizes : Definitions → ℕ → List ℕ → Type 0
 AreSizes ds limit sizes =
-    (name : List ℕ) (given : Attributes) (t : Tree Planned) → IsTreeOf ds name given t → slice_index sizes (number_of ds name) ≡ min limit (size t)
+    (name : List ℕ) (own : Option (List ℕ)) (given : Attributes) (t : Tree Planned) → IsTreeOf ds name own given t
+    → slice_index sizes (number_of ds name) ≡ min limit (size t)
 
 -- the definitions are a graph without cycles: the nodes that each node's edges lead to, and the sizes up to the limit
 pub record IsNumbered (ds : Definitions) (edges : List (List ℕ)) (sizes : List ℕ) : Type 0 where
@@ -69,9 +70,10 @@ handed_map c above = tabulated (handed c above) (keys_of c.given ++ keys_of c.ov
 
 -- what stands below a constraint at a composing constraint
 abbrev pub composing_at : Definitions → Planned → Option Composing → Planned
-composing_at ds p None = record { constraint = p.constraint; meant = p.meant; given = [] }
+composing_at ds p None = record { constraint = p.constraint; meant = p.meant; own = None; given = [] }
 composing_at ds p (Some c) = record {
   constraint = c.constraint;
   meant = unwrap_or (meant_by ds c.constraint) p.meant;
+  own = c.message;
   given = handed_map c (effective p.meant p.given);
 }

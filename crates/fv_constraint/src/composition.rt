@@ -1,5 +1,5 @@
 //! Constraints composed of others, by their definitions.
-ghost use Rattle.std.specs.Prelude.{◌≡◌, true, false, map, min, is_some, IfOk, MatchOption};
+ghost use Rattle.std.specs.Prelude.{◌≡◌, ℕ, List, Option, true, false, map, min, option_map, is_some, IfOk, MatchOption};
 ghost use Rattle.fv_datum.specs.Attributes.{Attributes};
 ghost use Rattle.fv_constraint.specs.Composed.{IsTreeOf, IsCyclic};
 ghost use Rattle.fv_constraint.specs.Composed as spec;
@@ -74,26 +74,28 @@ impl<'a> Composition<'a> {
         self.numbers.definitions()
     }
 
-    /// How many nodes the tree of a constraint has, whatever attributes it is given, but no more
-    /// than 1,025. No tree is made.
+    /// How many nodes the tree of a constraint has, whatever its message and whatever attributes it is
+    /// given, but no more than 1,025. No tree is made.
     pub fn size_of(&self, name: &str) -> usize
         requires { is_some (meant_by self.now name.now) ≡ true }
-        ensures size { (given : Attributes) (t : Tree spec.Planned) → IsTreeOf self.now name.now given t
+        ensures size { (own : Option (List ℕ)) (given : Attributes) (t : Tree spec.Planned) → IsTreeOf self.now name.now own given t
             → result ≡ min 1025 (size t) }
-        ensures tree { (given : Attributes) → ((t : Tree spec.Planned) × IsTreeOf self.now name.now given t) }
+        ensures tree { (own : Option (List ℕ)) (given : Attributes) → ((t : Tree spec.Planned) × IsTreeOf self.now name.now own given t) }
     {
         self.sizes[self.numbers.number_of(name)]
     }
 
-    /// The tree of a constraint with the attributes that it is given, in preorder.
+    /// The tree of a constraint with its own message, if it has one, and the attributes that it is
+    /// given, in preorder.
     pub fn plan(
         &self,
         alloc: Global,
         name: &'a str,
+        own: Option<&'a str>,
         given: &Attrs,
     ) -> Result<Vec<Spot<Planned<'a>>>, AllocError>
         requires { is_some (meant_by self.now name.now) ≡ true }
-        ensures { IfOk result (λ spots. (t : Tree spec.Planned) × IsTreeOf self.now name.now given.now t
+        ensures { IfOk result (λ spots. (t : Tree spec.Planned) × IsTreeOf self.now name.now (option_map (λ o. o.now) own.entry) given.now t
             × (map planned_entry spots.items ≡ preorder t)) }
     {
         let definitions = self.numbers.definitions();
@@ -103,6 +105,7 @@ impl<'a> Composition<'a> {
         let root = Planned {
             constraint: name,
             meant,
+            own,
             with: Attrs::new(copy_entries(alloc, given.entries())?),
         };
         let handing = Handing { definitions };

@@ -26,6 +26,8 @@ pub struct Composing {
     /// The attributes of it that are overridden, each with the attribute of the composed constraint
     /// whose value it takes.
     pub overrides: BTreeMap<String, String>,
+    /// The template of its message, if it has one of its own.
+    pub message: Option<String>,
 }
 
 /// A declared constraint.
@@ -37,4 +39,6 @@ pub struct Definition {
     pub composing: Vec<Composing>,
     /// Whether it reports as one.
     pub single: bool,
+    /// The template of its message, if the declaration gives one.
+    pub message: Option<String>,
 }

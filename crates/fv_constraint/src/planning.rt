@@ -1,5 +1,5 @@
 //! The constraints of a tree, each by what stands above it.
-ghost use Rattle.std.specs.Prelude.{◌≡◌, None, IfOk, map, slice_get};
+ghost use Rattle.std.specs.Prelude.{◌≡◌, None, IfOk, map, option_map, slice_get, string_bytes};
 ghost use Rattle.fv_constraint.specs.PlannedViews.{planned_view};
 ghost use Rattle.fv_constraint.specs.Definitions.{Definitions, composing_of};
 ghost use Rattle.fv_constraint.specs.DefinitionViews.{definition_entry};
@@ -19,6 +19,8 @@ pub struct Planned<'a> {
     pub constraint: &'a str,
     /// What its name stands for.
     pub meant: Meant<'a>,
+    /// The template of its message, if it has one of its own.
+    pub own: Option<&'a str>,
     /// The attributes that it is given.
     pub with: Attrs,
 }
@@ -57,6 +59,16 @@ impl<'a> Hand for Handing<'a> {
     }
 }
 
+/// The text that there is.
+fn text_of<'a>(text: &'a Option<String>) -> Option<&'a str>
+    ensures { option_map (λ t. t.now) result ≡ option_map string_bytes text.now }
+{
+    match text {
+        None => None,
+        Some(text) => Some(text.as_str()),
+    }
+}
+
 /// What is planned at an edge that isn't there: the constraint above, with no attributes.
 fn nowhere<'a>(alloc: Global, above: &Planned<'a>) -> Planned<'a>
     ensures { (ds : Definitions) → planned_view result ≡ composing_at ds (planned_view above.now) None }
@@ -64,6 +76,7 @@ fn nowhere<'a>(alloc: Global, above: &Planned<'a>) -> Planned<'a>
     Planned {
         constraint: above.constraint,
         meant: above.meant,
+        own: None,
         with: Attrs::new(BTreeMap::new(alloc)),
     }
 }
@@ -88,6 +101,7 @@ fn plan_below<'a>(
     Ok(Planned {
         constraint: name,
         meant: meant_by(definitions, name).unwrap_or(above.meant),
+        own: text_of(&composing.message),
         with: handed(alloc, composing, definition, &above.with)?,
     })
 }

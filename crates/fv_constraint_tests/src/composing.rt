@@ -1,6 +1,6 @@
 //! Trees of declared constraints: the wanted ones are worked out by hand from the standard's section
 //! "Constraint composition".
-use crate::declared::{attrs_of, definitions_of, named};
+use crate::declared::{attrs_of, definitions_of, message_in, named};
 use fv_constraint::{Composition, Definition, Planned, composes_unknown, meant_by};
 use fv_datum::Attribute;
 use fv_graph::Spot;
@@ -13,9 +13,12 @@ fn check(rt: &impl Abort, found: &str, wanted: &str, row: &str) {
     assert_eq!(rt; found, wanted, "{row}");
 }
 
-/// A node as its name, what it is given, and behind `/` how many nodes stand below it.
+/// A node as its name, its own message, what it is given, and behind `/` how many nodes stand below it.
 fn node_text(alloc: Global, spot: &Spot<Planned>) -> Result<String, Fail> {
     let mut text = String::from_str(alloc, spot.value.constraint)?;
+    if let Some(template) = spot.value.own {
+        text.push_str(format!(in alloc; " '{template}")?.as_str())?;
+    }
     for (name, value) in spot.value.with.entries().iter() {
         if let Attribute::Integer(number) = value {
             text.push_str(format!(in alloc; " {name}={number}")?.as_str())?;
@@ -45,7 +48,7 @@ fn tree_text<'a>(
     if size > 1024 {
         return Ok(String::from_str(alloc, "too large")?);
     }
-    let spots = composition.plan(alloc, name, &attrs_of(alloc, words)?)?;
+    let spots = composition.plan(alloc, name, message_in(words), &attrs_of(alloc, words)?)?;
     let mut text = format!(in alloc; "{size}:")?;
     for spot in &spots {
         text.push_str(format!(in alloc; " {}", node_text(alloc, spot)?)?.as_str())?;
@@ -95,6 +98,20 @@ Nope => no constraint
 #[test]
 fn values_pass_through_levels(rt: HostRuntime) -> Result<(), Fail> {
     check_trees(&rt, rt.alloc(), LEVELS, LEVEL_ROWS)
+}
+
+/// Each node has the message of its own use, and none of its declaration.
+#[test]
+fn messages_are_planned(rt: HostRuntime) -> Result<(), Fail> {
+    check_trees(
+        &rt,
+        rt.alloc(),
+        "Told 'a : NotNull\nBoth 'b : Told & Told 'c & Size 'd max=3",
+        "
+Both => 6: Both/5 Told/1 NotNull/0 Told 'c/1 NotNull/0 Size 'd max=3/0
+Told 'e => 2: Told 'e/1 NotNull/0
+",
+    )
 }
 
 /// A constraint composed of itself, at once or by a chain, is found wherever it stands; one that is

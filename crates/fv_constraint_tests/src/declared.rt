@@ -2,7 +2,8 @@
 //! where a composing constraint is its name, then what is given to it, `ATTRIBUTE=VALUE`, and what is
 //! overridden, `ATTRIBUTE<ATTRIBUTE`, the second of them that of the composed constraint. Values are
 //! whole numbers, else texts. An attribute without `=` has no default; it is a whole number, or a
-//! text where `~` stands behind its name. A rule is `#NUMBER` of data, or `@NUMBER` of objects.
+//! text where `~` stands behind its name. A rule is `#NUMBER` of data, or `@NUMBER` of objects. A message
+//! is `'TEMPLATE`, of a definition and of a composing constraint.
 use fv_constraint::{AttributeDefinition, Composing, Definition, Rule};
 use fv_datum::{Attribute, AttributeKind, Attrs};
 use std::alloc::Global;
@@ -39,6 +40,23 @@ fn overrides_of(alloc: Global, words: &str) -> Result<BTreeMap<String, String>, 
     Ok(overrides)
 }
 
+/// The message among words.
+pub(crate) fn message_in<'a>(words: &'a str) -> Option<&'a str> {
+    for word in words.split_whitespace() {
+        if let Some((_, template)) = word.split_once("'") {
+            return Some(template);
+        }
+    }
+    None
+}
+
+fn message_of(alloc: Global, words: &str) -> Result<Option<String>, Fail> {
+    match message_in(words) {
+        None => Ok(None),
+        Some(template) => Ok(Some(String::from_str(alloc, template)?)),
+    }
+}
+
 /// A name, and the words behind it.
 pub(crate) fn named(text: &str) -> (&str, &str) {
     match text.trim().split_once(" ") {
@@ -56,6 +74,7 @@ fn composing_of(alloc: Global, text: &str) -> Result<Vec<Composing>, Fail> {
                 constraint: String::from_str(alloc, constraint)?,
                 with: attrs_of(alloc, words)?,
                 overrides: overrides_of(alloc, words)?,
+                message: message_of(alloc, words)?,
             })?;
         }
     }
@@ -81,7 +100,7 @@ fn attributes_of(
 ) -> Result<BTreeMap<String, AttributeDefinition>, Fail> {
     let mut attributes = BTreeMap::new(alloc);
     for word in words.split_whitespace() {
-        if !word.starts_with("#") && !word.starts_with("@") {
+        if !word.starts_with("#") && !word.starts_with("@") && !word.starts_with("'") {
             let (name, attribute) = attribute_of(alloc, word)?;
             let _ = attributes.insert(String::from_str(alloc, name)?, attribute)?;
         }
@@ -116,6 +135,7 @@ pub(crate) fn definitions_of(
             rule: rule_of(words)?,
             composing: composing_of(alloc, tail)?,
             single: false,
+            message: message_of(alloc, words)?,
         };
         let _ = definitions.insert(String::from_str(alloc, name)?, definition)?;
     }

@@ -3,7 +3,7 @@
 ghost use Rattle.std.specs.Prelude.{true};
 
 use crate::composing::doubling;
-use crate::declared::{attrs_of, definitions_of, named};
+use crate::declared::{attrs_of, definitions_of, message_in, named};
 use fv_constraint::{Definition, composes_unknown, meant_by};
 use fv_datum::{Attribute, Attrs, Datum, Kind};
 use fv_flatten::{Place, Use, flatten};
@@ -57,15 +57,31 @@ fn node_text(alloc: Global, node: &Node) -> Result<String, Fail> {
     Ok(text)
 }
 
+/// What is told of a node.
+#[derive(Clone, Copy)]
+enum Told {
+    /// Its name, its attributes, what it asks, and how many stand below it.
+    Whole,
+    /// Its message.
+    Message,
+}
+
+fn told_text(alloc: Global, node: &Node, told: Told) -> Result<String, Fail> {
+    match told {
+        Told::Whole => node_text(alloc, node),
+        Told::Message => Ok(node.message.clone()?),
+    }
+}
+
 /// The nodes of an occurrence in preorder.
-fn occurrence_text(alloc: Global, occurrence: &Occurrence) -> Result<String, Fail> {
+fn occurrence_text(alloc: Global, occurrence: &Occurrence, told: Told) -> Result<String, Fail> {
     let mut text = String::new(alloc);
     for number in 0..occurrence.size() {
         if let Some(node) = occurrence.node(number) {
             if number > 0 {
                 text.push_str(" ")?;
             }
-            text.push_str(node_text(alloc, node)?.as_str())?;
+            text.push_str(told_text(alloc, node, told)?.as_str())?;
         }
     }
     Ok(text)
@@ -83,12 +99,13 @@ fn place_of(text: &str) -> Place {
     }
 }
 
-/// What a use is flattened to, or the name of its fault.
+/// What a use is flattened to, of each node what is told of it, or the name of its fault.
 fn flattened<R: RuleSet>(
     alloc: Global,
     rules: &R,
     definitions: &BTreeMap<String, Definition>,
     row: &str,
+    told: Told,
 ) -> Result<String, Fail> {
     let (used, place) = row.split_once(" at ").ok_or("a place")?;
     let (constraint, words) = named(used);
@@ -98,11 +115,12 @@ fn flattened<R: RuleSet>(
     let given = attrs_of(alloc, words)?;
     let used = Use {
         constraint,
+        message: message_in(words),
         given: &given,
         place: place_of(place),
     };
     match flatten(alloc, rules, definitions, &used) {
-        Ok(occurrence) => occurrence_text(alloc, &occurrence),
+        Ok(occurrence) => occurrence_text(alloc, &occurrence, told),
         Err(fault) => Ok(String::from_str(alloc, fault.name())?),
     }
 }
@@ -150,7 +168,37 @@ fn check_levels<R: RuleSet>(rt: &impl Abort, alloc: Global, rules: &R) -> Result
     let definitions = definitions_of(alloc, LEVELS)?;
     for row in LEVEL_ROWS.trim().lines() {
         let (used, wanted) = row.split_once(" => ").ok_or("a row")?;
-        let found = flattened(alloc, rules, &definitions, used)?;
+        let found = flattened(alloc, rules, &definitions, used, Told::Whole)?;
+        check(rt, found.as_str(), wanted, row);
+    }
+    Ok(())
+}
+
+/// Constraints with messages, and without.
+const MESSAGES: &str = "
+Plain #100 :
+Told 'a #100 :
+Both 'b : Told & Told 'c & Plain & Size max=3 & Size 'd max=3
+";
+
+/// A constraint has its own message, else that of its declaration, else the default by its name.
+const MESSAGE_ROWS: &str = "
+Plain at text => {Plain.message}
+Plain 'x at text => x
+Told at text => a
+Told 'x at text => x
+Both at text => b a c {Plain.message} {jakarta.validation.constraints.Size.message} d
+Both 'x at text => x a c {Plain.message} {jakarta.validation.constraints.Size.message} d
+NotNull at text => {jakarta.validation.constraints.NotNull.message}
+NotNull 'x at text => x
+";
+
+/// Each row's use is flattened to nodes with the row's messages.
+fn check_messages<R: RuleSet>(rt: &impl Abort, alloc: Global, rules: &R) -> Result<(), Fail> {
+    let definitions = definitions_of(alloc, MESSAGES)?;
+    for row in MESSAGE_ROWS.trim().lines() {
+        let (used, wanted) = row.split_once(" => ").ok_or("a row")?;
+        let found = flattened(alloc, rules, &definitions, used, Told::Message)?;
         check(rt, found.as_str(), wanted, row);
     }
     Ok(())
@@ -192,7 +240,7 @@ fn check_definitions<R: RuleSet>(rt: &impl Abort, alloc: Global, rules: &R) -> R
         let (declared, wanted) = row.split_once(" => ").ok_or("a row")?;
         let lines = declared.replace(alloc, ";", "\n")?;
         let definitions = definitions_of(alloc, lines.as_str())?;
-        let found = flattened(alloc, rules, &definitions, "NotNull at text")?;
+        let found = flattened(alloc, rules, &definitions, "NotNull at text", Told::Whole)?;
         check(rt, found.as_str(), wanted, row);
     }
     Ok(())
@@ -202,15 +250,16 @@ fn check_definitions<R: RuleSet>(rt: &impl Abort, alloc: Global, rules: &R) -> R
 fn check_sizes<R: RuleSet>(rt: &impl Abort, alloc: Global, rules: &R) -> Result<(), Fail> {
     let lines = doubling(alloc, 12)?;
     let definitions = definitions_of(alloc, lines.as_str())?;
-    let large = flattened(alloc, rules, &definitions, "D9 at text")?;
+    let large = flattened(alloc, rules, &definitions, "D9 at text", Told::Whole)?;
     check(rt, large.as_str(), "TooLarge", "D9");
-    let taken = flattened(alloc, rules, &definitions, "D8 at text")?;
+    let taken = flattened(alloc, rules, &definitions, "D8 at text", Told::Whole)?;
     assert!(rt; taken.starts_with("D8 -/766 D7 -/382 "), "D8");
     Ok(())
 }
 
 fn check_all<R: RuleSet>(rt: &impl Abort, alloc: Global, rules: &R) -> Result<(), Fail> {
     check_levels(rt, alloc, rules)?;
+    check_messages(rt, alloc, rules)?;
     check_definitions(rt, alloc, rules)?;
     check_sizes(rt, alloc, rules)
 }

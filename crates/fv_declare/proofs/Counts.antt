@@ -1,5 +1,5 @@
 -- How many nodes trees have.
-use Rattle.std.proofs.Common.{◌≡◌, ℕ, zero, suc, get_or, take, add-one, ◌+◌, ◌<◌, ◌≤◌, List, [], ◌∷◌, ◌++◌, length, map, zip, min, not, Bool, true, false, refl, sym, ap, ◌∙◌, true≢false, arith}
+use Rattle.std.proofs.Common.{◌≡◌, ℕ, zero, suc, get_or, take, add-one, ◌+◌, ◌<◌, ◌≤◌, List, [], ◌∷◌, ◌++◌, length, map, zip, min, not, Bool, true, false, Option, option_map, refl, sym, ap, ◌∙◌, true≢false, arith}
 use Rattle.std.proofs.lemmas.Bool.Decides.{nat_tests}
 use Rattle.std.proofs.lemmas.List.{map-append}
 use Rattle.std.proofs.lemmas.Slice.Zip.{all_zipped_more}
@@ -53,6 +53,10 @@ zipped_long (u ∷ us) [] os long z = cc
 zipped_long (u ∷ us) (t ∷ ts) [] long z = absurd z
 zipped_long (u ∷ us) (t ∷ ts) (o ∷ os) long z = let less : length ts ≡ length us = omega (arith, long) in ap suc (zipped_long us ts os less z.1)
 
+-- the message that a use itself gives
+abbrev pub own_message : code.Use → Option (List ℕ)
+own_message x = option_map (λ t. t.now) x.message
+
 -- one tree more
 pub count_more : {N : Type 0} (ts : List (Tree N)) (t : Tree N) → count_nodes (ts ++ t ∷ []) ≡ count_nodes ts + size t
 count_more [] t = omega arith
@@ -71,9 +75,9 @@ take_more f (y ∷ ys) (suc i) x h is = ap (λ zs. f y ∷ zs) (take_more f ys i
 
 -- one use more with its tree
 pub one_more : (ds : Definitions) (xs : List code.Use) (i : ℕ) (x : code.Use) (ts : List (Tree Planned)) (t : Tree Planned) → i < length xs → x ≡ get_or xs i x
-    → AreTreesOfUses ds (map used (map use_view (take i xs))) ts → IsTreeOf ds x.constraint.now x.given.now t → AreTreesOfUses ds (map used (map use_view (take (i + 1) xs))) (ts ++ t ∷ [])
+    → AreTreesOfUses ds (map used (map use_view (take i xs))) ts → IsTreeOf ds x.constraint.now (own_message x) x.given.now t → AreTreesOfUses ds (map used (map use_view (take (i + 1) xs))) (ts ++ t ∷ [])
 one_more ds xs i x ts t h is trees one =
-    rw (add-one, take_more use_view xs i x h is, map-append) (all_zipped_more (λ (u : Use) (t : Tree Planned). IsTreeOf ds u.constraint u.given t) (map used (map use_view (take i xs))) ts (used (use_view x)) t trees one)
+    rw (add-one, take_more use_view xs i x h is, map-append) (all_zipped_more (λ (u : Use) (t : Tree Planned). IsTreeOf ds u.constraint u.message u.given t) (map used (map use_view (take i xs))) ts (used (use_view x)) t trees one)
 
 -- counts that stop at a limit
 pub capped : (limit all further sum part : ℕ) → sum ≡ min limit all → part ≡ min limit further → min (sum + part) limit ≡ min limit (all + further)

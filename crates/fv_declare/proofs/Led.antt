@@ -9,7 +9,7 @@ use Rattle.fv_datum.specs.Lookup.{at_name}
 use Rattle.fv_datum.specs.declared.kind.Kind.{Kind}
 use Rattle.fv_datum.specs.Members.{pairs, has_only, each_some}
 use Rattle.fv_constraint.specs.Definitions.{Definitions}
-use Rattle.fv_definition.specs.Definitions.{map4}
+use Rattle.fv_definition.specs.Definitions.{map5}
 use Rattle.fv_definition.specs.Names.{names_in}
 use Rattle.fv_draft.specs.Cascades.{Cascade, cascade_of}
 use Rattle.fv_draft.specs.Drafts.{FieldDraft, TypeDraft, FormDraft, Drafted, field_of, type_of, draft_of}
@@ -170,15 +170,16 @@ member_led m =
     drafted_led m.0 (has_only (codes "fields" ∷ codes "constraints" ∷ codes "sequence" ∷ []) m.1) (required (each_member field_of) (codes "fields") m.1) (uses_of (codes "constraints") m.1) (maybe names_in (codes "sequence") m.1)
     (members_there IsLed field_of (get (codes "fields") m.1) (λ f. field_led f.0 (place_of [] f.1) (place_led [] f.1) (place_deep [] f.1)))
 
-all_led : (b : Bool) (types : Option (List TypeDraft)) (forms : Option (List FormDraft)) (groups : Option Groups) (definitions : Option Definitions) (d : Drafted) → IfThere (AllByRecursion AreFieldsLed) types
-    → (if b then map4 (λ ts fs gs ds. record { types = ts; forms = fs; definitions = ds; groups = gs }) types forms groups definitions else None) ≡ Some d → AreLed d
-all_led false types forms groups definitions d h is = cc
-all_led true None forms groups definitions d h is = cc
-all_led true (Some ts) None groups definitions d h is = cc
-all_led true (Some ts) (Some fs) None definitions d h is = cc
-all_led true (Some ts) (Some fs) (Some gs) None d h is = cc
-all_led true (Some ts) (Some fs) (Some gs) (Some ds) d h is = let same : ts ≡ d.types = cc in rw (← same) h
+all_led : (b : Bool) (types : Option (List TypeDraft)) (forms : Option (List FormDraft)) (groups : Option Groups) (definitions : Option Definitions) (messages : Option (List (List ℕ × List ℕ))) (d : Drafted) → IfThere (AllByRecursion AreFieldsLed) types
+    → (if b then map5 (λ ts fs gs ds ms. record { types = ts; forms = fs; definitions = ds; groups = gs; messages = ms }) types forms groups definitions messages else None) ≡ Some d → AreLed d
+all_led false types forms groups definitions messages d h is = cc
+all_led true None forms groups definitions messages d h is = cc
+all_led true (Some ts) None groups definitions messages d h is = cc
+all_led true (Some ts) (Some fs) None definitions messages d h is = cc
+all_led true (Some ts) (Some fs) (Some gs) None messages d h is = cc
+all_led true (Some ts) (Some fs) (Some gs) (Some ds) None d h is = cc
+all_led true (Some ts) (Some fs) (Some gs) (Some ds) (Some ms) d h is = let same : ts ≡ d.types = cc in rw (← same) h
 
 -- those of the draft that a JSON value spells
 pub draft_led : (j : json.Data) (d : Drafted) → draft_of j ≡ Some d → AreLed d
-draft_led j d is = all_led _ (required (each_member type_of) (codes "types") j) _ _ _ d (members_there AreFieldsLed type_of (get (codes "types") j) member_led) is
+draft_led j d is = all_led _ (required (each_member type_of) (codes "types") j) _ _ _ _ d (members_there AreFieldsLed type_of (get (codes "types") j) member_led) is

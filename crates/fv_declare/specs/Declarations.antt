@@ -3,6 +3,7 @@ use Rattle.std.specs.Prelude.{◌≡◌, ℕ, ◌+◌, List, [], ◌∷◌, Opti
 use Rattle.fv_types.specs.Types.{Declared}
 use Rattle.fv_grouping.specs.Numbered.{ValidPlace}
 use Rattle.fv_groups.specs.Groups.{Groups}
+use Rattle.fv_message.specs.Table.{Messages}
 use Rattle.fv_occurrence.specs.Nodes.{Node}
 use Rattle.fv_occurrence.specs.Trees.{Tree, size}
 use Rattle.fv_uses.specs.Uses.{Place}
@@ -18,7 +19,7 @@ pub record Placed : Type 0 where
 
 -- the types, the uses of constraints where they stand, the forms by their names, each with its root's type, the groups in the order of
 -- their numbers, the numbers of each form's groups, for each type the ranks of the sequence that redefines `Default` for it, if there is
--- one, and the places whose objects are validated
+-- one, the places whose objects are validated, and all messages by their keys
 pub record Declarations : Type 0 where
   pub types : Declared
   pub occurrences : List Placed
@@ -27,6 +28,7 @@ pub record Declarations : Type 0 where
   pub form_groups : List (List ℕ × List ℕ)
   pub sequences : List (Option (List ℕ))
   pub valid_places : List ValidPlace
+  pub messages : Messages
 
 -- how many nodes trees have
 abbrev pub count_nodes : {N : Type 0} → List (Tree N) → ℕ

@@ -1,5 +1,5 @@
 -- The declarations that a text declares, or its first fault.
-use Rattle.std.specs.Prelude.{◌≡◌, ◌⊎◌, ℕ, ◌||◌, List, [], ◌∷◌, length, map, zip, Bool, not, nat_lt, Option, Some, None, is_some, Result, Ok, Err}
+use Rattle.std.specs.Prelude.{◌≡◌, ◌⊎◌, ℕ, ◌||◌, List, [], ◌∷◌, length, map, zip, Bool, true, false, not, nat_lt, Option, Some, None, is_some, Result, Ok, Err}
 use Rattle.std.specs.List.{list_any, AllZip}
 use Rattle.serde_json.specs.Data as json
 use Rattle.fv_datum.specs.Outcomes.{first}
@@ -19,16 +19,21 @@ use Rattle.fv_grouping.specs.Numbered.{groups_named, type_ranks, valid_places}
 use Rattle.fv_grouping.specs.declared.fault.GroupingFault.{GroupingFault}
 use Rattle.fv_groups.specs.Groups.{Groups}
 use Rattle.fv_groups.specs.Judged.{is_large}
+use Rattle.fv_message.specs.Table.{all_messages}
+use Rattle.fv_message.specs.declared.fault.MessageFault.{MessageFault}
+use Rattle.fv_message.specs.declared.fault.MessageFault.TheVariants as message
 use Rattle.fv_naming.specs.Naming.{bad_name}
 use Rattle.fv_naming.specs.Types.{types_declared}
+use Rattle.fv_occurrence.specs.Nodes.{Node}
 use Rattle.fv_occurrence.specs.Trees.{Tree}
 use Rattle.fv_declare.specs.Declarations.{Placed, Declarations, count_nodes}
 use Rattle.fv_declare.specs.Ordered.{AreOrdered}
 use Rattle.fv_uses.specs.Cascades.{cascades_in}
 use Rattle.fv_uses.specs.Uses.{Use, used, uses_in, judged_at}
+use Rattle.fv_wording.specs.Wording.{IsFirstFault}
 use Rattle.fv_declare.specs.FaultNames.{grouping_fault}
 use Rattle.fv_declare.specs.declared.fault.DeclFault.{DeclFault}
-use Rattle.fv_declare.specs.declared.fault.DeclFault.TheVariants.{NotJson, Shape, BadName, UnknownName, CyclicComposition, EmptyConstraint, TooLarge, UnknownRule, Attribute, UnexpectedType, BadPattern}
+use Rattle.fv_declare.specs.declared.fault.DeclFault.TheVariants.{NotJson, Shape, BadName, UnknownName, CyclicComposition, EmptyConstraint, TooLarge, UnknownRule, Attribute, UnexpectedType, BadPattern, MessageSyntax, MessageCycle}
 
 -- ---- what can be wrong with names
 
@@ -48,7 +53,8 @@ unknown_name d = unknown_constraint d || composes_unknown d.definitions || has_u
 abbrev pub name_conditions : Drafted → List (Bool × DeclFault)
 name_conditions d = (bad_name d, BadName) ∷ (unknown_name d, UnknownName) ∷ []
 
--- ---- what can be wrong where no constraint is composed of itself; ts are the trees of the uses
+-- ---- what can be wrong where no constraint is composed of itself; ts are the trees of the uses, and worded is the first fault of the
+-- wording, if there is one
 
 -- what is used, in order, each of what it judges
 abbrev pub used_in : Drafted → List flat.Use
@@ -59,16 +65,21 @@ abbrev pub has_many : Drafted → Bool
 has_many d =
     nat_lt 256 (length d.forms) || nat_lt 256 (length d.definitions) || is_large (groups_in d) || list_any is_long d.types
 
--- more than 256 types, fields of a type, forms, declared constraints or groups, more than 32 groups that one inherits directly or that are
--- members of a sequence, more than four containers one in another, or more than 1,024 nodes of all trees
-unfoldable pub too_large : Drafted → List (Tree Planned) → Bool
-too_large d ts = too_many (types_declared d) || has_many d || nat_lt 1024 (count_nodes ts)
+-- a limit on messages is passed
+abbrev pub is_wordy : Option MessageFault → Bool
+is_wordy (Some message.TooLarge) = true
+is_wordy _ = false
 
--- what can be wrong, in the order in which it is answered, but for patterns
-abbrev pub tree_conditions : Known → Drafted → List (Tree Planned) → List (Bool × DeclFault)
-tree_conditions k d ts =
+-- more than 256 types, fields of a type, forms, declared constraints or groups, more than 32 groups that one inherits directly or that are
+-- members of a sequence, more than four containers one in another, more than 1,024 nodes of all trees, or a limit on messages
+unfoldable pub too_large : Drafted → Option MessageFault → List (Tree Planned) → Bool
+too_large d worded ts = too_many (types_declared d) || (has_many d || is_wordy worded) || nat_lt 1024 (count_nodes ts)
+
+-- what can be wrong, in the order in which it is answered, but for patterns and for how messages are written
+abbrev pub tree_conditions : Known → Drafted → Option MessageFault → List (Tree Planned) → List (Bool × DeclFault)
+tree_conditions k d worded ts =
     (is_empty_in d.definitions, EmptyConstraint)
-    ∷ (too_large d ts, TooLarge)
+    ∷ (too_large d worded ts, TooLarge)
     ∷ (unknown_rule k d.definitions, UnknownRule)
     ∷ (bad_attribute d.definitions ts, Attribute)
     ∷ (unexpected_type k (used_in d) ts, UnexpectedType)
@@ -100,22 +111,34 @@ pub record IsDeclared (d : Drafted) (ts : List (Tree Planned)) (ds : Declaration
   pub form_groups : ds.form_groups ≡ map (form_grouped (groups_in d)) d.forms
   pub sequences : ds.sequences ≡ map (type_ranks (groups_in d)) d.types
   pub valid_places : ds.valid_places ≡ valid_places (groups_in d) (cascades_in d.types)
+  pub messages : ds.messages ≡ all_messages d.messages
   pub ordered : AreOrdered ds
 
--- the answer where nothing is wrong but perhaps a pattern
-abbrev pub IsBuilt : Drafted → List (Tree Planned) → Result Declarations DeclFault → Type 0
-IsBuilt d ts (Ok ds) = IsDeclared d ts ds
-IsBuilt d ts (Err BadPattern) = HasBadPattern (used_in d) ts
-IsBuilt d ts (Err _) = ⊥
+-- each constraint of the trees is read where it is used, its pattern built
+abbrev pub AreBuilt : Drafted → List (Tree Planned) → Type 0
+AreBuilt d ts = (os : List (Tree Node)) × AllZip (λ u o. IsReadTree u.0.place u.1 o) (zip (used_in d) ts) os
+
+-- the answer where nothing is wrong but perhaps a pattern, or how messages are written
+abbrev pub IsBuilt : Drafted → Option MessageFault → List (Tree Planned) → Result Declarations DeclFault → Type 0
+IsBuilt d worded ts (Ok ds) = (worded ≡ None) × IsDeclared d ts ds
+IsBuilt d worded ts (Err BadPattern) = HasBadPattern (used_in d) ts
+IsBuilt d worded ts (Err MessageSyntax) = (worded ≡ Some message.MessageSyntax) × AreBuilt d ts
+IsBuilt d worded ts (Err MessageCycle) = (worded ≡ Some message.MessageCycle) × AreBuilt d ts
+IsBuilt d worded ts (Err _) = ⊥
 
 -- the answer by the first of the conditions on trees, if there is one
-abbrev pub IsDecided : Option DeclFault → Drafted → List (Tree Planned) → Result Declarations DeclFault → Type 0
-IsDecided (Some fault) d ts answer = answer ≡ Err fault
-IsDecided None d ts answer = IsBuilt d ts answer
+abbrev pub IsDecided : Option DeclFault → Drafted → Option MessageFault → List (Tree Planned) → Result Declarations DeclFault → Type 0
+IsDecided (Some fault) d worded ts answer = answer ≡ Err fault
+IsDecided None d worded ts answer = IsBuilt d worded ts answer
 
--- the answer where no constraint is composed of itself, by the trees of the uses
+-- the answer where no constraint is composed of itself, by the first fault of the wording, if there is one
+abbrev pub IsWorded : Known → Drafted → Option MessageFault → Result Declarations DeclFault → Type 0
+IsWorded k d worded answer =
+    (ts : List (Tree Planned)) × AreTreesOfUses d.definitions (used_in d) ts × IsDecided (first (tree_conditions k d worded ts)) d worded ts answer
+
+-- the answer where no constraint is composed of itself, by the wording and the trees of the uses
 abbrev pub IsFlattened : Known → Drafted → Result Declarations DeclFault → Type 0
-IsFlattened k d answer = (ts : List (Tree Planned)) × AreTreesOfUses d.definitions (used_in d) ts × IsDecided (first (tree_conditions k d ts)) d ts answer
+IsFlattened k d answer = (worded : Option MessageFault) × IsFirstFault d worded × IsWorded k d worded answer
 
 -- the answer where the names of types, constraints and groups are known and stand as they may
 abbrev pub IsComposed : Known → Drafted → Result Declarations DeclFault → Type 0

@@ -1,11 +1,13 @@
 -- The names and codes of the faults of declarations.
 use Rattle.std.specs.Prelude.{ℕ, List, [], codes}
 use Rattle.fv_declare.specs.declared.fault.DeclFault.{DeclFault}
-use Rattle.fv_declare.specs.declared.fault.DeclFault.TheVariants.{NotJson, Shape, BadName, UnknownName, UnknownGroup, CyclicInheritance, CyclicSequence, SequenceMisused, SequenceLacksType, DefaultInTypeSequence, ConversionMisplaced, CyclicComposition, EmptyConstraint, TooLarge, UnknownRule, Attribute, UnexpectedType, BadPattern, Memory}
+use Rattle.fv_declare.specs.declared.fault.DeclFault.TheVariants.{NotJson, Shape, BadName, UnknownName, UnknownGroup, CyclicInheritance, CyclicSequence, SequenceMisused, SequenceLacksType, DefaultInTypeSequence, ConversionMisplaced, CyclicComposition, EmptyConstraint, TooLarge, UnknownRule, Attribute, UnexpectedType, BadPattern, MessageSyntax, MessageCycle, Memory}
 use Rattle.fv_flatten.specs.declared.fault.FlattenFault.{FlattenFault}
 use Rattle.fv_flatten.specs.declared.fault.FlattenFault.TheVariants as flat
 use Rattle.fv_grouping.specs.declared.fault.GroupingFault.{GroupingFault}
 use Rattle.fv_grouping.specs.declared.fault.GroupingFault.TheVariants as group
+use Rattle.fv_message.specs.declared.fault.MessageFault.{MessageFault}
+use Rattle.fv_message.specs.declared.fault.MessageFault.TheVariants as message
 
 -- the name of a fault of declarations
 abbrev pub decl_fault_name : DeclFault → List ℕ
@@ -27,6 +29,8 @@ decl_fault_name UnknownRule = codes "UnknownRule"
 decl_fault_name Attribute = codes "Attribute"
 decl_fault_name UnexpectedType = codes "UnexpectedType"
 decl_fault_name BadPattern = codes "BadPattern"
+decl_fault_name MessageSyntax = codes "MessageSyntax"
+decl_fault_name MessageCycle = codes "MessageCycle"
 decl_fault_name Memory = codes "Memory"
 
 -- a fault's code, none for want of memory
@@ -49,6 +53,8 @@ decl_fault_code UnknownRule = codes "F15"
 decl_fault_code Attribute = codes "F16"
 decl_fault_code UnexpectedType = codes "F17"
 decl_fault_code BadPattern = codes "F18"
+decl_fault_code MessageSyntax = codes "F19"
+decl_fault_code MessageCycle = codes "F20"
 decl_fault_code Memory = []
 
 -- the fault of declarations that a fault of groups is
@@ -72,3 +78,10 @@ flatten_fault flat.Attribute = Attribute
 flatten_fault flat.UnexpectedType = UnexpectedType
 flatten_fault flat.BadPattern = BadPattern
 flatten_fault flat.Memory = Memory
+
+-- the fault of declarations that a fault of messages is
+abbrev pub message_fault : MessageFault → DeclFault
+message_fault message.TooLarge = TooLarge
+message_fault message.MessageSyntax = MessageSyntax
+message_fault message.MessageCycle = MessageCycle
+message_fault message.Memory = Memory

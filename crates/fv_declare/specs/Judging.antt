@@ -1,5 +1,5 @@
 -- What is found on the way to a schema; for private clauses.
-use Rattle.std.specs.Prelude.{◌≡◌, ℕ, ◌+◌, ◌<◌, List, [], ◌∷◌, length, Option, Some, None, option_map, if◌then◌else◌}
+use Rattle.std.specs.Prelude.{◌≡◌, ℕ, ◌+◌, ◌<◌, List, [], ◌∷◌, length, Bool, true, false, Option, Some, None, option_map, if◌then◌else◌}
 use Rattle.std.specs.List.{AllByRecursion}
 use Rattle.fv_draft.specs.Drafts.{FieldDraft, Drafted}
 use Rattle.fv_draft.specs.Places.{PlacedCascade}
@@ -10,11 +10,18 @@ use Rattle.fv_declare.specs.Declarations.{Placed}
 use Rattle.fv_declare.specs.Ordered.{held_inside}
 use Rattle.fv_grouping.specs.Numbered.{groups_named}
 use Rattle.fv_groups.specs.Groups.{Groups}
+use Rattle.fv_message.specs.declared.fault.MessageFault.{MessageFault}
+use Rattle.fv_message.specs.declared.fault.MessageFault.TheVariants as message
 use Rattle.fv_uses.specs.Uses.{Use}
 
 -- types, unless there are too many of them or of the fields of one, or too many containers stand one in another
 abbrev pub unless_many : Declared → Option Declared
 unless_many ts = if too_many ts then None else Some ts
+
+-- a fault of messages is want of memory
+abbrev pub lacks_memory : Option MessageFault → Bool
+lacks_memory (Some message.Memory) = true
+lacks_memory _ = false
 
 -- each cascade stands fewer steps inside than those after it
 abbrev pub AreDeepening : List PlacedCascade → Type 0

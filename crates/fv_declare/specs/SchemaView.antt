@@ -8,6 +8,7 @@ use Rattle.fv_grouping.specs.declared.places.ValidPlace as places
 use Rattle.fv_groups.specs.Groups.{Groups}
 use Rattle.fv_groups.specs.Tables.{indices}
 use Rattle.fv_groups.specs.declared.declared.GroupId.{GroupId}
+use Rattle.fv_message.specs.Table.{Messages}
 use Rattle.fv_types.specs.declared.types.Types.{Types}
 use Rattle.fv_declare.specs.Declarations.{Declarations}
 use Rattle.fv_declare.specs.PlacedView.{placed_view}
@@ -30,9 +31,10 @@ form_groups_entry e = (string_bytes e.0, indices e.1.groups.items)
 abbrev pub form_groups_view : TextMap Form → List (List ℕ × List ℕ)
 form_groups_view m = map form_groups_entry m.entries
 
--- the declarations by the types, the occurrences, the forms, the groups, the types' sequences and the places whose objects are validated
-abbrev pub declared_by : Types → List Placed → TextMap Form → Groups → List (Option (Vec GroupId Global)) → List places.ValidPlace → Declarations
-declared_by types occurrences forms groups sequences valid_places = record {
+-- the declarations by the types, the occurrences, the forms, the groups, the types' sequences, the places whose objects are validated and
+-- the messages
+abbrev pub declared_by : Types → List Placed → TextMap Form → Groups → List (Option (Vec GroupId Global)) → List places.ValidPlace → Messages → Declarations
+declared_by types occurrences forms groups sequences valid_places messages = record {
   types = types_view types;
   occurrences = map placed_view occurrences;
   forms = forms_view (types_view types) forms;
@@ -40,4 +42,5 @@ declared_by types occurrences forms groups sequences valid_places = record {
   form_groups = form_groups_view forms;
   sequences = sequences_view sequences;
   valid_places = map valid_place_view valid_places;
+  messages = messages;
 }

@@ -6,6 +6,7 @@ ghost use Rattle.fv_datum.specs.Outcomes.{Gives};
 ghost use Rattle.fv_draft.specs.DraftViews.{form_view, draft_view};
 ghost use Rattle.fv_flatten.specs.Fits.{tree_fits};
 ghost use Rattle.fv_flatten.specs.Read.{IsReadTree};
+ghost use Rattle.fv_message.specs.Table.{all_messages};
 ghost use Rattle.fv_types.specs.Names.{IsAscending};
 ghost use Rattle.fv_types.specs.TypesView.{types_view};
 ghost use Rattle.fv_occurrence.specs.Trees.{Tree};
@@ -29,6 +30,7 @@ use crate::schema::{Form, Schema};
 use fv_draft::{Draft, FormDraft};
 use fv_grouping::{groups_named, sequences_of, valid_places};
 use fv_groups::Groups;
+use fv_message::Messages;
 use fv_model::{TypeId, Types};
 use fv_occurrence::Occurrence;
 use fv_uses::{Cascade, Use};
@@ -90,13 +92,14 @@ fn forms_for(
     Ok(declared)
 }
 
-/// The schema that a draft without fault declares. The types, groups and cascades are the draft's, and
-/// the trees are those of its uses.
+/// The schema that a draft without fault declares. The types, groups, messages and cascades are the
+/// draft's, and the trees are those of its uses.
 pub(crate) fn build(
     alloc: Global,
     draft: &Draft,
     types: Types,
     groups: Groups,
+    messages: Messages,
     uses: &[Use],
     cascades: &[Cascade],
     trees: Vec<Occurrence>,
@@ -106,6 +109,7 @@ pub(crate) fn build(
     requires led { AreLed (draft_view draft.now) }
     requires roots { unknown_root (types_declared (draft_view draft.now)) (draft_view draft.now).forms ≡ false }
     requires groups { groups ≡ groups_in (draft_view draft.now) }
+    requires messages { messages ≡ all_messages (draft_view draft.now).messages }
     requires uses { map use_view uses.now ≡ uses_in (draft_view draft.now).types }
     requires placed { list_any (is_misplaced (groups_in (draft_view draft.now))) (cascades_in (draft_view draft.now).types) ≡ false }
     requires cascades { map cascade_view cascades.now ≡ cascades_in (draft_view draft.now).types }
@@ -129,5 +133,6 @@ pub(crate) fn build(
         groups,
         sequences,
         valid_places,
+        messages,
     })
 }

@@ -3,6 +3,7 @@ ghost use Rattle.fv_declare.specs.FaultNames.{decl_fault_name, decl_fault_code};
 
 use fv_flatten::FlattenFault;
 use fv_grouping::GroupingFault;
+use fv_message::MessageFault;
 use std::alloc::{AllocError, AllocFailed};
 use thiserror::Error;
 
@@ -66,6 +67,12 @@ pub enum DeclFault {
     /// A pattern that the `regex` crate doesn't build.
     #[error("a pattern that isn't built")]
     BadPattern,
+    /// A message that is no template, or the key of one that is no parameter's name.
+    #[error("a message that isn't well written")]
+    MessageSyntax,
+    /// A message by key whose text leads back to the key.
+    #[error("a message that contains itself")]
+    MessageCycle,
     /// An allocation was refused.
     #[error("out of memory")]
     Memory,
@@ -95,6 +102,8 @@ impl DeclFault {
             DeclFault::Attribute => "Attribute",
             DeclFault::UnexpectedType => "UnexpectedType",
             DeclFault::BadPattern => "BadPattern",
+            DeclFault::MessageSyntax => "MessageSyntax",
+            DeclFault::MessageCycle => "MessageCycle",
             DeclFault::Memory => "Memory",
         }
     }
@@ -122,6 +131,8 @@ impl DeclFault {
             DeclFault::Attribute => "F16",
             DeclFault::UnexpectedType => "F17",
             DeclFault::BadPattern => "F18",
+            DeclFault::MessageSyntax => "F19",
+            DeclFault::MessageCycle => "F20",
             DeclFault::Memory => "",
         }
     }
@@ -185,6 +196,22 @@ impl From<FlattenFault> for DeclFault {
             FlattenFault::UnexpectedType => DeclFault::UnexpectedType,
             FlattenFault::BadPattern => DeclFault::BadPattern,
             FlattenFault::Memory => DeclFault::Memory,
+        }
+    }
+}
+
+impl From<MessageFault> for DeclFault {
+    ghost use Rattle.std.specs.Prelude.{◌≡◌};
+    ghost use Rattle.fv_declare.specs.FaultNames.{message_fault};
+
+    ghost from_gives = { λ f e. e ≡ message_fault f };
+
+    fn from(fault: MessageFault) -> DeclFault {
+        match fault {
+            MessageFault::TooLarge => DeclFault::TooLarge,
+            MessageFault::MessageSyntax => DeclFault::MessageSyntax,
+            MessageFault::MessageCycle => DeclFault::MessageCycle,
+            MessageFault::Memory => DeclFault::Memory,
         }
     }
 }

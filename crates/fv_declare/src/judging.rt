@@ -2,6 +2,7 @@
 //! the first fault.
 ghost use Rattle.std.specs.Prelude.{◌≡◌, ◌≢◌, ◌||◌, List, nat_lt, None, Ok, Err, IfOk, IfErr, map, min, is_some, not, true, false, option_map};
 ghost use Rattle.std.specs.List.{list_any};
+ghost use Rattle.std.specs.Result.{result_err};
 ghost use Rattle.fv_constraint.specs.Composed.{Planned, IsCyclic};
 ghost use Rattle.fv_constraint.specs.Definitions.{meant_by};
 ghost use Rattle.fv_datum.specs.Outcomes.{first};
@@ -9,15 +10,17 @@ ghost use Rattle.fv_draft.specs.DraftViews.{draft_view};
 ghost use Rattle.fv_flatten.specs.Flattening.{AreTreesOfUses};
 ghost use Rattle.fv_flatten.specs.UseViews.{use_view as flat_use_view};
 ghost use Rattle.fv_grouping.specs.Grouping.{groups_in, IsGrouping};
+ghost use Rattle.fv_message.specs.Table.{all_messages};
 ghost use Rattle.fv_types.specs.TypesView.{types_view};
 ghost use Rattle.fv_occurrence.specs.Trees.{Tree};
 ghost use Rattle.fv_declare.specs.Declarations.{count_nodes};
-ghost use Rattle.fv_declare.specs.Declares.{name_conditions, has_many, IsFlattened, IsComposed};
+ghost use Rattle.fv_declare.specs.Declares.{name_conditions, has_many, is_wordy, IsFlattened, IsComposed};
 ghost use Rattle.fv_naming.specs.Types.{types_declared};
 ghost use Rattle.fv_declare.specs.Fits.{fits};
-ghost use Rattle.fv_declare.specs.Judging.{AreLed, unless_many};
+ghost use Rattle.fv_declare.specs.Judging.{AreLed, lacks_memory, unless_many};
 ghost use Rattle.fv_uses.specs.Uses.{used, uses_in};
 ghost use Rattle.fv_uses.specs.UseViews.{use_view, cascade_view};
+ghost use Rattle.fv_wording.specs.Wording.{IsFirstFault};
 
 use crate::build::build;
 use crate::fault::DeclFault;
@@ -27,9 +30,11 @@ use fv_draft::Draft;
 use fv_flatten::{flatten_all, has_empty, trees_are_unique};
 use fv_grouping::{Grouping, has_long_sequence};
 use fv_groups::GroupGraph;
+use fv_message::{MessageFault, Messages};
 use fv_model::Types;
 use fv_registry::RuleSet;
 use fv_uses::{Use, used_in};
+use fv_wording::wording;
 use std::alloc::Global;
 
 /// The most forms and declared constraints, of each.
@@ -50,12 +55,31 @@ fn has_many(draft: &Draft, groups: &GroupGraph) -> bool
         || has_long_sequence(&draft.types)
 }
 
-/// Too many of these, or nodes of all trees.
-fn is_large(draft: &Draft, groups: &GroupGraph, nodes: usize) -> bool
-    requires { groups.now ≡ groups_in (draft_view draft.now) }
-    ensures { result ≡ (has_many (draft_view draft.now) || nat_lt 1024 nodes) }
+/// Whether a limit on messages is passed.
+fn is_wordy(wording: &Result<Messages, MessageFault>) -> bool
+    ensures { result ≡ is_wordy (result_err wording.now) }
 {
-    has_many(draft, groups) || nodes > MOST_NODES
+    matches!(wording, Err(MessageFault::TooLarge))
+}
+
+/// Whether memory was refused.
+fn lacks_memory(wording: &Result<Messages, MessageFault>) -> bool
+    ensures { result ≡ lacks_memory (result_err wording.now) }
+{
+    matches!(wording, Err(MessageFault::Memory))
+}
+
+/// Too many of these, or nodes of all trees, or a limit on messages is passed.
+fn is_large(
+    draft: &Draft,
+    groups: &GroupGraph,
+    wording: &Result<Messages, MessageFault>,
+    nodes: usize,
+) -> bool
+    requires { groups.now ≡ groups_in (draft_view draft.now) }
+    ensures { result ≡ ((has_many (draft_view draft.now) || is_wordy (result_err wording.now)) || nat_lt 1024 nodes) }
+{
+    has_many(draft, groups) || is_wordy(wording) || nodes > MOST_NODES
 }
 
 /// How many nodes the trees of the uses have, but no more than 1,025. No tree is made.
@@ -81,6 +105,7 @@ fn flattened<'a, R: RuleSet>(
     types: Option<Types>,
     groups: Grouping,
     composition: &Composition<'a>,
+    wording: Result<Messages, MessageFault>,
 ) -> Result<Schema, DeclFault>
     requires named { first (name_conditions (draft_view draft.now)) ≡ None }
     requires types { option_map types_view types ≡ unless_many (types_declared (draft_view draft.now)) }
@@ -88,6 +113,8 @@ fn flattened<'a, R: RuleSet>(
     requires uses { map use_view uses.now ≡ uses_in (draft_view draft.now).types }
     requires groups { IsGrouping (draft_view draft.now) groups.graph (map cascade_view groups.cascades.items) }
     requires composed { composition.now ≡ (draft_view draft.now).definitions }
+    requires wording { IsFirstFault (draft_view draft.now) (result_err wording) }
+    requires messages { IfOk wording (λ m. m ≡ all_messages (draft_view draft.now).messages) }
     ensures taken { IfOk result (λ s. IsFlattened (R.known rules.now) (draft_view draft.now) (Ok s)) }
     ensures fits { IfOk result (λ s. fits (R.known rules.now) s ≡ true) }
     ensures refused { IfErr result (λ f. f ≢ DeclFault.Memory → IsFlattened (R.known rules.now) (draft_view draft.now) (Err f)) }
@@ -101,7 +128,7 @@ fn flattened<'a, R: RuleSet>(
         return Err(DeclFault::TooLarge);
     };
     let Grouping { graph, cascades } = groups;
-    if is_large(draft, &graph, nodes) {
+    if is_large(draft, &graph, &wording, nodes) {
         return Err(DeclFault::TooLarge);
     }
     let Ok(groups) = graph.finish(alloc) else {
@@ -109,7 +136,10 @@ fn flattened<'a, R: RuleSet>(
     };
     let used = used_in(alloc, uses)?;
     let trees = flatten_all(alloc, rules, composition, &used)?;
-    build(alloc, draft, types, groups, uses, &cascades, trees)
+    let messages = wording?;
+    build(
+        alloc, draft, types, groups, messages, uses, &cascades, trees,
+    )
 }
 
 /// The schema of declarations whose names are known and stand as they may, or their first fault.
@@ -131,8 +161,21 @@ pub(crate) fn composed<'a, R: RuleSet>(
     ensures fits { IfOk result (λ s. fits (R.known rules.now) s ≡ true) }
     ensures refused { IfErr result (λ f. f ≢ DeclFault.Memory → IsComposed (R.known rules.now) (draft_view draft.now) (Err f)) }
 {
-    match Composition::new(alloc, &draft.definitions)? {
-        None => Err(DeclFault::CyclicComposition),
-        Some(composition) => flattened(alloc, rules, draft, uses, types, groups, &composition),
+    let Some(composition) = Composition::new(alloc, &draft.definitions)? else {
+        return Err(DeclFault::CyclicComposition);
+    };
+    let wording = wording(alloc, draft, uses);
+    if lacks_memory(&wording) {
+        return Err(DeclFault::Memory);
     }
+    flattened(
+        alloc,
+        rules,
+        draft,
+        uses,
+        types,
+        groups,
+        &composition,
+        wording,
+    )
 }

@@ -64,8 +64,8 @@ fn schema_of<R: RuleSet>(alloc: Global, rules: &R, value: &Value) -> Result<Sche
 /// Refused by the first of `NotJson`, `Shape`, `BadName`, `UnknownName`, `UnknownGroup`,
 /// `CyclicInheritance`, `CyclicSequence`, `SequenceMisused`, `SequenceLacksType`,
 /// `DefaultInTypeSequence`, `ConversionMisplaced`, `CyclicComposition`, `EmptyConstraint`, `TooLarge`,
-/// `UnknownRule`, `Attribute`, `UnexpectedType` and `BadPattern` whose condition holds; by `Memory` at
-/// any place.
+/// `UnknownRule`, `Attribute`, `UnexpectedType`, `BadPattern`, `MessageSyntax` and `MessageCycle` whose
+/// condition holds; by `Memory` at any place.
 pub fn read_schema<R: RuleSet>(alloc: Global, rules: &R, bytes: &[u8]) -> Result<Schema, DeclFault>
     ensures taken { IfOk result (λ s. Declares (R.known rules.now) bytes.now (Ok s)) }
     ensures fits { IfOk result (λ s. fits (R.known rules.now) s ≡ true) }

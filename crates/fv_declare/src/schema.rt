@@ -16,6 +16,7 @@ ghost use Rattle.fv_occurrence.specs.Views.{test_view};
 use crate::placed::Placed;
 use fv_grouping::ValidPlace;
 use fv_groups::{GroupId, Groups};
+use fv_message::Messages;
 use fv_model::{TypeId, Types};
 use fv_occurrence::Test;
 use fv_registry::RuleSet;
@@ -45,6 +46,8 @@ pub struct Schema {
     /// The places whose objects are validated: by types, in a type by fields, in a field from the
     /// outermost place inwards.
     pub(crate) valid_places: Vec<ValidPlace>,
+    /// The messages by their keys.
+    pub(crate) messages: Messages,
 }
 
 impl Model for Schema {
@@ -61,10 +64,11 @@ impl Model for Schema {
 
     ghost coded = { Prim.hlevel (codes, type_use_code, tree_code {N = Node} (Prim.hlevel (codes, pattern_code))) };
 
-    ghost view = { λ s. declared_by s.types s.occurrences.items s.forms s.groups s.sequences.items s.valid_places.items };
+    ghost view = { λ s.
+        declared_by s.types s.occurrences.items s.forms s.groups s.sequences.items s.valid_places.items s.messages };
 
     ghost invariant = { λ s.
-        AreOrdered (declared_by s.types s.occurrences.items s.forms s.groups s.sequences.items s.valid_places.items) };
+        AreOrdered (declared_by s.types s.occurrences.items s.forms s.groups s.sequences.items s.valid_places.items s.messages) };
 }
 
 impl Schema {
@@ -140,6 +144,13 @@ impl Schema {
         let (_, rest) = places.split_at(first);
         let count = rest.partition_point(|place| place.type_index <= type_id.index);
         &rest[..count]
+    }
+
+    /// All messages by their keys: the declared ones, and the built-in ones.
+    pub fn messages(&self) -> &Messages
+        ensures { result.now ≡ self.now.messages }
+    {
+        &self.messages
     }
 
     /// Whether each rule that is used is there for its sort, and takes the kinds of its places.

@@ -1,5 +1,5 @@
 -- The attributes that uses of constraints give, as they are written.
-use Rattle.std.specs.Prelude.{ℕ, List, ◌∷◌, Option, Some, None, option_map}
+use Rattle.std.specs.Prelude.{ℕ, List, Option, Some, None, option_map}
 use Rattle.serde_json.specs.Data as json
 use Rattle.serde_json.specs.Find.{as_str}
 use Rattle.fv_datum.specs.Attributes.{AttributeValue, integer, text, boolean, texts}

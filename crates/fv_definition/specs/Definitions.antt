@@ -53,21 +53,29 @@ rule_of j = option_or (option_map of_data (rule_number_at (codes "field") j))
 abbrev pub override_of : List ℕ × json.Data → Option (List ℕ × List ℕ)
 override_of m = option_map (λ outer. (m.0, outer)) (as_str m.1)
 
--- `{"constraint":NAME,"with":{..},"override":{..}}`, `with` and `override` may be missing
-abbrev pub composing_of : json.Data → Option Composing
-composing_of = only (codes "constraint" ∷ codes "with" ∷ codes "override" ∷ []) (λ j.
-    map3 (λ name given overrides. record { constraint = name; given = given; overrides = overrides })
-    (required as_str (codes "constraint") j) (optional [] (each_member attr_of) (codes "with") j)
-    (optional [] (each_member override_of) (codes "override") j))
-
 -- what four values make, if all are there
 abbrev pub map4 : {V W X Y Z : Type 0} → (V → W → X → Y → Z) → Option V → Option W → Option X → Option Y → Option Z
 map4 f v w x y = option_and_then (λ a. map3 (f a) w x y) v
 
--- `{"attributes":{..},"compose":[..],"rule":RULE,"single":BOOL}`, all may be missing
+-- what five values make, if all are there
+abbrev pub map5 : {U V W X Y Z : Type 0} → (U → V → W → X → Y → Z) → Option U → Option V → Option W → Option X → Option Y → Option Z
+map5 f u v w x y = option_and_then (λ a. map4 (f a) v w x y) u
+
+-- the template of a message, by the member `message`, which may be missing
+abbrev pub message_of : json.Data → Option (Option (List ℕ))
+message_of = maybe as_str (codes "message")
+
+-- `{"constraint":NAME,"with":{..},"override":{..},"message":TEMPLATE}`, only `constraint` is required
+abbrev pub composing_of : json.Data → Option Composing
+composing_of = only (codes "constraint" ∷ codes "with" ∷ codes "override" ∷ codes "message" ∷ []) (λ j.
+    map4 (λ name given overrides message. record { constraint = name; given = given; overrides = overrides; message = message })
+    (required as_str (codes "constraint") j) (optional [] (each_member attr_of) (codes "with") j)
+    (optional [] (each_member override_of) (codes "override") j) (message_of j))
+
+-- `{"attributes":{..},"compose":[..],"rule":RULE,"single":BOOL,"message":TEMPLATE}`, all may be missing
 abbrev pub definition_of : List ℕ × json.Data → Option (List ℕ × Definition)
-definition_of m = only (codes "attributes" ∷ codes "compose" ∷ codes "rule" ∷ codes "single" ∷ []) (λ j.
-    map4 (λ attributes rule composing single.
-    (m.0, record { attributes = attributes; rule = rule; composing = composing; single = single }))
+definition_of m = only (codes "attributes" ∷ codes "compose" ∷ codes "rule" ∷ codes "single" ∷ codes "message" ∷ []) (λ j.
+    map5 (λ attributes rule composing single message.
+    (m.0, record { attributes = attributes; rule = rule; composing = composing; single = single; message = message }))
     (optional [] (each_member attribute_definition_of) (codes "attributes") j) (maybe rule_of (codes "rule") j)
-    (optional [] (each_item composing_of) (codes "compose") j) (optional false as_bool (codes "single") j)) m.1
+    (optional [] (each_item composing_of) (codes "compose") j) (optional false as_bool (codes "single") j) (message_of j)) m.1

@@ -10,6 +10,7 @@ ghost use Rattle.fv_definition.specs.Definitions.{override_of as spec_override, 
 
 use crate::attributes::attrs_of;
 use crate::members::add_last;
+use crate::message::own_message_of;
 use fv_constraint::Composing;
 use fv_datum::has_only;
 use serde_json::{Map, Value};
@@ -52,11 +53,11 @@ fn overrides_of(
     }
 }
 
-/// `{"constraint":NAME,"with":{..},"override":{..}}`, `with` and `override` may be missing.
+/// `{"constraint":NAME,"with":{..},"override":{..},"message":TEMPLATE}`, only `constraint` is required.
 fn composing_of(alloc: Global, value: &Value) -> Result<Option<Composing>, AllocError>
     ensures { IfOk result (λ o. option_map composing_view o ≡ spec_composing (json_view value.now)) }
 {
-    if !has_only(value, &["constraint", "with", "override"]) {
+    if !has_only(value, &["constraint", "with", "override", "message"]) {
         return Ok(None);
     }
     let Some(constraint) = value.get("constraint").and_then(Value::as_str) else {
@@ -65,12 +66,16 @@ fn composing_of(alloc: Global, value: &Value) -> Result<Option<Composing>, Alloc
     let Some(with) = attrs_of(alloc, value.get("with"))? else {
         return Ok(None);
     };
-    match overrides_of(alloc, value.get("override"))? {
+    let Some(overrides) = overrides_of(alloc, value.get("override"))? else {
+        return Ok(None);
+    };
+    match own_message_of(alloc, value)? {
         None => Ok(None),
-        Some(overrides) => Ok(Some(Composing {
+        Some(message) => Ok(Some(Composing {
             constraint: String::from_str(alloc, constraint)?,
             with,
             overrides,
+            message,
         })),
     }
 }

@@ -15,6 +15,7 @@ ghost use Rattle.fv_constraint.specs.DefinitionViews.{attribute_definition_view,
 use crate::attributes::attribute_of;
 use crate::composing::composings_of;
 use crate::members::add_last;
+use crate::message::own_message_of;
 use fv_constraint::{AttributeDefinition, Definition, Rule};
 use fv_datum::{Attribute, AttributeKind, has_only};
 use serde_json::{Map, Value};
@@ -174,12 +175,16 @@ fn single_of(told: Option<&Value>) -> Option<bool>
     }
 }
 
-/// `{"attributes":{..},"compose":[..],"rule":RULE,"single":BOOL}`, all may be missing.
+/// `{"attributes":{..},"compose":[..],"rule":RULE,"single":BOOL,"message":TEMPLATE}`, all may be
+/// missing.
 fn definition_of(alloc: Global, value: &Value) -> Result<Option<Definition>, AllocError>
     ensures { (name : _) → IfOk result (λ o. option_map (λ d. (name, definition_view d)) o
         ≡ spec_definition (name, json_view value.now)) }
 {
-    if !has_only(value, &["attributes", "compose", "rule", "single"]) {
+    if !has_only(
+        value,
+        &["attributes", "compose", "rule", "single", "message"],
+    ) {
         return Ok(None);
     }
     let Some(attributes) = attribute_definitions_of(alloc, value.get("attributes"))? else {
@@ -191,13 +196,17 @@ fn definition_of(alloc: Global, value: &Value) -> Result<Option<Definition>, All
     let Some(composing) = composings_of(alloc, value.get("compose"))? else {
         return Ok(None);
     };
-    match single_of(value.get("single")) {
+    let Some(single) = single_of(value.get("single")) else {
+        return Ok(None);
+    };
+    match own_message_of(alloc, value)? {
         None => Ok(None),
-        Some(single) => Ok(Some(Definition {
+        Some(message) => Ok(Some(Definition {
             attributes,
             rule,
             composing,
             single,
+            message,
         })),
     }
 }

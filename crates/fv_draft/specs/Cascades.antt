@@ -1,5 +1,5 @@
 -- Whether the objects at a place are validated, and how groups are converted on the way to them, as it is written.
-use Rattle.std.specs.Prelude.{ℕ, List, [], ◌∷◌, Bool, false, Option, option_map, codes}
+use Rattle.std.specs.Prelude.{ℕ, List, [], Bool, false, Option, option_map, codes}
 use Rattle.serde_json.specs.Data as json
 use Rattle.serde_json.specs.Find.{as_bool, as_str}
 use Rattle.fv_datum.specs.Forms.{optional, each_member, map2}

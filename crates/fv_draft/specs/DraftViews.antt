@@ -14,6 +14,7 @@ use Rattle.fv_draft.specs.declared.draft.PlacedCascade.{PlacedCascade}
 use Rattle.fv_draft.specs.declared.draft.GroupForm.{GroupForm}
 use Rattle.fv_draft.specs.declared.draft.GroupForm.TheVariants as form
 use Rattle.fv_draft.specs.declared.draft.GroupDraft.{GroupDraft}
+use Rattle.fv_draft.specs.declared.draft.MessageDraft.{MessageDraft}
 use Rattle.fv_draft.specs.declared.places.Held.{Held}
 use Rattle.fv_draft.specs.Drafts as spec
 use Rattle.fv_draft.specs.declared.draft.UseDraft.{UseDraft}
@@ -22,9 +23,14 @@ use Rattle.fv_draft.specs.declared.draft.TypeDraft.{TypeDraft}
 use Rattle.fv_draft.specs.declared.draft.FormDraft.{FormDraft}
 use Rattle.fv_draft.specs.declared.draft.Draft.{Draft}
 
--- a use of a constraint, with the attributes that it gives and its groups
+-- a use of a constraint, with the attributes that it gives, its groups and its message
 abbrev pub use_view : UseDraft → uses.UseDraft
-use_view u = record { constraint = u.constraint.now; given = u.with; groups = map (λ n. n.now) u.groups.items }
+use_view u = record {
+  constraint = u.constraint.now;
+  given = u.with;
+  groups = map (λ n. n.now) u.groups.items;
+  message = option_map (λ t. t.now) u.message;
+}
 
 -- a conversion
 abbrev pub conversion_view : Conversion → cascades.Conversion
@@ -81,6 +87,10 @@ group_form_view (form.Sequence names) = sequence (map (λ n. n.now) names.items)
 abbrev pub group_view : GroupDraft → List ℕ × Form
 group_view g = (g.name.now, group_form_view g.form)
 
+-- a key with the template that stands for it
+abbrev pub message_view : MessageDraft → List ℕ × List ℕ
+message_view m = (m.key.now, m.template.now)
+
 -- a draft
 abbrev pub draft_view : Draft → spec.Drafted
 draft_view d = record {
@@ -88,4 +98,5 @@ draft_view d = record {
   forms = map form_view d.forms.items;
   definitions = map definition_entry d.definitions.entries;
   groups = map group_view d.groups.items;
+  messages = map message_view d.messages.items;
 }

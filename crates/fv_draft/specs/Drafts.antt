@@ -4,9 +4,10 @@ use Rattle.serde_json.specs.Data as json
 use Rattle.serde_json.specs.Find.{as_str}
 use Rattle.fv_datum.specs.Forms.{only, required, optional, maybe, each_member, map2, map3}
 use Rattle.fv_constraint.specs.Definitions.{Definitions}
-use Rattle.fv_definition.specs.Definitions.{map4, definition_of}
+use Rattle.fv_definition.specs.Definitions.{map5, definition_of}
 use Rattle.fv_definition.specs.Names.{names_in, names_of}
 use Rattle.fv_draft.specs.Groups.{group_of}
+use Rattle.fv_draft.specs.Messages.{message_of}
 use Rattle.fv_draft.specs.Places.{PlacedUse, PlacedCascade, place_of}
 use Rattle.fv_draft.specs.Uses.{UseDraft, uses_of}
 use Rattle.fv_groups.specs.Groups.{Groups}
@@ -32,12 +33,13 @@ pub record FormDraft : Type 0 where
   pub root : List ℕ
   pub groups : List (List ℕ)
 
--- what declarations have: types, forms, declared constraints and declared groups
+-- what declarations have: types, forms, declared constraints, declared groups, and messages by their keys
 pub record Drafted : Type 0 where
   pub types : List TypeDraft
   pub forms : List FormDraft
   pub definitions : Definitions
   pub groups : Groups
+  pub messages : List (List ℕ × List ℕ)
 
 -- a field with its place
 abbrev pub field_of : List ℕ × json.Data → Option FieldDraft
@@ -55,9 +57,11 @@ form_of m = only (codes "root" ∷ codes "groups" ∷ []) (λ j.
     map2 (λ root groups. record { name = m.0; root = root; groups = groups })
     (required as_str (codes "root") j) (names_of (codes "groups") j)) m.1
 
--- `{"types":{..},"forms":{..},"groups":{..},"constraints":{..}}`, `groups` and `constraints` may be missing
+-- `{"types":{..},"forms":{..},"groups":{..},"constraints":{..},"messages":{..}}`, only `types` and `forms` are required
 abbrev pub draft_of : json.Data → Option Drafted
-draft_of = only (codes "types" ∷ codes "forms" ∷ codes "groups" ∷ codes "constraints" ∷ []) (λ j.
-    map4 (λ types forms groups definitions. record { types = types; forms = forms; definitions = definitions; groups = groups })
+draft_of = only (codes "types" ∷ codes "forms" ∷ codes "groups" ∷ codes "constraints" ∷ codes "messages" ∷ []) (λ j.
+    map5 (λ types forms groups definitions messages.
+    record { types = types; forms = forms; definitions = definitions; groups = groups; messages = messages })
     (required (each_member type_of) (codes "types") j) (required (each_member form_of) (codes "forms") j)
-    (optional [] (each_member group_of) (codes "groups") j) (optional [] (each_member definition_of) (codes "constraints") j))
+    (optional [] (each_member group_of) (codes "groups") j) (optional [] (each_member definition_of) (codes "constraints") j)
+    (optional [] (each_member message_of) (codes "messages") j))

@@ -18,6 +18,8 @@ pub struct UseDraft<'a> {
     pub with: Attrs,
     /// The names of its groups; none stand for `Default`.
     pub groups: Vec<&'a str>,
+    /// The template of its message, if it has one of its own.
+    pub message: Option<&'a str>,
 }
 
 /// A group by its name, and the one that it is converted to.
@@ -100,7 +102,14 @@ pub struct GroupDraft<'a> {
     pub form: GroupForm<'a>,
 }
 
-/// Declarations, types, forms and groups ascending by the bytes of their names.
+/// A message: the template that stands for its key.
+#[derive(Drop)]
+pub struct MessageDraft<'a> {
+    pub key: &'a str,
+    pub template: &'a str,
+}
+
+/// Declarations, types, forms, groups and messages ascending by the bytes of their names and keys.
 #[derive(Drop)]
 pub struct Draft<'a> {
     /// The types by their names.
@@ -110,8 +119,10 @@ pub struct Draft<'a> {
     /// The declared constraints by their names.
     pub definitions: BTreeMap<String, Definition>,
     pub groups: Vec<GroupDraft<'a>>,
+    pub messages: Vec<MessageDraft<'a>>,
     pub ghost named_are: { map (λ t. t.name.now) types.items ≡ names_of named.now.entries },
     pub ghost types_ascend: { IsAscending (map (λ t. t.name.now) types.items) } by { Prim.hlevel props },
     pub ghost groups_ascend: { IsAscending (map (λ g. g.name.now) groups.items) } by { Prim.hlevel props },
     pub ghost forms_ascend: { IsAscending (map (λ f. f.name.now) forms.items) } by { Prim.hlevel props },
+    pub ghost messages_ascend: { IsAscending (map (λ m. m.key.now) messages.items) } by { Prim.hlevel props },
 }

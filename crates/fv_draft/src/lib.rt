@@ -4,12 +4,13 @@
 mod cascades;
 mod draft;
 mod groups;
+mod messages;
 mod places;
 mod shape;
 mod uses;
 
 pub use draft::{
-    Cascade, Conversion, Draft, FieldDraft, FormDraft, GroupDraft, GroupForm, PlacedCascade,
-    PlacedUse, TypeDraft, UseDraft,
+    Cascade, Conversion, Draft, FieldDraft, FormDraft, GroupDraft, GroupForm, MessageDraft,
+    PlacedCascade, PlacedUse, TypeDraft, UseDraft,
 };
 pub use shape::draft_of;

@@ -10,6 +10,7 @@ ghost use Rattle.fv_definition.specs.EntryNames.{names_of};
 
 use crate::draft::{Draft, FieldDraft, FormDraft, TypeDraft};
 use crate::groups::groups_of;
+use crate::messages::messages_of;
 use crate::places::{Held, place_of};
 use crate::uses::uses_of;
 use fv_datum::has_only;
@@ -154,12 +155,15 @@ fn forms_of<'a>(
 }
 
 /// The draft that a JSON value is, where it has the form of declarations:
-/// `{"types":{..},"forms":{..},"groups":{..},"constraints":{..}}`, `groups` and `constraints` may be
-/// missing.
+/// `{"types":{..},"forms":{..},"groups":{..},"constraints":{..},"messages":{..}}`, only `types` and
+/// `forms` are required.
 pub fn draft_of<'a>(alloc: Global, value: &'a Value) -> Result<Option<Draft<'a>>, AllocError>
     ensures { IfOk result (λ o. option_map draft_view o ≡ spec_draft (json_view value.now)) }
 {
-    if !has_only(value, &["types", "forms", "groups", "constraints"]) {
+    if !has_only(
+        value,
+        &["types", "forms", "groups", "constraints", "messages"],
+    ) {
         return Ok(None);
     }
     let Some(named) = value.get("types").and_then(Value::as_object) else {
@@ -177,14 +181,18 @@ pub fn draft_of<'a>(alloc: Global, value: &'a Value) -> Result<Option<Draft<'a>>
     let Some(groups) = groups_of(alloc, value.get("groups"))? else {
         return Ok(None);
     };
-    match definitions_of(alloc, value.get("constraints"))? {
+    let Some(definitions) = definitions_of(alloc, value.get("constraints"))? else {
+        return Ok(None);
+    };
+    match messages_of(alloc, value.get("messages"))? {
         None => Ok(None),
-        Some(definitions) => Ok(Some(Draft {
+        Some(messages) => Ok(Some(Draft {
             named,
             types,
             forms,
             definitions,
             groups,
+            messages,
         })),
     }
 }

@@ -9,15 +9,15 @@ ghost use Rattle.fv_draft.specs.Uses.{use_of as spec_use};
 
 use crate::draft::UseDraft;
 use fv_datum::has_only;
-use fv_definition::{attrs_of, names_of};
+use fv_definition::{attrs_of, message_of, names_of};
 use serde_json::Value;
 use std::alloc::{AllocError, Global};
 
-/// `{"constraint":NAME,"with":{..},"groups":[GROUP]}`, `with` and `groups` may be missing.
+/// `{"constraint":NAME,"with":{..},"groups":[GROUP],"message":TEMPLATE}`, only `constraint` is required.
 fn use_of<'a>(alloc: Global, value: &'a Value) -> Result<Option<UseDraft<'a>>, AllocError>
     ensures { IfOk result (λ o. option_map use_view o ≡ spec_use (json_view value.now)) }
 {
-    if !has_only(value, &["constraint", "with", "groups"]) {
+    if !has_only(value, &["constraint", "with", "groups", "message"]) {
         return Ok(None);
     }
     let Some(constraint) = value.get("constraint").and_then(Value::as_str) else {
@@ -26,12 +26,16 @@ fn use_of<'a>(alloc: Global, value: &'a Value) -> Result<Option<UseDraft<'a>>, A
     let Some(with) = attrs_of(alloc, value.get("with"))? else {
         return Ok(None);
     };
-    match names_of(alloc, value.get("groups"))? {
+    let Some(groups) = names_of(alloc, value.get("groups"))? else {
+        return Ok(None);
+    };
+    match message_of(value) {
         None => Ok(None),
-        Some(groups) => Ok(Some(UseDraft {
+        Some(message) => Ok(Some(UseDraft {
             constraint,
             with,
             groups,
+            message,
         })),
     }
 }

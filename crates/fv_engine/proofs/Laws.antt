@@ -147,7 +147,7 @@ number_or a b n same more few = omega arith
 one_verdict : (means : Meanings) (ds : Declarations) (now : ℤ) (b : Bundled) (groups : List ℕ) (v : Verdict) → IsVerdict means ds now b groups v → IsVerdict means ds now b groups (listed []) → v ≡ listed []
 one_verdict means ds now b groups too_many_visits many none =
     let few = none.0 in absurd (number_or many.0 few.0 4096 (one_number (IsVisit (unjudged ds b groups)) many.0 few.0 many.1 few.1) many.2 few.2)
-one_verdict means ds now b groups (listed vs) some none = ap listed (one_listing ds.occurrences (IsViolation (request_of means ds now b groups)) vs [] some.1 none.1)
+one_verdict means ds now b groups (listed vs) some none = ap listed (one_listing ds.occurrences ds.messages (IsViolation (request_of means ds now b groups)) vs [] some.1 none.1)
 
 module _ (means : Meanings) (now : ℤ) (id : List ℕ) (names : List (List ℕ)) where
   -- what a check answers where there is a record and it has no violation
@@ -184,7 +184,7 @@ same_groups : (means : Meanings) (ds : Declarations) (now : ℤ) (b : Bundled) (
     → IsVerdict means ds now b hs (listed [])
 same_groups means ds now b gs hs same verdict =
     subst
-    (λ (g : List ℕ). ((n : ℕ) × AreSoMany (IsVisit (visiting ds b g)) n × (n ≤ 4096)) × AreListed ds.occurrences (IsViolation (judging means ds now b g)) [])
+    (λ (g : List ℕ). ((n : ℕ) × AreSoMany (IsVisit (visiting ds b g)) n × (n ≤ 4096)) × AreListed ds.occurrences ds.messages (IsViolation (judging means ds now b g)) [])
     same verdict
 
 -- ---- a refusal for violations

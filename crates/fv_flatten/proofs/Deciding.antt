@@ -84,7 +84,7 @@ module _ (k : Known) (ds : Definitions) (us : List Use) (ps : List PlacedTree) (
 -- the tree of one use, by which it is answered
 pub record Alone (k : Known) (ds : Definitions) (u : Use) (answer : Result (List (Tree Node)) FlattenFault) : Type 0 where
   pub composed : Tree Planned
-  pub is : IsTreeOf ds u.constraint u.given composed
+  pub is : IsTreeOf ds u.constraint u.message u.given composed
   pub decided : IsDecided (first (conditions k ds u composed)) (u ∷ []) (composed ∷ []) answer
 
 passed : {E : Type 0} (a b : Bool) (x y : E) (rest : List (Bool × E)) → a ≡ false → b ≡ false → first ((a, x) ∷ (b, y) ∷ rest) ≡ first rest
@@ -92,7 +92,7 @@ passed a b x y rest p q = rw (p, q) refl
 
 -- what a list of one use is answered, where neither of the first conditions holds
 pub answers_alone : (k : Known) (ds : Definitions) (u : Use) (answer : Result (List (Tree Node)) FlattenFault) → FlattensAll k ds (u ∷ []) answer → is_empty_in ds ≡ false
-    → ((t : Tree Planned) → IsTreeOf ds u.constraint u.given t → nat_lt 1024 (size t) ≡ false) → Alone k ds u answer
+    → ((t : Tree Planned) → IsTreeOf ds u.constraint u.message u.given t → nat_lt 1024 (size t) ≡ false) → Alone k ds u answer
 answers_alone k ds u answer f full small = go f.0 f.1 f.2
   where
     go : (ts : List (Tree Planned)) → AreTreesOfUses ds (u ∷ []) ts → IsDecided (first (tree_conditions k ds (u ∷ []) ts)) (u ∷ []) ts answer → Alone k ds u answer
@@ -127,13 +127,13 @@ second_holds a b x y rest p q = rw (p, q) refl
 
 -- a use by itself, over a composition of the definitions, whose count of the tree's nodes stops at 1025
 module _ (k : Known) (made ds : Definitions) (u : Use) (count : ℕ) (same : made ≡ ds) (acyclic : IsCyclic ds → ⊥)
-    (sized : (given : Attributes) (t : Tree Planned) → IsTreeOf made u.constraint given t → count ≡ min 1025 (size t))
-    (composed : (given : Attributes) → ((t : Tree Planned) × IsTreeOf made u.constraint given t)) where
-  found : (t : Tree Planned) × IsTreeOf ds u.constraint u.given t
-  found = let t = composed u.given in (t.0, subst (λ (es : Definitions). IsTreeOf es u.constraint u.given t.0) same t.1)
+    (sized : (own : Option (List ℕ)) (given : Attributes) (t : Tree Planned) → IsTreeOf made u.constraint own given t → count ≡ min 1025 (size t))
+    (composed : (own : Option (List ℕ)) (given : Attributes) → ((t : Tree Planned) × IsTreeOf made u.constraint own given t)) where
+  found : (t : Tree Planned) × IsTreeOf ds u.constraint u.message u.given t
+  found = let t = composed u.message u.given in (t.0, subst (λ (es : Definitions). IsTreeOf es u.constraint u.message u.given t.0) same t.1)
 
-  counted : (t : Tree Planned) → IsTreeOf ds u.constraint u.given t → count ≡ min 1025 (size t)
-  counted t is = sized u.given t (subst (λ (es : Definitions). IsTreeOf es u.constraint u.given t) (sym same) is)
+  counted : (t : Tree Planned) → IsTreeOf ds u.constraint u.message u.given t → count ≡ min 1025 (size t)
+  counted t is = sized u.message u.given t (subst (λ (es : Definitions). IsTreeOf es u.constraint u.message u.given t) (sym same) is)
 
   fault_of_tree : (fault : FlattenFault) → first (conditions k ds u found.0) ≡ Some fault → Flattens k ds u (Err fault)
   fault_of_tree fault is =

@@ -81,11 +81,11 @@ both_hold : (a b : Bool) → a ≡ true → b ≡ true → (a && b) ≡ true
 both_hold a b x y = rw (x, y) refl
 
 mutual
-  fits_tree : (k : Known) (ds : Definitions) (place : Place) (name : List ℕ) (given : Attributes) (t : Tree Planned) (o : Tree Node) → unknown_rule k ds ≡ false
-      → IsTreeOf ds name given t → IsReadTree place t o → PassAt k place (preorder t) → FitAt k place (preorder o)
-  fits_tree k ds place name given (tree p below) (tree n others) known is read pass =
+  fits_tree : (k : Known) (ds : Definitions) (place : Place) (name : List ℕ) (own : Option (List ℕ)) (given : Attributes) (t : Tree Planned) (o : Tree Node) → unknown_rule k ds ≡ false
+      → IsTreeOf ds name own given t → IsReadTree place t o → PassAt k place (preorder t) → FitAt k place (preorder o)
+  fits_tree k ds place name own given (tree p below) (tree n others) known is read pass =
       let here = node_fits k p.meant place p.given n.test read.0.asks (known_here k ds name (builtin_named name) p.meant known is.1) (or_left _ _ pass) in
-      both_hold _ _ here (fits_trees k ds place (composing_of p.meant) (effective p.meant given) below others known is.3 read.1 (or_right (refuses_at k place p) _ pass))
+      both_hold _ _ here (fits_trees k ds place (composing_of p.meant) (effective p.meant given) below others known is.4 read.1 (or_right (refuses_at k place p) _ pass))
 
   fits_trees : (k : Known) (ds : Definitions) (place : Place) (cs : List Composing) (above : List ℕ → Option AttributeValue) (ts : Trees Planned) (os : Trees Node) → unknown_rule k ds ≡ false
       → AreTreesOf ds cs above ts → AreReadTrees place ts os → PassAt k place (preorders ts) → FitAt k place (preorders os)
@@ -95,7 +95,7 @@ mutual
   fits_trees k ds place [] above (more t ts) (more o os) known are read pass = absurd are
   fits_trees k ds place (c ∷ cs) above (more t ts) (more o os) known are read pass =
       let parts = pass_parts k place (preorder t) (preorders ts) pass in
-      fit_parts k place (preorder o) (preorders os) (fits_tree k ds place c.constraint are.0.0 t o known are.0.2 read.0 parts.0)
+      fit_parts k place (preorder o) (preorders os) (fits_tree k ds place c.constraint c.message are.0.0 t o known are.0.2 read.0 parts.0)
       (fits_trees k ds place cs above ts os known are.1 read.1 parts.1)
 
 -- what the trees of uses are read as fits the uses' places
@@ -107,4 +107,4 @@ all_fit k ds [] (t ∷ ts) os are known pass read = absurd are
 all_fit k ds (u ∷ us) [] os are known pass read = absurd are
 all_fit k ds (u ∷ us) (t ∷ ts) [] are known pass read = absurd read
 all_fit k ds (u ∷ us) (t ∷ ts) (o ∷ os) are known pass read =
-    (fits_tree k ds u.place u.constraint u.given t o known are.0 read.0 (or_left _ _ pass), all_fit k ds us ts os are.1 known (or_right (list_any (refuses_at k u.place) (nodes t)) _ pass) read.1)
+    (fits_tree k ds u.place u.constraint u.message u.given t o known are.0 read.0 (or_left _ _ pass), all_fit k ds us ts os are.1 known (or_right (list_any (refuses_at k u.place) (nodes t)) _ pass) read.1)

@@ -14,4 +14,4 @@ trees_unique ds [] (t ∷ ts) others x y = absurd x
 trees_unique ds (u ∷ us) [] others x y = absurd x
 trees_unique ds (u ∷ us) (t ∷ ts) [] x y = absurd y
 trees_unique ds (u ∷ us) (t ∷ ts) (o ∷ others) x y =
-    ap (λ v. v ∷ ts) (unique ds u.constraint u.given t o x.0 y.0) ∙ ap (λ vs. o ∷ vs) (trees_unique ds us ts others x.1 y.1)
+    ap (λ v. v ∷ ts) (unique ds u.constraint u.message u.given t o x.0 y.0) ∙ ap (λ vs. o ∷ vs) (trees_unique ds us ts others x.1 y.1)

@@ -17,15 +17,16 @@ use Rattle.fv_occurrence.specs.Preorder.{nodes}
 use Rattle.fv_occurrence.specs.Trees.{Tree, size}
 use Rattle.fv_registry.specs.Rules.{Known}
 
--- a use of a constraint: its name, the attributes that are given, and where it stands
+-- a use of a constraint: its name, the template of its message, if it has one of its own, the attributes that are given, and where it stands
 pub record Use : Type 0 where
   pub constraint : List ℕ
+  pub message : Option (List ℕ)
   pub given : Attributes
   pub place : Place
 
 -- the trees of uses, in their order
 abbrev pub AreTreesOfUses : Definitions → List Use → List (Tree Planned) → Type 0
-AreTreesOfUses ds us ts = AllZip (λ u t. IsTreeOf ds u.constraint u.given t) us ts
+AreTreesOfUses ds us ts = AllZip (λ u t. IsTreeOf ds u.constraint u.message u.given t) us ts
 
 -- a use's constraint is neither built in nor declared
 abbrev pub uses_unknown : Definitions → List Use → Bool
@@ -104,4 +105,4 @@ abbrev pub Flattens : Known → Definitions → Use → Result (Tree Node) Flatt
 Flattens k ds u answer =
     (IsCyclic ds × (answer ≡ Err CyclicComposition))
     ⊎ ((IsCyclic ds → ⊥)
-    × ((t : Tree Planned) × IsTreeOf ds u.constraint u.given t × IsDecided (first (conditions k ds u t)) (u ∷ []) (t ∷ []) (alone answer)))
+    × ((t : Tree Planned) × IsTreeOf ds u.constraint u.message u.given t × IsDecided (first (conditions k ds u t)) (u ∷ []) (t ∷ []) (alone answer)))

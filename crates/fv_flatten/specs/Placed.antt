@@ -24,7 +24,7 @@ planned_in p = map (λ s. planned_view s.value) p.spots.items
 -- a placed tree stands at a use's place, and is the preorder of the use's tree
 abbrev pub IsPlannedFor : Definitions → Use → PlacedTree → Type 0
 IsPlannedFor ds u p =
-    (place_view p.place ≡ u.place) × ((t : Tree Planned) × IsTreeOf ds u.constraint u.given t × (map planned_entry p.spots.items ≡ preorder t))
+    (place_view p.place ≡ u.place) × ((t : Tree Planned) × IsTreeOf ds u.constraint u.message u.given t × (map planned_entry p.spots.items ≡ preorder t))
 
 -- a constraint in it refuses the attributes that it gets
 abbrev pub gets_refused : PlacedTree → Bool

@@ -1,8 +1,9 @@
--- What the constraints of a tree are read as at a place: constraints with their attributes in effect, their tests and their messages.
+-- What the constraints of a tree are read as at a place: constraints with their attributes in effect, their tests and the templates of their
+-- messages.
 use Rattle.std.specs.Prelude.{◌≡◌, ℕ, List, ◌++◌, Bool, false, Option, Some, None, slice_get, Result, Ok, codes}
+use Rattle.std.specs.Option.{option_or, unwrap_or}
 use Rattle.fv_builtin.specs.BuiltIns.{BuiltIn}
 use Rattle.fv_builtin.specs.Given.{drafted, IsRead}
-use Rattle.fv_builtin.specs.Interpolation.{message_with}
 use Rattle.fv_builtin.specs.Maps.{IsMapOf}
 use Rattle.fv_builtin.specs.Table.{takes}
 use Rattle.fv_builtin.specs.declared.fault.BuiltinFault.{BuiltinFault}
@@ -17,10 +18,19 @@ use Rattle.fv_flatten.specs.Refusals.{Place, on_data, refuses_given, refuses_pla
 use Rattle.fv_occurrence.specs.Nodes.{Test, built_in, by_rule, by_object_rule, nothing, Node}
 use Rattle.fv_occurrence.specs.Trees.{Tree, tree, Trees, none, more}
 
--- a built-in's message has its attributes in effect put in; that of a declared constraint is a parameter named after it
-abbrev pub worded : Meant → List ℕ → Attributes → List ℕ
-worded (builtin which) name given = message_with which given
-worded (declared d) name given = codes "{" ++ (name ++ codes ".message}")
+-- the template of a message by default, by the constraint's name: a parameter named after it, after the standard's package where it is built in
+abbrev pub default_template : List ℕ → Meant → List ℕ
+default_template name (builtin which) = codes "{jakarta.validation.constraints." ++ (name ++ codes ".message}")
+default_template name (declared d) = codes "{" ++ (name ++ codes ".message}")
+
+-- the template that the constraint's declaration gives
+abbrev pub declared_template : Meant → Option (List ℕ)
+declared_template (builtin which) = None
+declared_template (declared d) = d.message
+
+-- the template of a constraint's message, by its name: its own, else that of its declaration, else the default
+abbrev pub template_of : List ℕ → Meant → Option (List ℕ) → List ℕ
+template_of name m own = unwrap_or (option_or own (declared_template m)) (default_template name m)
 
 -- a constraint reports as one: only a declared one can
 abbrev pub is_single : Meant → Bool
@@ -45,7 +55,7 @@ pub record IsNode (place : Place) (p : Planned) (n : Node) : Type 0 where
   pub attributes : IsMapOf (effective p.meant p.given) n.attributes
   pub asks : Asks p.meant place p.given n.test
   pub single : n.single ≡ is_single p.meant
-  pub message : n.message ≡ worded p.meant p.constraint p.given
+  pub message : n.message ≡ template_of p.constraint p.meant p.own
 
 -- an entry of a planned tree's preorder is read as an entry of a tree's: its constraint at the place, with as many below it
 abbrev pub IsEntry : Place → Planned × ℕ → Node × ℕ → Type 0

@@ -22,7 +22,7 @@ use std::collections::BTreeMap;
 const MOST_NODES: usize = 1024;
 
 /// The occurrences of uses, in their order: each use's constraint and those that it is composed of,
-/// with their attributes in effect, read at the use's place. Each tree is planned once, and
+/// with their attributes in effect and the templates of their messages, read at the use's place. Each tree is planned once, and
 /// constraints with equal patterns share one.
 ///
 /// Refused by `UnknownRule`, then by `Attribute`, then by `UnexpectedType`, then by `BadPattern`;
@@ -48,7 +48,7 @@ pub fn flatten_all<'a, R: RuleSet>(
 }
 
 /// The occurrence of one use: its constraint and those that it is composed of, with their attributes
-/// in effect, read at the use's place.
+/// in effect and the templates of their messages, read at the use's place.
 ///
 /// Refused by `CyclicComposition`, then by `EmptyConstraint`, then by `TooLarge` (more than 1,024
 /// constraints in the tree), then by `UnknownRule`, `Attribute`, `UnexpectedType` and `BadPattern`,

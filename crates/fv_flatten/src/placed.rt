@@ -45,7 +45,7 @@ pub(crate) fn plan_uses<'a>(
     for used in uses {
         trees.push(PlacedTree {
             place: used.place,
-            spots: composition.plan(alloc, used.constraint, used.given)?,
+            spots: composition.plan(alloc, used.constraint, used.message, used.given)?,
         })?;
     }
     Ok(trees)

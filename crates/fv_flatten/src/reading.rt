@@ -9,7 +9,7 @@ ghost use Rattle.fv_constraint.specs.Definitions.{builtin};
 ghost use Rattle.fv_constraint.specs.DefinitionViews.{meant_view, rule_view};
 ghost use Rattle.fv_flatten.specs.PlaceViews.{place_view};
 ghost use Rattle.fv_constraint.specs.PlannedViews.{planned_view, planned_entry};
-ghost use Rattle.fv_flatten.specs.Read.{worded, is_single, asked, Asks, IsEntry, IsReadTree, IsReadAs, OneIsReadAs, refuses_its_given, refuses_at};
+ghost use Rattle.fv_flatten.specs.Read.{default_template, declared_template, template_of, is_single, asked, Asks, IsEntry, IsReadTree, IsReadAs, OneIsReadAs, refuses_its_given, refuses_at};
 ghost use Rattle.fv_flatten.specs.Refusals.{refuses_place};
 ghost use Rattle.fv_occurrence.specs.Preorder.{preorder, IsPreorder};
 ghost use Rattle.fv_occurrence.specs.Trees.{Tree};
@@ -17,7 +17,7 @@ ghost use Rattle.fv_occurrence.specs.Views.{test_view, entry_view};
 
 use crate::fault::FlattenFault;
 use crate::place::Place;
-use fv_builtin::{Builtin, BuiltinFault, BuiltinName, Patterns, message};
+use fv_builtin::{Builtin, BuiltinFault, BuiltinName, Patterns};
 use fv_constraint::{Meant, Planned, Rule, in_effect};
 use fv_datum::Attrs;
 use fv_graph::Spot;
@@ -80,14 +80,38 @@ fn test_of(
     }
 }
 
-/// The message of a planned constraint.
-fn message_of(alloc: Global, planned: &Planned) -> Result<String, AllocError>
-    ensures { IfOk result (λ s. string_bytes s
-        ≡ worded (planned_view planned.now).meant planned.now.constraint.now planned.now.with) }
+/// The template of a message by default, by the constraint's name.
+fn default_template(alloc: Global, name: &str, meant: Meant) -> Result<String, AllocError>
+    ensures { IfOk result (λ s. string_bytes s ≡ default_template name.now (meant_view meant.entry)) }
 {
-    match planned.meant {
-        Meant::BuiltIn(which) => message(alloc, which, &planned.with),
-        Meant::Declared(_) => format!(in alloc; "{{{}.message}}", planned.constraint),
+    match meant {
+        Meant::BuiltIn(_) => format!(in alloc; "{{jakarta.validation.constraints.{name}.message}}"),
+        Meant::Declared(_) => format!(in alloc; "{{{name}.message}}"),
+    }
+}
+
+/// The template that a constraint's declaration gives.
+fn declared_template<'a>(meant: Meant<'a>) -> Option<&'a str>
+    ensures { option_map (λ t. t.now) result ≡ declared_template (meant_view meant.entry) }
+{
+    match meant {
+        Meant::BuiltIn(_) => None,
+        Meant::Declared(definition) => match &definition.message {
+            None => None,
+            Some(template) => Some(template.as_str()),
+        },
+    }
+}
+
+/// The template of a planned constraint's message: its own, else that of its declaration, else the
+/// default by its name.
+fn template_of(alloc: Global, planned: &Planned) -> Result<String, AllocError>
+    ensures { IfOk result (λ s. string_bytes s
+        ≡ template_of planned.now.constraint.now (planned_view planned.now).meant (planned_view planned.now).own) }
+{
+    match planned.own.or(declared_template(planned.meant)) {
+        Some(template) => String::from_str(alloc, template),
+        None => default_template(alloc, planned.constraint, planned.meant),
     }
 }
 
@@ -121,7 +145,7 @@ fn node_of(
         attributes: in_effect(alloc, planned.meant, &planned.with)?,
         test,
         single: is_single(planned.meant),
-        message: message_of(alloc, planned)?,
+        message: template_of(alloc, planned)?,
         below: spot.below,
     })
 }

@@ -86,18 +86,19 @@ built_in_templates : are_templates built_in_messages ≡ true
 unfolding built_in_texts
 built_in_templates = refl
 
-with_template : (ms : Messages) (m : List ℕ × List ℕ) → are_templates ms ≡ true → is_template m.1 ≡ true → are_templates (with_message ms m) ≡ true
-with_template ms m e f = go (is_key ms m.0)
+with_passing : (test : List ℕ × List ℕ → Bool) (ms : Messages) (m : List ℕ × List ℕ) → list_all test ms ≡ true → test m ≡ true → list_all test (with_message ms m) ≡ true
+with_passing test ms m e f = go (is_key ms m.0)
   where
-    go : (b : Bool) → are_templates (if b then ms else ms ++ m ∷ []) ≡ true
+    go : (b : Bool) → list_all test (if b then ms else ms ++ m ∷ []) ≡ true
     go true = e
-    go false = list_all-append (λ m. is_template m.1) ms (m ∷ []) ∙ rw (e, f) refl
+    go false = list_all-append test ms (m ∷ []) ∙ rw (e, f) refl
 
-all_templates : (rows ms : Messages) → are_templates ms ≡ true → are_templates rows ≡ true → are_templates (fold with_message ms rows) ≡ true
-all_templates [] ms e f = e
-all_templates (m ∷ rows) ms e f =
-    let parts = and_parts (is_template m.1) (are_templates rows) f in
-    all_templates rows (with_message ms m) (with_template ms m e parts.0) parts.1
+-- a test that the user's messages and the built-in ones pass
+pub all_passing : (test : List ℕ × List ℕ → Bool) (rows ms : Messages) → list_all test ms ≡ true → list_all test rows ≡ true → list_all test (fold with_message ms rows) ≡ true
+all_passing test [] ms e f = e
+all_passing test (m ∷ rows) ms e f =
+    let parts = and_parts (test m) (list_all test rows) f in
+    all_passing test rows (with_message ms m) (with_passing test ms m e parts.0) parts.1
 
 readable_at : (ms : Messages) → are_templates ms ≡ true → AreReadable ms
 readable_at [] e i = refl
@@ -113,4 +114,4 @@ user_templates (m ∷ user) e =
 
 -- where no user's message is misspelt, each text is a template
 pub all_readable : (user : Messages) → is_misspelt user ≡ false → AreReadable (all_messages user)
-all_readable user e = readable_at (all_messages user) (all_templates built_in_messages user (user_templates user e) built_in_templates)
+all_readable user e = readable_at (all_messages user) (all_passing (λ m. is_template m.1) built_in_messages user (user_templates user e) built_in_templates)

@@ -9,5 +9,6 @@ pub mod Keys
 pub mod Cycles
 pub mod Weights
 pub mod Built
+pub mod Named
 pub mod Skeleton
 pub mod Spelled

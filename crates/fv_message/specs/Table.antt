@@ -3,7 +3,7 @@ use Rattle.std.specs.Prelude.{◌≡◌, ℕ, suc, List, [], ◌∷◌, ◌++◌
 use Rattle.std.specs.List.{cons_option}
 use Rattle.std.specs.Option.{option_map_or}
 use Rattle.std.specs.Str.{bytes_eq}
-use Rattle.fv_message.specs.Template.{Piece, plain, parameter, pieces, is_template}
+use Rattle.fv_message.specs.Template.{Piece, plain, parameter, pieces, is_template, is_parameter_name}
 use Rattle.fv_message.specs.BuiltIn.{built_in_messages}
 
 -- keys with their texts, in the order of their numbers
@@ -34,6 +34,10 @@ all_messages user = fold with_message user built_in_messages
 -- each key's text is a template
 abbrev pub AreReadable : Messages → Type 0
 AreReadable ms = (i : ℕ) → is_template (text_at ms i) ≡ true
+
+-- each key is a parameter's name
+abbrev pub AreNamed : Messages → Type 0
+AreNamed ms = (name : List ℕ) (i : ℕ) → number_of ms name ≡ Some i → is_parameter_name name ≡ true
 
 -- the numbers of the parameters that are keys, in order
 abbrev pub keys_in : Messages → List Piece → List ℕ

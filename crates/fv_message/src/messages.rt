@@ -1,7 +1,8 @@
 //! Messages by key, and the texts that templates become.
-ghost use Rattle.std.specs.Prelude.{◌≡◌, ◌++◌, true, false, IfOk, OnOk, MatchResult, string_bytes};
+ghost use Rattle.std.specs.Prelude.{◌≡◌, ◌<◌, ◌++◌, true, false, length, IfOk, IfSome, OnOk, MatchResult, string_bytes};
+ghost use Rattle.fv_datum.specs.Attributes.{Attributes};
 ghost use Rattle.fv_message.specs.Expanded.{AreExpansions};
-ghost use Rattle.fv_message.specs.Full.{full_pieces, full_text};
+ghost use Rattle.fv_message.specs.Full.{full_pieces, full_text, key_text};
 ghost use Rattle.fv_message.specs.Judged.{AreSound, AreWhole, IsFault, IsFaultOf};
 ghost use Rattle.fv_message.specs.Parts.{part_pieces};
 ghost use Rattle.fv_message.specs.Table.{all_messages, AreReadable};
@@ -33,12 +34,13 @@ pub struct Messages {
 impl Model for Messages {
     ghost use Rattle.fv_message.specs.Table as spec;
     ghost use Rattle.fv_message.specs.Expanded.{AreExpansions};
+    ghost use Rattle.fv_message.specs.Table.{AreNamed};
 
     ghost Value = { spec.Messages };
 
     ghost view = { λ m. m.keys };
 
-    ghost invariant = { λ m. AreExpansions m.keys m.expansions.items };
+    ghost invariant = { λ m. AreExpansions m.keys m.expansions.items × AreNamed m.keys };
 }
 
 /// The expansions of the keys of a table. Refused by `TooLarge` where a key's text becomes too long,
@@ -89,7 +91,7 @@ impl Messages {
         Ok(Messages { keys, expansions })
     }
 
-    /// The text that a template becomes, which `check_template` tells is one.
+    /// The text that a template becomes; empty where the text given is none, as `check_template` tells.
     ///
     /// Plain characters stay. A parameter that is a key becomes what the key's text becomes, the user's
     /// before the built-in one; else one that is an attribute becomes its text, an integer in decimal,
@@ -101,16 +103,33 @@ impl Messages {
         template: &str,
         attributes: &Attrs,
     ) -> Result<String, AllocError>
-        requires { is_template template.now ≡ true }
         ensures { IfOk result (λ s. string_bytes s ≡ full_text self.now attributes.now template.now) }
     {
-        let mut text = String::new(alloc);
+        let mut text = String::with_capacity(alloc, template.len())?;
+        if let Some(key) = self.key_alone(template) {
+            write_expansion(alloc, &mut text, at(&self.expansions, key), attributes)?;
+            return Ok(text);
+        }
         let mut rest = template;
         while let Some((part, behind)) = split_part(rest) {
             self.write_part(alloc, &mut text, part, attributes)?;
             rest = behind;
         }
+        if !rest.is_empty() {
+            text.clear();
+        }
         Ok(text)
+    }
+
+    /// The key that is the one parameter that a template is, as a constraint's default message is.
+    fn key_alone(&self, template: &str) -> Option<usize>
+        ensures within { IfSome result (λ key. key < length self.now) }
+        ensures text { IfSome result (λ key. (attributes : Attributes) → full_text self.now attributes template.now ≡ key_text self.now attributes key) }
+    {
+        let [b'{', .., b'}'] = template.as_bytes() else {
+            return None;
+        };
+        self.keys.number_of(&template[1..template.len() - 1])
     }
 
     /// Writes what a part of a template becomes.

@@ -1,4 +1,6 @@
 //! Composed constraints: what a tree of constraints reports of a datum or of an object.
+//!
+//! Each element of a list is judged by itself, so what is called once for each is inlined.
 #![tactic(auto)]
 
 mod node;

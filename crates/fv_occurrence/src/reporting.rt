@@ -41,6 +41,7 @@ fn any_refuses<R: RuleSet>(
 
 /// Whether a node is reported, before all nodes behind it: its own constraint refuses, or it reports
 /// as one and one of those below it refuses.
+#[inline(always)]
 fn is_reported<R: RuleSet>(
     alloc: Global,
     rules: &Ruled<R>,
@@ -64,6 +65,7 @@ fn is_reported<R: RuleSet>(
 }
 
 /// The numbers of the nodes that are reported of a subject at a moment, in preorder.
+#[inline(always)]
 fn violated<R: RuleSet>(
     alloc: Global,
     rules: &Ruled<R>,

@@ -49,6 +49,7 @@ fn object_rule_holds<R: RuleSet>(
 }
 
 /// Whether a constraint's own test holds of a subject at a moment.
+#[inline(always)]
 pub(crate) fn says<R: RuleSet>(
     alloc: Global,
     rules: &Ruled<R>,

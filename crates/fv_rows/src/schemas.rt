@@ -66,14 +66,16 @@ fn place_shown(alloc: Global, types: &Types, placed: &Placed) -> Result<String> 
     Ok(shown)
 }
 
-/// A constraint of a use by its number: the use's type and place, the constraint and its message.
-fn node_shown(alloc: Global, types: &Types, placed: &Placed, below: usize) -> Result<String> {
-    let name = types.name(placed.type_id());
-    let place = place_shown(alloc, types, placed)?;
+/// A constraint of a use by its number: the use's type and place, the constraint and what its message
+/// becomes.
+fn node_shown(alloc: Global, schema: &Schema, placed: &Placed, below: usize) -> Result<String> {
+    let name = schema.types().name(placed.type_id());
+    let place = place_shown(alloc, schema.types(), placed)?;
     let number = placed.number().checked_add(below).context("a number")?;
     let node = placed.occurrence().node(below).context("a node")?;
     let constraint = node.constraint();
-    let message = node.message();
+    let messages = schema.messages();
+    let message = messages.text(alloc, node.message(), &node.attributes)?;
     Ok(format!(in alloc; "{number} {name} {place} {constraint} {message}")?)
 }
 
@@ -90,7 +92,7 @@ pub(crate) fn uses<R: RuleSet>(
     let mut lines = Vec::new(alloc);
     for placed in schema.occurrences() {
         for below in 0..placed.occurrence().size() {
-            lines.push(node_shown(alloc, schema.types(), placed, below)?)?;
+            lines.push(node_shown(alloc, &schema, placed, below)?)?;
         }
     }
     compare_lines(alloc, table, &lines, report)

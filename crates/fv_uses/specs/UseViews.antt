@@ -1,5 +1,5 @@
 -- The uses at their places that contracts see.
-use Rattle.std.specs.Prelude.{map}
+use Rattle.std.specs.Prelude.{map, option_map}
 use Rattle.fv_extract.specs.Views.{step_view}
 use Rattle.fv_draft.specs.DraftViews.{placed_cascade_view}
 use Rattle.fv_uses.specs.Cascades as cascades
@@ -20,6 +20,7 @@ use_view u = record {
   type = u.type_index;
   place = place_view u.place;
   constraint = u.constraint.now;
+  message = option_map (λ t. t.now) u.message;
   given = u.given.now;
   groups = map (λ n. n.now) u.groups.now;
 }

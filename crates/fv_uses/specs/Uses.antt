@@ -1,5 +1,5 @@
 -- The uses of constraints at their places, in their order.
-use Rattle.std.specs.Prelude.{ℕ, ◌++◌, List, map}
+use Rattle.std.specs.Prelude.{ℕ, ◌++◌, List, Option, map}
 use Rattle.std.specs.List.{flat_map, enumerate_from}
 use Rattle.fv_datum.specs.Attributes.{Attributes}
 use Rattle.fv_datum.specs.declared.kind.Kind.{Kind}
@@ -20,22 +20,23 @@ abbrev pub judged_at : Place → subject.Place
 judged_at whole = subject.on_object
 judged_at (field number steps kind) = subject.on_data kind
 
--- a use at its place: the number of its type, its place there, the constraint's name, what is given, and the names of its groups; no
--- names stand for `Default`
+-- a use at its place: the number of its type, its place there, the constraint's name, the template of its message, if it has one of its own,
+-- what is given, and the names of its groups; no names stand for `Default`
 pub record Use : Type 0 where
   pub type : ℕ
   pub place : Place
   pub constraint : List ℕ
+  pub message : Option (List ℕ)
   pub given : Attributes
   pub groups : List (List ℕ)
 
 -- what is used, and of what it judges
 abbrev pub used : Use → flat.Use
-used u = record { constraint = u.constraint; given = u.given; place = judged_at u.place }
+used u = record { constraint = u.constraint; message = u.message; given = u.given; place = judged_at u.place }
 
 -- a use at a place in the type of a number
 abbrev pub use_at : ℕ → Place → UseDraft → Use
-use_at type place u = record { type = type; place = place; constraint = u.constraint; given = u.given; groups = u.groups }
+use_at type place u = record { type = type; place = place; constraint = u.constraint; message = u.message; given = u.given; groups = u.groups }
 
 -- a use at a place in the field of a number
 abbrev pub use_in : ℕ → ℕ → PlacedUse → Use

@@ -19,6 +19,8 @@ pub struct Use<'a> {
     pub place: Place,
     /// The constraint's name.
     pub constraint: &'a str,
+    /// The template of its message, if it has one of its own.
+    pub message: Option<&'a str>,
     /// The attributes that are given.
     pub given: &'a Attrs,
     /// The names of its groups; none stand for `Default`.
@@ -39,6 +41,7 @@ fn add_whole<'a>(
             type_index,
             place: Place::Whole,
             constraint: draft.constraint,
+            message: draft.message,
             given: &draft.with,
             groups: &draft.groups,
         })?;
@@ -58,6 +61,7 @@ fn use_in<'a>(
         type_index,
         place: Place::Field(number, placed.steps.clone()?, placed.kind),
         constraint: placed.draft.constraint,
+        message: placed.draft.message,
         given: &placed.draft.with,
         groups: &placed.draft.groups,
     })
@@ -126,6 +130,7 @@ pub fn used_in<'a>(alloc: Global, uses: &[Use<'a>]) -> Result<Vec<fv_flatten::Us
     for given in uses {
         flat.push(fv_flatten::Use {
             constraint: given.constraint,
+            message: given.message,
             given: given.given,
             place: given.place.judged_at(),
         })?;

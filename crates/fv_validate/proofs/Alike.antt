@@ -6,6 +6,7 @@ use Rattle.std.specs.List.{AllByRecursion}
 use Rattle.std.specs.Ordering.{is_lt, ordering_reverse}
 use Rattle.fv_declare.specs.Declarations.{Placed}
 use Rattle.fv_graph.specs.Graph.{IsIn}
+use Rattle.fv_message.specs.Table.{Messages}
 use Rattle.fv_turns.specs.Violations.{Violation}
 use Rattle.fv_validate.specs.Violations.{Reported, Precedes, IsAscending, AreListed}
 
@@ -60,9 +61,9 @@ same_list (v ∷ vs) (w ∷ ws) up rise to from =
     let rest : vs ≡ ws = same_list vs ws up.1 rise.1 (same_rest v w vs ws first up.0 to) (same_rest w v ws vs (sym first) rise.0 from) in
     ap (λ (x : Reported). x ∷ vs) first ∙ ap (λ (xs : List Reported). w ∷ xs) rest
 
-module _ (us : List Placed) (IsOne : Violation → Type 0) where
-  within : (vs ws : List Reported) → AreListed us IsOne vs → AreListed us IsOne ws → Within vs ws
+module _ (us : List Placed) (ms : Messages) (IsOne : Violation → Type 0) where
+  within : (vs ws : List Reported) → AreListed us ms IsOne vs → AreListed us ms IsOne ws → Within vs ws
   within vs ws one other = λ x is_in. other.complete x (each _ vs x one.sound is_in)
 
-  pub one_listing : (vs ws : List Reported) → AreListed us IsOne vs → AreListed us IsOne ws → vs ≡ ws
+  pub one_listing : (vs ws : List Reported) → AreListed us ms IsOne vs → AreListed us ms IsOne ws → vs ≡ ws
   one_listing vs ws one other = same_list vs ws one.ascending other.ascending (within vs ws one other) (within ws vs other one)

@@ -7,6 +7,8 @@ use Rattle.std.specs.Cmp.Lexicographic.{slice_cmp}
 use Rattle.fv_datum.specs.Data.{Data}
 use Rattle.fv_declare.specs.Declarations.{Placed, Declarations}
 use Rattle.fv_graph.specs.Graph.{IsIn}
+use Rattle.fv_message.specs.Full.{full_text}
+use Rattle.fv_message.specs.Table.{Messages}
 use Rattle.fv_model.specs.Bundles.{Thing, Bundled}
 use Rattle.fv_occurrence.specs.Nodes.{Node}
 use Rattle.fv_occurrence.specs.Preorder.{nodes}
@@ -28,21 +30,25 @@ pub record Reported : Type 0 where
 abbrev pub nodes_in : List Placed → List Node
 nodes_in us = flat_map (λ u. nodes u.tree) us
 
+-- what a constraint's message becomes, by the messages and the constraint's attributes ("Message interpolation")
+abbrev pub message_of : Messages → Node → List ℕ
+message_of ms n = full_text ms n.attributes n.message
+
 -- a violation as it is reported: with the text of its path, and the name and the message of the constraint of its number ("ConstraintViolation")
-abbrev pub reported_by : List Placed → Violation → Reported
-reported_by us v =
+abbrev pub reported_by : List Placed → Messages → Violation → Reported
+reported_by us ms v =
     let node = slice_get (nodes_in us) v.node in
     record {
       path = text_of v.path;
       constraint = option_map_or (λ n. n.constraint) node [];
       occurrence = v.node;
-      message = option_map_or (λ n. n.message) node [];
+      message = option_map_or (message_of ms) node [];
       value = v.value;
     }
 
 -- it reports one of some violations
-abbrev pub IsReportOf : List Placed → (Violation → Type 0) → Reported → Type 0
-IsReportOf us IsOne r = (v : Violation) × IsOne v × (r ≡ reported_by us v)
+abbrev pub IsReportOf : List Placed → Messages → (Violation → Type 0) → Reported → Type 0
+IsReportOf us ms IsOne r = (v : Violation) × IsOne v × (r ≡ reported_by us ms v)
 
 -- by the bytes of the path, then by the number of the constraint
 abbrev pub Precedes : Reported → Reported → Type 0
@@ -54,15 +60,15 @@ IsAscending [] = Unit {0}
 IsAscending (v ∷ vs) = AllByRecursion (Precedes v) vs × IsAscending vs
 
 -- all of some violations, each once, in order
-pub record AreListed (us : List Placed) (IsOne : Violation → Type 0) (vs : List Reported) : Type 0 where
-  pub sound : AllByRecursion (IsReportOf us IsOne) vs
-  pub complete : (r : Reported) → IsReportOf us IsOne r → IsIn vs r
+pub record AreListed (us : List Placed) (ms : Messages) (IsOne : Violation → Type 0) (vs : List Reported) : Type 0 where
+  pub sound : AllByRecursion (IsReportOf us ms IsOne) vs
+  pub complete : (r : Reported) → IsReportOf us ms IsOne r → IsIn vs r
   pub ascending : IsAscending vs
 
 -- the violations of the request that judges a bundle for these groups at a moment
 abbrev pub IsListing : Meanings → Declarations → ℤ → Bundled → List ℕ → List Reported → Type 0
-IsListing m ds now b asked vs = AreListed ds.occurrences (IsViolation (request_of m ds now b asked)) vs
+IsListing m ds now b asked vs = AreListed ds.occurrences ds.messages (IsViolation (request_of m ds now b asked)) vs
 
 -- those in the field of that name of an object
 abbrev pub IsListingOfField : Meanings → Declarations → ℤ → Thing → List ℕ → List ℕ → List Reported → Type 0
-IsListingOfField m ds now object name asked vs = AreListed ds.occurrences (IsViolationIn m ds now object name asked) vs
+IsListingOfField m ds now object name asked vs = AreListed ds.occurrences ds.messages (IsViolationIn m ds now object name asked) vs

@@ -62,7 +62,8 @@ pub fn validate_property<R: RuleSet>(
         × HasTooManyVisitsAt rulebook.now (object_view object.now) (indices asked.now)) }
 {
     let failures = failures_of_field(alloc, rulebook, object, field, asked, now)?;
-    Ok(listing_of(alloc, rulebook.schema().occurrences(), failures)?)
+    let schema = rulebook.schema();
+    Ok(listing_of(alloc, schema.occurrences(), schema.messages(), failures)?)
 }
 
 /// The violations in the field of that name of an object of a type, where this datum stands in the

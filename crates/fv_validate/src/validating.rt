@@ -1,13 +1,16 @@
 //! The violations of a bundle.
-ghost use Rattle.std.specs.Prelude.{◌≡◌, ◌≢◌, ◌<◌, All, map, length, IfOk, IfErr, OnOk};
+ghost use Rattle.std.specs.Prelude.{◌≡◌, ◌≢◌, ◌<◌, All, [], map, length, string_bytes, IfOk, IfErr, OnOk};
 ghost use Rattle.std.specs.List.{AllByRecursion};
+ghost use Rattle.std.specs.Option.{option_map_or};
 ghost use Rattle.fv_datum.specs.Moments.{IsMoment};
 ghost use Rattle.fv_declare.specs.Declarations.{AreNumbered};
 ghost use Rattle.fv_declare.specs.PlacedView.{placed_view};
 ghost use Rattle.fv_graph.specs.Graph.{IsIn};
 ghost use Rattle.fv_groups.specs.Tables.{indices};
+ghost use Rattle.fv_message.specs.Full.{full_text};
 ghost use Rattle.fv_model.specs.Views.{bundle_view};
 ghost use Rattle.fv_model.specs.WellTyped.{IsWellTyped};
+ghost use Rattle.fv_occurrence.specs.Views.{node_view};
 ghost use Rattle.fv_path.specs.Paths.{IsPath};
 ghost use Rattle.fv_validate.specs.Listing.{AreApart};
 ghost use Rattle.fv_validate.specs.ViolationView.{violation_view};
@@ -22,30 +25,41 @@ use crate::violation::Violation;
 use fv_declare::Placed;
 use fv_groups::GroupId;
 use fv_local::Rulebook;
+use fv_message::Messages;
 use fv_model::Bundle;
+use fv_occurrence::Node;
 use fv_registry::RuleSet;
 use fv_walk::{Failure, walk};
 use std::alloc::{AllocError, Global};
+
+/// What the message of a constraint becomes; empty where there is no constraint.
+fn message_of(alloc: Global, messages: &Messages, node: Option<&Node>) -> Result<String, AllocError>
+    ensures { IfOk result (λ s. string_bytes s ≡ option_map_or (λ n. full_text messages.now (node_view n.now).attributes (node_view n.now).message) node.entry []) }
+{
+    match node {
+        Some(node) => messages.text(alloc, node.message(), &node.attributes),
+        None => Ok(String::new(alloc)),
+    }
+}
 
 /// A failure, as it is reported.
 fn violation_of(
     alloc: Global,
     occurrences: &[Placed],
+    messages: &Messages,
     failure: Failure,
 ) -> Result<Violation, AllocError>
     requires { AreNumbered 0 (map placed_view occurrences.now) }
-    ensures report { IfOk result (λ v. violation_view v ≡ reported_by (map placed_view occurrences.now) (failure_view failure)) }
+    ensures report { IfOk result (λ v. violation_view v
+        ≡ reported_by (map placed_view occurrences.now) messages.now (failure_view failure)) }
     ensures path { IsPath failure.path }
 {
-    let (constraint, message) = match node_of(occurrences, failure.number) {
-        Some(node) => (node.constraint(), node.message()),
-        None => ("", ""),
-    };
+    let node = node_of(occurrences, failure.number);
     Ok(Violation {
         path: failure.path.write(alloc)?,
-        constraint: String::from_str(alloc, constraint)?,
+        constraint: String::from_str(alloc, node.map_or("", Node::constraint))?,
         occurrence: failure.number,
-        message: String::from_str(alloc, message)?,
+        message: message_of(alloc, messages, node)?,
         value: failure.value,
     })
 }
@@ -54,15 +68,17 @@ fn violation_of(
 fn violations_of(
     alloc: Global,
     occurrences: &[Placed],
+    messages: &Messages,
     failures: Vec<Failure>,
 ) -> Result<Vec<Violation>, AllocError>
     requires { AreNumbered 0 (map placed_view occurrences.now) }
-    ensures reports { IfOk result (λ v. map violation_view v.items ≡ map (reported_by (map placed_view occurrences.now)) (map failure_view failures.items)) }
+    ensures reports { IfOk result (λ v. map violation_view v.items
+        ≡ map (reported_by (map placed_view occurrences.now) messages.now) (map failure_view failures.items)) }
     ensures paths { IfOk result (λ _. AllByRecursion (λ v. IsPath v.path) (map failure_view failures.items)) }
 {
     let mut violations = Vec::with_capacity(alloc, failures.len())?;
     for failure in failures {
-        violations.push(violation_of(alloc, occurrences, failure)?)?;
+        violations.push(violation_of(alloc, occurrences, messages, failure)?)?;
     }
     Ok(violations)
 }
@@ -71,13 +87,15 @@ fn violations_of(
 pub(crate) fn listing_of(
     alloc: Global,
     occurrences: &[Placed],
+    messages: &Messages,
     failures: Vec<Failure>,
 ) -> Result<Vec<Violation>, AllocError>
     requires numbered { AreNumbered 0 (map placed_view occurrences.now) }
     requires apart { AreApart (map failure_view failures.items) }
-    ensures { IfOk result (λ v. AreListed (map placed_view occurrences.now) (IsIn (map failure_view failures.items)) (map violation_view v.items)) }
+    ensures { IfOk result (λ v. AreListed (map placed_view occurrences.now) messages.now
+        (IsIn (map failure_view failures.items)) (map violation_view v.items)) }
 {
-    let mut violations = violations_of(alloc, occurrences, failures)?;
+    let mut violations = violations_of(alloc, occurrences, messages, failures)?;
     arrange(&mut violations);
     Ok(violations)
 }
@@ -110,5 +128,6 @@ pub fn validate<R: RuleSet>(
     ensures no_field { IfErr result (λ fault. fault ≢ ValidateFault.NoSuchField) }
 {
     let failures = walk(alloc, rulebook, bundle, asked, now)?;
-    Ok(listing_of(alloc, rulebook.schema().occurrences(), failures)?)
+    let schema = rulebook.schema();
+    Ok(listing_of(alloc, schema.occurrences(), schema.messages(), failures)?)
 }

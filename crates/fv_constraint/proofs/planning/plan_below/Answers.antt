@@ -49,5 +49,6 @@ returns c =
     let above = effective (declared (definition_view d)) p.given in
     let given : c.in_ok-handed.field-0 ≡ handed_map one (effective p.meant p.given) =
     same_map (handed one above) c.in_ok-handed.field-0 (handed_map one above) c.in_ok-handed.ensures (handed_map_is one above) ∙ ap (λ (m : Meant). handed_map one (effective m p.given)) (sym is) in
-    planned_same c.as_str-name.result.now one.constraint (meant_view c.unwrap_or.result) (unwrap_or (meant_by ds one.constraint) p.meant) c.in_ok-handed.field-0 (handed_map one (effective p.meant p.given)) name meant given
+    planned_same c.as_str-name.result.now one.constraint (meant_view c.unwrap_or.result) (unwrap_or (meant_by ds one.constraint) p.meant) (option_map (λ t. t.now) c.text_of.result) one.message c.in_ok-handed.field-0
+    (handed_map one (effective p.meant p.given)) name meant c.text_of.ensures given
     ∙ ap (composing_at ds p) (sym here)

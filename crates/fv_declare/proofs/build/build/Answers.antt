@@ -56,6 +56,7 @@ returns-clause-taken c =
       form_groups = grouped ∙ ap (λ (g : Groups). map (form_grouped g) d.forms) c.requires.groups;
       sequences = sequences ∙ ap (λ (g : Groups). map (type_ranks g) d.types) c.requires.groups;
       valid_places = c.in_ok-valid_places.ensures ∙ ap (valid_places gs) c.requires.cascades ∙ ap (λ (g : Groups). valid_places g (cascades_in d.types)) c.requires.groups;
+      messages = c.requires.messages;
       ordered = ordered gs c.args.draft.now _ c.args.trees.items c.requires.types at forms valid placed_well long c.requires.few c.requires.named c.requires.led some refl grouped sequences;
     }
 

@@ -1,9 +1,16 @@
-use Rattle.std.proofs.Common.{◌≡◌, inr, Option, Some, None}
+use Rattle.std.proofs.Common.{◌≡◌, ◌≢◌, inr, false, Option, Some, None, Result, Ok, Err, IfOk, IfErr, sym}
 use Rattle.std.specs.Option.{MatchOption}
+use Rattle.std.specs.Result.{result_err}
 use Rattle.std.proofs.lemmas.Result.{IfOk-weaker, IfErr-weaker, err_from_is_err_and}
 use Rattle.fv_constraint.specs.Composed.{IsCyclic}
 use Rattle.fv_constraint.specs.Definitions.{Definitions}
+use Rattle.fv_draft.specs.Drafts.{Drafted}
 use Rattle.fv_draft.specs.DraftViews.{draft_view}
+use Rattle.fv_message.specs.Table.{Messages, all_messages}
+use Rattle.fv_message.specs.declared.fault.MessageFault.{MessageFault}
+use Rattle.fv_message.specs.declared.fault.MessageFault.TheVariants as message
+use Rattle.fv_wording.specs.Wording.{IsFirstFault}
+use Rattle.fv_declare.specs.Judging.{lacks_memory}
 use Rattle.fv_declare.proofs.Found.{composed_known}
 use Rattle.fv_declare.proofs.judging.composed.Goals as goal
 
@@ -15,19 +22,32 @@ there : {X : Type 0} (P Q : Type 0) (R : X → Type 0) (o : Option X) (x : X) �
 there P Q R None x is h = cc
 there P Q R (Some y) x is h = h.1
 
-pub returns-in_err-new-clause-refused : goal.returns-in_err-new-clause-refused
-returns-in_err-new-clause-refused g c =
+pub returns-in_err-composition-clause-refused : goal.returns-in_err-composition-clause-refused
+returns-in_err-composition-clause-refused g c =
     let p = err_from_is_err_and c.from_residual.result c.from_residual.ensures.1 in
     rw p.1 (λ other. absurd (other p.2))
 
-pub returns-in-Some-clause-taken : goal.returns-in-Some-clause-taken
-returns-in-Some-clause-taken g c =
+-- the first fault of the wording, where memory wasn't refused
+found : (d : Drafted) (r : Result Messages MessageFault) → lacks_memory (result_err r) ≡ false → IfOk r (λ m. (m ≡ all_messages d.messages) × IsFirstFault d None)
+    → IfErr r (λ f. f ≢ message.Memory → IsFirstFault d (Some f)) → IsFirstFault d (result_err r)
+found d (Ok m) is taken refused = taken.1
+found d (Err message.TooLarge) is taken refused = refused (λ e. cc)
+found d (Err message.MessageSyntax) is taken refused = refused (λ e. cc)
+found d (Err message.MessageCycle) is taken refused = refused (λ e. cc)
+found d (Err message.Memory) is taken refused = cc
+
+pub flattened-requires-clause-wording : goal.flattened-requires-clause-wording
+flattened-requires-clause-wording g c =
+    found (draft_view c.args.draft.now) c.wording-wording.result (sym c.if-lacks_memory.ensures) c.wording-wording.ensures.taken c.wording-wording.ensures.refused
+
+pub returns-clause-taken : goal.returns-clause-taken
+returns-clause-taken g c =
     let ds = (draft_view c.args.draft.now).definitions in
-    let acyclic : IsCyclic ds → ⊥ = there (IsCyclic ds) (IsCyclic ds → ⊥) (λ (x : Definitions). x ≡ ds) c.in_ok-new.field-0 _ c.in-Some.is c.in_ok-new.ensures in
+    let acyclic : IsCyclic ds → ⊥ = there (IsCyclic ds) (IsCyclic ds → ⊥) (λ (x : Definitions). x ≡ ds) c.in_ok-composition.field-0 _ c.in-Some.is c.in_ok-composition.ensures in
     IfOk-weaker c.flattened.result _ _ (λ s h. inr (acyclic, h)) c.flattened.ensures.taken
 
-pub returns-in-Some-clause-refused : goal.returns-in-Some-clause-refused
-returns-in-Some-clause-refused g c =
+pub returns-clause-refused : goal.returns-clause-refused
+returns-clause-refused g c =
     let ds = (draft_view c.args.draft.now).definitions in
-    let acyclic : IsCyclic ds → ⊥ = there (IsCyclic ds) (IsCyclic ds → ⊥) (λ (x : Definitions). x ≡ ds) c.in_ok-new.field-0 _ c.in-Some.is c.in_ok-new.ensures in
+    let acyclic : IsCyclic ds → ⊥ = there (IsCyclic ds) (IsCyclic ds → ⊥) (λ (x : Definitions). x ≡ ds) c.in_ok-composition.field-0 _ c.in-Some.is c.in_ok-composition.ensures in
     IfErr-weaker c.flattened.result _ _ (λ f h other. inr (acyclic, h other)) c.flattened.ensures.refused

@@ -2,6 +2,7 @@ use Rattle.std.proofs.Common.{◌≡◌, List, map, not, is_some, true, false, o
 use Rattle.std.proofs.lemmas.Result.{IfOk-weaker, IfErr-weaker, err_from_is_err_and}
 use Rattle.std.proofs.lemmas.List.{length-map}
 use Rattle.std.specs.List.{AllZip, list_any}
+use Rattle.std.specs.Result.{result_err}
 use Rattle.fv_constraint.specs.Definitions.{Definitions, meant_by}
 use Rattle.fv_draft.specs.DraftViews.{draft_view}
 use Rattle.fv_flatten.specs.Fits.{tree_fits}
@@ -15,7 +16,7 @@ use Rattle.fv_uses.specs.Uses.{Use, used, uses_in}
 use Rattle.fv_uses.specs.UseViews.{use_view}
 use Rattle.fv_declare.specs.declared.fault.DeclFault.{DeclFault}
 use Rattle.fv_declare.proofs.Found.{any_map, names_good, roots_known, used_known}
-use Rattle.fv_declare.proofs.Judged.{counted, moved, many, few_types, types_large, others_large, refused, each, few_nodes, taken}
+use Rattle.fv_declare.proofs.Judged.{counted, moved, many, few_types, types_large, others_large, refused, each, few_nodes, taken, ill}
 use Rattle.fv_declare.proofs.Valid.{none_misplaced}
 use Rattle.fv_declare.proofs.judging.flattened.Goals as goal
 
@@ -30,14 +31,14 @@ pub returns-in_default-clause-refused : goal.returns-in_default-clause-refused
 returns-in_default-clause-refused g c =
     let d = draft_view c.args.draft.now in
     λ other.
-    types_large (g.R.RuleSet.known c.args.rules.now) d (sym c.if-has_empty.ensures) c.count_nodes-nodes.result (counted d _ _ _ c.requires.composed c.requires.uses c.count_nodes-nodes.ensures)
+    types_large (g.R.RuleSet.known c.args.rules.now) d (result_err c.args.wording) c.requires.wording (sym c.if-has_empty.ensures) c.count_nodes-nodes.result (counted d _ _ _ c.requires.composed c.requires.uses c.count_nodes-nodes.ensures)
     (many (types_declared d) (sym c.requires.types ∙ ap (option_map types_view) c.in_default.is))
 
 pub returns-then-is_large-clause-refused : goal.returns-then-is_large-clause-refused
 returns-then-is_large-clause-refused g c =
     let d = draft_view c.args.draft.now in
     λ other.
-    others_large (g.R.RuleSet.known c.args.rules.now) d (sym c.if-has_empty.ensures) c.count_nodes-nodes.result (counted d _ _ _ c.requires.composed c.requires.uses c.count_nodes-nodes.ensures) (sym c.if-is_large.ensures)
+    others_large (g.R.RuleSet.known c.args.rules.now) d (result_err c.args.wording) c.requires.wording (sym c.if-has_empty.ensures) c.count_nodes-nodes.result (counted d _ _ _ c.requires.composed c.requires.uses c.count_nodes-nodes.ensures) (sym c.if-is_large.ensures)
 
 pub flatten_all-requires : goal.flatten_all-requires
 flatten_all-requires g c =
@@ -57,8 +58,21 @@ returns-in_err-trees-clause-refused g c =
     let p = err_from_is_err_and c.from_residual-in_err-trees.result c.from_residual-in_err-trees.ensures.1 in
     rw p.1 (λ other.
     subst (λ (e : DeclFault). IsFlattened k d (Err e)) (sym p.2)
-    (refused k d (sym c.if-has_empty.ensures) types.0 c.count_nodes-nodes.result (counted d _ _ _ c.requires.composed c.requires.uses c.count_nodes-nodes.ensures) (sym c.if-is_large.ensures) c.trees_are_unique.ensures f
+    (refused k d (result_err c.args.wording) c.requires.wording (sym c.if-has_empty.ensures) types.0 c.count_nodes-nodes.result (counted d _ _ _ c.requires.composed c.requires.uses c.count_nodes-nodes.ensures) (sym c.if-is_large.ensures) c.trees_are_unique.ensures f
     (moved k d _ _ (Err f) c.requires.composed seen (c.in_err-trees.ensures.refused (λ is. other (p.2 ∙ ap flatten_fault is))))))
+
+pub returns-in_err-messages-clause-refused : goal.returns-in_err-messages-clause-refused
+returns-in_err-messages-clause-refused g c =
+    let k = g.R.RuleSet.known c.args.rules.now in
+    let d = draft_view c.args.draft.now in
+    let seen : map flat_use_view c.deref.result.now ≡ used_in d = ap (map flat_use_view) c.deref.ensures.value ∙ c.in_ok-used.ensures ∙ ap (map used) c.requires.uses in
+    let types = few_types (types_declared d) (types_view c.in-Some.types) (sym c.requires.types ∙ ap (option_map types_view) c.in-Some.is) in
+    let f = c.in_err-messages.field-0.0 in
+    let p = err_from_is_err_and c.from_residual-in_err-messages.result c.from_residual-in_err-messages.ensures.1 in
+    rw p.1 (λ other.
+    subst (λ (e : DeclFault). IsFlattened k d (Err e)) (sym p.2)
+    (ill k d (result_err c.args.wording) c.requires.wording (sym c.if-has_empty.ensures) types.0 c.count_nodes-nodes.result (counted d _ _ _ c.requires.composed c.requires.uses c.count_nodes-nodes.ensures) (sym c.if-is_large.ensures) c.trees_are_unique.ensures
+    c.in_ok-trees.trees.items (moved k d _ _ (Ok c.in_ok-trees.trees.items) c.requires.composed seen c.in_ok-trees.ensures.taken) f (ap result_err c.in_err-messages.was)))
 
 pub build-requires-clause-named : goal.build-requires-clause-named
 build-requires-clause-named g c = names_good (draft_view c.args.draft.now) c.requires.named
@@ -72,7 +86,7 @@ build-requires-clause-each g c =
     let d = draft_view c.args.draft.now in
     let seen : map flat_use_view c.deref.result.now ≡ used_in d = ap (map flat_use_view) c.deref.ensures.value ∙ c.in_ok-used.ensures ∙ ap (map used) c.requires.uses in
     let types = few_types (types_declared d) (types_view c.in-Some.types) (sym c.requires.types ∙ ap (option_map types_view) c.in-Some.is) in
-    each k d (sym c.if-has_empty.ensures) types.0 c.count_nodes-nodes.result (counted d _ _ _ c.requires.composed c.requires.uses c.count_nodes-nodes.ensures) (sym c.if-is_large.ensures) c.trees_are_unique.ensures
+    each k d (result_err c.args.wording) c.requires.wording (sym c.if-has_empty.ensures) types.0 c.count_nodes-nodes.result (counted d _ _ _ c.requires.composed c.requires.uses c.count_nodes-nodes.ensures) (sym c.if-is_large.ensures) c.trees_are_unique.ensures
     c.in_ok-trees.trees.items (moved k d _ _ (Ok c.in_ok-trees.trees.items) c.requires.composed seen c.in_ok-trees.ensures.taken) (map use_view c.args.uses.now) c.requires.uses
     ∙ length-map c.args.uses.now use_view
 
@@ -82,7 +96,7 @@ build-requires-clause-few g c =
     let d = draft_view c.args.draft.now in
     let seen : map flat_use_view c.deref.result.now ≡ used_in d = ap (map flat_use_view) c.deref.ensures.value ∙ c.in_ok-used.ensures ∙ ap (map used) c.requires.uses in
     let types = few_types (types_declared d) (types_view c.in-Some.types) (sym c.requires.types ∙ ap (option_map types_view) c.in-Some.is) in
-    few_nodes k d (sym c.if-has_empty.ensures) types.0 c.count_nodes-nodes.result (counted d _ _ _ c.requires.composed c.requires.uses c.count_nodes-nodes.ensures) (sym c.if-is_large.ensures) c.trees_are_unique.ensures
+    few_nodes k d (result_err c.args.wording) c.requires.wording (sym c.if-has_empty.ensures) types.0 c.count_nodes-nodes.result (counted d _ _ _ c.requires.composed c.requires.uses c.count_nodes-nodes.ensures) (sym c.if-is_large.ensures) c.trees_are_unique.ensures
     c.in_ok-trees.trees.items (moved k d _ _ (Ok c.in_ok-trees.trees.items) c.requires.composed seen c.in_ok-trees.ensures.taken)
 
 pub returns-clause-taken : goal.returns-clause-taken
@@ -91,9 +105,9 @@ returns-clause-taken g c =
     let d = draft_view c.args.draft.now in
     let seen : map flat_use_view c.deref.result.now ≡ used_in d = ap (map flat_use_view) c.deref.ensures.value ∙ c.in_ok-used.ensures ∙ ap (map used) c.requires.uses in
     let types = few_types (types_declared d) (types_view c.in-Some.types) (sym c.requires.types ∙ ap (option_map types_view) c.in-Some.is) in
-    IfOk-weaker c.build.result _ _ (λ s.
-    taken k d (sym c.if-has_empty.ensures) types.0 c.count_nodes-nodes.result (counted d _ _ _ c.requires.composed c.requires.uses c.count_nodes-nodes.ensures) (sym c.if-is_large.ensures) c.trees_are_unique.ensures
-    c.in_ok-trees.trees.items (moved k d _ _ (Ok c.in_ok-trees.trees.items) c.requires.composed seen c.in_ok-trees.ensures.taken) s) c.build.ensures.taken
+    IfOk-weaker c.build.result _ _ (λ s h.
+    taken k d (result_err c.args.wording) c.requires.wording (sym c.if-has_empty.ensures) types.0 c.count_nodes-nodes.result (counted d _ _ _ c.requires.composed c.requires.uses c.count_nodes-nodes.ensures) (sym c.if-is_large.ensures) c.trees_are_unique.ensures
+    c.in_ok-trees.trees.items (moved k d _ _ (Ok c.in_ok-trees.trees.items) c.requires.composed seen c.in_ok-trees.ensures.taken) s (ap result_err c.in_ok-messages.was) h) c.build.ensures.taken
 
 pub returns-clause-fits : goal.returns-clause-fits
 returns-clause-fits g c =

@@ -24,7 +24,7 @@ listing_of-requires-clause-apart g c =
     let asked = indices c.args.asked.now in
     let fs : List Violation = map failure_view c.in_ok-failures.failures.items in
     let exact : (v : Violation) → IsIn fs v ↔ IsViolationIn m ds c.args.now object name asked v = rw (to_z-of_z w64 c.args.now c.ranges.now) at c.in_ok-failures.ensures.violations in
-    let ordered : AreOrdered ds = subst AreOrdered c.schema.ensures c.occurrences.ensures.ordered in
+    let ordered : AreOrdered ds = subst AreOrdered c.schema-schema.ensures c.occurrences.ensures.ordered in
     λ v w one other path node. field_told_apart m ds c.args.now object name asked ordered c.requires.typed v w ((exact v).0 one) ((exact w).0 other) path node
 
 pub returns-clause-listing : goal.returns-clause-listing
@@ -37,8 +37,8 @@ returns-clause-listing g c =
     let fs : List Violation = map failure_view c.in_ok-failures.failures.items in
     let vs : List Reported = map violation_view c.in_ok-listing_of.field-0.items in
     let exact : (v : Violation) → IsIn fs v ↔ IsViolationIn m ds c.args.now object name asked v = rw (to_z-of_z w64 c.args.now c.ranges.now) at c.in_ok-failures.ensures.violations in
-    let list : AreListed ds.occurrences (IsIn fs) vs = rw (c.occurrences.ensures.uses, c.schema.ensures) at c.in_ok-listing_of.ensures in
-    same_listed ds.occurrences fs (IsViolationIn m ds c.args.now object name asked) vs exact list
+    let list : AreListed ds.occurrences ds.messages (IsIn fs) vs = rw (c.occurrences.ensures.uses, c.messages.ensures, c.schema-schema.ensures) at c.in_ok-listing_of.ensures in
+    same_listed ds.occurrences ds.messages fs (IsViolationIn m ds c.args.now object name asked) vs exact list
 
 pub returns-clause-alike : goal.returns-clause-alike
 returns-clause-alike g c =
@@ -50,6 +50,6 @@ returns-clause-alike g c =
     let fs : List Violation = map failure_view c.in_ok-failures.failures.items in
     let vs : List Reported = map violation_view c.in_ok-listing_of.field-0.items in
     let exact : (v : Violation) → IsIn fs v ↔ IsViolationIn m ds c.args.now object name asked v = rw (to_z-of_z w64 c.args.now c.ranges.now) at c.in_ok-failures.ensures.violations in
-    let list : AreListed ds.occurrences (IsIn fs) vs = rw (c.occurrences.ensures.uses, c.schema.ensures) at c.in_ok-listing_of.ensures in
-    let listed : IsListingOfField m ds c.args.now object name asked vs = same_listed ds.occurrences fs (IsViolationIn m ds c.args.now object name asked) vs exact list in
-    λ other is. one_listing ds.occurrences (IsViolationIn m ds c.args.now object name asked) other vs is listed
+    let list : AreListed ds.occurrences ds.messages (IsIn fs) vs = rw (c.occurrences.ensures.uses, c.messages.ensures, c.schema-schema.ensures) at c.in_ok-listing_of.ensures in
+    let listed : IsListingOfField m ds c.args.now object name asked vs = same_listed ds.occurrences ds.messages fs (IsViolationIn m ds c.args.now object name asked) vs exact list in
+    λ other is. one_listing ds.occurrences ds.messages (IsViolationIn m ds c.args.now object name asked) other vs is listed

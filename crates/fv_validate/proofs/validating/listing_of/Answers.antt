@@ -12,12 +12,13 @@ use Rattle.fv_validate.proofs.validating.listing_of.Goals as goal
 pub arrange-requires : goal.arrange-requires
 arrange-requires c =
     subst AreToldApart (sym c.in_ok-violations.ensures.reports)
-    (reports_apart (map placed_view c.args.occurrences.now) (map failure_view c.args.failures.items) c.requires.apart c.in_ok-violations.ensures.paths)
+    (reports_apart (map placed_view c.args.occurrences.now) c.args.messages.now (map failure_view c.args.failures.items) c.requires.apart c.in_ok-violations.ensures.paths)
 
 pub returns : goal.returns
 returns c =
     let us = map placed_view c.args.occurrences.now in
+    let ms = c.args.messages.now in
     let fs : List Violation = map failure_view c.args.failures.items in
     let vs : List Reported = map violation_view c.arrange.new.violations.items in
-    let same : (r : Reported) → IsIn vs r ↔ IsIn (map (reported_by us) fs) r = rw c.in_ok-violations.ensures.reports at c.arrange.ensures.same in
-    listed us fs vs same c.arrange.ensures.ascending
+    let same : (r : Reported) → IsIn vs r ↔ IsIn (map (reported_by us ms) fs) r = rw c.in_ok-violations.ensures.reports at c.arrange.ensures.same in
+    listed us ms fs vs same c.arrange.ensures.ascending

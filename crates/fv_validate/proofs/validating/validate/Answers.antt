@@ -23,7 +23,7 @@ listing_of-requires-clause-apart g c =
     let asked = indices c.args.asked.now in
     let fs : List Violation = map failure_view c.in_ok-failures.failures.items in
     let exact : (v : Violation) → IsIn fs v ↔ IsViolation (request_of m ds c.args.now b asked) v = rw (to_z-of_z w64 c.args.now c.ranges.now) at c.in_ok-failures.ensures.violations in
-    let ordered : AreOrdered ds = subst AreOrdered c.schema.ensures c.occurrences.ensures.ordered in
+    let ordered : AreOrdered ds = subst AreOrdered c.schema-schema.ensures c.occurrences.ensures.ordered in
     λ v w one other path node. told_apart m ds c.args.now b asked ordered c.requires.typed v w ((exact v).0 one) ((exact w).0 other) path node
 
 pub returns-clause-listing : goal.returns-clause-listing
@@ -35,8 +35,8 @@ returns-clause-listing g c =
     let fs : List Violation = map failure_view c.in_ok-failures.failures.items in
     let vs : List Reported = map violation_view c.in_ok-listing_of.field-0.items in
     let exact : (v : Violation) → IsIn fs v ↔ IsViolation (request_of m ds c.args.now b asked) v = rw (to_z-of_z w64 c.args.now c.ranges.now) at c.in_ok-failures.ensures.violations in
-    let list : AreListed ds.occurrences (IsIn fs) vs = rw (c.occurrences.ensures.uses, c.schema.ensures) at c.in_ok-listing_of.ensures in
-    same_listed ds.occurrences fs (IsViolation (request_of m ds c.args.now b asked)) vs exact list
+    let list : AreListed ds.occurrences ds.messages (IsIn fs) vs = rw (c.occurrences.ensures.uses, c.messages.ensures, c.schema-schema.ensures) at c.in_ok-listing_of.ensures in
+    same_listed ds.occurrences ds.messages fs (IsViolation (request_of m ds c.args.now b asked)) vs exact list
 
 pub returns-clause-alike : goal.returns-clause-alike
 returns-clause-alike g c =
@@ -47,6 +47,6 @@ returns-clause-alike g c =
     let fs : List Violation = map failure_view c.in_ok-failures.failures.items in
     let vs : List Reported = map violation_view c.in_ok-listing_of.field-0.items in
     let exact : (v : Violation) → IsIn fs v ↔ IsViolation (request_of m ds c.args.now b asked) v = rw (to_z-of_z w64 c.args.now c.ranges.now) at c.in_ok-failures.ensures.violations in
-    let list : AreListed ds.occurrences (IsIn fs) vs = rw (c.occurrences.ensures.uses, c.schema.ensures) at c.in_ok-listing_of.ensures in
-    let listed : IsListing m ds c.args.now b asked vs = same_listed ds.occurrences fs (IsViolation (request_of m ds c.args.now b asked)) vs exact list in
-    λ other is. one_listing ds.occurrences (IsViolation (request_of m ds c.args.now b asked)) other vs is listed
+    let list : AreListed ds.occurrences ds.messages (IsIn fs) vs = rw (c.occurrences.ensures.uses, c.messages.ensures, c.schema-schema.ensures) at c.in_ok-listing_of.ensures in
+    let listed : IsListing m ds c.args.now b asked vs = same_listed ds.occurrences ds.messages fs (IsViolation (request_of m ds c.args.now b asked)) vs exact list in
+    λ other is. one_listing ds.occurrences ds.messages (IsViolation (request_of m ds c.args.now b asked)) other vs is listed

@@ -10,7 +10,7 @@ use Rattle.fv_validate.proofs.validating.violations_of.Given as goal
 
 abbrev pub invariant-loop-failure : goal.invariant-loop-failure
 invariant-loop-failure l = record {
-  made : map violation_view l.violations.items ++ map (reported_by (map placed_view l.occurrences)) (map failure_view (into_iter_items l.failure-iterator))
-      ≡ map (reported_by (map placed_view l.occurrences)) (map failure_view l.fn.failures.items);
+  made : map violation_view l.violations.items ++ map (reported_by (map placed_view l.occurrences) l.messages) (map failure_view (into_iter_items l.failure-iterator))
+      ≡ map (reported_by (map placed_view l.occurrences) l.messages) (map failure_view l.fn.failures.items);
   paths : AllByRecursion (λ v. IsPath v.path) (map failure_view (into_iter_items l.failure-iterator)) → AllByRecursion (λ v. IsPath v.path) (map failure_view l.fn.failures.items);
 }

@@ -1,4 +1,4 @@
-use Rattle.std.proofs.Common.{◌≡◌, ◌∙◌, map, length, Some, option_map, Vec, subst, sym, ap, arith}
+use Rattle.std.proofs.Common.{◌≡◌, ◌∙◌, ℕ, List, map, length, Option, Some, option_map, Vec, subst, sym, ap, arith}
 use Rattle.std.proofs.lemmas.Result.{IfOk-weaker}
 use Rattle.std.specs.declared.alloc.Global.{Global}
 use Rattle.fv_graph.specs.Graph.{next_of}
@@ -37,19 +37,20 @@ returns c =
     let ds : Definitions = c.self.inside.numbers in
     let kept : Definitions = map definition_entry c.definitions-definitions.result.now.entries in
     let same : kept ≡ ds = c.definitions-definitions.ensures in
-    let p : spec.Planned = record { constraint = c.args.name.now; meant = meant_view c.in-Some.meant; given = c.new.result } in
+    let own : Option (List ℕ) = option_map (λ o. o.now) c.args.own in
+    let p : spec.Planned = record { constraint = c.args.name.now; meant = meant_view c.in-Some.meant; own = own; given = c.new.result } in
     let edges = c.self.inside.edges.items in
     let is : meant_by ds c.args.name.now ≡ Some p.meant = ap (λ (es : Definitions). meant_by es c.args.name.now) (sym same) ∙ sym c.meant_by.ensures ∙ ap (option_map meant_view) c.in-Some.is in
     let given_is : p.given ≡ c.args.given.now = c.new.ensures ∙ c.in_ok-copy_entries.ensures.same ∙ sym c.entries.ensures in
     IfOk-weaker c.preorder.result
     (λ (spots : Vec (Spot Planned) Global). map (unfolded.shown planned_view) spots.items ≡ unfolded.listed (unfolded.tree_of (hands_of kept) (next_of c.deref.result.now) (length c.deref.result.now) c.number_of.result p))
-    (λ (spots : Vec (Spot Planned) Global). (t : Tree spec.Planned) × IsTreeOf c.args.self.now c.args.name.now c.args.given.now t × (map planned_entry spots.items ≡ preorder t))
+    (λ (spots : Vec (Spot Planned) Global). (t : Tree spec.Planned) × IsTreeOf c.args.self.now c.args.name.now own c.args.given.now t × (map planned_entry spots.items ≡ preorder t))
     (λ spots listed.
     let at : map (unfolded.shown planned_view) spots.items ≡ unfolded.listed (unfolded.tree_of (hands_of ds) (next_of edges) (length edges) (number_of ds c.args.name.now) p) =
     listed ∙ ap (λ es. unfolded.listed (unfolded.tree_of (hands_of kept) (next_of es) (length es) c.number_of.result p)) c.deref.ensures.value
     ∙ ap (λ n. unfolded.listed (unfolded.tree_of (hands_of kept) (next_of edges) (length edges) n p)) c.number_of.ensures
     ∙ ap (λ (es : Definitions). unfolded.listed (unfolded.tree_of (hands_of es) (next_of edges) (length edges) (number_of ds c.args.name.now) p)) same in
     let made = kept_plan ds edges c.self.inside.sizes.items c.self.invariant planned_view spots.items p is at in
-    let tree : IsTreeOf ds c.args.name.now c.args.given.now made.0 = subst (λ (given : Attributes). IsTreeOf ds c.args.name.now given made.0) given_is made.1 in
-    (made.0, subst (λ (es : Definitions). IsTreeOf es c.args.name.now c.args.given.now made.0) c.self.view_is tree, made.2))
+    let tree : IsTreeOf ds c.args.name.now own c.args.given.now made.0 = subst (λ (given : Attributes). IsTreeOf ds c.args.name.now own given made.0) given_is made.1 in
+    (made.0, subst (λ (es : Definitions). IsTreeOf es c.args.name.now own c.args.given.now made.0) c.self.view_is tree, made.2))
     c.preorder.ensures

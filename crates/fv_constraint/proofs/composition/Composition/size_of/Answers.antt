@@ -13,15 +13,15 @@ index-requires c =
     omega (arith, within, c.number_of.ensures)
 
 pub returns-clause-size : goal.returns-clause-size
-returns-clause-size c = λ given t is.
+returns-clause-size c = λ own given t is.
     let ds : Definitions = c.self.inside.numbers in
     let sizes = c.self.inside.sizes.items in
     let within = node_within ds c.self.inside.edges.items sizes c.self.invariant c.args.name.now in
     let less : c.number_of.result < length sizes = omega (arith, within, c.number_of.ensures) in
     get_or_read sizes c.number_of.result c.index.result.now less c.index.ensures 0 ∙ ap (λ n. get_or sizes n 0) c.number_of.ensures
-    ∙ c.self.invariant.sized c.args.name.now given t (subst (λ (es : Definitions). IsTreeOf es c.args.name.now given t) (sym c.self.view_is) is)
+    ∙ c.self.invariant.sized c.args.name.now own given t (subst (λ (es : Definitions). IsTreeOf es c.args.name.now own given t) (sym c.self.view_is) is)
 
 pub returns-clause-tree : goal.returns-clause-tree
-returns-clause-tree c = λ given.
-    subst (λ (es : Definitions). is_some (meant_by es c.args.name.now) ≡ true → (t : Tree Planned) × IsTreeOf es c.args.name.now given t) c.self.view_is
-    (kept_tree c.self.inside.numbers c.self.inside.edges.items c.self.inside.sizes.items c.self.invariant c.args.name.now given) c.requires
+returns-clause-tree c = λ own given.
+    subst (λ (es : Definitions). is_some (meant_by es c.args.name.now) ≡ true → (t : Tree Planned) × IsTreeOf es c.args.name.now own given t) c.self.view_is
+    (kept_tree c.self.inside.numbers c.self.inside.edges.items c.self.inside.sizes.items c.self.invariant c.args.name.now own given) c.requires

@@ -2,11 +2,12 @@ use Rattle.std.proofs.Common.{◌≡◌, ◌||◌, ◌∙◌, Bool, true, false,
 use Rattle.std.proofs.lemmas.Result.{err_from_is_err_and}
 use Rattle.std.proofs.lemmas.Bool.{or_cases, or_parts, ltb-true, ltb-false, both_ways}
 use Rattle.fv_message.specs.Judged.{has_long, IsLarge, HasLongKey, is_misspelt, AreWhole, IsFault, IsFaultOf}
-use Rattle.fv_message.specs.Table.{Messages, all_messages, AreReadable}
+use Rattle.fv_message.specs.Table.{Messages, all_messages, AreReadable, AreNamed}
 use Rattle.fv_message.specs.Views.{messages_view}
 use Rattle.fv_message.specs.declared.fault.MessageFault.{MessageFault}
 use Rattle.fv_message.specs.declared.fault.MessageFault.TheVariants.{TooLarge, MessageSyntax, MessageCycle, Memory}
 use Rattle.fv_message.proofs.Built.{all_readable}
+use Rattle.fv_message.proofs.Named.{all_named}
 use Rattle.fv_message.proofs.messages.Messages.read.Goals as goal
 
 -- too many messages, or a text that is too long
@@ -43,6 +44,13 @@ returns-in_err-expansions c =
     (subst (λ (e : MessageFault). IsFault user e) (sym p.2)
     (fault_of user misspelt f (sym c.are_large.ensures ∙ c.if-are_large.false) c.is_misspelt-misspelt.ensures
     (subst (λ (ms : Messages). IsFaultOf ms misspelt f) c.in_ok-keys.ensures c.in_err-expansions.ensures)))
+
+pub invariant_of-result : goal.invariant_of-result
+invariant_of-result c = (
+  c.in_ok-expansions.ensures.0,
+  subst (λ (ms : Messages). AreNamed ms) (sym c.in_ok-keys.ensures)
+      (all_named (messages_view c.args.user) (sym c.is_misspelt-misspelt.ensures ∙ c.in_ok-expansions.ensures.1.spelt)),
+)
 
 pub returns : goal.returns
 returns c =

@@ -1,21 +1,26 @@
-use Rattle.std.proofs.Common.{List, ℕ, ◌++◌, sym, ap, ◌∙◌, rules}
+use Rattle.std.proofs.Common.{List, [], ℕ, ◌++◌, sym, ap, ◌∙◌, rules}
 use Rattle.std.specs.Str.{IsUtf8}
 use Rattle.std.proofs.lemmas.List.Concat.{flat_map-append}
 use Rattle.fv_message.specs.Full.{piece_text, full_pieces}
 use Rattle.fv_message.specs.Parts.{part_pieces}
-use Rattle.fv_message.proofs.Seen.{seen_more}
+use Rattle.fv_message.proofs.Seen.{seen_none, seen_more}
 use Rattle.fv_message.proofs.messages.Messages.text.Goals as goal
+
+pub loop-part-init : goal.loop-part-init
+loop-part-init c =
+    let utf8 : IsUtf8 c.args.template.now = search rules in
+    (utf8, [], seen_none c.args.template.now, c.in_ok-text.ensures.bytes)
 
 pub loop-part-preserved : goal.loop-part-preserved
 loop-part-preserved c =
     let ms = c.args.self.now in
     let attributes = c.args.attributes.now in
     let seen = c.loop-part.invariant.1 in
-    let utf8 : IsUtf8 c.in-Some.behind.now = search rules in
-    let more = part_pieces c.in-Some.part in (
+    let utf8 : IsUtf8 c.in-Some-split_part.behind.now = search rules in
+    let more = part_pieces c.in-Some-split_part.part in (
       utf8,
       seen ++ more,
-      seen_more c.args.template.now seen c.loop-part.rest.now c.in-Some.behind.now c.in-Some.part c.loop-part.invariant.2 c.in-Some.ensures,
+      seen_more c.args.template.now seen c.loop-part.rest.now c.in-Some-split_part.behind.now c.in-Some-split_part.part c.loop-part.invariant.2 c.in-Some-split_part.ensures,
       c.in_ok-write_part.ensures
           ∙ ap (λ (l : List ℕ). l ++ full_pieces ms attributes more) c.loop-part.invariant.3
           ∙ sym (flat_map-append (piece_text ms attributes) seen more),
