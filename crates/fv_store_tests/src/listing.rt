@@ -87,8 +87,9 @@ const COUNT: u32 = 300;
 
 const PAGE: u32 = 7;
 
-/// Adds the page of ids behind the one of a number, which is asked for with the id before it.
-fn add_page(text: &mut String, first: u32) -> Result<(), Fail> {
+/// Adds a page of ids, which is asked for with the id before it.
+fn add_page(text: &mut String, page: u8) -> Result<(), Fail> {
+    let first = u32::from(page) * PAGE;
     let before = first + 1999;
     write!(text, "list item {PAGE} r{before}\n=")?;
     for number in first..(first + PAGE).min(COUNT) {
@@ -108,7 +109,7 @@ fn paged(alloc: Global) -> Result<String, Fail> {
         write!(text, "commit; r{id} item <{number}>\n")?;
     }
     for page in 0..43 {
-        add_page(&mut text, page * PAGE)?;
+        add_page(&mut text, page)?;
     }
     text.push_str("list item 7 r2299\n= none\n")?;
     Ok(text)
