@@ -26,8 +26,9 @@ rows:
 planted:
 	tests/planted.sh $(NAME)
 
-# Runs the program that `make` leaves: the manual's examples, files that it can't serve, a hundred kills.
+# Runs the program that `make` leaves: the manual's examples, files that it can't serve, pages of ids, a hundred kills.
 served:
 	tests/manual.py
 	tests/statuses.py
+	tests/pages.py
 	tests/kills.py

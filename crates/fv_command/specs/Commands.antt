@@ -3,12 +3,20 @@ use Rattle.std.specs.Prelude.{ℕ, ◌&&◌, ◌||◌, ◌==◌, List, [], ◌�
 use Rattle.std.specs.Char.{is_ascii_alphanumeric}
 use Rattle.std.specs.List.{list_all}
 use Rattle.serde_json.specs.Data as json
-use Rattle.serde_json.specs.Find.{as_str, get as get_at}
-use Rattle.fv_datum.specs.Forms.{only, required, map2, map3}
+use Rattle.serde_json.specs.Find.{as_number, as_str, as_u64, get as get_at}
+use Rattle.fv_datum.specs.Forms.{only, required, maybe, optional, each_item, map2, map3}
 use Rattle.fv_datum.specs.Lookup.{at_name}
 use Rattle.fv_datum.specs.Parsing.{json_of}
 use Rattle.fv_definition.specs.Definitions.{map4}
 use Rattle.fv_definition.specs.Names.{names_of}
+
+-- a part of a command that changes records
+pub data Part : Type 0 where
+  -- the id, the form and the bundle's JSON
+  put : List ℕ → List ℕ → json.Data → Part
+  -- the id, the names of an object and of a field of it, and the value's JSON
+  set : List ℕ → List ℕ → List ℕ → json.Data → Part
+  remove : List ℕ → Part
 
 -- a command, or why a line is none
 pub data Request : Type 0 where
@@ -16,8 +24,10 @@ pub data Request : Type 0 where
   not_json : Request
   -- JSON that is no command
   shape : Request
-  -- the id, the form and the bundle's JSON
-  put : List ℕ → List ℕ → json.Data → Request
+  -- a put, a set or a remove by itself
+  alone : Part → Request
+  -- all of these in order, or none
+  batch : List Part → Request
   get : List ℕ → Request
   -- the id, and the names of the groups that are asked for
   check : List ℕ → List (List ℕ) → Request
@@ -25,6 +35,8 @@ pub data Request : Type 0 where
   check_field : List ℕ → List ℕ → List ℕ → List (List ℕ) → Request
   -- the names of a type and of a field of it, the value's JSON, and the names of the groups
   check_value : List ℕ → List ℕ → json.Data → List (List ℕ) → Request
+  -- the form, the id above which the list begins, and the most ids
+  list : List ℕ → Option (List ℕ) → ℕ → Request
 
 -- an ASCII letter, an ASCII digit, `_` or `-`
 abbrev pub is_id_byte : ℕ → Bool
@@ -42,10 +54,51 @@ checked_id s = if is_id s then Some s else None
 abbrev pub id_at : json.Data → Option (List ℕ)
 id_at j = option_and_then checked_id (required as_str (codes "id") j)
 
+-- ---- parts
+
 -- `{"do":"put","id":ID,"form":NAME,"bundle":..}`, its bundle any value
-abbrev pub put_of : json.Data → Option Request
+abbrev pub put_of : json.Data → Option Part
 put_of = only (codes "do" ∷ codes "id" ∷ codes "form" ∷ codes "bundle" ∷ []) (λ j.
     map3 put (id_at j) (required as_str (codes "form") j) (get_at (codes "bundle") j))
+
+-- `{"do":"set","id":ID,"object":NAME,"field":NAME,"value":..}`, its value any JSON
+abbrev pub set_of : json.Data → Option Part
+set_of = only (codes "do" ∷ codes "id" ∷ codes "object" ∷ codes "field" ∷ codes "value" ∷ []) (λ j.
+    map4 set (id_at j) (required as_str (codes "object") j) (required as_str (codes "field") j) (get_at (codes "value") j))
+
+-- `{"do":"remove","id":ID}`
+abbrev pub remove_of : json.Data → Option Part
+remove_of = only (codes "do" ∷ codes "id" ∷ []) (λ j. option_map remove (id_at j))
+
+-- the parts by their names
+abbrev pub part_forms : List (List ℕ × (json.Data → Option Part))
+part_forms = (codes "put", put_of) ∷ (codes "set", set_of) ∷ (codes "remove", remove_of) ∷ []
+
+-- the part that a JSON value is, by the name of what is to be done
+abbrev pub part_by : List ℕ → json.Data → Option Part
+part_by name j = option_and_then (λ form. form j) (at_name name part_forms)
+
+-- the part that a JSON value is
+abbrev pub part_of : json.Data → Option Part
+part_of j = option_and_then (λ name. part_by name j) (required as_str (codes "do") j)
+
+-- 1 to 64 parts
+abbrev pub some_parts : List Part → Option (List Part)
+some_parts parts = if nat_lt 0 (length parts) && nat_le (length parts) 64 then Some parts else None
+
+-- the parts that an array has
+abbrev pub parts_in : json.Data → Option (List Part)
+parts_in j = option_and_then some_parts (each_item part_of j)
+
+-- ---- commands
+
+-- a part by itself
+abbrev pub alone_of : (json.Data → Option Part) → json.Data → Option Request
+alone_of form j = option_map alone (form j)
+
+-- `{"do":"batch","parts":[PART,..]}`, with 1 to 64 parts
+abbrev pub batch_of : json.Data → Option Request
+batch_of = only (codes "do" ∷ codes "parts" ∷ []) (λ j. option_map batch (required parts_in (codes "parts") j))
 
 -- `{"do":"get","id":ID}`
 abbrev pub get_of : json.Data → Option Request
@@ -73,14 +126,35 @@ abbrev pub check_value_of : json.Data → Option Request
 check_value_of = only (codes "do" ∷ codes "type" ∷ codes "field" ∷ codes "value" ∷ codes "groups" ∷ []) (λ j.
     map4 check_value (required as_str (codes "type") j) (required as_str (codes "field") j) (get_at (codes "value") j) (groups_at j))
 
+-- an id
+abbrev pub id_in : json.Data → Option (List ℕ)
+id_in j = option_and_then checked_id (as_str j)
+
+-- 1 to 1,000
+abbrev pub checked_limit : ℕ → Option ℕ
+checked_limit n = if nat_lt 0 n && nat_le n 1000 then Some n else None
+
+-- the most ids that a list gives
+abbrev pub limit_in : json.Data → Option ℕ
+limit_in j = option_and_then checked_limit (option_and_then as_u64 (as_number j))
+
+-- `{"do":"list","form":NAME,"after":ID,"limit":N}`, where the last two may be missing; the limit is 100 then
+abbrev pub list_of : json.Data → Option Request
+list_of = only (codes "do" ∷ codes "form" ∷ codes "after" ∷ codes "limit" ∷ []) (λ j.
+    map3 list (required as_str (codes "form") j) (maybe id_in (codes "after") j) (optional 100 limit_in (codes "limit") j))
+
 -- the commands by their names
 abbrev pub forms : List (List ℕ × (json.Data → Option Request))
 forms =
-    (codes "put", put_of)
+    (codes "put", alone_of put_of)
+    ∷ (codes "set", alone_of set_of)
+    ∷ (codes "remove", alone_of remove_of)
+    ∷ (codes "batch", batch_of)
     ∷ (codes "get", get_of)
     ∷ (codes "check", check_of)
     ∷ (codes "checkfield", check_field_of)
     ∷ (codes "checkvalue", check_value_of)
+    ∷ (codes "list", list_of)
     ∷ []
 
 -- the command that a JSON value is, by the name of what is to be done

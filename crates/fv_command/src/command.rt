@@ -1,30 +1,32 @@
 //! What a line asks for.
-ghost use Rattle.std.specs.Prelude.{◌≡◌, IfOk, map, option_map};
-ghost use Rattle.std.specs.List.{list_all};
-ghost use Rattle.fv_datum.specs.Forms.{required};
-ghost use Rattle.serde_json.specs.Find.{as_str};
+ghost use Rattle.std.specs.Prelude.{◌≡◌, IfOk, codes, map, option_map};
+ghost use Rattle.fv_datum.specs.Forms.{maybe, optional};
 ghost use Rattle.serde_json.specs.View.{view as json_view};
-ghost use Rattle.fv_command.specs.CommandView.{command_view};
-ghost use Rattle.fv_command.specs.Commands.{is_id_byte, is_id, id_at, put_of, get_of, groups_at, check_of, check_field_of, check_value_of, done_by, command_of};
+ghost use Rattle.fv_command.specs.CommandView.{command_view, part_view};
+ghost use Rattle.fv_command.specs.Commands.{alone, batch_of, get_of, groups_at, check_of, check_field_of, check_value_of, id_in, limit_in, list_of, done_by, command_of};
 
+use crate::ids::{id_in, id_of};
+use crate::members::text_at;
+use crate::part::{Part, parts_in, put_of, remove_of, set_of};
 use fv_datum::has_only;
 use fv_definition::names_of;
 use serde_json::Value;
 use std::alloc::{AllocError, Global};
 
-/// The most bytes of an id.
-const LONGEST_ID: usize = 64;
-
 /// The most groups that a check names, repeats included.
 const MOST_GROUPS: usize = 32;
+
+/// The most ids that a list gives.
+const MOST_IDS: u64 = 1000;
 
 /// A command, its parts borrowed from the line's JSON.
 #[derive(Drop)]
 pub enum Command<'a> {
-    Put {
-        id: &'a str,
-        form: &'a str,
-        bundle: &'a Value,
+    /// A put, a set or a remove by itself.
+    Alone(Part<'a>),
+    /// All of these in order, or none; 1 to 64.
+    Batch {
+        parts: Vec<Part<'a>>,
     },
     Get {
         id: &'a str,
@@ -45,52 +47,12 @@ pub enum Command<'a> {
         value: &'a Value,
         groups: Vec<&'a str>,
     },
-}
-
-fn is_id_byte(byte: u8) -> bool
-    ensures { result ≡ is_id_byte byte }
-{
-    byte.is_ascii_alphanumeric() || byte == b'_' || byte == b'-'
-}
-
-fn all_id_bytes(bytes: &[u8]) -> bool
-    ensures { result ≡ list_all is_id_byte bytes.now }
-{
-    bytes.iter().all(|byte| is_id_byte(*byte))
-}
-
-/// Whether a text is an id: 1 to 64 ASCII letters, ASCII digits, `_` and `-`.
-fn is_id(text: &str) -> bool
-    ensures { result ≡ is_id text.now }
-{
-    let bytes = text.as_bytes();
-    if bytes.is_empty() {
-        return false;
-    }
-    if bytes.len() > LONGEST_ID {
-        return false;
-    }
-    all_id_bytes(bytes)
-}
-
-/// The id at the member `id`.
-fn id_of<'a>(value: &'a Value) -> Option<&'a str>
-    ensures { option_map (λ s. s.now) result ≡ id_at (json_view value.now) }
-{
-    let id = value.get("id").and_then(Value::as_str)?;
-    if is_id(id) { Some(id) } else { None }
-}
-
-fn put_of<'a>(value: &'a Value) -> Option<Command<'a>>
-    ensures { option_map command_view result ≡ put_of (json_view value.now) }
-{
-    if !has_only(value, &["do", "id", "form", "bundle"]) {
-        return None;
-    }
-    let id = id_of(value)?;
-    let form = value.get("form").and_then(Value::as_str)?;
-    let bundle = value.get("bundle")?;
-    Some(Command::Put { id, form, bundle })
+    /// The ids of a form above one, at most so many.
+    List {
+        form: &'a str,
+        after: Option<&'a str>,
+        limit: u32,
+    },
 }
 
 fn get_of<'a>(value: &'a Value) -> Option<Command<'a>>
@@ -126,13 +88,6 @@ fn check_of<'a>(alloc: Global, value: &'a Value) -> Result<Option<Command<'a>>, 
         None => Ok(None),
         Some(groups) => Ok(Some(Command::Check { id, groups })),
     }
-}
-
-/// The text at a member.
-fn text_at<'a>(value: &'a Value, name: &str) -> Option<&'a str>
-    ensures { option_map (λ s. s.now) result ≡ required as_str name.now (json_view value.now) }
-{
-    value.get(name).and_then(Value::as_str)
 }
 
 fn check_field_of<'a>(alloc: Global, value: &'a Value) -> Result<Option<Command<'a>>, AllocError>
@@ -187,6 +142,74 @@ fn check_value_of<'a>(alloc: Global, value: &'a Value) -> Result<Option<Command<
     }
 }
 
+/// The id at the member `after`, which may be missing.
+fn after_of<'a>(value: &'a Value) -> Option<Option<&'a str>>
+    ensures { option_map (λ o. option_map (λ s. s.now) o) result ≡ maybe id_in (codes "after") (json_view value.now) }
+{
+    match value.get("after") {
+        None => Some(None),
+        Some(after) => Some(Some(id_in(after)?)),
+    }
+}
+
+/// The limit that a JSON value is: a whole number from 1 to 1,000.
+fn limit_in(value: &Value) -> Option<u32>
+    ensures { result ≡ limit_in (json_view value.now) }
+{
+    let limit = value.as_u64()?;
+    if limit == 0 {
+        return None;
+    }
+    if limit > MOST_IDS {
+        return None;
+    }
+    Some(limit as u32)
+}
+
+/// The limit at the member `limit`; 100 where it is missing.
+fn limit_of(value: &Value) -> Option<u32>
+    ensures { result ≡ optional 100 limit_in (codes "limit") (json_view value.now) }
+{
+    match value.get("limit") {
+        None => Some(100),
+        Some(limit) => limit_in(limit),
+    }
+}
+
+fn list_of<'a>(value: &'a Value) -> Option<Command<'a>>
+    ensures { option_map command_view result ≡ list_of (json_view value.now) }
+{
+    if !has_only(value, &["do", "form", "after", "limit"]) {
+        return None;
+    }
+    let form = text_at(value, "form")?;
+    let after = after_of(value)?;
+    let limit = limit_of(value)?;
+    Some(Command::List { form, after, limit })
+}
+
+fn batch_of<'a>(alloc: Global, value: &'a Value) -> Result<Option<Command<'a>>, AllocError>
+    ensures { IfOk result (λ o. option_map command_view o ≡ batch_of (json_view value.now)) }
+{
+    if !has_only(value, &["do", "parts"]) {
+        return Ok(None);
+    }
+    let Some(told) = value.get("parts") else {
+        return Ok(None);
+    };
+    match parts_in(alloc, told)? {
+        None => Ok(None),
+        Some(parts) => Ok(Some(Command::Batch { parts })),
+    }
+}
+
+/// A part by itself.
+fn alone<'a>(part: Option<Part<'a>>) -> Option<Command<'a>>
+    ensures { option_map command_view result ≡ option_map alone (option_map part_view part.entry) }
+{
+    Some(Command::Alone(part?))
+}
+
 /// The command of a name that a JSON value is.
 fn done_by<'a>(
     alloc: Global,
@@ -196,18 +219,22 @@ fn done_by<'a>(
     ensures { IfOk result (λ o. option_map command_view o ≡ done_by name.now (json_view value.now)) }
 {
     match name {
-        "put" => Ok(put_of(value)),
+        "put" => Ok(alone(put_of(value))),
+        "set" => Ok(alone(set_of(value))),
+        "remove" => Ok(alone(remove_of(value))),
+        "batch" => batch_of(alloc, value),
         "get" => Ok(get_of(value)),
         "check" => check_of(alloc, value),
         "checkfield" => check_field_of(alloc, value),
         "checkvalue" => check_value_of(alloc, value),
+        "list" => Ok(list_of(value)),
         _ => Ok(None),
     }
 }
 
 /// The command that a JSON value is: an object with the members of the command that `do` names, and
-/// no others. A put's bundle and a checkvalue's value are any values here; forms, objects, fields,
-/// types and groups are any texts.
+/// no others. A put's bundle and the value of a set and of a checkvalue are any values here; forms,
+/// objects, fields, types and groups are any texts. So is each part of a batch.
 pub fn command_of<'a>(alloc: Global, value: &'a Value) -> Result<Option<Command<'a>>, AllocError>
     ensures { IfOk result (λ o. option_map command_view o ≡ command_of (json_view value.now)) }
 {

@@ -2,5 +2,9 @@
 #![tactic(auto)]
 
 mod command;
+mod ids;
+mod members;
+mod part;
 
 pub use command::{Command, command_of};
+pub use part::Part;

@@ -1,25 +1,29 @@
 -- Laws of a call, in a user's words: they are told of its reply, and follow from the step.
-use Rattle.std.specs.Prelude.{◌≡◌, ◌≢◌, ◌⊎◌, ℕ, ℤ, false, List, [], Ok}
+use Rattle.std.specs.Prelude.{◌≡◌, ◌≢◌, ◌⊎◌, ℕ, ℤ, false, List, [], ◌∷◌, Some, Ok}
+use Rattle.std.specs.List.{AllByRecursion}
 use Rattle.serde_json.specs.Data as json
 use Rattle.fv_declare.specs.Declarations.{Declarations}
-use Rattle.fv_engine.specs.Asked.{groups_of}
-use Rattle.fv_engine.specs.Machines.{Machine}
-use Rattle.fv_engine.specs.Refusals.{bundle_under}
-use Rattle.fv_command.specs.Commands.{Request, put, get, check, check_field, asked}
-use Rattle.fv_engine.specs.Step.{Told}
+use Rattle.fv_machine.specs.Machines.{Machine}
+use Rattle.fv_command.specs.Commands.{Part, put, Request, alone, batch, get, check, check_field, asked}
+use Rattle.fv_machine.specs.Step.{Told}
 use Rattle.fv_groups.specs.Groups.{numbers_of}
 use Rattle.fv_groups.specs.Judged.{unknown_in}
 use Rattle.fv_model.specs.Bundles.{Bundled}
+use Rattle.fv_judging.specs.Judging.{groups_of}
+use Rattle.fv_pending.specs.Parts.{bundle_under}
+use Rattle.fv_pending.specs.Touched.{IsTouched, needed_id}
 use Rattle.fv_registry.specs.Meanings.{Meanings}
-use Rattle.fv_reply.specs.Answers.{Answer, taken, shown, violated, checked, refused}
+use Rattle.fv_reply.specs.Answers.{Answer, done, shown, violated, checked, refused}
 use Rattle.fv_reply.specs.Texts.{answer_text}
+use Rattle.fv_reply.specs.declared.answer.Done.{Done}
+use Rattle.fv_reply.specs.declared.answer.Done.TheVariants.{Put}
 use Rattle.fv_reply.specs.declared.answer.Refusal.TheVariants.{Store, Memory}
 use Rattle.fv_request.specs.Requests.{asked_groups}
-use Rattle.fv_store.specs.Records.{Records}
+use Rattle.fv_store.specs.Records.{Kept, Records}
 
--- the reply tells that a put was taken
-abbrev pub IsTaken : List ℕ → Type 0
-IsTaken reply = reply ≡ answer_text taken
+-- the reply tells that a command that changes records was taken
+abbrev pub IsDone : Done → List ℕ → Type 0
+IsDone what reply = reply ≡ answer_text (done what)
 
 -- the reply tells that the store or memory failed
 abbrev pub IsFailure : List ℕ → Type 0
@@ -27,50 +31,59 @@ IsFailure reply = (reply ≡ answer_text (refused Store)) ⊎ (reply ≡ answer_
 
 -- What a taken put stored is what a get of its id on the next line shows, unless that get fails.
 abbrev pub ShowsWhatWasPut : Meanings → List ℕ → List ℕ → Machine Records → Machine Records → Type 0
-ShowsWhatWasPut means line reply old new = (id form : List ℕ) (bundle : json.Data) → asked line ≡ put id form bundle → IsTaken reply
-    → (b : Bundled) × (bundle_under old.declared form bundle ≡ Ok b)
+ShowsWhatWasPut means line reply old new = (id form : List ℕ) (bundle : json.Data) → asked line ≡ alone (put id form bundle) → IsDone Put reply
+    → (b : Bundled) × (bundle_under old.declared.types old.declared.forms form bundle ≡ Ok b)
     × ((next : List ℕ) (later : ℤ) (shows : List ℕ) (last : Machine Records) → asked next ≡ get id → Told means new next later shows last
     → (shows ≡ answer_text (shown id form b)) ⊎ IsFailure shows)
 
--- A refusal changes no get, as it changes no record; nor does any other reply but that a put was taken.
+-- A refusal changes no get, as it changes no record; nor does any other reply but that a command that changes records was taken.
 abbrev pub ChangesNoGet : List ℕ → Machine Records → Machine Records → Type 0
-ChangesNoGet reply old new = (IsTaken reply → ⊥) → new.records ≡ old.records
+ChangesNoGet reply old new = ((what : Done) → IsDone what reply → ⊥) → new.records ≡ old.records
 
--- no refusal for violations without one
+-- no refusal for violations without one, nor of a record that has none
 abbrev pub HasSome : Answer → Type 0
-HasSome (violated id vs) = vs ≢ []
+HasSome (violated ls) = (ls ≢ []) × AllByRecursion (λ l. l.1 ≢ []) ls
 HasSome _ = Unit {0}
 
--- A refusal for violations lists at least one.
+-- A refusal for violations lists at least one record, and of each record at least one violation.
 abbrev pub ListsSome : List ℕ → Type 0
 ListsSome reply = (answer : Answer) × (reply ≡ answer_text answer) × HasSome answer
 
 -- Two taken puts of different ids may change places: each is taken at its moment, and they leave the same machine.
 abbrev pub MayChangePlaces : Meanings → List ℕ → ℤ → List ℕ → Machine Records → Machine Records → Type 0
-MayChangePlaces means line now reply old new = (id form : List ℕ) (bundle : json.Data) → asked line ≡ put id form bundle → IsTaken reply
-    → (next : List ℕ) (later : ℤ) (other form_there : List ℕ) (there : json.Data) → asked next ≡ put other form_there there → other ≢ id
+MayChangePlaces means line now reply old new = (id form : List ℕ) (bundle : json.Data) → asked line ≡ alone (put id form bundle) → IsDone Put reply
+    → (next : List ℕ) (later : ℤ) (other form_there : List ℕ) (there : json.Data) → asked next ≡ alone (put other form_there there) → other ≢ id
     → (last : Machine Records) → Told means new next later reply last
     → (mid : Machine Records) × Told means old next later reply mid × Told means mid line now reply last
 
--- a get, a check or a checkfield of an id
+-- a request that looks for the record of this id
 abbrev pub LooksFor : Request → List ℕ → Type 0
+LooksFor (alone p) id = needed_id p ≡ Some id
 LooksFor (get i) id = i ≡ id
 LooksFor (check i names) id = i ≡ id
 LooksFor (check_field i object field names) id = i ≡ id
 LooksFor _ id = ⊥
 
--- A get, a check and a checkfield fail over a connection that is shut: they neither show what is there nor say that there is nothing.
+-- A get, a check, a checkfield, a set and a remove fail over a connection that is shut: they neither show what is there nor say that there is
+-- nothing.
 abbrev pub FailsWhereShut : List ℕ → List ℕ → Machine Records → Type 0
 FailsWhereShut line reply old = (id : List ℕ) → LooksFor (asked line) id → old.is_open ≡ false → IsFailure reply
+
+-- the parts of a command that changes records; none of another request
+abbrev pub parts_of : Request → List Part
+parts_of (alone p) = p ∷ []
+parts_of (batch ps) = ps
+parts_of _ = []
 
 -- these are names of the form's groups, in order; each counts where it stands first, and none stand for `Default`
 abbrev pub AreNamesOf : Declarations → List ℕ → List (List ℕ) → Type 0
 AreNamesOf ds form names = (unknown_in ds.groups names ≡ false) × (asked_groups (numbers_of ds.groups names) ≡ asked_groups (groups_of ds form))
 
--- A taken put leaves nothing to list: a check of its id for the groups of its form, on the next line and at the same moment, finds no
--- violation, unless that check fails.
+-- A taken command leaves nothing to list: a check of a record that it put or set for the groups of its form, on the next line and at the same
+-- moment, finds no violation, unless that check fails.
 abbrev pub LeavesNothingToList : Meanings → List ℕ → ℤ → List ℕ → Machine Records → Machine Records → Type 0
-LeavesNothingToList means line now reply old new = (id form : List ℕ) (bundle : json.Data) → asked line ≡ put id form bundle → IsTaken reply
+LeavesNothingToList means line now reply old new = (what : Done) → IsDone what reply
+    → (id : List ℕ) (kept : Kept) → IsTouched (parts_of (asked line)) new.records id kept
     → (next : List ℕ) (names : List (List ℕ)) (lists : List ℕ) (last : Machine Records) → asked next ≡ check id names
-    → AreNamesOf old.declared form names → Told means new next now lists last
+    → AreNamesOf old.declared kept.form names → Told means new next now lists last
     → (lists ≡ answer_text (checked [])) ⊎ IsFailure lists

@@ -1,8 +1,2 @@
-pub mod Asked
-pub mod Failures
 pub mod FaultNames
-pub mod Keeping
 pub mod Laws
-pub mod Machines
-pub mod Refusals
-pub mod Step

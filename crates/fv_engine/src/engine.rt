@@ -7,15 +7,15 @@ ghost use Rattle.fv_store.specs.Causes.{HasFailed, IsShortAbout};
 ghost use Rattle.fv_store.specs.Stands.{Frame, Holds, HasTables, IsBlank, IsLive, Opens, Stays};
 ghost use Rattle.fv_declare.specs.Declares.{Declares};
 ghost use Rattle.fv_engine.specs.Laws.{ShowsWhatWasPut, ChangesNoGet, ListsSome, MayChangePlaces, LeavesNothingToList, FailsWhereShut};
-ghost use Rattle.fv_engine.specs.Machines.{contents, StandsFor, Becomes};
-ghost use Rattle.fv_engine.specs.Step.{Told};
+ghost use Rattle.fv_machine.specs.Machines.{contents, StandsFor, Becomes};
+ghost use Rattle.fv_machine.specs.Step.{Told};
 ghost use Rattle.fv_engine.specs.FaultNames.{open_fault_name};
 ghost use Rattle.fv_reply.specs.Texts.{refusal_text};
 
-use crate::answering::reply_to_line;
 use fv_declare::{DeclFault, read_schema};
 use fv_lines::{LIMIT, Responder};
 use fv_local::Rulebook;
+use fv_machine::reply_to_line;
 use fv_registry::RuleSet;
 use fv_reply::{Refusal, Reply};
 use fv_store::{OpenStoreFault, Store};
@@ -70,7 +70,7 @@ impl<R: RuleSet, S: Alter> Model for Engine<R, S> {
     ghost use Rattle.sqlite.specs.Held.{Held, held_code, state};
     ghost use Rattle.fv_builtin.specs.Codes.{pattern_code};
     ghost use Rattle.fv_declare.specs.Codes.{type_use_code};
-    ghost use Rattle.fv_engine.specs.Machines.{Machine, over};
+    ghost use Rattle.fv_machine.specs.Machines.{Machine, over};
     ghost use Rattle.fv_occurrence.specs.Codes.{tree_code};
     ghost use Rattle.fv_occurrence.specs.Nodes.{Node};
 
@@ -183,13 +183,13 @@ impl<R: RuleSet, S: Alter> Engine<R, S> {
         ensures shows { Becomes (state S.Store) self.old self.new (ShowsWhatWasPut R.meaning line.now result) }
         // A refusal changes no record, and so no get.
         ensures unchanged { Becomes (state S.Store) self.old self.new (ChangesNoGet result) }
-        // A refusal for violations lists at least one.
+        // A refusal for violations lists at least one, of each of its records.
         ensures lists { Becomes (state S.Store) self.old self.new (λ x y. ListsSome result) }
         // Two taken puts of different ids may change places.
         ensures places { Becomes (state S.Store) self.old self.new (MayChangePlaces R.meaning line.now now result) }
-        // A taken put leaves nothing to list.
+        // A taken command leaves nothing to list, of what it put or set.
         ensures nothing { Becomes (state S.Store) self.old self.new (LeavesNothingToList R.meaning line.now now result) }
-        // A get and a check fail over a connection that is shut.
+        // A command that looks for the record of an id fails over a connection that is shut.
         ensures shut { Becomes (state S.Store) self.old self.new (λ x y. FailsWhereShut line.now result x) }
     {
         if line.len() > LIMIT {

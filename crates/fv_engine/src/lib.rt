@@ -1,12 +1,7 @@
-//! The record service: lines become commands, the bundle of a put is judged and stored where it has
-//! no violation, a get shows what is stored, and a check lists its violations.
+//! The record service: an engine over a database answers lines, each by one step of the record machine.
 #![tactic(auto)]
 
-mod answering;
-mod checking;
 mod engine;
-mod fields;
-mod refusing;
 mod serving;
 
 pub use engine::{Engine, OpenFault};

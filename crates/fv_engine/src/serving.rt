@@ -1,7 +1,7 @@
 ghost use Rattle.std.specs.Prelude.{◌≡◌, OnOk, IsErrOf};
 ghost use Rattle.sqlite.specs.Held.{state};
-ghost use Rattle.fv_engine.specs.Machines.{Becomes};
-ghost use Rattle.fv_engine.specs.Step.{Told};
+ghost use Rattle.fv_machine.specs.Machines.{Becomes};
+ghost use Rattle.fv_machine.specs.Step.{Told};
 ghost use Rattle.fv_lines.specs.Lines.{WholeLines, AllLines};
 ghost use Rattle.fv_lines.specs.Runs.{Served, Stopped};
 
@@ -17,7 +17,8 @@ use std::io::{Read, Write};
 /// end, and flushed.
 ///
 /// The records are those of a map that each line turns by one step of the record machine. From the
-/// line on at which the disk fails and shuts the database, the map stays and no put is told as taken.
+/// line on at which the disk fails and shuts the database, the map stays and no command that changes
+/// records is told as taken.
 ///
 /// `Memory` where the room for a line was refused; `Read` where a read failed or there were 2^32
 /// reads; `Write` where a write or a flush failed or a write took nothing.

@@ -127,6 +127,14 @@ module _ (sql : List ℕ) (params : Row) (old new : State) (plain : IsPlain (und
     | inr back ↦ back_keeps old new d m back keeps clean
   ]
 
+-- a plain query that answers leaves the database as it was
+pub query_same : (sql : List ℕ) (params : Row) (old new : State) → IsPlain (understood store_schema sql) → HasCleanDisk old → (r : Result (Vec Row Global) Error)
+    → IfOk r (λ rows. Shown sql params old new rows.items) → OnOk r ((d : List ℕ) (m : Records) → Keeps old d m → new.now ≡ old.now)
+query_same sql params old new plain clean (Err e) ok = tt
+query_same sql params old new plain clean (Ok rows) ok = λ d m keeps.
+    let was = (keeps clean (shown_open sql params old new rows.items ok)).0 in
+    (still sql params old new rows.items (subst (λ s. IsBare s sql) (sym was.tables.schema) (plain_is_bare store_schema sql plain)) ok).0.now_is
+
 module _ (old new : State) (clean : HasCleanDisk old) where
   pub find_shown : (id : List ℕ) (r : Result (Vec Row Global) Error) → IfOk r (λ rows. Shown find_text (Text id ∷ []) old new rows.items)
       → IfOk r (λ rows. IsTrue old.is_open × ((d : List ℕ) (m : Records) → Keeps old d m → ShowsRecord rows.items (m id)))

@@ -24,6 +24,8 @@ fn find_record<S: Alter>(conn: &mut Connection<S>, id: &str) -> Result<Vec<Row>,
     ensures cause { HasCleanDisk (state S.Store conn.new) → conn.old.step_limit ≡ None → IfErr result (λ e.
         (d : _) (m : _) → Keeps (state S.Store conn.old) d m
         → IsExcused (state S.Store conn.old) (state S.Store conn.new) e) }
+    ensures same { HasCleanDisk (state S.Store conn.new) → OnOk result ((d : _) (m : _)
+        → Keeps (state S.Store conn.old) d m → (state S.Store conn.new).now ≡ (state S.Store conn.old).now) }
     ensures stays { (d : _) (m : _) → Keeps (state S.Store conn.old) d m → Keeps (state S.Store conn.new) d m }
 {
     conn.query_all(FIND_RECORD, params![id])
@@ -41,6 +43,8 @@ pub fn find<S: Alter>(conn: &mut Connection<S>, id: &str) -> Result<Option<Shown
     ensures cause { HasCleanDisk (state S.Store conn.new) → conn.old.step_limit ≡ None → IfErr result (λ e.
         (d : _) (m : _) → Keeps (state S.Store conn.old) d m
         → IsExcused (state S.Store conn.old) (state S.Store conn.new) e) }
+    ensures same { HasCleanDisk (state S.Store conn.new) → OnOk result ((d : _) (m : _)
+        → Keeps (state S.Store conn.old) d m → (state S.Store conn.new).now ≡ (state S.Store conn.old).now) }
     ensures stays { (d : _) (m : _) → Keeps (state S.Store conn.old) d m → Keeps (state S.Store conn.new) d m }
 {
     let rows = find_record(conn, id)?;

@@ -1,10 +1,12 @@
 ghost use Rattle.std.specs.Prelude.{◌≡◌, MatchResult, string_bytes};
 ghost use Rattle.fv_reply.specs.Answers.{refused};
 ghost use Rattle.fv_reply.specs.AnswerView.{answer_view};
-ghost use Rattle.fv_reply.specs.Texts.{refusal_text, Tells};
+ghost use Rattle.fv_reply.specs.Texts.{done_text, refusal_text, Tells};
 
-use crate::answer::{Answer, Refusal};
-use crate::texts::{bundle_refused, record_shown, violations_listed, violations_refused};
+use crate::answer::{Answer, Done, Refusal};
+use crate::texts::{
+    bundle_refused, ids_listed, part_refused, record_shown, violations_listed, violations_refused,
+};
 use fv_lines::Text;
 use std::alloc::{AllocError, Global};
 use std::marker::Model;
@@ -30,7 +32,13 @@ const STORE: &str = r#"{"error":"C11","name":"Store"}"#;
 
 const MEMORY: &str = r#"{"error":"C12","name":"Memory"}"#;
 
-const PUT_TAKEN: &str = r#"{"ok":"put"}"#;
+const PUT: &str = r#"{"ok":"put"}"#;
+
+const SET: &str = r#"{"ok":"set"}"#;
+
+const REMOVE: &str = r#"{"ok":"remove"}"#;
+
+const BATCH: &str = r#"{"ok":"batch"}"#;
 
 /// The line that answers a command, without its end.
 #[derive(Drop)]
@@ -87,12 +95,12 @@ impl Reply {
         ensures { Tells result (answer_view answer.now) }
     {
         match answer {
-            Answer::Taken => Reply::fixed(PUT_TAKEN),
+            Answer::Done(what) => Reply::done(*what),
             Answer::Shown { id, form, bundle } => {
                 Reply::made_or_memory(record_shown(alloc, id, form.as_str(), bundle))
             }
-            Answer::Violated { id, violations } => {
-                Reply::made_or_memory(violations_refused(alloc, id, violations))
+            Answer::Violated { records } => {
+                Reply::made_or_memory(violations_refused(alloc, records))
             }
             Answer::Checked { violations } => {
                 Reply::made_or_memory(violations_listed(alloc, "check", violations))
@@ -103,7 +111,23 @@ impl Reply {
             Answer::ValueChecked { violations } => {
                 Reply::made_or_memory(violations_listed(alloc, "checkvalue", violations))
             }
+            Answer::Ids { ids } => Reply::made_or_memory(ids_listed(alloc, ids)),
             Answer::Refused(why) => Reply::refused(alloc, *why),
+            Answer::PartRefused { part, why } => {
+                Reply::made_or_memory(part_refused(alloc, *part, *why))
+            }
+        }
+    }
+
+    /// The reply that tells what was done. It takes no memory.
+    pub fn done(what: Done) -> Reply
+        ensures { result ≡ done_text what }
+    {
+        match what {
+            Done::Put => Reply::fixed(PUT),
+            Done::Set => Reply::fixed(SET),
+            Done::Remove => Reply::fixed(REMOVE),
+            Done::Batch => Reply::fixed(BATCH),
         }
     }
 

@@ -3,12 +3,15 @@ ghost use Rattle.std.specs.Prelude.{◌≡◌, false, IfOk, map, string_bytes};
 ghost use Rattle.fv_datum.specs.View.{view};
 ghost use Rattle.fv_model.specs.Views.{bundle_view};
 ghost use Rattle.fv_types.specs.Writing.{datum_json};
-ghost use Rattle.fv_reply.specs.Texts.{bundle_refused_json, violation_json, judged_json, refusal_json, violations_refused_json, listing_json, violations_listed_json, record_json};
+ghost use Rattle.fv_reply.specs.AnswerView.{judged_view};
+ghost use Rattle.fv_reply.specs.Texts.{bundle_refused_json, violation_json, judged_json, record_judged_json, refusal_json, violations_refused_json, listing_json, violations_listed_json, listed_json, ids_json, part_bundle_json, part_json, part_refused_json, record_json};
 ghost use Rattle.fv_validate.specs.ViolationView.{violation_view};
 ghost use Rattle.json.specs.Print.{quoted};
+ghost use Rattle.serde_json.specs.Data as json;
 ghost use Rattle.serde_json.specs.View.{view as json_view};
 ghost use Rattle.serde_json.specs.Written.{compact_text, has_float};
 
+use crate::answer::{Judged, Refusal};
 use fv_datum::{DatumFault, write_datum};
 use fv_model::{Bundle, BundleFault};
 use fv_text::write_text;
@@ -78,41 +81,48 @@ fn violation_values(alloc: Global, violations: &[Violation]) -> Result<Vec<Value
     Ok(values)
 }
 
-/// `{"id":..,"violations":[..]}`.
-fn judged_value(alloc: Global, id: &str, violations: Value) -> Result<Value, AllocError>
+fn judged_value_of(alloc: Global, id: &str, violations: Value) -> Result<Value, AllocError>
     ensures { IfOk result (λ v. json_view v ≡ judged_json id.now (json_view violations)) }
 {
     json!(in alloc; {"id": id, "violations": violations})
 }
 
-fn refusal_value(alloc: Global, judged: Value) -> Result<Value, AllocError>
-    ensures { IfOk result (λ v. json_view v ≡ refusal_json (json_view judged)) }
+/// `{"id":..,"violations":[..]}`.
+fn judged_value(alloc: Global, judged: &Judged) -> Result<Value, AllocError>
+    ensures { IfOk result (λ v. json_view v ≡ record_judged_json (judged_view judged.now)) }
 {
-    json!(in alloc; {"error": "C10", "name": "Violations", "records": [judged]})
+    let values = Value::Array(violation_values(alloc, &judged.violations)?);
+    judged_value_of(alloc, judged.id, values)
 }
 
-fn violations_refused_value(
-    alloc: Global,
-    id: &str,
-    violations: &[Violation],
-) -> Result<Value, AllocError>
-    ensures { IfOk result (λ v. json_view v ≡ violations_refused_json id.now (map violation_view violations.now)) }
+fn judged_values(alloc: Global, records: &[Judged]) -> Result<Vec<Value>, AllocError>
+    ensures { IfOk result (λ v. map json_view v.items ≡ map record_judged_json (map judged_view records.now)) }
 {
-    let values = Value::Array(violation_values(alloc, violations)?);
-    let judged = judged_value(alloc, id, values)?;
-    refusal_value(alloc, judged)
+    let mut values = Vec::with_capacity(alloc, records.len())?;
+    for judged in records {
+        push(&mut values, judged_value(alloc, judged)?)?;
+    }
+    Ok(values)
 }
 
-/// `{"error":"C10","name":"Violations","records":[..]}`, with the one record that was judged.
-pub(crate) fn violations_refused(
-    alloc: Global,
-    id: &str,
-    violations: &[Violation],
-) -> Result<String, AllocError>
+fn refusal_value(alloc: Global, records: Value) -> Result<Value, AllocError>
+    ensures { IfOk result (λ v. json_view v ≡ refusal_json (json_view records)) }
+{
+    json!(in alloc; {"error": "C10", "name": "Violations", "records": records})
+}
+
+fn violations_refused_value(alloc: Global, records: &[Judged]) -> Result<Value, AllocError>
+    ensures { IfOk result (λ v. json_view v ≡ violations_refused_json (map judged_view records.now)) }
+{
+    refusal_value(alloc, Value::Array(judged_values(alloc, records)?))
+}
+
+/// `{"error":"C10","name":"Violations","records":[..]}`, with the records that have violations.
+pub(crate) fn violations_refused(alloc: Global, records: &[Judged]) -> Result<String, AllocError>
     ensures { IfOk result (λ s. string_bytes s
-        ≡ compact_text (violations_refused_json id.now (map violation_view violations.now))) }
+        ≡ compact_text (violations_refused_json (map judged_view records.now))) }
 {
-    let value = violations_refused_value(alloc, id, violations)?;
+    let value = violations_refused_value(alloc, records)?;
     text_of(alloc, &value)
 }
 
@@ -145,6 +155,68 @@ pub(crate) fn violations_listed(
     ensures { IfOk result (λ s. string_bytes s ≡ compact_text (violations_listed_json name.now (map violation_view violations.now))) }
 {
     let value = violations_listed_value(alloc, name, violations)?;
+    text_of(alloc, &value)
+}
+
+fn text_values(alloc: Global, texts: &[String]) -> Result<Vec<Value>, AllocError>
+    ensures { IfOk result (λ v. map json_view v.items ≡ map (λ t. json.string t) (map string_bytes texts.now)) }
+{
+    let mut values = Vec::with_capacity(alloc, texts.len())?;
+    for text in texts {
+        push(
+            &mut values,
+            Value::String(String::from_str(alloc, text.as_str())?),
+        )?;
+    }
+    Ok(values)
+}
+
+fn ids_value_of(alloc: Global, ids: Value) -> Result<Value, AllocError>
+    ensures { IfOk result (λ v. json_view v ≡ listed_json (json_view ids)) }
+{
+    json!(in alloc; {"ids": ids, "ok": "list"})
+}
+
+fn ids_value(alloc: Global, ids: &[String]) -> Result<Value, AllocError>
+    ensures { IfOk result (λ v. json_view v ≡ ids_json (map string_bytes ids.now)) }
+{
+    ids_value_of(alloc, Value::Array(text_values(alloc, ids)?))
+}
+
+/// `{"ids":[..],"ok":"list"}`.
+pub(crate) fn ids_listed(alloc: Global, ids: &[String]) -> Result<String, AllocError>
+    ensures { IfOk result (λ s. string_bytes s ≡ compact_text (ids_json (map string_bytes ids.now))) }
+{
+    let value = ids_value(alloc, ids)?;
+    text_of(alloc, &value)
+}
+
+fn part_bundle_value(alloc: Global, part: usize, code: &str) -> Result<Value, AllocError>
+    ensures { IfOk result (λ v. json_view v ≡ part_bundle_json part code.now) }
+{
+    json!(in alloc; {"error": "C5", "fault": code, "name": "Bundle", "part": part})
+}
+
+fn part_value(alloc: Global, part: usize, code: &str, name: &str) -> Result<Value, AllocError>
+    ensures { IfOk result (λ v. json_view v ≡ part_json part code.now name.now) }
+{
+    json!(in alloc; {"error": code, "name": name, "part": part})
+}
+
+fn part_refused_value(alloc: Global, part: usize, why: Refusal) -> Result<Value, AllocError>
+    ensures { IfOk result (λ v. json_view v ≡ part_refused_json part why) }
+{
+    match why {
+        Refusal::Bundle(fault) => part_bundle_value(alloc, part, fault.code()),
+        _ => part_value(alloc, part, why.code(), why.name()),
+    }
+}
+
+/// `{"error":..,"name":..,"part":..}`, with `fault` for a bundle.
+pub(crate) fn part_refused(alloc: Global, part: usize, why: Refusal) -> Result<String, AllocError>
+    ensures { IfOk result (λ s. string_bytes s ≡ compact_text (part_refused_json part why)) }
+{
+    let value = part_refused_value(alloc, part, why)?;
     text_of(alloc, &value)
 }
 

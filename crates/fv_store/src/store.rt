@@ -119,14 +119,16 @@ impl<S: Alter> Store<S> {
         ensures cause { HasCleanDisk (state S.Store self.new) → IfErr result (λ e. e ≡ StoreFault.Store → (c : _)
             → c.types ≡ types_view types.now → Holds (state S.Store self.old) c
             → HasFailed (state S.Store self.old) (state S.Store self.new)) }
+        ensures same { HasCleanDisk (state S.Store self.new) → OnOk result ((c : _) → Holds (state S.Store self.old) c
+            → (state S.Store self.new).now ≡ (state S.Store self.old).now) }
         ensures stays { (c : _) → Holds (state S.Store self.old) c → Holds (state S.Store self.new) c }
     {
         let shown = find(&mut self.connection, id)?;
         stored_if(alloc, types, shown)
     }
 
-    /// The ids of the records of a form above one, ascending by their bytes, so many at most; from the
-    /// first on where none is given. It need not be the id of a record.
+    /// The ids of the records of a form above one, ascending by their bytes, so many at most; above the
+    /// empty text where none is given. It need not be the id of a record.
     ///
     /// Refused by `Memory` at any place, and by `Store` only where the disk has failed during the call
     /// or the connection was shut before, if the store holds records.
@@ -155,7 +157,7 @@ impl<S: Alter> Store<S> {
     /// they do where each change fits.
     ///
     /// Refused by `Memory` at any place, and by `Store` only where the disk has failed during the call
-    /// or the connection was shut before, where no rowids are left or where a record is too long, if
+    /// or the connection was shut before, where fewer rowids are left than there are changes, or where a record is too long, if
     /// the store holds records.
     pub fn commit(&mut self, alloc: Global, changes: &[Change]) -> Result<(), StoreFault>
         ensures frame { Frame (state S.Store self.old) (state S.Store self.new) }

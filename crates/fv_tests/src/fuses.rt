@@ -1,5 +1,5 @@
-//! A disk that fails from one of its calls on, under the whole service: a put is refused, and what
-//! stands on the disk is the records before it or after it.
+//! A disk that fails from one of its calls on, under the whole service: a batch is refused, and what
+//! stands on the disk is the records before it or after it, never those of a part.
 use crate::databases::replied;
 use sqlite::{Connection, FileStore, Files, Options};
 use sqlite_disk::{Crash, Disk, Fuse, Memory};
@@ -17,11 +17,11 @@ const PUTS: &str =
 
 const PUTS_TAKEN: &str = "{\"ok\":\"put\"}\n{\"ok\":\"put\"}\n";
 
-/// A put in the place of the first.
+/// A put in the place of the first, and a field of the second.
 const CHANGE: &str =
-    r#"{"do":"put","id":"r1","form":"item","bundle":{"root":"a","objects":{"a":{"type":"Item","fields":{"name":"three"}}}}}"#;
+    r#"{"do":"batch","parts":[{"do":"put","id":"r1","form":"item","bundle":{"root":"a","objects":{"a":{"type":"Item","fields":{"name":"three"}}}}},{"do":"set","id":"r2","object":"a","field":"name","value":"four"}]}"#;
 
-const TAKEN: &str = "{\"ok\":\"put\"}\n";
+const TAKEN: &str = "{\"ok\":\"batch\"}\n";
 
 const REFUSED: &str = "{\"error\":\"C11\",\"name\":\"Store\"}\n";
 
@@ -35,7 +35,7 @@ const BEFORE: &str =
 
 const AFTER: &str =
     r#"{"bundle":{"objects":{"a":{"fields":{"name":"three"},"type":"Item"}},"root":"a"},"form":"item","id":"r1","ok":"get"}
-{"bundle":{"objects":{"a":{"fields":{"name":"two"},"type":"Item"}},"root":"a"},"form":"item","id":"r2","ok":"get"}
+{"bundle":{"objects":{"a":{"fields":{"name":"four"},"type":"Item"}},"root":"a"},"form":"item","id":"r2","ok":"get"}
 "#;
 
 /// The files of a database, all of it written there if the disk lets it.
@@ -111,7 +111,7 @@ fn mended(alloc: Global, files: &Files<Fuse<Memory>>) -> Result<Files<Memory>, F
     Ok(Files { log, db })
 }
 
-/// The records on the disk are those before the put or after it, and after it where it was taken.
+/// The records on the disk are those before the batch or after it, and after it where it was taken.
 fn check_left(
     rt: &impl Abort,
     alloc: Global,
@@ -126,7 +126,7 @@ fn check_left(
     Ok(())
 }
 
-/// How a put ends: `t`, it is taken; `r`, it is refused; `-`, no engine is opened.
+/// How the batch ends: `t`, it is taken; `r`, it is refused; `-`, no engine is opened.
 fn outcome(rt: &impl Abort, text: &str) -> char {
     if text == TAKEN {
         return 't';

@@ -2,7 +2,7 @@ use Rattle.std.proofs.Common.{[], ◌∷◌, arith}
 use Rattle.sqlite.specs.declared.types.Value.TheVariants.{Text}
 use Rattle.sqlite.specs.Held.{state}
 use Rattle.fv_query.proofs.Texts.{find_text, find_plain}
-use Rattle.fv_query.proofs.Queries.{find_shown, query_keeps, query_open, query_live}
+use Rattle.fv_query.proofs.Queries.{find_shown, query_keeps, query_same, query_open, query_live}
 use Rattle.fv_query.proofs.Refusals.{find_cause}
 use Rattle.fv_query.proofs.finding.find_record.Goals as goal
 
@@ -33,3 +33,8 @@ pub returns-clause-cause : goal.returns-clause-cause
 returns-clause-cause g c clean none =
     find_cause (state g.S.Store c.args.conn.now) (state g.S.Store c.query_all.new.self) (omega (arith, c.query_all.ensures.survives.clean)) none c.args.id.now c.query_all.result
     (rw c.params-to_sql.ensures at (c.query_all.ensures.err clean))
+
+pub returns-clause-same : goal.returns-clause-same
+returns-clause-same g c clean =
+    query_same find_text (Text c.args.id.now ∷ []) (state g.S.Store c.args.conn.now) (state g.S.Store c.query_all.new.self) find_plain (omega (arith, c.query_all.ensures.survives.clean)) c.query_all.result
+    (rw c.params-to_sql.ensures at (c.query_all.ensures.ok clean))

@@ -1,3 +1,4 @@
+use Rattle.std.proofs.Common.{Result, Ok, Err, OnOk}
 use Rattle.sqlite.specs.Held.{state}
 use Rattle.fv_types.specs.TypesView.{types_view}
 use Rattle.fv_store.specs.Faults.{fault_of}
@@ -5,6 +6,11 @@ use Rattle.fv_store.proofs.Openings.{keeps_of, holds_still}
 use Rattle.fv_store.proofs.Holdings.{handed_out, never_refused, is_refusal}
 use Rattle.fv_query.proofs.Refusals.{handed_on}
 use Rattle.fv_store.proofs.store.Store.get.Goals as goal
+
+-- what holds in any case holds where it is answered
+always : {T E : Type 0} (r : Result T E) (P : Type 0) → P → OnOk r P
+always (Ok x) P p = p
+always (Err e) P p = tt
 
 pub returns-clause-found : goal.returns-clause-found
 returns-clause-found g c clean =
@@ -28,3 +34,8 @@ pub returns-in_err-shown-clause-cause : goal.returns-in_err-shown-clause-cause
 returns-in_err-shown-clause-cause g c clean =
     handed_on _ c.from_residual.result (fault_of c.in_err-shown.field-0.0) c.from_residual.ensures.1
     (λ is k same holds. rw c.self.view_is at (c.in_err-shown.ensures.cause clean c.self.invariant.1 k.bytes k.records) (keeps_of (state g.S.Store c.args.self.now) k holds) (is_refusal c.in_err-shown.field-0.0 is))
+
+pub returns-clause-same : goal.returns-clause-same
+returns-clause-same g c clean =
+    let same = rw c.self.view_is at (c.in_ok-shown.ensures.same clean) in
+    always c.stored_if.result _ (λ k holds. same k.bytes k.records (keeps_of (state g.S.Store c.args.self.now) k holds))

@@ -1,0 +1,4 @@
+pub mod Groups
+pub mod Judged
+pub mod Listings
+pub mod Readings

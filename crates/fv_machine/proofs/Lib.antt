@@ -1,0 +1,5 @@
+pub mod Becoming
+pub mod Changes
+pub mod Groups
+pub mod OneField
+pub mod Rooms

@@ -1,0 +1,5 @@
+pub mod Fits
+pub mod Parts
+pub mod Steps
+pub mod Touched
+pub mod Ways
