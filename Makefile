@@ -20,7 +20,7 @@ test:
 
 # Compares the rows of crates/fv_rows/data, without a proof.
 rows:
-	cd crates/fv_rows && rt try --seconds 600 $$(sed 's|.*|--data &=data/&|' args) -- $$(cat args)
+	cd crates/fv_rows && rt try --seconds 1800 $$(sed 's|.*|--data &=data/&|' args) -- $$(cat args)
 
 # Tries the wrong bodies that the gate doesn't try: make planted, or make planted NAME=fv_model.
 planted:
