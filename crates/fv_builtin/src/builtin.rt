@@ -1,4 +1,5 @@
 ghost use Rattle.std.specs.Prelude.{◌≡◌, true, false, Some, IfOk, IsOk};
+ghost use Rattle.std.specs.List.{list_all};
 ghost use Rattle.fv_datum.specs.Moments.{IsMoment};
 ghost use Rattle.fv_datum.specs.View.{view};
 ghost use Rattle.fv_builtin.specs.Given.{drafted, IsRead};
@@ -104,6 +105,7 @@ impl Builtin {
     /// 1970-01-01T00:00:00Z.
     ///
     /// Only Pattern takes memory.
+    #[inline(always)]
     pub fn holds(&self, alloc: Global, datum: &Datum, now: i64) -> Result<bool, AllocError>
         requires { IsMoment now }
         ensures value { IfOk result (λ b. b ≡ says (builtin_view self.now) (view datum.now) now) }
@@ -132,6 +134,23 @@ impl Builtin {
             Builtin::FutureOrPresent => Ok(is_future_or_present(now, datum)),
             Builtin::Pattern(regex) => pattern::is_match(alloc, regex, datum),
         }
+    }
+
+    /// Whether the constraint holds for each of these data at a moment, in whole seconds since
+    /// 1970-01-01T00:00:00Z: the same of many, with one call.
+    ///
+    /// Only Pattern takes memory.
+    pub fn holds_for_all(&self, alloc: Global, data: &[Datum], now: i64) -> Result<bool, AllocError>
+        requires { IsMoment now }
+        ensures value { IfOk result (λ b. b ≡ list_all (λ d. says (builtin_view self.now) (view d) now) data.now) }
+        ensures succeeds { is_pattern (builtin_view self.now) ≡ false → IsOk result }
+    {
+        for datum in data {
+            if !self.holds(alloc, datum, now)? {
+                return Ok(false);
+            }
+        }
+        Ok(true)
     }
 }
 

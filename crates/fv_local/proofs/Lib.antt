@@ -1,5 +1,6 @@
 pub mod Reports
 pub mod Picked
+pub mod Passing
 pub mod Fitting
 pub mod Sets
 pub mod Locals

@@ -1,5 +1,5 @@
 //! Uses of constraints at one place, and the numbers of the constraints that they report.
-ghost use Rattle.std.specs.Prelude.{◌≡◌, ◌<◌, ◌≤◌, ◌+◌, ◌++◌, All, map, length, IfOk, OnOk};
+ghost use Rattle.std.specs.Prelude.{◌≡◌, ◌<◌, ◌≤◌, ◌+◌, [], ◌++◌, All, map, length, true, IfOk, OnOk};
 ghost use Rattle.std.specs.List.{AllByRecursion};
 ghost use Rattle.fv_datum.specs.Moments.{IsMoment};
 ghost use Rattle.fv_datum.specs.View.{view};
@@ -11,7 +11,7 @@ ghost use Rattle.fv_occurrence.specs.Says.{of_datum, of_object};
 use fv_datum::Datum;
 use fv_declare::Placed;
 use fv_model::Object;
-use fv_occurrence::{report, report_object};
+use fv_occurrence::{passes_all, report, report_object};
 use fv_registry::{RuleSet, Ruled};
 use std::alloc::{AllocError, Global};
 
@@ -51,6 +51,22 @@ impl<R: RuleSet> Judge<'_, R> {
             add_numbers(&mut numbers, placed.number(), &reported)?;
         }
         Ok(numbers)
+    }
+
+    /// Whether it is known that no node is reported of any of these data. No rule is asked.
+    pub(crate) fn passes_all(&self, alloc: Global, data: &[Datum]) -> Result<bool, AllocError>
+        requires moment { IsMoment self.now.moment }
+        requires within { All (λ i. i < length self.now.occurrences.now) self.now.asked.now }
+        ensures { IfOk result (λ b. b ≡ true → All (λ d. numbers_of R.meaning self.now.moment (of_datum (view d))
+            (picked (map placed_view self.now.occurrences.now) self.now.asked.now) ≡ []) data.now) }
+    {
+        for index in self.asked {
+            let occurrence = self.occurrences[*index].occurrence();
+            if !passes_all(alloc, occurrence, data, self.moment)? {
+                return Ok(false);
+            }
+        }
+        Ok(true)
     }
 
     /// The numbers of the nodes that are reported of an object.

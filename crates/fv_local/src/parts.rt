@@ -65,7 +65,8 @@ fn add_part<'a, R: RuleSet>(
     add_numbers(alloc, failures, place, &locus, datum, &numbers)
 }
 
-/// Adds what is told of the parts that lie a step further inside a part, the last of the place.
+/// Adds what is told of the parts that lie a step further inside a part, the last of the place. The
+/// elements of a list are first asked together, and each by itself only where one may fail.
 fn add_inside<'a, R: RuleSet>(
     alloc: Global,
     failures: &mut Vec<LocalFailure<'a>>,
@@ -81,7 +82,13 @@ fn add_inside<'a, R: RuleSet>(
         ++ flat_map (part_told R.meaning judge.now.moment (picked (map placed_view judge.now.occurrences.now) judge.now.asked.now) (place_view place.entry))
         (further (step_view step) (found_view part.now))) }
 {
-    for inner in Inside::new(step, part.1) {
+    let inside = Inside::new(step, part.1);
+    if let Inside::Elements(items, _) = &inside {
+        if judge.passes_all(alloc, items)? {
+            return Ok(());
+        }
+    }
+    for inner in inside {
         add_part(alloc, failures, judge, place, &part.0, inner)?;
     }
     Ok(())

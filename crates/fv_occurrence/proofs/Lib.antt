@@ -1,4 +1,5 @@
 pub mod Entries
 pub mod Laws
+pub mod Passed
 pub mod Steps
 pub mod Walking

@@ -5,9 +5,11 @@
 
 mod node;
 mod occurrence;
+mod passing;
 mod reporting;
 mod subject;
 
 pub use node::{Node, Test};
 pub use occurrence::Occurrence;
+pub use passing::passes_all;
 pub use reporting::{report, report_object};

@@ -1,7 +1,7 @@
 //! What trees report of data.
-use crate::given::{check, occurrence_of, written};
+use crate::given::{check, check_that, occurrence_of, written};
 use fv_datum::Datum;
-use fv_occurrence::report;
+use fv_occurrence::{passes_all, report};
 use fv_registry::{RuleSet, Ruled};
 use std::alloc::Global;
 use std::process::Abort;
@@ -114,6 +114,38 @@ const BEHIND: &str = r#"
 -4 *-2 -1 n0 s0 | null => 1
 "#;
 
+/// Trees asked about many data: whether they are known to pass all. A rule of data isn't asked.
+const MANY: &str = r#"
+n0 | => true
+n0 | "ab" "" => true
+n0 | "ab" null => false
+n0 | null "ab" => false
+s0 | "ab" null "abc" => true
+s0 | "ab" "a" => false
+-0 | null "a" => true
+k0 | "ab" => false
+-2 n0 k0 | "ab" => false
+o0 | "Item" null => true
+-1 n0 | "a" "" => true
+-1 n0 | "a" null => false
+-2 n0 s0 | "ab" "abc" => true
+-2 n0 s0 | "ab" "a" => false
+*s2 n0 b0 | "ab" "abc" => true
+*s2 n0 b0 | "ab" null => false
+*-5 -2 *s0 n0 -1 b0 | "ab" "abc" => true
+*-5 -2 *s0 n0 -1 b0 | "ab" "" => false
+"#;
+
+/// Whether a row's tree is known to pass its data.
+fn passes(alloc: Global, given: &str) -> Result<bool, Fail> {
+    let (tree, values) = given.split_once(" |").ok_or("data")?;
+    let mut data = Vec::new(alloc);
+    for value in values.split_whitespace() {
+        data.push(datum_of(alloc, value)?)?;
+    }
+    Ok(passes_all(alloc, &occurrence_of(alloc, tree)?, &data, 0)?)
+}
+
 /// Trees report of data what the rows say.
 pub(crate) fn check_data<R: RuleSet>(
     rt: &impl Abort,
@@ -126,6 +158,10 @@ pub(crate) fn check_data<R: RuleSet>(
             let found = reported(rt, alloc, rules, given)?;
             check(rt, found.as_str(), wanted, row);
         }
+    }
+    for row in MANY.trim().lines() {
+        let (given, wanted) = row.split_once(" => ").ok_or("a row")?;
+        check_that(rt, passes(alloc, given)? == (wanted == "true"), row);
     }
     Ok(())
 }
