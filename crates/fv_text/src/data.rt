@@ -9,8 +9,10 @@ use crate::halt::Halt;
 use fv_datum::{Datum, is_null, key_of, keys_fit};
 use json::Writer;
 
-/// A datum, with those that stand in it.
+/// A datum, with those that stand in it. Inlined, so that an item of a list that is no container costs no
+/// call of this function.
 #[cycle(write)]
+#[inline(always)]
 pub(crate) fn write_datum(out: &mut Writer, datum: &Datum) -> Result<(), Halt>
     ensures put { Puts result out.old out.new (datum_json (view datum.now)) }
     ensures written { OnOk result (IsWritten (view datum.now)) }

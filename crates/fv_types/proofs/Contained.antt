@@ -13,7 +13,7 @@ use Rattle.fv_types.proofs.Telling.{Joins}
 joined : (a b c x y : Bool) → c ≡ (a || b) → a ≡ x → b ≡ y → c ≡ (x || y)
 joined a b c x y both here more = rw (both, here, more) refl
 
-none_any : {X : Type 0} (t : X → Bool) (xs : List X) → ((x : X) → t x ≡ false) → list_any t xs ≡ false
+pub none_any : {X : Type 0} (t : X → Bool) (xs : List X) → ((x : X) → t x ≡ false) → list_any t xs ≡ false
 none_any t [] each = refl
 none_any t (x ∷ xs) each = rw (each x) (none_any t xs each)
 

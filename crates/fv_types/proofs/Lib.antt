@@ -3,6 +3,7 @@ pub mod Back
 pub mod Bools
 pub mod Contained
 pub mod Fitted
+pub mod Flawless
 pub mod Fronts
 pub mod Lists
 pub mod Lookups

@@ -18,8 +18,8 @@ use Rattle.fv_types.specs.Types.{TypeUse, lists, maps, optionals}
 
 -- ---- what a container's JSON is read as
 
-pub list_spelled : (t u : TypeUse) (j : json.Data) (js : json.Items) → t ≡ lists u → j ≡ json.array js → datum_of t j ≡ option_map list_of (each_some (datum_of u) (listed js))
-list_spelled t u j js is_list is_array = rw (is_list, is_array) refl
+pub list_spelled : (u : TypeUse) (j : json.Data) (js : json.Items) → j ≡ json.array js → datum_of (lists u) j ≡ option_map list_of (each_some (datum_of u) (listed js))
+list_spelled u j js is_array = rw is_array refl
 
 twice : {X Y Z : Type 0} (f : Y → Z) (g : X → Y) (o : Option X) → option_map (λ x. f (g x)) o ≡ option_map f (option_map g o)
 twice f g None = refl
@@ -29,11 +29,11 @@ twice f g (Some x) = refl
 abbrev pub map_with : List (Data × Data) → Data
 map_with es = datum.map (entries_of es)
 
-pub map_spelled : (t u : TypeUse) (j : json.Data) (ms : json.Members) → t ≡ maps u → j ≡ json.object ms → datum_of t j ≡ option_map map_with (option_map keyed (each_some (entry_read (datum_of u)) (pairs ms)))
-map_spelled t u j ms is_map is_object = rw (is_map, is_object) (twice map_with keyed (each_some (entry_read (datum_of u)) (pairs ms)))
+pub map_spelled : (u : TypeUse) (j : json.Data) (ms : json.Members) → j ≡ json.object ms → datum_of (maps u) j ≡ option_map map_with (option_map keyed (each_some (entry_read (datum_of u)) (pairs ms)))
+map_spelled u j ms is_object = rw is_object (twice map_with keyed (each_some (entry_read (datum_of u)) (pairs ms)))
 
-pub optional_spelled : (t u : TypeUse) (j : json.Data) (js : json.Items) → t ≡ optionals u → j ≡ json.array js → datum_of t j ≡ option_map optional (only_item (datum_of u) js)
-optional_spelled t u j js is_optional is_array = rw (is_optional, is_array) refl
+pub optional_spelled : (u : TypeUse) (j : json.Data) (js : json.Items) → j ≡ json.array js → datum_of (optionals u) j ≡ option_map optional (only_item (datum_of u) js)
+optional_spelled u j js is_array = rw is_array refl
 
 -- ---- what a call answers that is made of another's answer
 

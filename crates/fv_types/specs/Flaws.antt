@@ -1,5 +1,5 @@
 -- What can be wrong with a given datum.
-use Rattle.std.specs.Prelude.{ℕ, ◌||◌, List, [], length, Bool, false, not, nat_lt, Option, Some, None, option_and_then, is_some}
+use Rattle.std.specs.Prelude.{ℕ, ◌||◌, List, [], length, Bool, true, false, not, nat_lt, Option, Some, None, option_and_then, is_some}
 use Rattle.std.specs.List.{list_any}
 use Rattle.std.specs.Option.{option_map_or}
 use Rattle.std.specs.Str.{bytes_eq}
@@ -10,7 +10,7 @@ use Rattle.fv_datum.specs.Members.{pairs, listed}
 use Rattle.fv_types.specs.Limits.{longest_text, most_entries}
 use Rattle.fv_types.specs.Names.{ObjectTypes}
 use Rattle.fv_types.specs.Spelled.{datum_of}
-use Rattle.fv_types.specs.Types.{TypeUse, texts, references, lists, maps, optionals, DeclaredFields}
+use Rattle.fv_types.specs.Types.{TypeUse, texts, integers, decimals, booleans, dates, instants, references, lists, maps, optionals, DeclaredFields}
 
 -- a test of a datum that is given, and of what its field holds: None where the object's type has no such field
 abbrev pub Flaw : Type 0
@@ -80,6 +80,15 @@ is_over texts j = option_map_or is_long (as_str j) false
 is_over (lists held) j = nat_lt most_entries (length (items_in j))
 is_over (maps held) j = is_over_map (members_in j)
 is_over _ j = false
+
+-- a value of the type use, or what stands in it, may have one of the flaws below: it is no number, truth value, date or moment
+abbrev pub can_be_flawed : TypeUse → Bool
+can_be_flawed integers = false
+can_be_flawed decimals = false
+can_be_flawed booleans = false
+can_be_flawed dates = false
+can_be_flawed instants = false
+can_be_flawed _ = true
 
 -- there is a reference to no object in it
 abbrev pub dangles : ObjectTypes → Flaw

@@ -10,7 +10,7 @@ ghost use Rattle.fv_datum.specs.Members.{pairs, listed};
 ghost use Rattle.fv_types.specs.Names.{IsAscending, object_types_view};
 ghost use Rattle.fv_types.specs.Types.{type_use_view, fields_view};
 ghost use Rattle.fv_types.specs.Tells.{Tells};
-ghost use Rattle.fv_types.specs.Flaws.{flaw_among, is_other, is_missing, is_long, is_over_map};
+ghost use Rattle.fv_types.specs.Flaws.{flaw_among, is_other, is_missing, is_long, is_over_map, can_be_flawed};
 
 use crate::type_use::TypeUse;
 use crate::types::{Fields, use_in};
@@ -162,6 +162,17 @@ fn is_large_map(members: &Map<String, Value>) -> bool
     members.len() > MOST_ENTRIES || has_long_key(members)
 }
 
+/// Whether anything but the kind of a value that is given for a type use can be wrong: not where it is
+/// for a number, a truth value, a date or a moment.
+fn can_be_flawed(type_use: &TypeUse) -> bool
+    ensures { result ≡ can_be_flawed (type_use_view type_use.now) }
+{
+    !matches!(
+        type_use,
+        TypeUse::Integer | TypeUse::Decimal | TypeUse::Boolean | TypeUse::Date | TypeUse::Instant
+    )
+}
+
 /// What is wrong with a value that is given for a type use, and with what stands in it.
 pub fn flaws_of(types: &TypeNames, type_use: &TypeUse, value: &Value) -> Flaws
     ensures { Tells result (object_types_view types.now)
@@ -204,6 +215,9 @@ fn item_flaws(types: &TypeNames, items: &Vec<Value>, held: &TypeUse) -> Flaws
     ensures { Tells result (object_types_view types.now)
         (λ flaw. list_any (flaw (Some (type_use_view held.now))) (listed (json_items items.now.items))) }
 {
+    if !can_be_flawed(held) {
+        return Flaws::none();
+    }
     let mut flaws = Flaws::none();
     for item in items {
         flaws = flaws.and(value_flaws(types, item, held));
@@ -217,6 +231,9 @@ fn member_flaws(types: &TypeNames, members: &Map<String, Value>, held: &TypeUse)
     ensures { Tells result (object_types_view types.now)
         (λ flaw. list_any (λ m. flaw (Some (type_use_view held.now)) m.1) (pairs (members_view members.now.entries))) }
 {
+    if !can_be_flawed(held) {
+        return Flaws::none();
+    }
     let mut flaws = Flaws::none();
     for (_, value) in members.iter() {
         flaws = flaws.and(value_flaws(types, value, held));

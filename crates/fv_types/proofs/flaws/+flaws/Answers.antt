@@ -1,11 +1,13 @@
-use Rattle.std.proofs.Common.{◌≡◌, nat_lt, length, ap, ◌∙◌, arith}
+use Rattle.std.proofs.Common.{◌≡◌, nat_lt, length, false, ap, ◌∙◌, arith, rules}
 use Rattle.serde_json.specs.Data as json
 use Rattle.serde_json.specs.View.{view as json_view, items_view, members_view}
 use Rattle.serde_json.proofs.Views.{view-Array, view-Object}
-use Rattle.fv_datum.specs.Members.{listed}
+use Rattle.fv_datum.specs.Members.{pairs, listed}
+use Rattle.fv_types.specs.Flaws.{can_be_flawed}
 use Rattle.fv_types.specs.Names.{object_types_view}
 use Rattle.fv_types.specs.Types.{lists, maps, optionals, type_use_view}
 use Rattle.fv_types.proofs.Contained.{IsOfSize, list_tells, map_tells, optional_tells}
+use Rattle.fv_types.proofs.Flawless.{none_flawed}
 use Rattle.fv_types.proofs.Seen.{view-List, view-Map, view-Optional, length-items}
 use Rattle.fv_types.proofs.Telling.{Joins}
 use Rattle.fv_types.proofs.flaws.+flaws.Goals as goal
@@ -43,3 +45,17 @@ value_flaws-returns-in-Array-value t c =
     let is_optional : type_use_view c.args.type_use.now ≡ optionals (type_use_view held.value) = ap type_use_view c.in-Optional.is ∙ view-Optional held in
     let is_array : json_view c.args.value.now ≡ json.array (items_view vs) = ap json_view c.in-Array-value.is ∙ view-Array c.in-Array-value.items in
     rw (is_optional, is_array) (optional_tells (object_types_view c.args.types.now) (type_use_view held.value) (items_view vs) c.item_flaws-in-Array-value.result (rw c.deref-in-Array-value.ensures at c.item_flaws-in-Array-value.ensures))
+
+pub item_flaws-returns-then-not-can_be_flawed : goal.item_flaws-returns-then-not-can_be_flawed
+item_flaws-returns-then-not-can_be_flawed t c =
+    let plain : can_be_flawed (type_use_view c.args.held.now) ≡ false = search rules in
+    let none = c.none.ensures in
+    let size : IsOfSize c.none.result false = record { undeclared = none.undeclared; dangling = none.dangling; stray = none.stray; large = none.large } in
+    none_flawed (λ j. j) (object_types_view c.args.types.now) (type_use_view c.args.held.now) (listed (items_view c.args.items.now.items)) c.none.result plain size
+
+pub member_flaws-returns-then-not-can_be_flawed : goal.member_flaws-returns-then-not-can_be_flawed
+member_flaws-returns-then-not-can_be_flawed t c =
+    let plain : can_be_flawed (type_use_view c.args.held.now) ≡ false = search rules in
+    let none = c.none.ensures in
+    let size : IsOfSize c.none.result false = record { undeclared = none.undeclared; dangling = none.dangling; stray = none.stray; large = none.large } in
+    none_flawed (λ m. m.1) (object_types_view c.args.types.now) (type_use_view c.args.held.now) (pairs (members_view c.args.members.now.entries)) c.none.result plain size

@@ -11,72 +11,71 @@ use Rattle.fv_datum.specs.declared.fault.DatumFault.TheVariants.{WrongKind}
 use Rattle.fv_types.specs.Spelled.{datum_of, entry_read, only_item, list_of, keyed}
 use Rattle.fv_types.specs.Types.{lists, maps, optionals, type_use_view}
 use Rattle.fv_types.specs.Writing.{IsWritten}
-use Rattle.fv_types.proofs.Seen.{view-List, view-Map, view-Optional, view-DataText, view-DataList, view-DataMap, view-DataOptional}
+use Rattle.fv_types.proofs.Seen.{view-Map, view-DataText, view-DataList, view-DataMap, view-DataOptional}
 use Rattle.fv_types.proofs.Spelling.{list_spelled, map_spelled, map_with, optional_spelled, part_refused, part_taken, part_none, some_of, several, entries_more}
 use Rattle.fv_types.proofs.Writable.{all_seen, list_writable, entries_writable}
 use Rattle.fv_types.proofs.reading.+read.Goals as goal
 
-pub read-returns-in_err-read_items-in-Array-clause-exact : goal.read-returns-in_err-read_items-in-Array-clause-exact
-read-returns-in_err-read_items-in-Array-clause-exact t c =
-    let u = type_use_view c.in-List.held.value in
-    let js = json_items c.in-Array.items.items in
-    let is_list : type_use_view c.args.type_use.now ≡ lists u = ap type_use_view c.in-List.is ∙ view-List c.in-List.held in
-    let is_array : json_view c.args.value.now ≡ json.array js = ap json_view c.in-Array.is ∙ view-Array c.in-Array.items in
-    let read = list_spelled (type_use_view c.args.type_use.now) u (json_view c.args.value.now) js is_list is_array in
-    part_refused c.from_residual.result view _ (each_some (datum_of u) (listed js)) (datum_of (type_use_view c.args.type_use.now) (json_view c.args.value.now)) c.from_residual.ensures.1
-    (rw c.deref.ensures at c.in_err-read_items-in-Array.ensures.exact) (part_none list_of (each_some (datum_of u) (listed js)) _ read)
+pub read-returns-in-Map-clause-exact : goal.read-returns-in-Map-clause-exact
+read-returns-in-Map-clause-exact t c =
+    let is_map : type_use_view c.args.type_use.now ≡ maps (type_use_view c.in-Map.held.value) = ap type_use_view c.in-Map.is ∙ view-Map c.in-Map.held in
+    rw is_map (rw c.deref-in-Map.ensures at c.read_map.ensures.exact)
 
-pub read-returns-in_ok-read_items-in-Array-clause-exact : goal.read-returns-in_ok-read_items-in-Array-clause-exact
-read-returns-in_ok-read_items-in-Array-clause-exact t c =
-    let u = type_use_view c.in-List.held.value in
+pub read_list-returns-in_err-read_items-in-Array-clause-exact : goal.read_list-returns-in_err-read_items-in-Array-clause-exact
+read_list-returns-in_err-read_items-in-Array-clause-exact t c =
+    let u = type_use_view c.args.held.now in
     let js = json_items c.in-Array.items.items in
-    let is_list : type_use_view c.args.type_use.now ≡ lists u = ap type_use_view c.in-List.is ∙ view-List c.in-List.held in
     let is_array : json_view c.args.value.now ≡ json.array js = ap json_view c.in-Array.is ∙ view-Array c.in-Array.items in
-    let read = list_spelled (type_use_view c.args.type_use.now) u (json_view c.args.value.now) js is_list is_array in
-    part_taken list_of (each_some (datum_of u) (listed js)) _ (map view c.in_ok-read_items-in-Array.field-0.items) read (rw c.deref.ensures at c.in_ok-read_items-in-Array.ensures.exact)
+    let read = list_spelled u (json_view c.args.value.now) js is_array in
+    part_refused c.from_residual.result view _ (each_some (datum_of u) (listed js)) (datum_of (lists u) (json_view c.args.value.now)) c.from_residual.ensures.1
+    c.in_err-read_items-in-Array.ensures.exact (part_none list_of (each_some (datum_of u) (listed js)) _ read)
+
+pub read_list-returns-in_ok-read_items-in-Array-clause-exact : goal.read_list-returns-in_ok-read_items-in-Array-clause-exact
+read_list-returns-in_ok-read_items-in-Array-clause-exact t c =
+    let u = type_use_view c.args.held.now in
+    let js = json_items c.in-Array.items.items in
+    let is_array : json_view c.args.value.now ≡ json.array js = ap json_view c.in-Array.is ∙ view-Array c.in-Array.items in
+    let read = list_spelled u (json_view c.args.value.now) js is_array in
+    part_taken list_of (each_some (datum_of u) (listed js)) _ (map view c.in_ok-read_items-in-Array.field-0.items) read c.in_ok-read_items-in-Array.ensures.exact
     ∙ ap (λ d. Ok d) (sym (view-DataList c.in_ok-read_items-in-Array.field-0))
 
-pub read-returns-in_err-read_entries-in-Object-clause-exact : goal.read-returns-in_err-read_entries-in-Object-clause-exact
-read-returns-in_err-read_entries-in-Object-clause-exact t c =
-    let u = type_use_view c.in-Map.held.value in
+pub read_map-returns-in_err-read_entries-in-Object-clause-exact : goal.read_map-returns-in_err-read_entries-in-Object-clause-exact
+read_map-returns-in_err-read_entries-in-Object-clause-exact t c =
+    let u = type_use_view c.args.held.now in
     let ms = members_view c.in-Object.members.entries in
-    let is_map : type_use_view c.args.type_use.now ≡ maps u = ap type_use_view c.in-Map.is ∙ view-Map c.in-Map.held in
     let is_object : json_view c.args.value.now ≡ json.object ms = ap json_view c.in-Object.is ∙ view-Object c.in-Object.members in
-    let read = map_spelled (type_use_view c.args.type_use.now) u (json_view c.args.value.now) ms is_map is_object in
+    let read = map_spelled u (json_view c.args.value.now) ms is_object in
     let entries = option_map keyed (each_some (entry_read (datum_of u)) (pairs ms)) in
-    part_refused c.from_residual-in_err-read_entries-in-Object.result view _ entries (datum_of (type_use_view c.args.type_use.now) (json_view c.args.value.now)) c.from_residual-in_err-read_entries-in-Object.ensures.1
-    (rw c.deref-in-Object.ensures at c.in_err-read_entries-in-Object.ensures.exact) (part_none map_with entries _ read)
+    part_refused c.from_residual.result view _ entries (datum_of (maps u) (json_view c.args.value.now)) c.from_residual.ensures.1
+    c.in_err-read_entries-in-Object.ensures.exact (part_none map_with entries _ read)
 
-pub read-returns-in_ok-read_entries-in-Object-clause-exact : goal.read-returns-in_ok-read_entries-in-Object-clause-exact
-read-returns-in_ok-read_entries-in-Object-clause-exact t c =
-    let u = type_use_view c.in-Map.held.value in
+pub read_map-returns-in_ok-read_entries-in-Object-clause-exact : goal.read_map-returns-in_ok-read_entries-in-Object-clause-exact
+read_map-returns-in_ok-read_entries-in-Object-clause-exact t c =
+    let u = type_use_view c.args.held.now in
     let ms = members_view c.in-Object.members.entries in
-    let is_map : type_use_view c.args.type_use.now ≡ maps u = ap type_use_view c.in-Map.is ∙ view-Map c.in-Map.held in
     let is_object : json_view c.args.value.now ≡ json.object ms = ap json_view c.in-Object.is ∙ view-Object c.in-Object.members in
-    let read = map_spelled (type_use_view c.args.type_use.now) u (json_view c.args.value.now) ms is_map is_object in
+    let read = map_spelled u (json_view c.args.value.now) ms is_object in
     let entries = option_map keyed (each_some (entry_read (datum_of u)) (pairs ms)) in
-    part_taken map_with entries _ (map pair_view c.in_ok-read_entries-in-Object.field-0.items) read (rw c.deref-in-Object.ensures at c.in_ok-read_entries-in-Object.ensures.exact)
+    part_taken map_with entries _ (map pair_view c.in_ok-read_entries-in-Object.field-0.items) read c.in_ok-read_entries-in-Object.ensures.exact
     ∙ ap (λ d. Ok d) (sym (view-DataMap c.in_ok-read_entries-in-Object.field-0))
 
-pub read-returns-in_err-content-in-Array-value-clause-exact : goal.read-returns-in_err-content-in-Array-value-clause-exact
-read-returns-in_err-content-in-Array-value-clause-exact t c =
-    let u = type_use_view c.in-Optional.held.value in
-    let js = json_items c.in-Array-value.items.items in
-    let is_optional : type_use_view c.args.type_use.now ≡ optionals u = ap type_use_view c.in-Optional.is ∙ view-Optional c.in-Optional.held in
-    let is_array : json_view c.args.value.now ≡ json.array js = ap json_view c.in-Array-value.is ∙ view-Array c.in-Array-value.items in
-    let read = optional_spelled (type_use_view c.args.type_use.now) u (json_view c.args.value.now) js is_optional is_array in
-    part_refused c.from_residual-in_err-content-in-Array-value.result view _ (only_item (datum_of u) js) (datum_of (type_use_view c.args.type_use.now) (json_view c.args.value.now)) c.from_residual-in_err-content-in-Array-value.ensures.1
-    (rw c.deref-in-Array-value.ensures at c.in_err-content-in-Array-value.ensures.exact) (part_none optional (only_item (datum_of u) js) _ read)
+pub read_optional-returns-in_err-content-in-Array-clause-exact : goal.read_optional-returns-in_err-content-in-Array-clause-exact
+read_optional-returns-in_err-content-in-Array-clause-exact t c =
+    let u = type_use_view c.args.held.now in
+    let js = json_items c.in-Array.items.items in
+    let is_array : json_view c.args.value.now ≡ json.array js = ap json_view c.in-Array.is ∙ view-Array c.in-Array.items in
+    let read = optional_spelled u (json_view c.args.value.now) js is_array in
+    part_refused c.from_residual.result view _ (only_item (datum_of u) js) (datum_of (optionals u) (json_view c.args.value.now)) c.from_residual.ensures.1
+    c.in_err-content-in-Array.ensures.exact (part_none optional (only_item (datum_of u) js) _ read)
 
-pub read-returns-in_ok-new-in-Array-value-clause-exact : goal.read-returns-in_ok-new-in-Array-value-clause-exact
-read-returns-in_ok-new-in-Array-value-clause-exact t c =
-    let u = type_use_view c.in-Optional.held.value in
-    let js = json_items c.in-Array-value.items.items in
-    let is_optional : type_use_view c.args.type_use.now ≡ optionals u = ap type_use_view c.in-Optional.is ∙ view-Optional c.in-Optional.held in
-    let is_array : json_view c.args.value.now ≡ json.array js = ap json_view c.in-Array-value.is ∙ view-Array c.in-Array-value.items in
-    let read = optional_spelled (type_use_view c.args.type_use.now) u (json_view c.args.value.now) js is_optional is_array in
-    part_taken optional (only_item (datum_of u) js) _ (view c.in_ok-content-in-Array-value.content) read (rw c.deref-in-Array-value.ensures at c.in_ok-content-in-Array-value.ensures.exact)
-    ∙ ap (λ x. Ok (optional (view x))) (sym c.in_ok-new-in-Array-value.ensures.ok) ∙ ap (λ d. Ok d) (sym (view-DataOptional c.in_ok-new-in-Array-value.field-0))
+pub read_optional-returns-in_ok-new-in-Array-clause-exact : goal.read_optional-returns-in_ok-new-in-Array-clause-exact
+read_optional-returns-in_ok-new-in-Array-clause-exact t c =
+    let u = type_use_view c.args.held.now in
+    let js = json_items c.in-Array.items.items in
+    let is_array : json_view c.args.value.now ≡ json.array js = ap json_view c.in-Array.is ∙ view-Array c.in-Array.items in
+    let read = optional_spelled u (json_view c.args.value.now) js is_array in
+    part_taken optional (only_item (datum_of u) js) _ (view c.in_ok-content-in-Array.content) read c.in_ok-content-in-Array.ensures.exact
+    ∙ ap (λ x. Ok (optional (view x))) (sym c.in_ok-new-in-Array.ensures.ok) ∙ ap (λ d. Ok d) (sym (view-DataOptional c.in_ok-new-in-Array.field-0))
 
 pub read_content-returns-then-len-gt1-clause-exact : goal.read_content-returns-then-len-gt1-clause-exact
 read_content-returns-then-len-gt1-clause-exact t c =
