@@ -9,9 +9,24 @@ use Rattle.fv_datum.specs.declared.datum.Datum.{Datum, the_lemmas as data_lemmas
 use Rattle.fv_datum.specs.declared.datum.Datum.TheVariants.{Text as text_datum, List as list_datum, Map as map_datum, Optional as optional_datum}
 use Rattle.fv_types.specs.Spelled.{list_of}
 use Rattle.fv_datum.specs.Members.{pairs, listed}
-use Rattle.fv_types.specs.Types.{lists, maps, optionals, type_use_view}
+use Rattle.fv_types.specs.Types.{integers, decimals, booleans, dates, instants, lists, maps, optionals, type_use_view}
 use Rattle.fv_types.specs.declared.type_use.TypeUse.{TypeUse, the_lemmas}
-use Rattle.fv_types.specs.declared.type_use.TypeUse.TheVariants.{List as list_use, Map as map_use, Optional as optional_use}
+use Rattle.fv_types.specs.declared.type_use.TypeUse.TheVariants.{Integer as integer_use, Decimal as decimal_use, Boolean as boolean_use, Date as date_use, Instant as instant_use, List as list_use, Map as map_use, Optional as optional_use}
+
+pub view-Integer : type_use_view integer_use ≡ integers
+view-Integer = search (rules, the_lemmas)
+
+pub view-Decimal : type_use_view decimal_use ≡ decimals
+view-Decimal = search (rules, the_lemmas)
+
+pub view-Boolean : type_use_view boolean_use ≡ booleans
+view-Boolean = search (rules, the_lemmas)
+
+pub view-Date : type_use_view date_use ≡ dates
+view-Date = search (rules, the_lemmas)
+
+pub view-Instant : type_use_view instant_use ≡ instants
+view-Instant = search (rules, the_lemmas)
 
 pub view-List : (b : Box TypeUse Global) → type_use_view (list_use b) ≡ lists (type_use_view b.value)
 view-List b = search (rules, the_lemmas)

@@ -1,5 +1,5 @@
 -- What can be wrong with a given datum.
-use Rattle.std.specs.Prelude.{ℕ, ◌||◌, List, [], length, Bool, true, false, not, nat_lt, Option, Some, None, option_and_then, is_some}
+use Rattle.std.specs.Prelude.{◌≡◌, ℕ, ◌||◌, List, [], length, Bool, false, not, nat_lt, Option, Some, None, option_and_then, is_some}
 use Rattle.std.specs.List.{list_any}
 use Rattle.std.specs.Option.{option_map_or}
 use Rattle.std.specs.Str.{bytes_eq}
@@ -10,7 +10,7 @@ use Rattle.fv_datum.specs.Members.{pairs, listed}
 use Rattle.fv_types.specs.Limits.{longest_text, most_entries}
 use Rattle.fv_types.specs.Names.{ObjectTypes}
 use Rattle.fv_types.specs.Spelled.{datum_of}
-use Rattle.fv_types.specs.Types.{TypeUse, texts, integers, decimals, booleans, dates, instants, references, lists, maps, optionals, DeclaredFields}
+use Rattle.fv_types.specs.Types.{TypeUse, texts, references, lists, maps, optionals, DeclaredFields}
 
 -- a test of a datum that is given, and of what its field holds: None where the object's type has no such field
 abbrev pub Flaw : Type 0
@@ -81,15 +81,6 @@ is_over (lists held) j = nat_lt most_entries (length (items_in j))
 is_over (maps held) j = is_over_map (members_in j)
 is_over _ j = false
 
--- a value of the type use, or what stands in it, may have one of the flaws below: it is no number, truth value, date or moment
-abbrev pub can_be_flawed : TypeUse → Bool
-can_be_flawed integers = false
-can_be_flawed decimals = false
-can_be_flawed booleans = false
-can_be_flawed dates = false
-can_be_flawed instants = false
-can_be_flawed _ = true
-
 -- there is a reference to no object in it
 abbrev pub dangles : ObjectTypes → Flaw
 dangles types = somewhere (referring (λ type name. is_missing types name))
@@ -101,3 +92,7 @@ strays types = somewhere (referring (λ type name. is_other type (option_and_the
 -- there is a text, a key, a list or a map in it that is too large
 abbrev pub is_large : Flaw
 is_large = somewhere is_over
+
+-- nothing is wrong with any value that is given for the type use but, perhaps, its kind
+abbrev pub IsNeverFlawed : TypeUse → Type 0
+IsNeverFlawed u = (types : ObjectTypes) (j : json.Data) → (dangles types (Some u) j ≡ false) × (strays types (Some u) j ≡ false) × (is_large (Some u) j ≡ false)

@@ -10,7 +10,7 @@ ghost use Rattle.fv_datum.specs.Members.{pairs, listed};
 ghost use Rattle.fv_types.specs.Names.{IsAscending, object_types_view};
 ghost use Rattle.fv_types.specs.Types.{type_use_view, fields_view};
 ghost use Rattle.fv_types.specs.Tells.{Tells};
-ghost use Rattle.fv_types.specs.Flaws.{flaw_among, is_other, is_missing, is_long, is_over_map, can_be_flawed};
+ghost use Rattle.fv_types.specs.Flaws.{flaw_among, is_other, is_missing, is_long, is_over_map, IsNeverFlawed};
 
 use crate::type_use::TypeUse;
 use crate::types::{Fields, use_in};
@@ -162,15 +162,19 @@ fn is_large_map(members: &Map<String, Value>) -> bool
     members.len() > MOST_ENTRIES || has_long_key(members)
 }
 
-/// Whether anything but the kind of a value that is given for a type use can be wrong: not where it is
-/// for a number, a truth value, a date or a moment.
+/// Whether more than the kind of a value that is given for a type use may be wrong: it may not where
+/// that is a number, a truth value, a date or a moment.
 fn can_be_flawed(type_use: &TypeUse) -> bool
-    ensures { result ≡ can_be_flawed (type_use_view type_use.now) }
+    ensures { result ≡ false → IsNeverFlawed (type_use_view type_use.now) }
 {
-    !matches!(
-        type_use,
-        TypeUse::Integer | TypeUse::Decimal | TypeUse::Boolean | TypeUse::Date | TypeUse::Instant
-    )
+    match type_use {
+        TypeUse::Integer => false,
+        TypeUse::Decimal => false,
+        TypeUse::Boolean => false,
+        TypeUse::Date => false,
+        TypeUse::Instant => false,
+        _ => true,
+    }
 }
 
 /// What is wrong with a value that is given for a type use, and with what stands in it.

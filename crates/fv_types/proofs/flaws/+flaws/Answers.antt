@@ -3,7 +3,7 @@ use Rattle.serde_json.specs.Data as json
 use Rattle.serde_json.specs.View.{view as json_view, items_view, members_view}
 use Rattle.serde_json.proofs.Views.{view-Array, view-Object}
 use Rattle.fv_datum.specs.Members.{pairs, listed}
-use Rattle.fv_types.specs.Flaws.{can_be_flawed}
+use Rattle.fv_types.specs.Flaws.{IsNeverFlawed}
 use Rattle.fv_types.specs.Names.{object_types_view}
 use Rattle.fv_types.specs.Types.{lists, maps, optionals, type_use_view}
 use Rattle.fv_types.proofs.Contained.{IsOfSize, list_tells, map_tells, optional_tells}
@@ -48,14 +48,14 @@ value_flaws-returns-in-Array-value t c =
 
 pub item_flaws-returns-then-not-can_be_flawed : goal.item_flaws-returns-then-not-can_be_flawed
 item_flaws-returns-then-not-can_be_flawed t c =
-    let plain : can_be_flawed (type_use_view c.args.held.now) ≡ false = search rules in
+    let plain : IsNeverFlawed (type_use_view c.args.held.now) = c.can_be_flawed.ensures (search rules) in
     let none = c.none.ensures in
     let size : IsOfSize c.none.result false = record { undeclared = none.undeclared; dangling = none.dangling; stray = none.stray; large = none.large } in
     none_flawed (λ j. j) (object_types_view c.args.types.now) (type_use_view c.args.held.now) (listed (items_view c.args.items.now.items)) c.none.result plain size
 
 pub member_flaws-returns-then-not-can_be_flawed : goal.member_flaws-returns-then-not-can_be_flawed
 member_flaws-returns-then-not-can_be_flawed t c =
-    let plain : can_be_flawed (type_use_view c.args.held.now) ≡ false = search rules in
+    let plain : IsNeverFlawed (type_use_view c.args.held.now) = c.can_be_flawed.ensures (search rules) in
     let none = c.none.ensures in
     let size : IsOfSize c.none.result false = record { undeclared = none.undeclared; dangling = none.dangling; stray = none.stray; large = none.large } in
     none_flawed (λ m. m.1) (object_types_view c.args.types.now) (type_use_view c.args.held.now) (pairs (members_view c.args.members.now.entries)) c.none.result plain size
