@@ -37,11 +37,11 @@ use Rattle.fv_types.proofs.Bools.{or_false, or_left, or_right}
 
 -- ---- the fields
 
-put_if : (b : Bool) (q k : List ℕ) (d : json.Data) (ms : json.Members) → q ≢ k → get_member q (cond b ms (json.put k d ms)) ≡ get_member q ms
+pub put_if : (b : Bool) (q k : List ℕ) (d : json.Data) (ms : json.Members) → q ≢ k → get_member q (cond b ms (json.put k d ms)) ≡ get_member q ms
 put_if true q k d ms other = refl
 put_if false q k d ms other = get_member-put_other q k d ms other
 
-added_other : (q : List ℕ) (fs : List (List ℕ × Data)) (ms : json.Members) → AllByRecursion (λ f. q ≢ f.0) fs → get_member q (added ms fs) ≡ get_member q ms
+pub added_other : (q : List ℕ) (fs : List (List ℕ × Data)) (ms : json.Members) → AllByRecursion (λ f. q ≢ f.0) fs → get_member q (added ms fs) ≡ get_member q ms
 added_other q [] ms h = refl
 added_other q (f ∷ fs) ms h = added_other q fs _ h.1 ∙ put_if (is_null f.1) q f.0 (datum_json f.1) ms h.0
 
@@ -103,7 +103,7 @@ any_put_if : (t : List ℕ × json.Data → Bool) (b : Bool) (k : List ℕ) (d :
 any_put_if t true k d ms here old = old
 any_put_if t false k d ms here old = any_put t k d ms here old
 
-any_added : (t : List ℕ × json.Data → Bool) (fs : List (List ℕ × Data)) (ms : json.Members) → AllByRecursion (λ f. t (f.0, datum_json f.1) ≡ false) fs → list_any t (pairs ms) ≡ false → list_any t (pairs (added ms fs)) ≡ false
+pub any_added : (t : List ℕ × json.Data → Bool) (fs : List (List ℕ × Data)) (ms : json.Members) → AllByRecursion (λ f. t (f.0, datum_json f.1) ≡ false) fs → list_any t (pairs ms) ≡ false → list_any t (pairs (added ms fs)) ≡ false
 any_added t [] ms each old = old
 any_added t (f ∷ fs) ms each old = any_added t fs _ each.1 (any_put_if t (is_null f.1) f.0 (datum_json f.1) ms each.0 old)
 
@@ -126,7 +126,7 @@ found_each (d ∷ ds) apart = (rw (same_bytes d.0) refl, skip d ds ds (apart-hea
 -- ---- references
 
 -- the names of types are those of the objects
-abbrev Agree : ObjectTypes → Things → Type 0
+abbrev pub Agree : ObjectTypes → Things → Type 0
 Agree types os = (name : List ℕ) → at_name name types ≡ option_map (λ t. t.type_name) (at_name name os)
 
 known_type : (os : Things) (types : ObjectTypes) (type name : List ℕ) → Agree types os → NamesObject os type name → at_name name types ≡ Some type
@@ -147,14 +147,14 @@ not_stray os types type d agree fits =
     none_refers (NamesObject os) (λ own name. is_other own (option_and_then (λ n. at_name n types) name)) (λ own. refl) (λ own name is. other_not types own name (known_type os types own name agree is)) type d fits
 
 -- no field is undeclared, of another kind, refers wrongly or is too large
-record Taken (types : ObjectTypes) (all : DeclaredFields) (fs : List (List ℕ × Data)) : Type 0 where
-  declared : AllByRecursion (λ f. not (is_some (at_name f.0 all)) ≡ false) fs
-  fits : AllByRecursion (λ f. misfits (at_name f.0 all) (datum_json f.1) ≡ false) fs
-  there : AllByRecursion (λ f. dangles types (at_name f.0 all) (datum_json f.1) ≡ false) fs
-  own : AllByRecursion (λ f. strays types (at_name f.0 all) (datum_json f.1) ≡ false) fs
-  lengths : AllByRecursion (λ f. is_large (at_name f.0 all) (datum_json f.1) ≡ false) fs
+pub record Taken (types : ObjectTypes) (all : DeclaredFields) (fs : List (List ℕ × Data)) : Type 0 where
+  pub declared : AllByRecursion (λ f. not (is_some (at_name f.0 all)) ≡ false) fs
+  pub fits : AllByRecursion (λ f. misfits (at_name f.0 all) (datum_json f.1) ≡ false) fs
+  pub there : AllByRecursion (λ f. dangles types (at_name f.0 all) (datum_json f.1) ≡ false) fs
+  pub own : AllByRecursion (λ f. strays types (at_name f.0 all) (datum_json f.1) ≡ false) fs
+  pub lengths : AllByRecursion (λ f. is_large (at_name f.0 all) (datum_json f.1) ≡ false) fs
 
-taken : (os : Things) (types : ObjectTypes) (all ds : DeclaredFields) (fs : List (List ℕ × Data)) → Agree types os → FieldsFit os ds fs → AllByRecursion (λ e. at_name e.0 all ≡ Some e.1) ds → Taken types all fs
+pub taken : (os : Things) (types : ObjectTypes) (all ds : DeclaredFields) (fs : List (List ℕ × Data)) → Agree types os → FieldsFit os ds fs → AllByRecursion (λ e. at_name e.0 all ≡ Some e.1) ds → Taken types all fs
 taken os types all [] [] agree fit known = record { declared = tt; fits = tt; there = tt; own = tt; lengths = tt }
 taken os types all (d ∷ ds) (f ∷ fs) agree fit known =
     let found : at_name f.0 all ≡ Some d.1 = rw fit.0 known.0 in
@@ -184,7 +184,7 @@ abbrev the_thing : List ℕ → List (List ℕ × Data) → Thing
 the_thing type fields = record { type_name = type; fields = fields }
 
 -- an object as it is given by what is written of it
-abbrev part_for : List ℕ × Thing → Part
+abbrev pub part_for : List ℕ × Thing → Part
 part_for o = record { name = o.0; type_name = o.1.type_name; given = added json.no_members o.1.fields }
 
 -- no fault at an object, which is read as it was
@@ -226,7 +226,7 @@ type_here : (b : Bool) (t : Thing) (rest : Option (List ℕ)) (found : Option Th
 type_here true t rest found e = refl
 type_here false t rest found e = e
 
-types_agree : (os : Things) → Agree (object_types (map part_for os)) os
+pub types_agree : (os : Things) → Agree (object_types (map part_for os)) os
 types_agree [] name = refl
 types_agree (o ∷ os) name = type_here (bytes_eq name o.0) o.1 _ _ (types_agree os name)
 
@@ -265,22 +265,22 @@ parts_back os ascending =
     let names : IsAscending (keys_of (map json_of os)) = subst (λ (ns : List (List ℕ)). IsAscending ns) (sym (json_named os)) ascending in
     ap (each_some part_of) (written_last os json.no_members names) ∙ each_part os
 
-draft_back : (root : List ℕ) (os : Things) → IsAscending (keys_of os) → draft_of (bundle_json (record { root = root; objects = os })) ≡ Some (record { root = root; objects = map part_for os })
+pub draft_back : (root : List ℕ) (os : Things) → IsAscending (keys_of os) → draft_of (bundle_json (record { root = root; objects = os })) ≡ Some (record { root = root; objects = map part_for os })
 draft_back root os ascending = rw (parts_back os ascending) refl
 
 -- ---- the bundle
 
 -- where no condition holds there is no first fault
-no_first : {E : Type 0} (cs : List (Bool × E)) → AllByRecursion (λ c. c.0 ≡ false) cs → first cs ≡ None
+pub no_first : {E : Type 0} (cs : List (Bool × E)) → AllByRecursion (λ c. c.0 ≡ false) cs → first cs ≡ None
 no_first [] all = refl
 no_first (c ∷ cs) all = rw all.0 (no_first cs all.1)
 
 -- no type is asked of the root, or its own
-root_asked : (asked : Option (List ℕ)) (root : List ℕ) (os : Things) → ((type : List ℕ) → asked ≡ Some type → NamesObject os type root) → root_type asked root (map part_for os) ≡ false
+pub root_asked : (asked : Option (List ℕ)) (root : List ℕ) (os : Things) → ((type : List ℕ) → asked ≡ Some type → NamesObject os type root) → root_type asked root (map part_for os) ≡ false
 root_asked None root os own = refl
 root_asked (Some type) root os own = rw (known_type os (object_types (map part_for os)) type root (types_agree os) (own type refl), same_bytes type) refl
 
-is_there : (o : Option Thing) → is_some o ≡ true → not (is_some (option_map (λ t. t.type_name) o)) ≡ false
+pub is_there : (o : Option Thing) → is_some o ≡ true → not (is_some (option_map (λ t. t.type_name) o)) ≡ false
 is_there (Some t) e = refl
 is_there None e = absurd (true≢false (sym e))
 

@@ -1,4 +1,6 @@
+pub mod Again
 pub mod Anys
+pub mod Extended
 pub mod Firsts
 pub mod Given
 pub mod Law
@@ -6,5 +8,6 @@ pub mod Listed
 pub mod Made
 pub mod Put
 pub mod Typed
+pub mod Unfit
 pub mod Values
 pub mod Wrong

@@ -21,7 +21,7 @@ use Rattle.fv_types.proofs.Fitted.{IsFree, spelled_fits}
 use Rattle.fv_model.specs.Bundles.{IsAscending, Bundled}
 use Rattle.fv_datum.specs.Members.{pairs}
 use Rattle.fv_model.specs.Draft.{Part, Drafted, draft_of}
-use Rattle.fv_model.specs.Reading.{bad_name, root_missing, unknown_type, has_flaw, some_flawed, wrong_kind, object_types, dangling_ref, ref_type, large_datum, too_large, root_type, conditions, draft_fault, datum_at, field_of, object_of, bundle_of, judged, bundle_read}
+use Rattle.fv_model.specs.Reading.{bad_name, root_missing, unknown_type, unknown_field, has_flaw, some_flawed, wrong_kind, object_types, dangling_ref, ref_type, large_datum, too_large, root_type, conditions, draft_fault, datum_at, field_of, object_of, bundle_of, judged, bundle_read}
 use Rattle.fv_types.specs.Types.{TypeUse, DeclaredFields, Declared, FieldsApart, name_at}
 use Rattle.fv_model.specs.Views.{bundle_view}
 use Rattle.fv_model.specs.WellTyped.{NamesObject, FitsUse, FieldsFit, FitsType, IsWellTyped, HasRootType}
@@ -37,7 +37,7 @@ use Rattle.fv_model.proofs.Law.{found_each, flaw_known}
 
 -- ---- references
 
-some_of : {X : Type 0} (o : Option X) → not (is_some o) ≡ false → (x : X) × (o ≡ Some x)
+pub some_of : {X : Type 0} (o : Option X) → not (is_some o) ≡ false → (x : X) × (o ≡ Some x)
 some_of (Some x) e = (x, refl)
 some_of None e = cc
 
@@ -156,17 +156,18 @@ fits_type ts ps p apart sound can =
 -- ---- the bundle
 
 -- none of the faults
-record IsFaultless (ts : Declared) (asked : Option (List ℕ)) (root : List ℕ) (ps : List Part) : Type 0 where
-  named : bad_name ps ≡ false
-  rooted : root_missing root ps ≡ false
-  typed : unknown_type ts ps ≡ false
-  fits : wrong_kind ts ps ≡ false
-  there : dangling_ref ts ps ≡ false
-  own : ref_type ts ps ≡ false
-  small : too_large ts ps ≡ false
-  type : root_type asked root ps ≡ false
+pub record IsFaultless (ts : Declared) (asked : Option (List ℕ)) (root : List ℕ) (ps : List Part) : Type 0 where
+  pub named : bad_name ps ≡ false
+  pub rooted : root_missing root ps ≡ false
+  pub typed : unknown_type ts ps ≡ false
+  pub declared : unknown_field ts ps ≡ false
+  pub fits : wrong_kind ts ps ≡ false
+  pub there : dangling_ref ts ps ≡ false
+  pub own : ref_type ts ps ≡ false
+  pub small : too_large ts ps ≡ false
+  pub type : root_type asked root ps ≡ false
 
-head_false : {E : Type 0} (c : Bool) (e : E) (rest : Option E) → cond c (Some e) rest ≡ None → (c ≡ false) × (rest ≡ None)
+pub head_false : {E : Type 0} (c : Bool) (e : E) (rest : Option E) → cond c (Some e) rest ≡ None → (c ≡ false) × (rest ≡ None)
 head_false true e rest is = cc
 head_false false e rest is = (refl, is)
 
@@ -175,12 +176,12 @@ all_false : {E : Type 0} (cs : List (Bool × E)) → first cs ≡ None → AllBy
 all_false [] e = tt
 all_false (c ∷ cs) e = let parts = head_false c.0 c.1 (first cs) e in (parts.0, all_false cs parts.1)
 
-faultless : (ts : Declared) (asked : Option (List ℕ)) (d : Drafted) → draft_fault ts asked d ≡ None → IsFaultless ts asked d.root d.objects
+pub faultless : (ts : Declared) (asked : Option (List ℕ)) (d : Drafted) → draft_fault ts asked d ≡ None → IsFaultless ts asked d.root d.objects
 faultless ts asked d e =
     let all = all_false (conditions ts asked d) e in
-    record { named = all.0; rooted = all.1.0; typed = all.1.1.0; fits = all.1.1.1.1.0; there = all.1.1.1.1.1.0; own = all.1.1.1.1.1.1.0; small = all.1.1.1.1.1.1.1.0; type = all.1.1.1.1.1.1.1.1.0 }
+    record { named = all.0; rooted = all.1.0; typed = all.1.1.0; declared = all.1.1.1.0; fits = all.1.1.1.1.0; there = all.1.1.1.1.1.0; own = all.1.1.1.1.1.1.0; small = all.1.1.1.1.1.1.1.0; type = all.1.1.1.1.1.1.1.1.0 }
 
-unless_none : {E Y : Type 0} (o : Option E) (y b : Y) → unless_fault o y ≡ Ok b → (o ≡ None) × (y ≡ b)
+pub unless_none : {E Y : Type 0} (o : Option E) (y b : Y) → unless_fault o y ≡ Ok b → (o ≡ None) × (y ≡ b)
 unless_none None y b e = (refl, cc)
 unless_none (Some f) y b e = cc
 

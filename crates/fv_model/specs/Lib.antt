@@ -2,6 +2,7 @@ pub mod Ascents
 pub mod Bundles
 pub mod Conditions
 pub mod Draft
+pub mod Extends
 pub mod FaultNames
 pub mod FieldViews
 pub mod Fitting
@@ -11,6 +12,7 @@ pub mod Reading
 pub mod Replaced
 pub mod Single
 pub mod Types
+pub mod Unfit
 pub mod Views
 pub mod WellTyped
 pub mod Writing

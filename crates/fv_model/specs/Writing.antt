@@ -1,6 +1,6 @@
 -- The JSON that a bundle is written as.
 pub use Rattle.fv_types.specs.Writing.{IsWritten, datum_json}
-use Rattle.std.specs.Prelude.{ℕ, List, [], ◌∷◌, codes, if◌then◌else◌}
+use Rattle.std.specs.Prelude.{ℕ, List, [], ◌∷◌, codes, map, if◌then◌else◌}
 use Rattle.serde_json.specs.Data as json
 use Rattle.fv_datum.specs.Data.{Data}
 use Rattle.fv_datum.specs.Written.{is_null}
@@ -25,3 +25,17 @@ objects_added ms (o ∷ os) = objects_added (json.put o.0 (thing_json o.1) ms) o
 abbrev pub bundle_json : Bundled → json.Data
 bundle_json b = json.object (json.member (codes "objects") (json.object (objects_added json.no_members b.objects)) (json.member
     (codes "root") (json.string b.root) json.no_members))
+
+-- ---- the same, by its parts
+
+-- what is written of an object: its type's name, and its fields that aren't null
+abbrev pub thing_written : Thing → List ℕ × json.Members
+thing_written t = (t.type_name, added json.no_members t.fields)
+
+-- the same, with the object's name
+abbrev pub named_written : List ℕ × Thing → List ℕ × (List ℕ × json.Members)
+named_written o = (o.0, thing_written o.1)
+
+-- what is written of a bundle: its root's name, and its objects by their names
+abbrev pub bundle_written : Bundled → List ℕ × List (List ℕ × (List ℕ × json.Members))
+bundle_written b = (b.root, map named_written b.objects)

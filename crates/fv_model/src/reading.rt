@@ -2,13 +2,13 @@ ghost use Rattle.std.specs.Prelude.{◌≡◌, option_map, IfOk, Ok, Some};
 ghost use Rattle.std.specs.Option.{ForSome};
 ghost use Rattle.serde_json.specs.View.{view as json_view};
 ghost use Rattle.fv_datum.specs.Outcomes.{Gives};
-ghost use Rattle.fv_types.specs.Types.{name_at};
+ghost use Rattle.fv_types.specs.Types.{Declared, name_at};
 ghost use Rattle.fv_model.specs.Views.{types_view, draft_view, bundle_view};
 ghost use Rattle.fv_model.specs.Reading.{judged, bundle_read};
 ghost use Rattle.std.specs.Map.{keys_of};
 ghost use Rattle.fv_model.specs.Bundles.{Bundled, IsAscending};
 ghost use Rattle.fv_model.specs.WellTyped.{IsWellTyped, HasRootType};
-ghost use Rattle.fv_model.specs.Writing.{bundle_json};
+ghost use Rattle.fv_model.specs.Writing.{bundle_json, bundle_written};
 
 use crate::build::build;
 use crate::bundle::Bundle;
@@ -24,7 +24,8 @@ use std::alloc::Global;
 /// The bundle that a JSON value spells, its root of the asked type where one is asked.
 ///
 /// It is well-typed. What `write_bundle` gave for a well-typed bundle is read as that bundle, where
-/// its root is of the asked type or none is asked.
+/// its root is of the asked type or none is asked. What it gave for one that was well-typed under
+/// other types is read, if it is, as a bundle of which the same is written.
 /// Refused by the first of `Shape`, `BadName`, `RootMissing`, `UnknownType`, `UnknownField`,
 /// `WrongKind`, `DanglingRef`, `RefType`, `TooLarge` and `RootType` whose condition holds; `Memory`
 /// at any place.
@@ -43,6 +44,8 @@ pub fn read_bundle(
     ensures read_back { (b : Bundled) → IsWellTyped (types_view types.now) b
         → ForSome asked (λ t. HasRootType (name_at (types_view types.now) t.index) b) → json_view value.now
         ≡ bundle_json b → Gives BundleFault.Memory bundle_view result (Ok b) }
+    ensures rewritten { IfOk result (λ b. (old : Declared) (a : Bundled) → IsWellTyped old a → json_view value.now
+        ≡ bundle_json a → bundle_written (bundle_view b) ≡ bundle_written a) }
 {
     spelled_bundle(alloc, types, asked, value)
 }

@@ -1,3 +1,4 @@
+pub mod Again
 pub mod Changing
 pub mod Entries
 pub mod Fitting

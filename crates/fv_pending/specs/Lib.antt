@@ -1,3 +1,4 @@
+pub mod Again
 pub mod Fits
 pub mod Parts
 pub mod Steps

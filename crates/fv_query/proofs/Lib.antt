@@ -1,7 +1,9 @@
+pub mod Again
 pub mod Bare
 pub mod Listed
 pub mod Once
 pub mod OneTable
+pub mod Pages
 pub mod Queries
 pub mod Refusals
 pub mod Shows

@@ -1,7 +1,10 @@
+pub mod Again
 pub mod Excuses
 pub mod Keeping
 pub mod Lists
+pub mod Pages
 pub mod Records
 pub mod Showing
 pub mod Stands
 pub mod Tables
+pub mod Written

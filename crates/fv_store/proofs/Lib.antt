@@ -8,7 +8,6 @@ pub mod Creates
 pub mod Writes
 pub mod NewTables
 pub mod Steps
-pub mod Members
 pub mod ReadBack
 pub mod Faults
 pub mod Openings

@@ -1,13 +1,9 @@
 -- The text of a well-typed bundle is read back as its JSON.
-use Rattle.std.proofs.Common.{◌≡◌, map, length, nat_lt, Option, unwrap_or, subst, Ordering, Less, Equal, Greater, nat_cmp, ℕ, ℤ, pos, negsuc, suc, max, ◌<◌, ◌≤◌, ◌^◌, List, [], ◌∷◌, Bool, true, false, cond, Some, option_map, option_and_then, inl, inr, refl, sym, ap, ap₂, ◌∙◌, arith, append-nil}
-use Rattle.std.specs.Prelude.{FitsSigned, ⊤}
+use Rattle.std.proofs.Common.{◌≡◌, nat_lt, subst, Ordering, Less, Equal, Greater, nat_cmp, ℕ, pos, negsuc, suc, max, ◌≤◌, List, [], ◌∷◌, Bool, true, false, cond, Some, option_map, option_and_then, refl, sym, ap, ap₂, ◌∙◌, arith, append-nil}
 use Rattle.std.specs.List.{AllByRecursion}
-use Rattle.std.specs.List.Sorted.{IsStrictlySortedBy}
-use Rattle.std.specs.Map.{keys_of}
 use Rattle.std.specs.Str.{bytes_eq}
 use Rattle.std.specs.Ordering.{match_ordering}
 use Rattle.std.specs.Cmp.Lexicographic.{slice_cmp}
-use Rattle.std.specs.Int.{w64}
 use Rattle.std.proofs.lemmas.Bool.{ltb-false}
 use Rattle.json.specs.Lex.{tokens}
 use Rattle.json.specs.Json as parsed
@@ -16,62 +12,25 @@ use Rattle.json.proofs.Printed.Tokens.{tokens-print}
 use Rattle.json.proofs.Printed.Trees.{value-json_tokens, ArePrintable-json_tokens}
 use Rattle.json.proofs.Printed.Decimals.{IsNumber-decimal, IsNumber-signed_decimal}
 use Rattle.serde_json.specs.Data.{Num, unsigned, negative, float, Data, null, boolean, number, string, array, object, Items, no_items, item, Members, no_members, member, put, depth, items_depth, members_depth}
-use Rattle.serde_json.specs.View as seen
 use Rattle.serde_json.specs.Read.{of_json, of_items, of_members, read, max_depth, number_of}
-use Rattle.serde_json.specs.Find.{of_integer}
 use Rattle.serde_json.specs.Written.{number_text, outline, items_outline, members_outline, compact_text}
 use Rattle.serde_json.proofs.Numbers.{number_of-decimal, number_of-negative}
 use Rattle.serde_json.proofs.Texts.{print-outline}
 use Rattle.fv_datum.specs.Data as datum
-use Rattle.fv_datum.specs.Kinds.{IsOfKind}
 use Rattle.fv_datum.specs.Lookup.{at_name}
-use Rattle.fv_datum.proofs.Spelled.{moment-fits}
-use Rattle.fv_datum.specs.Written.{is_null, written}
-use Rattle.fv_datum.specs.declared.kind.Kind.{Kind}
-use Rattle.fv_datum.specs.declared.kind.Kind.TheVariants as kind
-use Rattle.fv_types.specs.Fits.{Referring, IsOfUse, Fits}
-use Rattle.fv_types.specs.Names.{IsAscending}
-use Rattle.fv_types.specs.Spelled.{keyed, list_of, map_of}
-use Rattle.fv_types.specs.Types.{TypeUse, texts, integers, decimals, booleans, dates, instants, references, lists, maps, optionals, DeclaredFields, Declared, nested, deep_in, has_deep}
-use Rattle.fv_types.proofs.Back.{some_json, fits_writable}
+use Rattle.fv_datum.specs.Written.{is_null}
+use Rattle.fv_types.specs.Types.{TypeUse, DeclaredFields, Declared, nested, deep_in, has_deep}
 use Rattle.fv_types.proofs.Bools.{or_left, or_right}
-use Rattle.fv_types.proofs.Lists.{none_each, each_of}
-use Rattle.fv_types.proofs.Orders.{keys_in_order}
+use Rattle.fv_types.proofs.Lists.{none_each}
+use Rattle.fv_types.proofs.Members.{all_put, ascending_put, put_again}
+use Rattle.fv_types.proofs.PlainJson.{IsWhole, IsPlain, ArePlainItems, ArePlain, IsFlat, Fields, no_fields, fits_flat}
 use Rattle.fv_model.specs.Bundles.{Thing, Things, Bundled}
 use Rattle.fv_model.specs.WellTyped.{NamesObject, FitsUse, FitsType, FieldsFit, IsWellTyped}
-use Rattle.fv_types.specs.Writing.{IsWritten, datum_json}
+use Rattle.fv_types.specs.Writing.{datum_json}
 use Rattle.fv_model.specs.Writing.{added, thing_json, objects_added, bundle_json}
-use Rattle.fv_text.proofs.Containers.{entry_named, list_written, map_written, json_is}
-use Rattle.fv_text.proofs.InOrder.{members_of}
 use Rattle.fv_store.specs.Records.{bundle_text}
-use Rattle.fv_store.proofs.Members.{AreAbove, AreAscending, all_put, ascending_put, put_again}
 
 -- ---- data that are read back
-
--- a whole number of 64 bits
-abbrev IsWhole : Num → Type 0
-IsWhole (unsigned n) = n < 2 ^ 63
-IsWhole (negative (pos n)) = ⊥
-IsWhole (negative (negsuc n)) = n < 2 ^ 63
-IsWhole (float x) = ⊥
-
--- whole numbers, and members in order
-abbrev mutual
-  IsPlain : Data → Type 0
-  IsPlain null = ⊤
-  IsPlain (boolean b) = ⊤
-  IsPlain (number n) = IsWhole n
-  IsPlain (string s) = ⊤
-  IsPlain (array ds) = ArePlainItems ds
-  IsPlain (object ms) = ArePlain ms × AreAscending ms
-
-  ArePlainItems : Items → Type 0
-  ArePlainItems no_items = ⊤
-  ArePlainItems (item d ds) = IsPlain d × ArePlainItems ds
-
-  ArePlain : Members → Type 0
-  ArePlain no_members = ⊤
-  ArePlain (member k d ms) = IsPlain d × ArePlain ms
 
 number_back : (n : Num) → IsWhole n → number_of (number_text n) ≡ Some n
 number_back (unsigned n) h = number_of-decimal n (omega arith)
@@ -146,12 +105,6 @@ text_back d plain shallow =
 
 -- ---- the fields of an object
 
--- what is put in is plain, in order, and no deeper than a depth
-record Fields (n : ℕ) (ms : Members) : Type 0 where
-  plain : ArePlain ms
-  ordered : AreAscending ms
-  flat : members_depth ms ≤ n
-
 plain_put : (k : List ℕ) (d : Data) (ms : Members) → IsPlain d → ArePlain ms → ArePlain (put k d ms)
 plain_put k d no_members p h = (p, tt)
 plain_put k d (member l e ms) p h = at (slice_cmp nat_cmp k l) (plain_put k d ms p h.1)
@@ -170,90 +123,6 @@ flat_put n k d (member l e ms) p h = at (slice_cmp nat_cmp k l) (flat_put n k d 
     at Equal later = omega arith
     at Greater later = omega arith
 
-whole : (n : ℤ) → FitsSigned w64 n → IsWhole (of_integer n)
-whole (pos n) fits = fits.sfits
-whole (negsuc n) fits = fits.sfits
-
-flat_integer : (n : ℤ) → depth (datum_json (datum.integer n)) ≤ 0
-flat_integer (pos n) = omega arith
-flat_integer (negsuc n) = omega arith
-
-kind_plain : (k : Kind) (d : datum.Data) → IsOfKind k d → IsPlain (datum_json d) × (depth (datum_json d) ≤ 0)
-kind_plain kind.Text d (s, it) = rw it (tt, omega arith)
-kind_plain kind.Integer d (n, fits, it) = rw it (whole n fits, flat_integer n)
-kind_plain kind.Decimal d (s, passes, it) = rw it (tt, omega arith)
-kind_plain kind.Boolean d (b, it) = rw it (tt, omega arith)
-kind_plain kind.Date d (s, passes, it) = rw it (tt, omega arith)
-kind_plain kind.Instant d (n, passes, it) = rw it (whole n (moment-fits n passes), flat_integer n)
-kind_plain kind.Ref d (s, passes, it) = rw it (tt, omega arith)
-kind_plain _ d none = absurd none
-
-no_fields : (n : ℕ) → Fields n no_members
-no_fields n = record { plain = tt; ordered = tt; flat = omega arith }
-
-keyed_each : (es : List (List ℕ × datum.Data)) → AllByRecursion (λ e. IsWritten e.1) es → AllByRecursion (λ e. IsWritten e.1) (keyed es)
-keyed_each [] all = tt
-keyed_each (e ∷ es) all = (all.0, keyed_each es all.1)
-
--- plain, and no deeper than so
-abbrev IsFlat : ℕ → Data → Type 0
-IsFlat n d = IsPlain d × (depth d ≤ n)
-
-items_flat : (n : ℕ) (ds : List datum.Data) → AllByRecursion (λ d. IsFlat n (datum_json d)) ds → ArePlainItems (seen.items_of (map datum_json ds)) × (items_depth (seen.items_of (map datum_json ds)) ≤ n)
-items_flat n [] all = (tt, omega arith)
-items_flat n (d ∷ ds) all =
-    let more = items_flat n ds all.1 in
-    ((all.0.0, more.0), (let one = all.0.1 in let others = more.1 in omega arith))
-
-keys_above : (k : List ℕ) (es : List (List ℕ × datum.Data)) → AllByRecursion (λ y. slice_cmp nat_cmp k y ≡ Less) (keys_of es) → AreAbove k (members_of (map entry_named (keyed es)))
-keys_above k [] h = tt
-keys_above k (e ∷ es) h = (h.0, keys_above k es h.1)
-
-entries_flat : (n : ℕ) (es : List (List ℕ × datum.Data)) → IsAscending (keys_of es) → AllByRecursion (λ e. IsFlat n (datum_json e.1)) es → Fields n (members_of (map entry_named (keyed es)))
-unfolding IsStrictlySortedBy
-entries_flat n [] ascending all = no_fields n
-entries_flat n (e ∷ es) ascending all =
-    let more = entries_flat n es ascending.1 all.1 in
-    record {
-      plain = (all.0.0, more.plain);
-      ordered = (keys_above e.0 es ascending.0, more.ordered);
-      flat = (let one = all.0.1 in let others = more.flat in omega arith);
-    }
-
-content_flat : (n : ℕ) (d : datum.Data) → IsWritten d → IsFlat n (datum_json d) → IsFlat (suc n) (datum_json (datum.optional d))
-content_flat n d h flat = at (is_null d)
-  where
-    at : (b : Bool) → IsFlat (suc n) (unwrap_or (cond b (Some (array no_items)) (option_map (λ j. array (item j no_items)) (written d))) null)
-    at true = (tt, omega arith)
-    at false = subst (λ (o : Option Data). IsFlat (suc n) (unwrap_or (option_map (λ j. array (item j no_items)) o) null)) (sym (some_json d h)) ((flat.0, tt), (let one = flat.1 in omega arith))
-
-null_or : (N : Referring) (u : TypeUse) (n : ℕ) → ((d : datum.Data) → IsOfUse N u d → IsFlat n (datum_json d)) → (d : datum.Data) → Fits N u d → IsFlat n (datum_json d)
-null_or N u n turn d (inl is) = rw is (tt, omega arith)
-null_or N u n turn d (inr of) = turn d of
-
--- a datum that fits is written plainly, no deeper than its containers
-use_flat : (N : Referring) (u : TypeUse) (d : datum.Data) → IsOfUse N u d → IsFlat (nested u) (datum_json d)
-use_flat N texts d (s, few, it) = rw it (tt, omega arith)
-use_flat N integers d of = kind_plain kind.Integer d of
-use_flat N decimals d of = kind_plain kind.Decimal d of
-use_flat N booleans d of = kind_plain kind.Boolean d of
-use_flat N dates d of = kind_plain kind.Date d of
-use_flat N instants d of = kind_plain kind.Instant d of
-use_flat N (references type) d (s, passes, named, it) = rw it (tt, omega arith)
-use_flat N (lists u) d (ds, few, all, it) =
-    let flat = items_flat (nested u) ds (each_of (Fits N u) (λ x. IsFlat (nested u) (datum_json x)) ds (null_or N u (nested u) (λ x of. use_flat N u x of)) all) in
-    let json = json_is (list_of ds) (array (seen.items_of (map datum_json ds))) (list_written ds (each_of (Fits N u) IsWritten ds (fits_writable N u) all)) in
-    subst (λ (j : Data). IsFlat (suc (nested u)) j) (sym (ap datum_json it ∙ json)) (flat.0, (let deep = flat.1 in omega arith))
-use_flat N (maps u) d (es, few, ascending, all, it) =
-    let each = each_of (λ e. (length e.0 ≤ 65536) × Fits N u e.1) (λ e. IsFlat (nested u) (datum_json e.1)) es (λ e fits. null_or N u (nested u) (λ x of. use_flat N u x of) e.1 fits.1) all in
-    let flat = entries_flat (nested u) es ascending each in
-    let writable = each_of (λ e. (length e.0 ≤ 65536) × Fits N u e.1) (λ e. IsWritten e.1) es (λ e fits. fits_writable N u e.1 fits.1) all in
-    let json = json_is (map_of es) (object (members_of (map entry_named (keyed es)))) (map_written (keyed es) (keys_in_order es ascending) (keyed_each es writable)) in
-    subst (λ (j : Data). IsFlat (suc (nested u)) j) (sym (ap datum_json it ∙ json)) ((flat.plain, flat.ordered), (let deep = flat.flat in omega arith))
-use_flat N (optionals u) d (c, fits, it) =
-    subst (λ (x : datum.Data). IsFlat (suc (nested u)) (datum_json x)) (sym it)
-    (content_flat (nested u) c (fits_writable N u c fits) (null_or N u (nested u) (λ x of. use_flat N u x of) c fits))
-
 unless_null : (n : ℕ) (b : Bool) (k : List ℕ) (d : Data) (ms : Members) → IsFlat n d → Fields n ms → Fields n (cond b ms (put k d ms))
 unless_null n true k d ms flat h = h
 unless_null n false k d ms flat h = record { plain = plain_put k d ms flat.0 h.plain; ordered = ascending_put k d ms h.ordered; flat = flat_put n k d ms flat.1 h.flat }
@@ -261,7 +130,7 @@ unless_null n false k d ms flat h = record { plain = plain_put k d ms flat.0 h.p
 -- no more containers one in another than types have
 field_flat : (os : Things) (u : TypeUse) (d : datum.Data) → nat_lt 4 (nested u) ≡ false → FitsUse os u d → IsFlat 4 (datum_json d)
 field_flat os u d few fits =
-    let flat = null_or (NamesObject os) u (nested u) (use_flat (NamesObject os) u) d fits in
+    let flat = fits_flat (NamesObject os) u d fits in
     let bound : nested u ≤ 4 = ltb-false 4 (nested u) few in
     (flat.0, (let deep = flat.1 in omega arith))
 
@@ -281,6 +150,12 @@ fields_few name (t ∷ ts) fields few found =
     at : (b : Bool) → (at_name name ts ≡ Some fields → AllByRecursion (λ d. nat_lt 4 (nested d.1) ≡ false) fields) → cond b (Some t.1) (at_name name ts) ≡ Some fields → AllByRecursion (λ d. nat_lt 4 (nested d.1) ≡ false) fields
     at true rest is = let here : t.1 ≡ fields = cc in subst (λ (ds : DeclaredFields). AllByRecursion (λ d. nat_lt 4 (nested d.1) ≡ false) ds) here (none_each (λ d. nat_lt 4 (nested d.1)) t.1 (or_left (deep_in t.1) (has_deep ts) few))
     at false rest is = rest is
+
+-- the text of an object's fields by itself
+pub fields_back : (types : Declared) (all : Things) (t : Thing) → has_deep types ≡ false → FitsType types all t → read (compact_text (object (added no_members t.fields))) ≡ Some (object (added no_members t.fields))
+fields_back types all t few fits =
+    let fields = fields_added all fits.fields t.fields no_members (fields_few t.type_name types fits.fields few fits.declared) fits.fit (no_fields 4) in
+    text_back (object (added no_members t.fields)) (fields.plain, fields.ordered) (let flat = fields.flat in omega arith)
 
 -- ---- bundles
 

@@ -39,15 +39,15 @@ abbrev pub Named : Type 0
 Named = List ℕ × json.Data
 
 -- members in the order in which they come
-abbrev members_of : List Named → json.Members
+abbrev pub members_of : List Named → json.Members
 members_of [] = json.no_members
 members_of (e ∷ es) = json.member e.0 e.1 (members_of es)
 
-pairs_back : (ms : List Named) → pairs (members_of ms) ≡ ms
+pub pairs_back : (ms : List Named) → pairs (members_of ms) ≡ ms
 pairs_back [] = refl
 pairs_back (m ∷ ms) = ap (λ xs. m ∷ xs) (pairs_back ms)
 
-listed_back : (js : List json.Data) → listed (seen.items_of js) ≡ js
+pub listed_back : (js : List json.Data) → listed (seen.items_of js) ≡ js
 listed_back [] = refl
 listed_back (j ∷ js) = ap (λ xs. j ∷ xs) (listed_back js)
 
@@ -67,7 +67,7 @@ items_json done (d ∷ ds) all =
 list_json : (ds : List Data) → AllByRecursion IsWritten ds → datum_json (list_of ds) ≡ json.array (seen.items_of (map datum_json ds))
 list_json ds all = ap (λ o. unwrap_or (option_map json.array o) json.null) (items_json [] ds all)
 
-abbrev entry_json : List ℕ × Data → Named
+abbrev pub entry_json : List ℕ × Data → Named
 entry_json e = (e.0, datum_json e.1)
 
 -- a key that is above those before it goes last
@@ -89,7 +89,7 @@ entries_json done (e ∷ es) ascending all =
     ∙ ap (λ ms. entries_written ms (entries_of (keyed es))) last
     ∙ entries_json (done ++ entry_json e ∷ []) es (subst (λ (xs : List Named). IsAscending (keys_of xs)) (sym more) ascending) all.1 ∙ ap (λ xs. Some (members_of xs)) more
 
-same_keys : (es : List (List ℕ × Data)) → keys_of (map entry_json es) ≡ keys_of es
+pub same_keys : (es : List (List ℕ × Data)) → keys_of (map entry_json es) ≡ keys_of es
 same_keys [] = refl
 same_keys (e ∷ es) = ap (λ ns. e.0 ∷ ns) (same_keys es)
 
@@ -106,7 +106,7 @@ seen_keyed [] all = tt
 seen_keyed (e ∷ es) all = (all.0, seen_keyed es all.1)
 
 -- what holds of null and of each datum as said
-null_or : (P Q : Data → Type 0) → Q datum.null → ((d : Data) → P d → Q d) → (d : Data) → OrNull P d → Q d
+pub null_or : (P Q : Data → Type 0) → Q datum.null → ((d : Data) → P d → Q d) → (d : Data) → OrNull P d → Q d
 null_or P Q none turn d (inl is) = subst (λ (x : Data). Q x) (sym is) none
 null_or P Q none turn d (inr of) = turn d of
 
@@ -134,21 +134,21 @@ all_writable N u ds all = each_of (Fits N u) IsWritten ds (fits_writable N u) al
 entries_writable : (N : Referring) (u : TypeUse) (es : List (List ℕ × Data)) → AllByRecursion (λ e. (length e.0 ≤ 65536) × Fits N u e.1) es → AllByRecursion (λ e. IsWritten e.1) es
 entries_writable N u es all = each_of (λ e. (length e.0 ≤ 65536) × Fits N u e.1) (λ e. IsWritten e.1) es (λ e fits. fits_writable N u e.1 fits.1) all
 
-list_is : (N : Referring) (u : TypeUse) (ds : List Data) (d : Data) → AllByRecursion (Fits N u) ds → d ≡ list_of ds → datum_json d ≡ json.array (seen.items_of (map datum_json ds))
+pub list_is : (N : Referring) (u : TypeUse) (ds : List Data) (d : Data) → AllByRecursion (Fits N u) ds → d ≡ list_of ds → datum_json d ≡ json.array (seen.items_of (map datum_json ds))
 list_is N u ds d all it = ap datum_json it ∙ list_json ds (all_writable N u ds all)
 
-map_is : (N : Referring) (u : TypeUse) (es : List (List ℕ × Data)) (d : Data) → IsAscending (keys_of es) → AllByRecursion (λ e. (length e.0 ≤ 65536) × Fits N u e.1) es → d ≡ map_of es → datum_json d ≡ json.object (members_of (map entry_json es))
+pub map_is : (N : Referring) (u : TypeUse) (es : List (List ℕ × Data)) (d : Data) → IsAscending (keys_of es) → AllByRecursion (λ e. (length e.0 ≤ 65536) × Fits N u e.1) es → d ≡ map_of es → datum_json d ≡ json.object (members_of (map entry_json es))
 map_is N u es d ascending all it = ap datum_json it ∙ map_json es ascending (entries_writable N u es all)
 
 -- ---- an optional holds null, or what isn't
 
-optional_null : (c d : Data) → c ≡ datum.null → d ≡ datum.optional c → datum_json d ≡ json.array json.no_items
+pub optional_null : (c d : Data) → c ≡ datum.null → d ≡ datum.optional c → datum_json d ≡ json.array json.no_items
 optional_null c d none it = rw (it, none) refl
 
 mapped_json : (f : json.Data → json.Data) (d : Data) → IsWritten d → unwrap_or (option_map f (written d)) json.null ≡ f (datum_json d)
 mapped_json f d h = ap (λ o. unwrap_or (option_map f o) json.null) (some_json d h)
 
-optional_some : (c d : Data) → is_null c ≡ false → IsWritten c → d ≡ datum.optional c → datum_json d ≡ json.array (json.item (datum_json c) json.no_items)
+pub optional_some : (c d : Data) → is_null c ≡ false → IsWritten c → d ≡ datum.optional c → datum_json d ≡ json.array (json.item (datum_json c) json.no_items)
 optional_some c d some h it = rw (it, some) (mapped_json (λ j. json.array (json.item j json.no_items)) c h)
 
 array_json : (o : Option json.Items) → is_some (option_map json.array o) ≡ true → is_null_json (unwrap_or (option_map json.array o) json.null) ≡ false
@@ -166,7 +166,7 @@ content_json false (Some j) h = refl
 content_json false None h = cc
 
 -- only null is written as `null`
-not_null : (d : Data) → is_null d ≡ false → IsWritten d → is_null_json (datum_json d) ≡ false
+pub not_null : (d : Data) → is_null d ≡ false → IsWritten d → is_null_json (datum_json d) ≡ false
 not_null datum.null some h = cc
 not_null (datum.text s) some h = refl
 not_null (datum.integer n) some h = refl
@@ -179,7 +179,7 @@ not_null (datum.list ds) some h = array_json (items_written [] ds) h
 not_null (datum.map es) some h = object_json (keys_fit es) (entries_written json.no_members es) h
 not_null (datum.optional d) some h = content_json (is_null d) (written d) h
 
-null_is : (d : Data) → is_null d ≡ true → d ≡ datum.null
+pub null_is : (d : Data) → is_null d ≡ true → d ≡ datum.null
 null_is datum.null e = refl
 null_is _ e = cc
 

@@ -102,12 +102,12 @@ ascend (e ∷ f ∷ es) h =
 
 -- ---- a datum
 
-mapped : {X Y : Type 0} (f : X → Y) (o : Option X) (y : Y) → option_map f o ≡ Some y → (x : X) × (o ≡ Some x) × (y ≡ f x)
+pub mapped : {X Y : Type 0} (f : X → Y) (o : Option X) (y : Y) → option_map f o ≡ Some y → (x : X) × (o ≡ Some x) × (y ≡ f x)
 mapped f (Some x) y e = (x, refl, cc)
 mapped f None y e = cc
 
 -- a member's name and the datum of its value
-entry_parts : (f : json.Data → Option Data) (m : List ℕ × json.Data) (e : List ℕ × Data) → entry_read f m ≡ Some e → (e.0 ≡ m.0) × (f m.1 ≡ Some e.1)
+pub entry_parts : (f : json.Data → Option Data) (m : List ℕ × json.Data) (e : List ℕ × Data) → entry_read f m ≡ Some e → (e.0 ≡ m.0) × (f m.1 ≡ Some e.1)
 entry_parts f m e is =
     let found = mapped (λ (d : Data). (m.0, d)) (f m.1) e is in
     (ap (λ (x : List ℕ × Data). x.0) found.2, found.1 ∙ ap (λ (x : List ℕ × Data). Some x.1) (sym found.2))

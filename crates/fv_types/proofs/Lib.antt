@@ -1,3 +1,4 @@
+pub mod Again
 pub mod Apart
 pub mod Back
 pub mod Bools
@@ -7,9 +8,12 @@ pub mod Flawless
 pub mod Fronts
 pub mod Lists
 pub mod Lookups
+pub mod Members
 pub mod Orders
 pub mod Plain
+pub mod PlainJson
 pub mod Seen
+pub mod Small
 pub mod Spelling
 pub mod Telling
 pub mod Writable

@@ -3,6 +3,7 @@ use Rattle.serde_json.specs.View.{view as json_view}
 use Rattle.fv_model.specs.Reading.{bundle_read}
 use Rattle.fv_types.specs.Types.{name_at}
 use Rattle.fv_model.specs.Views.{types_view}
+use Rattle.fv_model.proofs.Again.{gives_alike}
 use Rattle.fv_model.proofs.Law.{law_asked}
 use Rattle.fv_model.proofs.Typed.{gives_well_typed, gives_root}
 use Rattle.fv_model.proofs.reading.read_bundle.Goals as goal
@@ -20,3 +21,8 @@ returns-clause-read_back c b well rooted is =
     let ts = types_view c.args.types.now in
     let back : bundle_read ts (option_map (λ t. name_at ts t.index) c.args.asked) (json_view c.args.value.now) ≡ Ok b = rw is (law_asked ts c.args.asked b c.args.types.now.apart well rooted) in
     rw back at c.spelled_bundle.ensures.exact
+
+pub returns-clause-rewritten : goal.returns-clause-rewritten
+returns-clause-rewritten c =
+    let ts = types_view c.args.types.now in
+    gives_alike c.spelled_bundle.result ts (option_map (λ t. name_at ts t.index) c.args.asked) (json_view c.args.value.now) c.args.types.now.apart c.spelled_bundle.ensures.exact
