@@ -16,6 +16,7 @@ use Rattle.fv_builtin.specs.BuiltIns.{pattern}
 use Rattle.fv_builtin.specs.Given.{IsBuilt, answer_of}
 use Rattle.fv_builtin.specs.Matches.{anchored, IsReadFrom}
 use Rattle.fv_builtin.specs.Patterns.{AreRead}
+use Rattle.fv_builtin.specs.declared.compiled.Compiled.{Compiled}
 
 failed : (source text : List ℕ) (e : Error) → source ≡ text → IsRefusal default_config source e → IsRightKind default_config source e → HasSpanIn source e → IsDefaultFailure text e
 failed source text e is refusal kind span = subst (λ (s : List ℕ). IsDefaultFailure s e) is (refusal, kind, span)
@@ -40,22 +41,22 @@ built regexp r read =
     let of_text : Reads default_config (anchored regexp) hir names = subst (λ (source : List ℕ). Reads default_config source hir names) read.0 by_default in
     (regex_pattern r, (hir, names, of_text, refl), refl)
 
-module _ (patterns : BTreeMap (String Global) (Rc Regex Global)) where
+module _ (patterns : BTreeMap (String Global) (Rc Compiled Global)) where
   -- a copy of the pattern that is found at a text
-  pub found : (regexp : List ℕ) (regex copy : Rc Regex Global) → AreRead patterns → Some regex ≡ get_by_text patterns regexp → copy.value ≡ regex.value → IsReadFrom (anchored regexp) copy.value
+  pub found : (regexp : List ℕ) (regex copy : Rc Compiled Global) → AreRead patterns → Some regex ≡ get_by_text patterns regexp → copy.value ≡ regex.value → IsReadFrom (anchored regexp) copy.value.regex.now
   found regexp regex copy read is same =
-      let P : Option (Rc Regex Global) → Type 0 = λ o. IfSome o (λ r. IsReadFrom (anchored regexp) r.value) in
-      let here : IsReadFrom (anchored regexp) regex.value = subst P (sym is) (read regexp) in
-      subst (λ (r : Regex). IsReadFrom (anchored regexp) r) (sym same) here
+      let P : Option (Rc Compiled Global) → Type 0 = λ o. IfSome o (λ r. IsReadFrom (anchored regexp) r.value.regex.now) in
+      let here : IsReadFrom (anchored regexp) regex.value.regex.now = subst P (sym is) (read regexp) in
+      subst (λ (r : Compiled). IsReadFrom (anchored regexp) r.regex.now) (sym same) here
 
-  either : (b : Bool) (regexp q : List ℕ) (regex : Rc Regex Global) (o : Option (Rc Regex Global)) → (b ≡ true → regexp ≡ q) → IsReadFrom (anchored regexp) regex.value
-      → IfSome o (λ r. IsReadFrom (anchored q) r.value) → IfSome (cond b (Some regex) o) (λ r. IsReadFrom (anchored q) r.value)
-  either true regexp q regex o is here there = subst (λ (t : List ℕ). IsReadFrom (anchored t) regex.value) (is refl) here
+  either : (b : Bool) (regexp q : List ℕ) (regex : Rc Compiled Global) (o : Option (Rc Compiled Global)) → (b ≡ true → regexp ≡ q) → IsReadFrom (anchored regexp) regex.value.regex.now
+      → IfSome o (λ r. IsReadFrom (anchored q) r.value.regex.now) → IfSome (cond b (Some regex) o) (λ r. IsReadFrom (anchored q) r.value.regex.now)
+  either true regexp q regex o is here there = subst (λ (t : List ℕ). IsReadFrom (anchored t) regex.value.regex.now) (is refl) here
   either false regexp q regex o is here there = there
 
   -- one more pattern, or where memory is wanting the same ones
-  pub kept : {X E : Type 0} (r : Result X E) (new : BTreeMap (String Global) (Rc Regex Global)) (text : String Global) (regex : Rc Regex Global)
-      → OnOk r (Updates string_cmp patterns new text (Some regex)) → OnErr r (IsUnchanged patterns new) → IsReadFrom (anchored (string_bytes text)) regex.value → AreRead patterns → AreRead new
+  pub kept : {X E : Type 0} (r : Result X E) (new : BTreeMap (String Global) (Rc Compiled Global)) (text : String Global) (regex : Rc Compiled Global)
+      → OnOk r (Updates string_cmp patterns new text (Some regex)) → OnErr r (IsUnchanged patterns new) → IsReadFrom (anchored (string_bytes text)) regex.value.regex.now → AreRead patterns → AreRead new
   kept (Ok x) new text regex updates same here read = λ q.
       rw (btree_map_updates_text (string_bytes text) patterns new (Some regex) updates q)
       (either (bytes_eq (string_bytes text) q) (string_bytes text) q regex (get_by_text patterns q) (bytes_eq-Decides (string_bytes text) q).0 here (read q))

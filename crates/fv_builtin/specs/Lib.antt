@@ -2,6 +2,7 @@ pub mod BuiltIns
 pub mod Codes
 pub mod FaultNames
 pub mod Given
+pub mod Default
 pub mod Maps
 pub mod Matches
 pub mod Names

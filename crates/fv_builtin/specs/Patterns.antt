@@ -8,14 +8,15 @@ use Rattle.std.specs.declared.string.String.{String}
 use Rattle.regex.specs.Patterns.{Reads}
 use Rattle.regex.specs.declared.string.regex.Regex.{Regex}
 use Rattle.fv_builtin.specs.Matches.{anchored, IsReadFrom}
+use Rattle.fv_builtin.specs.declared.compiled.Compiled.{Compiled}
 
 -- the pattern at each text is the one that is read from the text between anchors
-abbrev pub AreRead : BTreeMap (String Global) (Rc Regex Global) → Type 0
-AreRead built = (regexp : List ℕ) → IfSome (get_by_text built regexp) (λ regex. IsReadFrom (anchored regexp) regex.value)
+abbrev pub AreRead : BTreeMap (String Global) (Rc Compiled Global) → Type 0
+AreRead built = (regexp : List ℕ) → IfSome (get_by_text built regexp) (λ regex. IsReadFrom (anchored regexp) regex.value.regex.now)
 
 IsReadFrom-prop : (source : List ℕ) (r : Regex) → IsProp (IsReadFrom source r)
 unfolding Reads
 IsReadFrom-prop source r = hlevel props
 
-pub AreRead-prop : (built : BTreeMap (String Global) (Rc Regex Global)) → IsProp (AreRead built)
+pub AreRead-prop : (built : BTreeMap (String Global) (Rc Compiled Global)) → IsProp (AreRead built)
 AreRead-prop built = hlevel (props, IsReadFrom-prop)

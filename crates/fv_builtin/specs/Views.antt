@@ -31,7 +31,7 @@ builtin_view Past = built.past
 builtin_view PastOrPresent = built.past_or_present
 builtin_view Future = built.future
 builtin_view FutureOrPresent = built.future_or_present
-builtin_view (Pattern regex) = built.pattern (regex_pattern regex.value)
+builtin_view (Pattern regex) = built.pattern (regex_pattern regex.value.regex.now)
 
 -- the same, of an answer
 abbrev pub answer_view : {E : Type 0} → Result Builtin E → Result BuiltIn E

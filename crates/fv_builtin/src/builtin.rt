@@ -12,6 +12,7 @@ ghost use Rattle.fv_builtin.specs.declared.name.BuiltinName.{BuiltinName};
 
 use crate::blank::is_not_blank;
 use crate::bound::{is_above, is_at_least, is_at_most, is_below, is_from, is_up_to};
+use crate::compiled::Compiled;
 use crate::digits::has_digits;
 use crate::draft::{Draft, drafted};
 use crate::fault::BuiltinFault;
@@ -23,7 +24,6 @@ use crate::table::takes_kind;
 use crate::time::{is_future, is_future_or_present, is_past, is_past_or_present};
 use crate::truth::{is_false, is_true};
 use fv_datum::{Attrs, Datum, Kind, is_null};
-use regex::Regex;
 use std::alloc::{AllocError, Global};
 use std::rc::Rc;
 
@@ -51,7 +51,7 @@ pub enum Builtin {
     PastOrPresent,
     Future,
     FutureOrPresent,
-    Pattern(Rc<Regex>),
+    Pattern(Rc<Compiled>),
 }
 
 impl Builtin {

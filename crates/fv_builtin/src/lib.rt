@@ -5,11 +5,13 @@
 mod blank;
 mod bound;
 mod builtin;
+mod compiled;
 mod defaults;
 mod digits;
 mod draft;
 mod fault;
 mod given;
+mod kept;
 mod name;
 mod pattern;
 mod patterns;

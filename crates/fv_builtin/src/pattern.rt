@@ -7,6 +7,7 @@ ghost use Rattle.fv_datum.specs.View.{view};
 ghost use Rattle.fv_builtin.specs.Given.{IsBuilt, answer_of, regexp_of};
 ghost use Rattle.fv_builtin.specs.Matches.{anchored, is_match, IsReadFrom};
 
+use crate::compiled::Compiled;
 use crate::fault::BuiltinFault;
 use crate::given::text_of;
 use fv_datum::{Attrs, Datum};
@@ -46,20 +47,11 @@ fn anchored(alloc: Global, regexp: &str) -> Result<String, AllocError>
     format!(in alloc; "\\A(?:{regexp})\\z")
 }
 
-pub(crate) fn is_match(alloc: Global, regex: &Regex, datum: &Datum) -> Result<bool, AllocError>
-    ensures { IfOk result (λ b. b ≡ is_match (regex_pattern regex.now) (view datum.now)) }
+pub(crate) fn is_match(alloc: Global, pattern: &Compiled, datum: &Datum) -> Result<bool, AllocError>
+    ensures { IfOk result (λ b. b ≡ is_match (regex_pattern pattern.now.regex.now) (view datum.now)) }
 {
     match datum {
-        Datum::Text(text) => finds(alloc, regex, text.as_str()),
+        Datum::Text(text) => pattern.finds(alloc, text.as_str()),
         _ => Ok(true),
     }
-}
-
-/// Apart, since each call of a function in whose frame the matcher lies pays for its size.
-#[inline(never)]
-fn finds(alloc: Global, regex: &Regex, text: &str) -> Result<bool, AllocError>
-    ensures { IfOk result (λ b. b ≡ is_some (find_str (regex_pattern regex.now) text.now 0)) }
-{
-    let mut matcher = regex.matcher(alloc)?;
-    Ok(matcher.is_match(text))
 }

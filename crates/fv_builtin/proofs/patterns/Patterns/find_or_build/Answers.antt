@@ -11,5 +11,5 @@ pub invariant_of-self-2 : goal.invariant_of-self-2
 invariant_of-self-2 c =
     let regex = c.in_ok-clone-2.field-0 in
     let is = c.in_ok-clone-2.ensures.cases ∙ c.in_ok-regex.ensures.ok in
-    let here : IsReadFrom (anchored (string_bytes c.in_ok-text.text)) regex.value = rw (is, c.in_ok-text.ensures.ok) c.in_ok-build.ensures.read in
+    let here : IsReadFrom (anchored (string_bytes c.in_ok-text.text)) regex.value.regex.now = rw (is, c.in_ok-new.ensures, c.in_ok-text.ensures.ok) c.in_ok-build.ensures.read in
     record { read = kept c.args.self.now.built c.insert.result c.insert.new.self c.in_ok-text.text regex c.insert.ensures.updates c.insert.ensures.err here c.args.self.now.read }
