@@ -18,9 +18,9 @@ demo:
 test:
 	RT_JOBS=$(lanes) rt ci
 
-# Compares the rows of crates/fv_rows/data, without a proof.
+# Compares the rows of crates/test_rows/data, without a proof.
 rows:
-	cd crates/fv_rows && rt try --seconds 1800 $$(sed 's|.*|--data &=data/&|' args) -- $$(cat args)
+	cd crates/test_rows && rt try --seconds 1800 $$(sed 's|.*|--data &=data/&|' args) -- $$(cat args)
 
 # Tries the wrong bodies that the gate doesn't try: make planted, or make planted NAME=fv_model.
 planted:

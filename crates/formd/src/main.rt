@@ -2,11 +2,11 @@
 //! the house.
 #![tactic(auto)]
 
+use formd_words::{Failure, MachineClock, given_words, run_words};
 use fv_datum::{Attrs, Datum};
 use fv_house::{house_registry, luhn, not_after, one_of, sum_is};
 use fv_model::Object;
 use fv_registry::{FieldCall, ObjectCall};
-use fv_words::{Failure, MachineClock, given_words, run_words};
 use std::process::ExitCode;
 
 /// Makes the closures, does what the program's words ask, and gives the exit status. Refused for

@@ -11,8 +11,8 @@ use Rattle.fv_datum.specs.declared.attrs.Attribute.{Attribute}
 use Rattle.fv_builtin.specs.Given.{given_or, in_effect}
 use Rattle.fv_builtin.specs.Table.{default_of}
 use Rattle.fv_builtin.specs.declared.name.BuiltinName.{BuiltinName}
-use Rattle.fv_builtin.proofs.Lookups.{tree-at_name}
-use Rattle.fv_builtin.proofs.Maps.{at_insert}
+use Rattle.fv_datum.proofs.Lookups.{tree-at_name}
+use Rattle.fv_datum.proofs.Maps.{at_insert}
 
 is_some-map : {X Y : Type 0} (f : X → Y) (o : Option X) → is_some (option_map f o) ≡ is_some o
 is_some-map f None = refl

@@ -1,9 +1,8 @@
 pub mod BuiltIns
 pub mod Codes
+pub mod Default
 pub mod FaultNames
 pub mod Given
-pub mod Default
-pub mod Maps
 pub mod Matches
 pub mod Names
 pub mod Numbers

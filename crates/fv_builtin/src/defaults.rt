@@ -3,7 +3,7 @@ ghost use Rattle.std.specs.Prelude.{◌≡◌, ℕ, List, true, cond, OnOk, map,
 ghost use Rattle.fv_datum.specs.Attributes.{entry_view};
 ghost use Rattle.fv_datum.specs.Lookup.{at_name};
 ghost use Rattle.fv_builtin.specs.Given.{in_effect};
-ghost use Rattle.fv_builtin.specs.Maps.{ascends};
+ghost use Rattle.fv_datum.specs.Maps.{ascends};
 
 use crate::name::BuiltinName;
 use crate::table::default_of;

@@ -3,7 +3,7 @@ use Rattle.std.proofs.Common.{◌≡◌, ◌<◌, ◌≤◌, ℕ, suc, zero, Lis
 use Rattle.std.specs.declared.alloc.Global.{Global}
 use Rattle.fv_graph.specs.Graph.{IsIn, LeadsIn, next_of}
 use Rattle.fv_graph.specs.Graph as graph
-use Rattle.fv_constraint.specs.Definitions.{Definitions}
+use Rattle.fv_declare_definition.specs.Definitions.{Definitions}
 use Rattle.fv_constraint.specs.Composed.{composed_of, ComposesIn, IsCyclic}
 use Rattle.fv_constraint.specs.Numbered.{number_of, edges_of}
 use Rattle.fv_constraint.proofs.Numbering.{next_is, last_is, edge_named, in_map, number_same, number_within}

@@ -5,11 +5,11 @@ use Rattle.std.specs.Map.{keys_of}
 use Rattle.std.proofs.lemmas.Bool.{or_parts}
 use Rattle.std.proofs.lemmas.List.Folds.{list_any-append}
 use Rattle.std.proofs.lemmas.Slice.Eq.{bytes_eq-Decides}
-use Rattle.fv_builtin.specs.Maps.{ascends, IsMapOf}
-use Rattle.fv_builtin.proofs.Maps.{at_insert, ascends-insert}
+use Rattle.fv_datum.specs.Maps.{ascends, IsMapOf}
+use Rattle.fv_datum.proofs.Maps.{at_insert, ascends-insert}
 use Rattle.fv_datum.specs.Attributes.{AttributeValue}
 use Rattle.fv_datum.specs.Lookup.{at_name}
-use Rattle.fv_constraint.specs.Definitions.{Composing}
+use Rattle.fv_declare_definition.specs.Definitions.{Composing}
 use Rattle.fv_constraint.specs.Effect.{handed}
 use Rattle.fv_constraint.specs.Numbered.{with_value, tabulated, handed_map}
 

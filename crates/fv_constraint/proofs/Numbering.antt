@@ -7,7 +7,8 @@ use Rattle.fv_builtin.specs.Names.{builtin_named, is_builtin}
 use Rattle.fv_builtin.specs.declared.name.BuiltinName.{BuiltinName}
 use Rattle.fv_datum.specs.Lookup.{at_name}
 use Rattle.fv_graph.specs.Graph.{IsIn, next_of}
-use Rattle.fv_constraint.specs.Definitions.{Composing, Definition, Definitions, either_meant, composing_of}
+use Rattle.fv_declare_definition.specs.Definitions.{Composing, Definition, Definitions}
+use Rattle.fv_constraint.specs.Meanings.{either_meant, composing_of}
 use Rattle.fv_constraint.specs.Composed.{composed_of}
 use Rattle.fv_constraint.specs.Numbered.{place_of, number_of, numbers_of, edges_of}
 

@@ -8,12 +8,12 @@ use Rattle.std.specs.Map.{keys_of, lookup}
 use Rattle.std.specs.Option.{option_copied, unwrap_or}
 use Rattle.std.proofs.lemmas.List.{map-append}
 use Rattle.fv_datum.specs.Lookup.{at_name}
-use Rattle.fv_constraint.specs.Definitions.{Definitions}
-use Rattle.fv_constraint.specs.DefinitionViews.{definition_entry, definition_view}
+use Rattle.fv_declare_definition.specs.Definitions.{Definitions}
+use Rattle.fv_declare_definition.specs.DefinitionViews.{definition_entry, definition_view}
 use Rattle.fv_constraint.specs.Numbered.{place_of, placed, place_entry}
-use Rattle.fv_constraint.specs.declared.definition.Definition.{Definition}
-use Rattle.fv_builtin.proofs.Lookups.{option_map-copied, keyed-at_name}
-use Rattle.fv_builtin.proofs.Maps.{put_keyed}
+use Rattle.fv_declare_definition.specs.declared.definition.Definition.{Definition}
+use Rattle.fv_datum.proofs.Lookups.{option_map-copied, keyed-at_name}
+use Rattle.fv_datum.proofs.Maps.{put_keyed}
 use Rattle.fv_constraint.proofs.Putting.{names_of, names-ascend, put_last}
 
 placed_names : (first : ℕ) (ds : Definitions) → names_of (placed first ds) ≡ names_of ds

@@ -9,7 +9,7 @@ use Rattle.std.specs.Map.{keys_of}
 use Rattle.std.specs.Ordering.{ordering_reverse}
 use Rattle.std.proofs.lemmas.Cmp.{nat_list_cmp_total}
 use Rattle.std.proofs.lemmas.List.{map-append}
-use Rattle.fv_builtin.proofs.Maps.{seen, put_seen}
+use Rattle.fv_datum.proofs.Maps.{seen, put_seen}
 
 -- the names of entries
 abbrev pub names_of : {X : Type 0} → List (List ℕ × X) → List (List ℕ)

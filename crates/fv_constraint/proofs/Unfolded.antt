@@ -19,11 +19,12 @@ use Rattle.fv_graph.proofs.Moves.{is_below}
 use Rattle.fv_graph.proofs.Unfolding.{unfolds}
 use Rattle.fv_graph.proofs.Growth.{tree_is}
 use Rattle.fv_constraint.specs.Composed.{Planned, IsTreeOf, AreTreesOf}
-use Rattle.fv_constraint.specs.Definitions.{Composing, Definition, Definitions, Meant, builtin, declared, either_meant, meant_by, composing_of, composes_unknown}
+use Rattle.fv_declare_definition.specs.Definitions.{Composing, Definition, Definitions}
+use Rattle.fv_constraint.specs.Meanings.{Meant, builtin, declared, either_meant, meant_by, composing_of, composes_unknown}
 use Rattle.fv_constraint.specs.Effect.{effective}
 use Rattle.fv_constraint.specs.Numbered.{number_of, numbers_of, edges_of, handed_map, composing_at, IsNumbered}
-use Rattle.fv_occurrence.specs.Preorder.{preorder, preorders}
-use Rattle.fv_occurrence.specs.Trees.{Tree, tree, Trees, none, more, size, sizes}
+use Rattle.fv_constraint_tree.specs.Preorder.{preorder, preorders}
+use Rattle.fv_constraint_tree.specs.Trees.{Tree, tree, Trees, none, more, size, sizes}
 use Rattle.fv_constraint.proofs.Cycles.{cyclic_in, cyclic_out}
 use Rattle.fv_constraint.proofs.Handed.{handed_map_is}
 use Rattle.fv_constraint.proofs.Numbering.{next_is, number_within}

@@ -1,11 +1,12 @@
 -- A constraint has one tree alone.
 use Rattle.std.proofs.Common.{◌≡◌, ℕ, List, [], ◌∷◌, Option, refl, sym, ap, subst, ◌∙◌}
-use Rattle.fv_builtin.proofs.Maps.{same_map}
+use Rattle.fv_datum.proofs.Maps.{same_map}
 use Rattle.fv_datum.specs.Attributes.{AttributeValue, Attributes}
 use Rattle.fv_constraint.specs.Composed.{Planned, IsTreeOf, AreTreesOf}
-use Rattle.fv_constraint.specs.Definitions.{Composing, Definitions, Meant, composing_of}
+use Rattle.fv_declare_definition.specs.Definitions.{Composing, Definitions}
+use Rattle.fv_constraint.specs.Meanings.{Meant, composing_of}
 use Rattle.fv_constraint.specs.Effect.{effective, handed}
-use Rattle.fv_occurrence.specs.Trees.{Tree, tree, Trees, none, more}
+use Rattle.fv_constraint_tree.specs.Trees.{Tree, tree, Trees, none, more}
 
 -- planned constraints with the same parts
 pub planned_same : (a b : List ℕ) (m n : Meant) (o p : Option (List ℕ)) (g h : Attributes) → a ≡ b → m ≡ n → o ≡ p → g ≡ h

@@ -2,11 +2,12 @@
 use Rattle.std.specs.Prelude.{◌≡◌, ℕ, zero, suc, List, [], ◌∷◌, map, Option, Some}
 use Rattle.std.specs.Option.{option_map_or}
 use Rattle.fv_graph.specs.Graph.{IsIn}
-use Rattle.fv_builtin.specs.Maps.{IsMapOf}
+use Rattle.fv_datum.specs.Maps.{IsMapOf}
 use Rattle.fv_datum.specs.Attributes.{AttributeValue, Attributes}
-use Rattle.fv_constraint.specs.Definitions.{Composing, Definitions, Meant, meant_by, composing_of}
+use Rattle.fv_declare_definition.specs.Definitions.{Composing, Definitions}
+use Rattle.fv_constraint.specs.Meanings.{Meant, meant_by, composing_of}
 use Rattle.fv_constraint.specs.Effect.{effective, handed}
-use Rattle.fv_occurrence.specs.Trees.{Tree, tree, Trees, none, more}
+use Rattle.fv_constraint_tree.specs.Trees.{Tree, tree, Trees, none, more}
 
 -- a constraint in a tree: its name, what it stands for, the template of its message, if it has one of its own, and the attributes that it is given
 pub record Planned : Type 0 where

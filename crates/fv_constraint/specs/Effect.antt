@@ -4,7 +4,8 @@ use Rattle.fv_datum.specs.Attributes.{AttributeValue, Attributes}
 use Rattle.fv_datum.specs.Lookup.{at_name}
 use Rattle.fv_builtin.specs.Given.{given_or}
 use Rattle.fv_builtin.specs.Table as table
-use Rattle.fv_constraint.specs.Definitions.{Composing, Meant, builtin, declared}
+use Rattle.fv_declare_definition.specs.Definitions.{Composing}
+use Rattle.fv_constraint.specs.Meanings.{Meant, builtin, declared}
 
 -- the default of a constraint's attribute, if it has one
 abbrev pub default_of : Meant → List ℕ → Option AttributeValue

@@ -1,6 +1,13 @@
 pub mod Composed
-pub mod DefinitionViews
-pub mod Definitions
+pub mod Composing
 pub mod Effect
+pub mod FaultNames
+pub mod Flattening
+pub mod Meanings
+pub mod MeantView
 pub mod Numbered
+pub mod Placed
 pub mod PlannedViews
+pub mod Read
+pub mod Refusals
+pub mod UseViews

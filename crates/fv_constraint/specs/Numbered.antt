@@ -10,9 +10,10 @@ use Rattle.std.specs.Str.{bytes_eq}
 use Rattle.fv_datum.specs.Attributes.{AttributeValue, Attributes}
 use Rattle.fv_builtin.specs.Names.{is_builtin}
 use Rattle.fv_constraint.specs.Composed.{Planned, IsTreeOf, IsCyclic}
-use Rattle.fv_constraint.specs.Definitions.{Composing, Definitions, meant_by, composes_unknown}
+use Rattle.fv_declare_definition.specs.Definitions.{Composing, Definitions}
+use Rattle.fv_constraint.specs.Meanings.{meant_by, composes_unknown}
 use Rattle.fv_constraint.specs.Effect.{effective, handed}
-use Rattle.fv_occurrence.specs.Trees.{Tree, size}
+use Rattle.fv_constraint_tree.specs.Trees.{Tree, size}
 
 -- how many definitions stand before the one of that name
 abbrev pub place_of : List ℕ → Definitions → ℕ

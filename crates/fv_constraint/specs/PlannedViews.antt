@@ -2,7 +2,7 @@
 use Rattle.std.specs.Prelude.{ℕ, option_map}
 use Rattle.fv_graph.specs.declared.flatten.Spot.{Spot}
 use Rattle.fv_constraint.specs.Composed as spec
-use Rattle.fv_constraint.specs.DefinitionViews.{meant_view}
+use Rattle.fv_constraint.specs.MeantView.{meant_view}
 use Rattle.fv_constraint.specs.declared.planning.Planned.{Planned}
 
 -- a constraint in a tree

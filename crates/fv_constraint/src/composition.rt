@@ -4,17 +4,17 @@ ghost use Rattle.fv_datum.specs.Attributes.{Attributes};
 ghost use Rattle.fv_constraint.specs.Composed.{IsTreeOf, IsCyclic};
 ghost use Rattle.fv_constraint.specs.Composed as spec;
 ghost use Rattle.fv_constraint.specs.PlannedViews.{planned_entry};
-ghost use Rattle.fv_constraint.specs.Definitions.{composes_unknown, meant_by};
-ghost use Rattle.fv_constraint.specs.DefinitionViews.{definition_entry};
-ghost use Rattle.fv_occurrence.specs.Preorder.{preorder};
-ghost use Rattle.fv_occurrence.specs.Trees.{Tree, size};
+ghost use Rattle.fv_constraint.specs.Meanings.{composes_unknown, meant_by};
+ghost use Rattle.fv_declare_definition.specs.DefinitionViews.{definition_entry};
+ghost use Rattle.fv_constraint_tree.specs.Preorder.{preorder};
+ghost use Rattle.fv_constraint_tree.specs.Trees.{Tree, size};
 
 use crate::copying::copy_entries;
-use crate::definition::Definition;
 use crate::meant::meant_by;
 use crate::numbers::{Numbers, edges_of};
 use crate::planning::{Handing, Planned};
 use fv_datum::Attrs;
+use fv_declare_definition::Definition;
 use fv_graph::{Spot, preorder, weigh_all};
 use std::alloc::{AllocError, Global};
 use std::collections::BTreeMap;
@@ -33,7 +33,7 @@ pub struct Composition<'a> {
 
 impl<'a> Model for Composition<'a> {
     ghost use Rattle.std.specs.Prelude.{map};
-    ghost use Rattle.fv_constraint.specs.Definitions.{Definitions};
+    ghost use Rattle.fv_declare_definition.specs.Definitions.{Definitions};
     ghost use Rattle.fv_constraint.specs.Numbered.{IsNumbered};
 
     ghost Value = { Definitions };

@@ -2,7 +2,7 @@
 ghost use Rattle.std.specs.Prelude.{◌≡◌, true, IfOk, OnOk, map, string_bytes};
 ghost use Rattle.std.specs.BTreeMap.{insert_entry};
 ghost use Rattle.std.specs.String.{string_cmp};
-ghost use Rattle.fv_builtin.specs.Maps.{ascends};
+ghost use Rattle.fv_datum.specs.Maps.{ascends};
 ghost use Rattle.fv_datum.specs.Attributes.{attribute_view, entry_view};
 
 use fv_datum::Attribute;

@@ -3,21 +3,22 @@ ghost use Rattle.std.specs.Prelude.{◌≡◌, ℕ, List, true, None, IfOk, OnOk
 ghost use Rattle.fv_datum.specs.Attributes.{attribute_view, entry_view};
 ghost use Rattle.fv_datum.specs.Lookup.{at_name};
 ghost use Rattle.fv_builtin.specs.Given.{given_or};
-ghost use Rattle.fv_builtin.specs.Maps.{ascends, IsMapOf};
-ghost use Rattle.fv_constraint.specs.Definitions.{declared};
-ghost use Rattle.fv_constraint.specs.DefinitionViews.{attribute_definition_view, composing_view, definition_view, meant_view};
+ghost use Rattle.fv_datum.specs.Maps.{ascends, IsMapOf};
+ghost use Rattle.fv_constraint.specs.Meanings.{declared};
+ghost use Rattle.fv_declare_definition.specs.DefinitionViews.{attribute_definition_view, composing_view, definition_view};
+ghost use Rattle.fv_constraint.specs.MeantView.{meant_view};
 ghost use Rattle.fv_constraint.specs.Effect.{default_of, effective, handed};
 
 use crate::copying::{copy_entries, copy_of, put};
-use crate::definition::{AttributeDefinition, Composing, Definition};
 use crate::meant::Meant;
 use fv_builtin::put_defaults;
 use fv_datum::{Attribute, Attrs};
+use fv_declare_definition::{AttributeDefinition, Composing, Definition};
 use std::alloc::{AllocError, Global};
 use std::collections::BTreeMap;
 
 /// The value in effect of an attribute: that which is given, else the default.
-pub fn value_of<'a>(
+pub(crate) fn value_of<'a>(
     attribute: &'a AttributeDefinition,
     given: &'a Attrs,
     name: &str,
@@ -133,7 +134,7 @@ fn put_effective(
 }
 
 /// The attributes in effect of a constraint: those that are given, and the defaults of the others.
-pub fn in_effect(alloc: Global, meant: Meant, given: &Attrs) -> Result<Attrs, AllocError>
+pub(crate) fn in_effect(alloc: Global, meant: Meant, given: &Attrs) -> Result<Attrs, AllocError>
     ensures { IfOk result (λ attrs. IsMapOf (effective (meant_view meant.entry) given.now) attrs) }
 {
     let mut entries = copy_entries(alloc, given.entries())?;

@@ -1,9 +1,10 @@
 ghost use Rattle.std.specs.Prelude.{◌≡◌, map, option_map};
-ghost use Rattle.fv_constraint.specs.Definitions.{meant_by};
-ghost use Rattle.fv_constraint.specs.DefinitionViews.{definition_entry, meant_view};
+ghost use Rattle.fv_constraint.specs.Meanings.{meant_by};
+ghost use Rattle.fv_declare_definition.specs.DefinitionViews.{definition_entry};
+ghost use Rattle.fv_constraint.specs.MeantView.{meant_view};
 
-use crate::definition::Definition;
 use fv_builtin::{BuiltinName, builtin_named};
+use fv_declare_definition::Definition;
 use std::collections::BTreeMap;
 
 /// What a constraint's name stands for.

@@ -1,11 +1,11 @@
 //! Definitions as the nodes of a graph: a node for each, in order, and one more for all built-in
 //! constraints.
 ghost use Rattle.std.specs.Prelude.{◌≡◌, IfOk, map};
-ghost use Rattle.fv_constraint.specs.DefinitionViews.{composing_view, definition_entry};
+ghost use Rattle.fv_declare_definition.specs.DefinitionViews.{composing_view, definition_entry};
 ghost use Rattle.fv_constraint.specs.Numbered.{number_of, numbers_of, edges_of, placed, place_entry};
 
-use crate::definition::{Composing, Definition};
 use fv_builtin::is_builtin;
+use fv_declare_definition::{Composing, Definition};
 use std::alloc::{AllocError, Global};
 use std::collections::BTreeMap;
 use std::marker::Model;
@@ -19,8 +19,8 @@ pub(crate) struct Numbers<'a> {
 
 impl<'a> Model for Numbers<'a> {
     ghost use Rattle.std.specs.Prelude.{◌≡◌, map};
-    ghost use Rattle.fv_constraint.specs.Definitions.{Definitions};
-    ghost use Rattle.fv_constraint.specs.DefinitionViews.{definition_entry};
+    ghost use Rattle.fv_declare_definition.specs.Definitions.{Definitions};
+    ghost use Rattle.fv_declare_definition.specs.DefinitionViews.{definition_entry};
     ghost use Rattle.fv_constraint.specs.Numbered.{placed, place_entry};
 
     ghost Value = { Definitions };

@@ -1,14 +1,15 @@
 //! The constraints of a tree, each by what stands above it.
 ghost use Rattle.std.specs.Prelude.{◌≡◌, None, IfOk, map, option_map, slice_get, string_bytes};
 ghost use Rattle.fv_constraint.specs.PlannedViews.{planned_view};
-ghost use Rattle.fv_constraint.specs.Definitions.{Definitions, composing_of};
-ghost use Rattle.fv_constraint.specs.DefinitionViews.{definition_entry};
+ghost use Rattle.fv_declare_definition.specs.Definitions.{Definitions};
+ghost use Rattle.fv_constraint.specs.Meanings.{composing_of};
+ghost use Rattle.fv_declare_definition.specs.DefinitionViews.{definition_entry};
 ghost use Rattle.fv_constraint.specs.Numbered.{composing_at};
 
-use crate::definition::Definition;
 use crate::effect::handed;
 use crate::meant::{Meant, meant_by};
 use fv_datum::Attrs;
+use fv_declare_definition::Definition;
 use fv_graph::Hand;
 use std::alloc::{AllocError, Global};
 use std::collections::BTreeMap;
@@ -37,8 +38,8 @@ impl<'a> Hand for Handing<'a> {
     ghost use Rattle.std.specs.Prelude.{map, slice_get};
     ghost use Rattle.fv_constraint.specs.Composed as spec;
     ghost use Rattle.fv_constraint.specs.PlannedViews.{planned_view};
-    ghost use Rattle.fv_constraint.specs.Definitions.{composing_of};
-    ghost use Rattle.fv_constraint.specs.DefinitionViews.{definition_entry};
+    ghost use Rattle.fv_constraint.specs.Meanings.{composing_of};
+    ghost use Rattle.fv_declare_definition.specs.DefinitionViews.{definition_entry};
     ghost use Rattle.fv_constraint.specs.Numbered.{composing_at};
 
     ghost Seen = { spec.Planned };

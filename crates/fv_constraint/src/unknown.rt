@@ -1,11 +1,11 @@
 //! Constraints that are neither built in nor declared.
 ghost use Rattle.std.specs.Prelude.{◌≡◌, map, not, is_some};
 ghost use Rattle.std.specs.List.{list_any};
-ghost use Rattle.fv_constraint.specs.Definitions.{composes_unknown, meant_by};
-ghost use Rattle.fv_constraint.specs.DefinitionViews.{composing_view, definition_entry};
+ghost use Rattle.fv_constraint.specs.Meanings.{composes_unknown, meant_by};
+ghost use Rattle.fv_declare_definition.specs.DefinitionViews.{composing_view, definition_entry};
 
-use crate::definition::{Composing, Definition};
 use crate::meant::meant_by;
+use fv_declare_definition::{Composing, Definition};
 use std::collections::BTreeMap;
 
 /// Whether one of the composing constraints is neither built in nor declared.

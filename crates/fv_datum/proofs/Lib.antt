@@ -1,7 +1,14 @@
+pub mod Bools
 pub mod DateOrder
 pub mod DayLemmas
 pub mod DigitLemmas
+pub mod Entries
+pub mod Fronts
+pub mod Inserted
+pub mod Lists
 pub mod Lookups
+pub mod Maps
+pub mod Sorted
 pub mod Spelled
 pub mod Unfit
 pub mod Utf8

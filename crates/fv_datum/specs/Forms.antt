@@ -36,3 +36,11 @@ map2 f x y = option_and_then (λ a. option_map (f a) y) x
 -- what three values make, if all are there
 abbrev pub map3 : {W X Y Z : Type 0} → (W → X → Y → Z) → Option W → Option X → Option Y → Option Z
 map3 f w x y = option_and_then (λ a. map2 (f a) x y) w
+
+-- what four values make, if all are there
+abbrev pub map4 : {V W X Y Z : Type 0} → (V → W → X → Y → Z) → Option V → Option W → Option X → Option Y → Option Z
+map4 f v w x y = option_and_then (λ a. map3 (f a) w x y) v
+
+-- what five values make, if all are there
+abbrev pub map5 : {U V W X Y Z : Type 0} → (U → V → W → X → Y → Z) → Option U → Option V → Option W → Option X → Option Y → Option Z
+map5 f u v w x y = option_and_then (λ a. map4 (f a) v w x y) u

@@ -2,6 +2,7 @@
 //! spells it.
 #![tactic(auto)]
 
+mod adding;
 mod attribute_kind;
 mod attrs;
 mod datum;
@@ -12,10 +13,12 @@ mod kind;
 mod members;
 mod moment;
 mod name;
+mod name_lists;
 mod parsing;
 mod reading;
 mod writing;
 
+pub use adding::add_last;
 pub use attribute_kind::AttributeKind;
 pub use attrs::{Attribute, Attrs};
 pub use datum::Datum;
@@ -26,6 +29,7 @@ pub use kind::Kind;
 pub use members::has_only;
 pub use moment::{LAST_MOMENT, moment_ok};
 pub use name::{Name, is_name};
+pub use name_lists::{names_in, names_of, told_names_of};
 pub use parsing::{JsonFault, read_json};
 pub use reading::{read_datum, spells_datum};
 pub use writing::{is_null, key_of, keys_fit, write_datum};

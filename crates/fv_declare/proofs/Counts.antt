@@ -1,27 +1,27 @@
 -- How many nodes trees have.
-use Rattle.std.proofs.Common.{◌≡◌, ℕ, zero, suc, get_or, take, add-one, ◌+◌, ◌<◌, ◌≤◌, List, [], ◌∷◌, ◌++◌, length, map, zip, min, not, Bool, true, false, Option, option_map, refl, sym, ap, ◌∙◌, true≢false, arith}
+use Rattle.std.proofs.Common.{◌≡◌, ℕ, zero, suc, get_or, take, add-one, ◌+◌, ◌<◌, ◌≤◌, List, [], ◌∷◌, ◌++◌, length, map, zip, min, Option, option_map, refl, sym, ap, ◌∙◌, arith}
 use Rattle.std.proofs.lemmas.Bool.Decides.{nat_tests}
 use Rattle.std.proofs.lemmas.List.{map-append}
 use Rattle.std.proofs.lemmas.Slice.Zip.{all_zipped_more}
 use Rattle.std.specs.List.{AllZip}
 use Rattle.fv_constraint.specs.Composed.{Planned, IsTreeOf}
-use Rattle.fv_constraint.specs.Definitions.{Definitions}
-use Rattle.fv_flatten.specs.Flattening.{Use, AreTreesOfUses}
-use Rattle.fv_uses.specs.Uses.{used}
-use Rattle.fv_uses.specs.UseViews.{use_view}
-use Rattle.fv_uses.specs.declared.uses.Use as code
-use Rattle.fv_flatten.specs.Read.{IsReadTree, AreReadTrees}
-use Rattle.fv_flatten.specs.Refusals.{Place}
-use Rattle.fv_occurrence.specs.Nodes.{Node}
-use Rattle.fv_occurrence.specs.Trees.{Tree, tree, Trees, none, more, size, sizes}
-use Rattle.fv_declare.specs.Declarations.{count_nodes}
+use Rattle.fv_declare_definition.specs.Definitions.{Definitions}
+use Rattle.fv_constraint.specs.Flattening.{Use, AreTreesOfUses}
+use Rattle.fv_declare.specs.Used.{used}
+use Rattle.fv_declare_draft.specs.UseViews.{use_view}
+use Rattle.fv_declare_draft.specs.declared.all_uses.Use as code
+use Rattle.fv_constraint.specs.Read.{IsReadTree, AreReadTrees}
+use Rattle.fv_constraint_tree.specs.Targets.{Target}
+use Rattle.fv_constraint_tree.specs.Nodes.{Node}
+use Rattle.fv_constraint_tree.specs.Trees.{Tree, tree, Trees, none, more, size, sizes}
+use Rattle.fv_declare_schema.specs.Declarations.{count_nodes}
 
 mutual
   -- trees of one shape have as many nodes
-  same_size : (place : Place) (t : Tree Planned) (u : Tree Node) → IsReadTree place t u → size u ≡ size t
+  same_size : (place : Target) (t : Tree Planned) (u : Tree Node) → IsReadTree place t u → size u ≡ size t
   same_size place (tree p ts) (tree n us) r = ap (λ k. 1 + k) (same_sizes place ts us r.1)
 
-  same_sizes : (place : Place) (ts : Trees Planned) (us : Trees Node) → AreReadTrees place ts us → sizes us ≡ sizes ts
+  same_sizes : (place : Target) (ts : Trees Planned) (us : Trees Node) → AreReadTrees place ts us → sizes us ≡ sizes ts
   same_sizes place none none r = refl
   same_sizes place none (more u us) r = absurd r
   same_sizes place (more t ts) none r = absurd r
@@ -61,10 +61,6 @@ own_message x = option_map (λ t. t.now) x.message
 pub count_more : {N : Type 0} (ts : List (Tree N)) (t : Tree N) → count_nodes (ts ++ t ∷ []) ≡ count_nodes ts + size t
 count_more [] t = omega arith
 count_more (s ∷ ts) t = let rest : count_nodes (ts ++ t ∷ []) ≡ count_nodes ts + size t = count_more ts t in omega arith
-
-pub not_false : (b : Bool) → not b ≡ false → b ≡ true
-not_false true e = refl
-not_false false e = absurd (true≢false e)
 
 -- ---- the loop over uses
 

@@ -8,12 +8,12 @@ use Rattle.serde_json.specs.Data as json
 use Rattle.fv_datum.specs.Forms.{map2, map3}
 use Rattle.fv_datum.specs.Lookup.{at_name}
 use Rattle.fv_datum.specs.Members.{has_only}
-use Rattle.fv_draft.specs.Cascades.{Cascade, cascade_of}
-use Rattle.fv_draft.specs.Places.{PlacedCascade, Held, with_own, alone, list_of, optional_of, map_of, plain_kinds, reference_of, place_members, place_of, type_in, held_of, place_in}
-use Rattle.fv_draft.specs.Uses.{UseDraft, uses_of}
+use Rattle.fv_declare_draft.specs.Cascades.{CascadeDraft, cascade_of}
+use Rattle.fv_declare_draft.specs.Places.{PlacedCascade, Held, with_own, alone, list_of, optional_of, map_of, plain_kinds, reference_of, place_members, place_of, type_in, held_of, place_in}
+use Rattle.fv_declare_draft.specs.Uses.{UseDraft, uses_of}
 use Rattle.fv_extract.specs.Places.{Step, element, value, content}
-use Rattle.fv_types.specs.Types.{TypeUse}
-use Rattle.fv_types.proofs.Lists.{each_of}
+use Rattle.fv_model_types.specs.Types.{TypeUse}
+use Rattle.fv_datum.proofs.Lists.{each_of}
 use Rattle.fv_declare.specs.Judging.{AreDeepening}
 
 -- at least so many steps inside
@@ -25,7 +25,7 @@ abbrev pub Deepen : ℕ → Option Held → Type 0
 Deepen n None = Unit {0}
 Deepen n (Some held) = AllByRecursion (IsInside n) held.cascades × AreDeepening held.cascades
 
-with_deep : (steps : List Step) (b : Bool) (us : Option (List UseDraft)) (cascade : Option Cascade) (held : Option Held) → Deepen (length steps + 1) held → Deepen (length steps) (if b then map3 (with_own steps) us cascade held else None)
+with_deep : (steps : List Step) (b : Bool) (us : Option (List UseDraft)) (cascade : Option CascadeDraft) (held : Option Held) → Deepen (length steps + 1) held → Deepen (length steps) (if b then map3 (with_own steps) us cascade held else None)
 with_deep steps false us cascade held h = tt
 with_deep steps true None cascade held h = tt
 with_deep steps true (Some us) None held h = tt

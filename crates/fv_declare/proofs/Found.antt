@@ -1,5 +1,5 @@
 -- What holds of a draft without fault: its roots are found.
-use Rattle.std.proofs.Common.{◌≡◌, ℕ, ◌+◌, ◌<◌, List, [], ◌∷◌, length, get_or, drop, map, Bool, true, false, not, cond, ◌||◌, nat_lt, Option, Some, None, option_map, unwrap_or, is_some, slice_get, position, bytes_eq, refl, sym, ap, ◌∙◌, true≢false, arith}
+use Rattle.std.proofs.Common.{◌≡◌, ℕ, ◌+◌, ◌<◌, List, [], ◌∷◌, length, get_or, drop, map, Bool, true, false, not, cond, ◌||◌, nat_lt, Option, Some, None, option_map, unwrap_or, is_some, slice_get, position, bytes_eq, refl, sym, ap, ◌∙◌, arith}
 use Rattle.std.specs.List.{list_any, prefix_len}
 use Rattle.std.proofs.lemmas.Grind.{common_steps}
 use Rattle.std.proofs.lemmas.List.Quantifiers.{position-Some}
@@ -7,25 +7,18 @@ use Rattle.std.proofs.lemmas.Map.Made.{is_some-lookup}
 use Rattle.std.proofs.lemmas.Option.{unwrap_or-slice_get}
 use Rattle.std.proofs.lemmas.Slice.Eq.{bytes_eq-Decides}
 use Rattle.fv_datum.specs.Lookup.{at_name}
-use Rattle.fv_types.specs.Types.{DeclaredFields, Declared, number_of, name_at, has_unknown}
-use Rattle.fv_constraint.specs.Definitions.{composes_unknown}
+use Rattle.fv_model_types.specs.Types.{DeclaredFields, Declared, number_of, name_at, has_unknown}
+use Rattle.fv_constraint.specs.Meanings.{composes_unknown}
 use Rattle.fv_datum.specs.Outcomes.{first}
-use Rattle.fv_draft.specs.Drafts as spec
+use Rattle.fv_declare_draft.specs.Drafts as spec
 use Rattle.fv_declare.specs.Declares.{unknown_constraint, unknown_name, unknown_root, name_conditions}
-use Rattle.fv_naming.specs.Types.{types_declared}
-use Rattle.fv_naming.specs.Naming.{bad_name}
+use Rattle.fv_declare.specs.Types.{types_declared}
+use Rattle.fv_declare.specs.Naming.{bad_name}
 use Rattle.fv_declare.specs.declared.fault.DeclFault.TheVariants.{BadName, UnknownName}
-use Rattle.fv_draft.specs.DraftViews.{form_view}
-use Rattle.fv_draft.specs.declared.draft.FormDraft.{FormDraft}
+use Rattle.fv_declare_draft.specs.DraftViews.{form_view}
+use Rattle.fv_declare_draft.specs.declared.draft.FormDraft.{FormDraft}
 use Rattle.fv_declare.proofs.Anys.{form_turn}
-
-pub or_left : (a b : Bool) → (a || b) ≡ false → a ≡ false
-or_left true b e = absurd (true≢false e)
-or_left false b e = refl
-
-pub or_right : (a b : Bool) → (a || b) ≡ false → b ≡ false
-or_right true b e = absurd (true≢false e)
-or_right false b e = e
+use Rattle.fv_datum.proofs.Bools.{or_left, or_right}
 
 -- ---- the first fault is none
 

@@ -5,25 +5,26 @@ use Rattle.std.proofs.lemmas.Bool.Decides.{nat_tests}
 use Rattle.std.proofs.lemmas.List.{length-map}
 use Rattle.std.specs.List.{AllZip}
 use Rattle.fv_constraint.specs.Composed.{Planned}
-use Rattle.fv_constraint.specs.Definitions.{Definitions}
-use Rattle.fv_draft.specs.Drafts.{Drafted}
-use Rattle.fv_flatten.specs.Flattening.{AreTreesOfUses, is_empty_in, FlattensAll}
-use Rattle.fv_flatten.specs.Flattening as flat
-use Rattle.fv_flatten.specs.Read.{IsReadTree}
-use Rattle.fv_flatten.specs.declared.fault.FlattenFault.{FlattenFault}
+use Rattle.fv_declare_definition.specs.Definitions.{Definitions}
+use Rattle.fv_declare_draft.specs.Drafts.{Drafted}
+use Rattle.fv_constraint.specs.Flattening.{AreTreesOfUses, is_empty_in, FlattensAll}
+use Rattle.fv_constraint.specs.Flattening as flat
+use Rattle.fv_constraint.specs.Read.{IsReadTree}
+use Rattle.fv_constraint.specs.declared.fault.FlattenFault.{FlattenFault}
 use Rattle.fv_message.specs.declared.fault.MessageFault.{MessageFault}
-use Rattle.fv_types.specs.Types.{Declared, too_many}
-use Rattle.fv_occurrence.specs.Nodes.{Node}
-use Rattle.fv_occurrence.specs.Trees.{Tree}
+use Rattle.fv_model_types.specs.Types.{Declared, too_many}
+use Rattle.fv_constraint_tree.specs.Nodes.{Node}
+use Rattle.fv_constraint_tree.specs.Trees.{Tree}
 use Rattle.fv_registry.specs.Rules.{Known}
-use Rattle.fv_declare.specs.Declarations.{Declarations, count_nodes}
+use Rattle.fv_declare_schema.specs.Declarations.{Declarations, count_nodes}
 use Rattle.fv_declare.specs.Declares.{used_in, has_many, is_wordy, too_large, IsDeclared, IsFlattened}
-use Rattle.fv_naming.specs.Types.{types_declared}
+use Rattle.fv_declare.specs.Types.{types_declared}
 use Rattle.fv_declare.specs.FaultNames.{flatten_fault, message_fault}
 use Rattle.fv_declare.specs.Judging.{unless_many}
-use Rattle.fv_uses.specs.Uses.{Use, used, uses_in}
+use Rattle.fv_declare_draft.specs.AllUses.{Use, uses_in}
+use Rattle.fv_declare.specs.Used.{used}
 use Rattle.fv_declare.specs.declared.fault.DeclFault.TheVariants.{EmptyConstraint, TooLarge}
-use Rattle.fv_wording.specs.Wording.{IsFirstFault}
+use Rattle.fv_declare.specs.Wording.{IsFirstFault}
 use Rattle.fv_declare.proofs.Counts.{zip_long, zipped_long, same_count}
 use Rattle.fv_declare.proofs.Verdicts as verdict
 

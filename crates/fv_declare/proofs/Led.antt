@@ -4,23 +4,22 @@ use Rattle.std.specs.Cmp.Lexicographic.{slice_cmp}
 use Rattle.std.specs.List.{AllByRecursion}
 use Rattle.serde_json.specs.Data as json
 use Rattle.serde_json.specs.Find.{get}
-use Rattle.fv_datum.specs.Forms.{map2, map3, maybe, each_member, required}
+use Rattle.fv_datum.specs.Forms.{map2, map3, maybe, each_member, required, map5}
 use Rattle.fv_datum.specs.Lookup.{at_name}
 use Rattle.fv_datum.specs.declared.kind.Kind.{Kind}
 use Rattle.fv_datum.specs.Members.{pairs, has_only, each_some}
-use Rattle.fv_constraint.specs.Definitions.{Definitions}
-use Rattle.fv_definition.specs.Definitions.{map5}
-use Rattle.fv_definition.specs.Names.{names_in}
-use Rattle.fv_draft.specs.Cascades.{Cascade, cascade_of}
-use Rattle.fv_draft.specs.Drafts.{FieldDraft, TypeDraft, FormDraft, Drafted, field_of, type_of, draft_of}
-use Rattle.fv_draft.specs.Places.{PlacedUse, PlacedCascade, Held, use_there, with_own, alone, list_of, optional_of, map_of, plain_kinds, reference_of, place_members, place_of, type_in, held_of, place_in}
-use Rattle.fv_draft.specs.Uses.{UseDraft, uses_of}
+use Rattle.fv_declare_definition.specs.Definitions.{Definitions}
+use Rattle.fv_datum.specs.NameLists.{names_in}
+use Rattle.fv_declare_draft.specs.Cascades.{CascadeDraft, cascade_of}
+use Rattle.fv_declare_draft.specs.Drafts.{FieldDraft, TypeDraft, FormDraft, Drafted, field_of, type_of, draft_of}
+use Rattle.fv_declare_draft.specs.Places.{PlacedUse, PlacedCascade, Held, use_there, with_own, alone, list_of, optional_of, map_of, plain_kinds, reference_of, place_members, place_of, type_in, held_of, place_in}
+use Rattle.fv_declare_draft.specs.Uses.{UseDraft, uses_of}
 use Rattle.fv_extract.specs.Places.{Step, element, key, value, content}
 use Rattle.fv_groups.specs.Groups.{Groups}
-use Rattle.fv_types.specs.Types.{TypeUse, texts, lists, maps, optionals, kind_of}
+use Rattle.fv_model_types.specs.Types.{TypeUse, texts, lists, maps, optionals, kind_of}
 use Rattle.fv_declare.specs.Judging.{IsLed, AreLed}
-use Rattle.fv_declare.specs.Ordered.{held_after, held_inside}
-use Rattle.fv_types.proofs.Lists.{each_of}
+use Rattle.fv_declare_schema.specs.Ordered.{held_after, held_inside}
+use Rattle.fv_datum.proofs.Lists.{each_of}
 use Rattle.fv_declare.proofs.Alls.{all_append, all_mapped}
 use Rattle.fv_declare.proofs.Depths.{Deepen, place_deep, chosen, found}
 
@@ -56,7 +55,7 @@ all_further steps step outer type us cs is h = (
 there : (steps : List Step) (type : TypeUse) (us : List UseDraft) → AllByRecursion (UseLeads steps type) (map (use_there steps (kind_of type)) us)
 there steps type us = all_mapped (UseLeads steps type) (use_there steps (kind_of type)) us (λ u. ([], sym (append-nil steps), refl))
 
-with_led : (steps : List Step) (b : Bool) (us : Option (List UseDraft)) (cascade : Option Cascade) (held : Option Held) → Led steps held → Led steps (if b then map3 (with_own steps) us cascade held else None)
+with_led : (steps : List Step) (b : Bool) (us : Option (List UseDraft)) (cascade : Option CascadeDraft) (held : Option Held) → Led steps held → Led steps (if b then map3 (with_own steps) us cascade held else None)
 with_led steps false us cascade held h = tt
 with_led steps true None cascade held h = tt
 with_led steps true (Some us) None held h = tt

@@ -4,32 +4,33 @@ use Rattle.std.specs.List.{AllByRecursion, AllZip, list_all, list_any}
 use Rattle.std.specs.Str.{bytes_eq}
 use Rattle.fv_constraint.specs.Composed.{Planned}
 use Rattle.fv_datum.specs.Name.{names}
-use Rattle.fv_draft.specs.Drafts as spec
-use Rattle.fv_draft.specs.DraftViews.{field_view, type_view, form_view, draft_view}
-use Rattle.fv_draft.specs.declared.draft.FieldDraft.{FieldDraft}
-use Rattle.fv_draft.specs.declared.draft.TypeDraft.{TypeDraft}
-use Rattle.fv_draft.specs.declared.draft.FormDraft.{FormDraft}
-use Rattle.fv_draft.specs.declared.draft.Draft.{Draft}
-use Rattle.fv_grouping.specs.Grouping.{is_misplaced}
-use Rattle.fv_grouping.specs.Numbered.{groups_named, type_ranks, valid_places}
+use Rattle.fv_declare_draft.specs.Drafts as spec
+use Rattle.fv_declare_draft.specs.DraftViews.{field_view, type_view, form_view, draft_view}
+use Rattle.fv_declare_draft.specs.declared.draft.FieldDraft.{FieldDraft}
+use Rattle.fv_declare_draft.specs.declared.draft.TypeDraft.{TypeDraft}
+use Rattle.fv_declare_draft.specs.declared.draft.FormDraft.{FormDraft}
+use Rattle.fv_declare_draft.specs.declared.draft.Draft.{Draft}
+use Rattle.fv_declare_groups.specs.Grouping.{is_misplaced}
+use Rattle.fv_declare_groups.specs.Numbered.{groups_named, type_ranks, valid_places}
 use Rattle.fv_groups.specs.Groups.{Groups}
-use Rattle.fv_flatten.specs.Fits.{tree_fits}
-use Rattle.fv_flatten.specs.Read.{IsReadTree}
-use Rattle.fv_occurrence.specs.Nodes.{Node}
-use Rattle.fv_occurrence.specs.Trees.{Tree, size}
+use Rattle.fv_constraint_tree.specs.TargetFits.{tree_fits}
+use Rattle.fv_constraint.specs.Read.{IsReadTree}
+use Rattle.fv_constraint_tree.specs.Nodes.{Node}
+use Rattle.fv_constraint_tree.specs.Trees.{Tree, size}
 use Rattle.fv_registry.specs.Rules.{Known}
-use Rattle.fv_types.proofs.Bools.{not_false, or_left, or_right}
-use Rattle.fv_types.proofs.Lists.{none_each}
-use Rattle.fv_types.specs.Names.{IsAscending}
-use Rattle.fv_uses.specs.Cascades.{cascades_in}
-use Rattle.fv_uses.specs.Uses.{Use, uses_in, used}
-use Rattle.fv_declare.specs.Declarations.{Placed, Declarations, count_nodes, AreNumbered}
+use Rattle.fv_datum.proofs.Bools.{not_false, or_left, or_right}
+use Rattle.fv_datum.proofs.Lists.{none_each}
+use Rattle.fv_datum.specs.Ascending.{IsAscending}
+use Rattle.fv_declare_draft.specs.AllCascades.{cascades_in}
+use Rattle.fv_declare_draft.specs.AllUses.{Use, uses_in}
+use Rattle.fv_declare.specs.Used.{used}
+use Rattle.fv_declare_schema.specs.Declarations.{Placed, Declarations, count_nodes, AreNumbered}
 use Rattle.fv_declare.specs.Declares.{form_declared, form_grouped, IsPlacedAs}
-use Rattle.fv_naming.specs.Types.{field_declared, type_declared}
-use Rattle.fv_naming.specs.Naming.{is_bad_type, is_bad_definition, is_bad_group, bad_name}
-use Rattle.fv_declare.specs.Fits.{placed_fits}
+use Rattle.fv_declare.specs.Types.{field_declared, type_declared}
+use Rattle.fv_declare.specs.Naming.{is_bad_type, is_bad_definition, is_bad_group, bad_name}
+use Rattle.fv_declare_schema.specs.Fits.{placed_fits}
 use Rattle.fv_declare.specs.Judging.{AreLed, placed_from}
-use Rattle.fv_declare.specs.Ordered.{Precedes, IsRising, IsPlaced, AreOrdered}
+use Rattle.fv_declare_schema.specs.Ordered.{Precedes, IsRising, IsPlaced, AreOrdered}
 use Rattle.fv_declare.proofs.Within.{uses_within, forms_within, sequences_within, places_within}
 use Rattle.fv_declare.proofs.Alls.{all_mapped_by}
 use Rattle.fv_declare.proofs.Cascading.{cascades_rise, places_rise}

@@ -3,17 +3,18 @@ use Rattle.std.proofs.Common.{◌≡◌, ◌⊎◌, inl, inr, List, [], ◌∷�
 use Rattle.std.specs.List.{AllByRecursion, list_any, cons_option}
 use Rattle.fv_datum.specs.declared.kind.Kind.{Kind}
 use Rattle.fv_datum.specs.declared.kind.Kind.TheVariants as kind
-use Rattle.fv_draft.specs.Drafts.{Drafted}
-use Rattle.fv_grouping.specs.First.{IsFirst}
-use Rattle.fv_grouping.specs.Grouping.{groups_in, is_reference, is_misplaced, grouping_faults, Holds}
-use Rattle.fv_grouping.specs.Numbered.{ValidPlace, valid_place, valid_places}
-use Rattle.fv_grouping.specs.declared.fault.GroupingFault.{GroupingFault}
+use Rattle.fv_declare_draft.specs.Drafts.{Drafted}
+use Rattle.fv_declare_groups.specs.First.{IsFirst}
+use Rattle.fv_declare_groups.specs.Grouping.{groups_in, is_reference, is_misplaced, grouping_faults, Holds}
+use Rattle.fv_declare_schema.specs.ValidPlaces.{ValidPlace}
+use Rattle.fv_declare_groups.specs.Numbered.{valid_place, valid_places}
+use Rattle.fv_declare_groups.specs.declared.fault.GroupingFault.{GroupingFault}
 use Rattle.fv_groups.specs.Groups.{Groups}
-use Rattle.fv_types.proofs.Bools.{not_false, or_left, or_right}
-use Rattle.fv_types.specs.Types.{Declared}
-use Rattle.fv_uses.specs.Cascades.{Cascade, cascades_in}
-use Rattle.fv_uses.specs.Uses.{field}
-use Rattle.fv_declare.specs.Ordered.{IsAmong, IsValidIn}
+use Rattle.fv_datum.proofs.Bools.{not_false, or_left, or_right}
+use Rattle.fv_model_types.specs.Types.{Declared}
+use Rattle.fv_declare_draft.specs.AllCascades.{Cascade, cascades_in}
+use Rattle.fv_declare_schema.specs.Places.{field}
+use Rattle.fv_declare_schema.specs.Ordered.{IsAmong, IsValidIn}
 use Rattle.fv_declare.proofs.There.{IsCascadeThere}
 
 reference : (k : Kind) → is_reference k ≡ true → k ≡ kind.Ref

@@ -3,18 +3,18 @@ use Rattle.std.proofs.Common.{◌≡◌, List, [], ◌∷◌, zip, Bool, true, f
 use Rattle.std.specs.List.{AllZip}
 use Rattle.fv_constraint.specs.Composed.{Planned}
 use Rattle.fv_datum.specs.Outcomes.{first}
-use Rattle.fv_draft.specs.Drafts.{Drafted}
-use Rattle.fv_flatten.specs.Flattening as flat
-use Rattle.fv_flatten.specs.Read.{IsReadTree}
-use Rattle.fv_flatten.specs.declared.fault.FlattenFault.{FlattenFault}
-use Rattle.fv_flatten.specs.declared.fault.FlattenFault.TheVariants as fault
+use Rattle.fv_declare_draft.specs.Drafts.{Drafted}
+use Rattle.fv_constraint.specs.Flattening as flat
+use Rattle.fv_constraint.specs.Read.{IsReadTree}
+use Rattle.fv_constraint.specs.declared.fault.FlattenFault.{FlattenFault}
+use Rattle.fv_constraint.specs.declared.fault.FlattenFault.TheVariants as fault
 use Rattle.fv_message.specs.declared.fault.MessageFault.{MessageFault}
 use Rattle.fv_message.specs.declared.fault.MessageFault.TheVariants as messages
-use Rattle.fv_occurrence.specs.Nodes.{Node}
-use Rattle.fv_occurrence.specs.Trees.{Tree}
+use Rattle.fv_constraint_tree.specs.Nodes.{Node}
+use Rattle.fv_constraint_tree.specs.Trees.{Tree}
 use Rattle.fv_registry.specs.Rules.{Known}
-use Rattle.fv_declare.specs.Declarations.{Declarations}
-use Rattle.fv_wording.specs.Wording.{IsFirstFault}
+use Rattle.fv_declare_schema.specs.Declarations.{Declarations}
+use Rattle.fv_declare.specs.Wording.{IsFirstFault}
 use Rattle.fv_declare.specs.Declares.{used_in, is_wordy, too_large, tree_conditions, IsDeclared, AreBuilt, IsBuilt, IsDecided}
 use Rattle.fv_declare.specs.FaultNames.{flatten_fault, message_fault}
 use Rattle.fv_declare.specs.declared.fault.DeclFault.{DeclFault}

@@ -3,22 +3,21 @@ use Rattle.std.proofs.Common.{◌≡◌, ◌<◌, ◌+◌, ℕ, List, [], ◌∷
 use Rattle.std.specs.Prelude.{option_and_then, filter_map}
 use Rattle.std.specs.List.{cons_option, flat_map, AllByRecursion}
 use Rattle.std.specs.Option.{option_map_or, IfSome}
-use Rattle.fv_datum.specs.Lookup.{at_name}
-use Rattle.fv_draft.specs.Cascades.{Conversion}
-use Rattle.fv_draft.specs.Drafts.{TypeDraft, FormDraft}
+use Rattle.fv_declare_draft.specs.Cascades.{Conversion}
+use Rattle.fv_declare_draft.specs.Drafts.{TypeDraft, FormDraft}
 use Rattle.fv_graph.specs.Graph.{IsIn}
-use Rattle.fv_grouping.specs.Numbered.{groups_named, member_ranks, own_ranks, type_ranks, converted, valid_place, valid_places}
+use Rattle.fv_declare_groups.specs.Numbered.{groups_named, member_ranks, own_ranks, type_ranks, converted, valid_place, valid_places}
 use Rattle.fv_groups.specs.Groups.{Groups, number_of, numbers_of, ranks}
 use Rattle.fv_groups.specs.Once.{mem, once_after}
 use Rattle.fv_groups.proofs.Edges.{numbers_below}
 use Rattle.fv_groups.proofs.Plain.{ranks_plain}
-use Rattle.fv_occurrence.specs.Nodes.{Node}
-use Rattle.fv_occurrence.specs.Trees.{Tree, size}
-use Rattle.fv_uses.specs.Cascades.{Cascade}
-use Rattle.fv_uses.specs.Uses.{Use}
+use Rattle.fv_constraint_tree.specs.Nodes.{Node}
+use Rattle.fv_constraint_tree.specs.Trees.{Tree, size}
+use Rattle.fv_declare_draft.specs.AllCascades.{Cascade}
+use Rattle.fv_declare_draft.specs.AllUses.{Use}
 use Rattle.fv_declare.specs.Declares.{form_grouped}
 use Rattle.fv_declare.specs.Judging.{placed_from}
-use Rattle.fv_declare.specs.Ordered.{AreGroups, AreConversions}
+use Rattle.fv_declare_schema.specs.Ordered.{AreGroups, AreConversions}
 use Rattle.fv_declare.proofs.Alls.{all_append}
 
 -- what each of a list has
@@ -107,12 +106,3 @@ module _ (gs : Groups) where
           → AllByRecursion (λ p. AreConversions gs p.conversions) (cons_option (if b then Some (valid_place gs c) else None) (valid_places gs cs))
       go true rest = (conversions_within c.placed.cascade.conversions, rest)
       go false rest = rest
-
--- the groups of one form
-pub form_within : (gs : Groups) (name : List ℕ) (fs : List (List ℕ × List ℕ)) → AllByRecursion (λ f. AreGroups gs f.1) fs → IfSome (at_name name fs) (AreGroups gs)
-form_within gs name [] all = tt
-form_within gs name (f ∷ fs) all = go (bytes_eq name f.0) (form_within gs name fs all.1)
-  where
-    go : (b : Bool) → IfSome (at_name name fs) (AreGroups gs) → IfSome (cond b (Some f.1) (at_name name fs)) (AreGroups gs)
-    go true rest = all.0
-    go false rest = rest

@@ -5,32 +5,34 @@ use Rattle.serde_json.specs.Data as json
 use Rattle.fv_datum.specs.Outcomes.{first}
 use Rattle.fv_datum.specs.Lookup.{at_name}
 use Rattle.fv_datum.specs.Parsing.{json_of}
-use Rattle.fv_types.specs.Types.{Declared, has_unknown, too_many}
+use Rattle.fv_model_types.specs.Types.{Declared, has_unknown, too_many}
 use Rattle.fv_registry.specs.Rules.{Known}
 use Rattle.fv_constraint.specs.Composed.{Planned, IsCyclic}
-use Rattle.fv_constraint.specs.Definitions.{composes_unknown, meant_by}
-use Rattle.fv_draft.specs.Drafts.{FormDraft, Drafted, draft_of}
-use Rattle.fv_flatten.specs.Flattening.{AreTreesOfUses, is_empty_in, unknown_rule, bad_attribute, unexpected_type, HasBadPattern}
-use Rattle.fv_flatten.specs.Flattening as flat
-use Rattle.fv_flatten.specs.Read.{IsReadTree}
-use Rattle.fv_grouping.specs.First.{IsFirst}
-use Rattle.fv_grouping.specs.Grouping.{groups_in, is_long, grouping_faults, Holds}
-use Rattle.fv_grouping.specs.Numbered.{groups_named, type_ranks, valid_places}
-use Rattle.fv_grouping.specs.declared.fault.GroupingFault.{GroupingFault}
+use Rattle.fv_constraint.specs.Meanings.{composes_unknown, meant_by}
+use Rattle.fv_declare_draft.specs.Drafts.{FormDraft, Drafted, draft_of}
+use Rattle.fv_constraint.specs.Flattening.{AreTreesOfUses, is_empty_in, unknown_rule, bad_attribute, unexpected_type, HasBadPattern}
+use Rattle.fv_constraint.specs.Flattening as flat
+use Rattle.fv_constraint.specs.Read.{IsReadTree}
+use Rattle.fv_declare_groups.specs.First.{IsFirst}
+use Rattle.fv_declare_groups.specs.Grouping.{groups_in, is_long, grouping_faults, Holds}
+use Rattle.fv_declare_groups.specs.Numbered.{groups_named, type_ranks, valid_places}
+use Rattle.fv_declare_groups.specs.declared.fault.GroupingFault.{GroupingFault}
 use Rattle.fv_groups.specs.Groups.{Groups}
 use Rattle.fv_groups.specs.Judged.{is_large}
 use Rattle.fv_message.specs.Table.{all_messages}
 use Rattle.fv_message.specs.declared.fault.MessageFault.{MessageFault}
 use Rattle.fv_message.specs.declared.fault.MessageFault.TheVariants as message
-use Rattle.fv_naming.specs.Naming.{bad_name}
-use Rattle.fv_naming.specs.Types.{types_declared}
-use Rattle.fv_occurrence.specs.Nodes.{Node}
-use Rattle.fv_occurrence.specs.Trees.{Tree}
-use Rattle.fv_declare.specs.Declarations.{Placed, Declarations, count_nodes}
-use Rattle.fv_declare.specs.Ordered.{AreOrdered}
-use Rattle.fv_uses.specs.Cascades.{cascades_in}
-use Rattle.fv_uses.specs.Uses.{Use, used, uses_in, judged_at}
-use Rattle.fv_wording.specs.Wording.{IsFirstFault}
+use Rattle.fv_declare.specs.Naming.{bad_name}
+use Rattle.fv_declare.specs.Types.{types_declared}
+use Rattle.fv_constraint_tree.specs.Nodes.{Node}
+use Rattle.fv_constraint_tree.specs.Trees.{Tree}
+use Rattle.fv_declare_schema.specs.Declarations.{Placed, Declarations, count_nodes}
+use Rattle.fv_declare_schema.specs.Ordered.{AreOrdered}
+use Rattle.fv_declare_draft.specs.AllCascades.{cascades_in}
+use Rattle.fv_declare_draft.specs.AllUses.{Use, uses_in}
+use Rattle.fv_declare.specs.Used.{used}
+use Rattle.fv_declare_schema.specs.Places.{judged_at}
+use Rattle.fv_declare.specs.Wording.{IsFirstFault}
 use Rattle.fv_declare.specs.FaultNames.{grouping_fault}
 use Rattle.fv_declare.specs.declared.fault.DeclFault.{DeclFault}
 use Rattle.fv_declare.specs.declared.fault.DeclFault.TheVariants.{NotJson, Shape, BadName, UnknownName, CyclicComposition, EmptyConstraint, TooLarge, UnknownRule, Attribute, UnexpectedType, BadPattern, MessageSyntax, MessageCycle}

@@ -1,18 +1,25 @@
 -- What is found on the way to a schema; for private clauses.
 use Rattle.std.specs.Prelude.{◌≡◌, ℕ, ◌+◌, ◌<◌, List, [], ◌∷◌, length, Bool, true, false, Option, Some, None, option_map, if◌then◌else◌}
-use Rattle.std.specs.List.{AllByRecursion}
-use Rattle.fv_draft.specs.Drafts.{FieldDraft, Drafted}
-use Rattle.fv_draft.specs.Places.{PlacedCascade}
-use Rattle.fv_types.specs.Types.{Declared, kind_of, too_many}
-use Rattle.fv_occurrence.specs.Nodes.{Node}
-use Rattle.fv_occurrence.specs.Trees.{Tree, size}
-use Rattle.fv_declare.specs.Declarations.{Placed}
-use Rattle.fv_declare.specs.Ordered.{held_inside}
-use Rattle.fv_grouping.specs.Numbered.{groups_named}
+use Rattle.std.specs.List.{AllByRecursion, list_any}
+use Rattle.fv_datum.specs.Outcomes.{first}
+use Rattle.fv_declare.specs.Declares.{unknown_root, name_conditions}
+use Rattle.fv_declare.specs.Naming.{bad_name}
+use Rattle.fv_declare.specs.Types.{types_declared}
+use Rattle.fv_declare_draft.specs.AllCascades.{Cascade, cascades_in}
+use Rattle.fv_declare_draft.specs.Drafts.{FieldDraft, Drafted}
+use Rattle.fv_declare_draft.specs.Places.{PlacedCascade}
+use Rattle.fv_model_types.specs.Types.{Declared, kind_of, too_many}
+use Rattle.fv_constraint_tree.specs.Nodes.{Node}
+use Rattle.fv_constraint_tree.specs.Trees.{Tree, size}
+use Rattle.fv_declare_schema.specs.Declarations.{Placed}
+use Rattle.fv_declare_schema.specs.Ordered.{held_inside}
+use Rattle.fv_declare_groups.specs.Grouping.{groups_in, is_misplaced, IsGrouping}
+use Rattle.fv_declare_groups.specs.Numbered.{groups_named}
 use Rattle.fv_groups.specs.Groups.{Groups}
+use Rattle.fv_message.specs.Table.{Messages, all_messages}
 use Rattle.fv_message.specs.declared.fault.MessageFault.{MessageFault}
 use Rattle.fv_message.specs.declared.fault.MessageFault.TheVariants as message
-use Rattle.fv_uses.specs.Uses.{Use}
+use Rattle.fv_declare_draft.specs.AllUses.{Use, uses_in}
 
 -- types, unless there are too many of them or of the fields of one, or too many containers stand one in another
 abbrev pub unless_many : Declared → Option Declared
@@ -44,3 +51,27 @@ abbrev pub placed_from : Groups → ℕ → List Use → List (Tree Node) → Li
 placed_from gs n (u ∷ us) (t ∷ ts) =
     record { type = u.type; place = u.place; number = n; groups = groups_named gs u.groups; tree = t } ∷ placed_from gs (n + size t) us ts
 placed_from gs n _ _ = []
+
+-- the names of a draft are known and stand as they may, and so do its groups; these are its types, unless there are too many, its uses,
+-- its groups and its cascades
+pub record IsChecked (d : Drafted) (ts : Option Declared) (us : List Use) (gs : Groups) (cs : List Cascade) : Type 0 where
+  pub named : first (name_conditions d) ≡ None
+  pub types : ts ≡ unless_many (types_declared d)
+  pub led : AreLed d
+  pub uses : us ≡ uses_in d.types
+  pub groups : IsGrouping d gs cs
+
+-- a draft's names and places are as they may be
+pub record IsInOrder (d : Drafted) : Type 0 where
+  pub named : bad_name d ≡ false
+  pub led : AreLed d
+  pub roots : unknown_root (types_declared d) d.forms ≡ false
+  pub placed : list_any (is_misplaced (groups_in d)) (cascades_in d.types) ≡ false
+
+-- these are a draft's types, groups, messages, uses and cascades
+pub record AreOfDraft (d : Drafted) (ts : Declared) (gs : Groups) (ms : Messages) (us : List Use) (cs : List Cascade) : Type 0 where
+  pub types : ts ≡ types_declared d
+  pub groups : gs ≡ groups_in d
+  pub messages : ms ≡ all_messages d.messages
+  pub uses : us ≡ uses_in d.types
+  pub cascades : cs ≡ cascades_in d.types

@@ -1,9 +1,8 @@
-pub mod Codes
-pub mod Declarations
 pub mod Declares
 pub mod FaultNames
-pub mod Fits
 pub mod Judging
-pub mod Ordered
-pub mod PlacedView
-pub mod SchemaView
+pub mod Naming
+pub mod Templates
+pub mod Types
+pub mod Used
+pub mod Wording

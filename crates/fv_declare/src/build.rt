@@ -1,39 +1,31 @@
 //! The schema that declarations without fault declare.
 ghost use Rattle.std.specs.Prelude.{◌≡◌, ◌≤◌, ℕ, true, false, Ok, IfOk, IfErr, List, length, map, zip};
-ghost use Rattle.std.specs.List.{AllZip, list_any};
+ghost use Rattle.std.specs.List.{AllZip};
 ghost use Rattle.fv_constraint.specs.Composed.{Planned};
 ghost use Rattle.fv_datum.specs.Outcomes.{Gives};
-ghost use Rattle.fv_draft.specs.DraftViews.{form_view, draft_view};
-ghost use Rattle.fv_flatten.specs.Fits.{tree_fits};
-ghost use Rattle.fv_flatten.specs.Read.{IsReadTree};
-ghost use Rattle.fv_message.specs.Table.{all_messages};
-ghost use Rattle.fv_types.specs.Names.{IsAscending};
-ghost use Rattle.fv_types.specs.TypesView.{types_view};
-ghost use Rattle.fv_occurrence.specs.Trees.{Tree};
+ghost use Rattle.fv_declare_draft.specs.DraftViews.{form_view, draft_view};
+ghost use Rattle.fv_constraint_tree.specs.TargetFits.{tree_fits};
+ghost use Rattle.fv_constraint.specs.Read.{IsReadTree};
+ghost use Rattle.fv_datum.specs.Ascending.{IsAscending};
+ghost use Rattle.fv_model_types.specs.TypesView.{types_view};
+ghost use Rattle.fv_constraint_tree.specs.Trees.{Tree};
 ghost use Rattle.fv_registry.specs.Rules.{Known};
-ghost use Rattle.fv_declare.specs.Declarations.{count_nodes};
+ghost use Rattle.fv_declare_schema.specs.Declarations.{count_nodes};
 ghost use Rattle.fv_declare.specs.Declares.{unknown_root, form_declared, form_grouped, used_in, IsDeclared};
-ghost use Rattle.fv_naming.specs.Types.{types_declared};
-ghost use Rattle.fv_naming.specs.Naming.{bad_name};
-ghost use Rattle.fv_declare.specs.Fits.{fits};
-ghost use Rattle.fv_declare.specs.Judging.{AreLed, placed_from};
-ghost use Rattle.fv_declare.specs.PlacedView.{placed_view};
-ghost use Rattle.fv_declare.specs.SchemaView.{forms_view, form_groups_view};
-ghost use Rattle.fv_grouping.specs.Grouping.{groups_in, is_misplaced};
-ghost use Rattle.fv_uses.specs.Cascades.{cascades_in};
-ghost use Rattle.fv_uses.specs.Uses.{uses_in};
-ghost use Rattle.fv_uses.specs.UseViews.{use_view, cascade_view};
+ghost use Rattle.fv_declare_schema.specs.Fits.{fits};
+ghost use Rattle.fv_declare.specs.Judging.{IsInOrder, AreOfDraft, placed_from};
+ghost use Rattle.fv_declare_schema.specs.PlacedView.{placed_view};
+ghost use Rattle.fv_declare_schema.specs.SchemaView.{forms_view, form_groups_view};
+ghost use Rattle.fv_declare_draft.specs.UseViews.{use_view, cascade_view};
 
 use crate::fault::DeclFault;
-use crate::placed::Placed;
-use crate::schema::{Form, Schema};
-use fv_draft::{Draft, FormDraft};
-use fv_grouping::{groups_named, sequences_of, valid_places};
+use fv_constraint_tree::Occurrence;
+use fv_declare_draft::{Cascade, Draft, FormDraft, Use};
+use fv_declare_groups::{groups_named, sequences_of, valid_places};
+use fv_declare_schema::{Form, Placed, Schema};
 use fv_groups::Groups;
 use fv_message::Messages;
 use fv_model::{TypeId, Types};
-use fv_occurrence::Occurrence;
-use fv_uses::{Cascade, Use};
 use indexmap::IndexMap;
 use std::alloc::{AllocError, Global};
 
@@ -56,15 +48,15 @@ fn place_all(
             unreachable!()
         };
         let size = occurrence.size();
-        placed.push(Placed {
-            type_id: TypeId {
+        placed.push(Placed::new(
+            TypeId {
                 index: given.type_index,
             },
-            place: given.place.copy()?,
+            given.place.copy()?,
             number,
-            groups: groups_named(alloc, groups, given.groups)?,
+            groups_named(alloc, groups, given.groups)?,
             occurrence,
-        })?;
+        ))?;
         number += size;
     }
     Ok(placed)
@@ -104,15 +96,9 @@ pub(crate) fn build(
     cascades: &[Cascade],
     trees: Vec<Occurrence>,
 ) -> Result<Schema, DeclFault>
-    requires types { types_view types ≡ types_declared (draft_view draft.now) }
-    requires named { bad_name (draft_view draft.now) ≡ false }
-    requires led { AreLed (draft_view draft.now) }
-    requires roots { unknown_root (types_declared (draft_view draft.now)) (draft_view draft.now).forms ≡ false }
-    requires groups { groups ≡ groups_in (draft_view draft.now) }
-    requires messages { messages ≡ all_messages (draft_view draft.now).messages }
-    requires uses { map use_view uses.now ≡ uses_in (draft_view draft.now).types }
-    requires placed { list_any (is_misplaced (groups_in (draft_view draft.now))) (cascades_in (draft_view draft.now).types) ≡ false }
-    requires cascades { map cascade_view cascades.now ≡ cascades_in (draft_view draft.now).types }
+    requires draft { IsInOrder (draft_view draft.now) }
+    requires parts { AreOfDraft (draft_view draft.now) (types_view types) groups messages (map use_view uses.now)
+        (map cascade_view cascades.now) }
     requires each { length trees.items ≡ length uses.now }
     requires few { count_nodes trees.items ≤ 1024 }
     ensures taken { IfOk result (λ s. (ts : List (Tree Planned))
@@ -126,7 +112,7 @@ pub(crate) fn build(
     let occurrences = place_all(alloc, &groups, uses, trees)?;
     let sequences = sequences_of(alloc, &groups, &draft.types)?;
     let valid_places = valid_places(alloc, &groups, cascades)?;
-    Ok(Schema {
+    Ok(Schema::new(
         types,
         occurrences,
         forms,
@@ -134,5 +120,5 @@ pub(crate) fn build(
         sequences,
         valid_places,
         messages,
-    })
+    ))
 }

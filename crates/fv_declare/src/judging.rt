@@ -4,37 +4,34 @@ ghost use Rattle.std.specs.Prelude.{◌≡◌, ◌≢◌, ◌||◌, List, nat_lt
 ghost use Rattle.std.specs.List.{list_any};
 ghost use Rattle.std.specs.Result.{result_err};
 ghost use Rattle.fv_constraint.specs.Composed.{Planned, IsCyclic};
-ghost use Rattle.fv_constraint.specs.Definitions.{meant_by};
-ghost use Rattle.fv_datum.specs.Outcomes.{first};
-ghost use Rattle.fv_draft.specs.DraftViews.{draft_view};
-ghost use Rattle.fv_flatten.specs.Flattening.{AreTreesOfUses};
-ghost use Rattle.fv_flatten.specs.UseViews.{use_view as flat_use_view};
-ghost use Rattle.fv_grouping.specs.Grouping.{groups_in, IsGrouping};
+ghost use Rattle.fv_constraint.specs.Meanings.{meant_by};
+ghost use Rattle.fv_declare_draft.specs.DraftViews.{draft_view};
+ghost use Rattle.fv_constraint.specs.Flattening.{AreTreesOfUses};
+ghost use Rattle.fv_constraint.specs.UseViews.{use_view as flat_use_view};
+ghost use Rattle.fv_declare_groups.specs.Grouping.{groups_in};
 ghost use Rattle.fv_message.specs.Table.{all_messages};
-ghost use Rattle.fv_types.specs.TypesView.{types_view};
-ghost use Rattle.fv_occurrence.specs.Trees.{Tree};
-ghost use Rattle.fv_declare.specs.Declarations.{count_nodes};
-ghost use Rattle.fv_declare.specs.Declares.{name_conditions, has_many, is_wordy, IsFlattened, IsComposed};
-ghost use Rattle.fv_naming.specs.Types.{types_declared};
-ghost use Rattle.fv_declare.specs.Fits.{fits};
-ghost use Rattle.fv_declare.specs.Judging.{AreLed, lacks_memory, unless_many};
-ghost use Rattle.fv_uses.specs.Uses.{used, uses_in};
-ghost use Rattle.fv_uses.specs.UseViews.{use_view, cascade_view};
-ghost use Rattle.fv_wording.specs.Wording.{IsFirstFault};
+ghost use Rattle.fv_model_types.specs.TypesView.{types_view};
+ghost use Rattle.fv_constraint_tree.specs.Trees.{Tree};
+ghost use Rattle.fv_declare_schema.specs.Declarations.{count_nodes};
+ghost use Rattle.fv_declare.specs.Declares.{has_many, is_wordy, IsFlattened, IsComposed};
+ghost use Rattle.fv_declare_schema.specs.Fits.{fits};
+ghost use Rattle.fv_declare.specs.Judging.{IsChecked, lacks_memory};
+ghost use Rattle.fv_declare.specs.Used.{used};
+ghost use Rattle.fv_declare_draft.specs.UseViews.{use_view, cascade_view};
+ghost use Rattle.fv_declare.specs.Wording.{IsFirstFault};
 
 use crate::build::build;
 use crate::fault::DeclFault;
-use crate::schema::Schema;
-use fv_constraint::Composition;
-use fv_draft::Draft;
-use fv_flatten::{flatten_all, has_empty, trees_are_unique};
-use fv_grouping::{Grouping, has_long_sequence};
+use crate::used::used_in;
+use crate::wording::wording;
+use fv_constraint::{Composition, flatten_all, has_empty, trees_are_unique};
+use fv_declare_draft::{Draft, Use};
+use fv_declare_groups::{Grouping, has_long_sequence};
+use fv_declare_schema::Schema;
 use fv_groups::GroupGraph;
 use fv_message::{MessageFault, Messages};
 use fv_model::Types;
 use fv_registry::RuleSet;
-use fv_uses::{Use, used_in};
-use fv_wording::wording;
 use std::alloc::Global;
 
 /// The most forms and declared constraints, of each.
@@ -107,11 +104,8 @@ fn flattened<'a, R: RuleSet>(
     composition: &Composition<'a>,
     wording: Result<Messages, MessageFault>,
 ) -> Result<Schema, DeclFault>
-    requires named { first (name_conditions (draft_view draft.now)) ≡ None }
-    requires types { option_map types_view types ≡ unless_many (types_declared (draft_view draft.now)) }
-    requires led { AreLed (draft_view draft.now) }
-    requires uses { map use_view uses.now ≡ uses_in (draft_view draft.now).types }
-    requires groups { IsGrouping (draft_view draft.now) groups.graph (map cascade_view groups.cascades.items) }
+    requires checked { IsChecked (draft_view draft.now) (option_map types_view types) (map use_view uses.now)
+        groups.graph (map cascade_view groups.cascades.items) }
     requires composed { composition.now ≡ (draft_view draft.now).definitions }
     requires wording { IsFirstFault (draft_view draft.now) (result_err wording) }
     requires messages { IfOk wording (λ m. m ≡ all_messages (draft_view draft.now).messages) }
@@ -152,11 +146,8 @@ pub(crate) fn composed<'a, R: RuleSet>(
     types: Option<Types>,
     groups: Grouping,
 ) -> Result<Schema, DeclFault>
-    requires named { first (name_conditions (draft_view draft.now)) ≡ None }
-    requires types { option_map types_view types ≡ unless_many (types_declared (draft_view draft.now)) }
-    requires led { AreLed (draft_view draft.now) }
-    requires uses { map use_view uses.now ≡ uses_in (draft_view draft.now).types }
-    requires groups { IsGrouping (draft_view draft.now) groups.graph (map cascade_view groups.cascades.items) }
+    requires { IsChecked (draft_view draft.now) (option_map types_view types) (map use_view uses.now)
+        groups.graph (map cascade_view groups.cascades.items) }
     ensures taken { IfOk result (λ s. IsComposed (R.known rules.now) (draft_view draft.now) (Ok s)) }
     ensures fits { IfOk result (λ s. fits (R.known rules.now) s ≡ true) }
     ensures refused { IfErr result (λ f. f ≢ DeclFault.Memory → IsComposed (R.known rules.now) (draft_view draft.now) (Err f)) }

@@ -1,17 +1,20 @@
-//! Declarations: JSON in, a schema or the first fault out. A schema has each use of a constraint where
-//! it stands, with all that the constraint is composed of.
+//! Declarations: JSON in, a schema or the first fault out (`read_schema`). Drafts are judged: whether
+//! each declared name is a name, and free; the templates of messages; groups; the trees that uses of
+//! constraints become. What is declared stands in `fv_declare_schema`.
 #![tactic(auto)]
 
 mod build;
 mod fault;
 mod judging;
 mod names;
-mod placed;
+mod naming;
 mod reading;
-mod schema;
+mod templates;
+mod types;
+mod used;
+mod user;
+mod wording;
 
 pub use fault::DeclFault;
-pub use fv_uses::Place;
-pub use placed::Placed;
+pub use fv_declare_schema::{Place, Placed, Schema};
 pub use reading::read_schema;
-pub use schema::Schema;

@@ -1,25 +1,26 @@
 //! What can be wrong with names, and the types where nothing is.
 ghost use Rattle.std.specs.Prelude.{◌≡◌, map, not, option_map, is_some};
 ghost use Rattle.std.specs.List.{list_any};
-ghost use Rattle.fv_constraint.specs.DefinitionViews.{definition_entry};
-ghost use Rattle.fv_constraint.specs.Definitions.{meant_by};
+ghost use Rattle.fv_declare_definition.specs.DefinitionViews.{definition_entry};
+ghost use Rattle.fv_constraint.specs.Meanings.{meant_by};
 ghost use Rattle.fv_datum.specs.Lookup.{at_name};
 ghost use Rattle.fv_datum.specs.Outcomes.{Gives, first, unless_fault};
-ghost use Rattle.fv_draft.specs.DraftViews.{form_view, draft_view};
-ghost use Rattle.fv_types.specs.Types.{declared_view};
-ghost use Rattle.fv_types.specs.TypesView.{types_view};
+ghost use Rattle.fv_declare_draft.specs.DraftViews.{form_view, draft_view};
+ghost use Rattle.fv_model_types.specs.Types.{declared_view};
+ghost use Rattle.fv_model_types.specs.TypesView.{types_view};
 ghost use Rattle.fv_declare.specs.Declares.{unknown_root, name_conditions};
-ghost use Rattle.fv_naming.specs.Types.{types_declared};
+ghost use Rattle.fv_declare.specs.Types.{types_declared};
 ghost use Rattle.fv_declare.specs.Judging.{unless_many};
-ghost use Rattle.fv_uses.specs.Uses.{uses_in};
-ghost use Rattle.fv_uses.specs.UseViews.{use_view};
+ghost use Rattle.fv_declare_draft.specs.AllUses.{uses_in};
+ghost use Rattle.fv_declare_draft.specs.UseViews.{use_view};
 
 use crate::fault::DeclFault;
-use fv_constraint::{Definition, composes_unknown, meant_by};
-use fv_draft::{Draft, FormDraft};
+use crate::naming::bad_name;
+use crate::types::types_for;
+use fv_constraint::{composes_unknown, meant_by};
+use fv_declare_definition::Definition;
+use fv_declare_draft::{Draft, FormDraft, Use};
 use fv_model::{Fields, Types, TypesFault};
-use fv_naming::{bad_name, types_for};
-use fv_uses::Use;
 use indexmap::IndexMap;
 use std::alloc::Global;
 use std::collections::BTreeMap;

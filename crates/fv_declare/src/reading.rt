@@ -4,20 +4,19 @@ ghost use Rattle.serde_json.specs.View.{view as json_view};
 ghost use Rattle.fv_datum.specs.Outcomes.{Gives};
 ghost use Rattle.fv_datum.specs.Parsing.{json_of};
 ghost use Rattle.fv_declare.specs.Declares.{Declares, Judged};
-ghost use Rattle.fv_draft.specs.Drafts.{draft_of as spec_draft};
-ghost use Rattle.fv_draft.specs.DraftViews.{draft_view};
-ghost use Rattle.fv_declare.specs.Fits.{fits};
+ghost use Rattle.fv_declare_draft.specs.Drafts.{draft_of as spec_draft};
+ghost use Rattle.fv_declare_draft.specs.DraftViews.{draft_view};
+ghost use Rattle.fv_declare_schema.specs.Fits.{fits};
 ghost use Rattle.fv_declare.specs.Judging.{AreLed};
 
 use crate::fault::DeclFault;
 use crate::judging::composed;
 use crate::names::known_types;
-use crate::schema::Schema;
 use fv_datum::{JsonFault, read_json};
-use fv_draft::{Draft, draft_of};
-use fv_grouping::grouped;
+use fv_declare_draft::{Draft, draft_of, uses_in};
+use fv_declare_groups::grouped;
+use fv_declare_schema::Schema;
 use fv_registry::RuleSet;
-use fv_uses::uses_in;
 use serde_json::Value;
 use std::alloc::Global;
 

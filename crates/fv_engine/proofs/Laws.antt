@@ -9,42 +9,42 @@ use Rattle.sqlite.specs.State.{State}
 use Rattle.sqlite_rules.specs.Lists.{Has}
 use Rattle.serde_json.specs.Data as json
 use Rattle.fv_datum.specs.Lookup.{at_name}
-use Rattle.fv_declare.specs.Declarations.{Declarations}
+use Rattle.fv_declare_schema.specs.Declarations.{Declarations}
 use Rattle.fv_engine.specs.Laws.{IsDone, IsFailure, ShowsWhatWasPut, ChangesNoGet, HasSome, ListsSome, MayChangePlaces, LooksFor, FailsWhereShut, LeavesNothingToList, parts_of}
-use Rattle.fv_machine.specs.Asked.{Verdict, too_many_visits, listed, IsVerdict}
-use Rattle.fv_machine.specs.Failures.{MayFail, FindsOut, PartsFindOut}
-use Rattle.fv_machine.specs.Keeping.{ChangeDoes}
-use Rattle.fv_machine.specs.Machines.{Machine, Becomes}
-use Rattle.fv_machine.specs.Refusals.{when, first_of, fault_of, is_too_long, is_no_json, is_misshapen, lacks_form, value_fault, part_fault, lacks_record, lacks_group, lacks_field, part_refusal, told_part, told_fault, made, done_by, refusals, refusal}
-use Rattle.fv_machine.specs.Step.{Takes, Decided, Changes, told_of, Does, Serves, Handles, Told}
-use Rattle.fv_machine.proofs.Becoming.{not_done_stays, weaker}
-use Rattle.fv_machine.proofs.Changes.{alone_handled, refusal_is}
-use Rattle.fv_command.specs.Commands.{Part, put, set, remove, Request, too_long, not_json, shape, alone, batch, get, check, check_field, check_value, list, asked}
+use Rattle.fv_engine_machine.specs.Asked.{Verdict, too_many_visits, listed, IsVerdict}
+use Rattle.fv_engine_machine.specs.Failures.{MayFail, FindsOut, PartsFindOut}
+use Rattle.fv_engine_machine.specs.Keeping.{ChangeDoes}
+use Rattle.fv_engine_machine.specs.Machines.{Machine, Becomes}
+use Rattle.fv_engine_machine.specs.Refusals.{when, first_of, fault_of, is_too_long, is_no_json, is_misshapen, lacks_form, value_fault, part_fault, lacks_record, lacks_group, lacks_field, part_refusal, told_part, told_fault, made, done_by, refusals, refusal}
+use Rattle.fv_engine_machine.specs.Step.{Takes, Decided, Changes, told_of, Does, Serves, Handles, Told}
+use Rattle.fv_engine_machine.proofs.Becoming.{not_done_stays, weaker}
+use Rattle.fv_engine_machine.proofs.Changes.{alone_handled, refusal_is}
+use Rattle.fv_engine_command.specs.Commands.{Part, put, set, remove, Request, too_long, not_json, shape, alone, batch, get, check, check_field, check_value, list, asked}
 use Rattle.fv_groups.specs.Groups.{numbers_of}
 use Rattle.fv_groups.specs.Judged.{unknown_in}
-use Rattle.fv_judging.specs.Judging.{groups_of, IsListingOf, AreListings, some_of, with_some}
+use Rattle.fv_engine_machine.specs.Judging.{groups_of, IsListingOf, AreListings, some_of, with_some}
 use Rattle.fv_model.specs.Bundles.{Bundled}
 use Rattle.fv_model.specs.Reading.{value_read}
 use Rattle.fv_model.specs.declared.fault.BundleFault.{BundleFault}
-use Rattle.fv_pending.specs.Parts.{bundle_under, kept_as, put_in, numbered, and_then, is_misread}
-use Rattle.fv_pending.specs.Touched.{IsTouched, are_touching, needed_id}
-use Rattle.fv_pending.specs.declared.fault.PartFault.{PartFault}
-use Rattle.fv_pending.specs.declared.fault.PartFault.TheVariants as part
+use Rattle.fv_engine_pending.specs.Parts.{bundle_under, kept_as, put_in, numbered, and_then, is_misread}
+use Rattle.fv_engine_pending.specs.Touched.{IsTouched, are_touching, needed_id}
+use Rattle.fv_engine_pending.specs.declared.fault.PartFault.{PartFault}
+use Rattle.fv_engine_pending.specs.declared.fault.PartFault.TheVariants as part
 use Rattle.fv_registry.specs.Meanings.{Meanings}
-use Rattle.fv_reply.specs.Answers.{Answer, Judged, done, shown, violated, checked, field_checked, value_checked, ids, refused, part_refused}
-use Rattle.fv_reply.specs.Texts.{answer_text}
-use Rattle.fv_reply.specs.declared.answer.Done.{Done}
-use Rattle.fv_reply.specs.declared.answer.Done.TheVariants.{Put, Set, Remove, Batch}
-use Rattle.fv_reply.specs.declared.answer.Refusal.{Refusal}
-use Rattle.fv_reply.specs.declared.answer.Refusal.TheVariants.{LineTooLong, NotJson, Shape, UnknownForm, Bundle, NoRecord, UnknownGroup, NoSuchField, TooManyVisits, Store, Memory}
-use Rattle.fv_reply.proofs.Apart.{only_done}
+use Rattle.fv_engine_reply.specs.Answers.{Answer, Judged, done, shown, violated, checked, field_checked, value_checked, ids, refused, part_refused}
+use Rattle.fv_engine_reply.specs.Texts.{answer_text}
+use Rattle.fv_engine_reply.specs.declared.answer.Done.{Done}
+use Rattle.fv_engine_reply.specs.declared.answer.Done.TheVariants.{Put, Set, Remove, Batch}
+use Rattle.fv_engine_reply.specs.declared.answer.Refusal.{Refusal}
+use Rattle.fv_engine_reply.specs.declared.answer.Refusal.TheVariants.{LineTooLong, NotJson, Shape, UnknownForm, Bundle, NoRecord, UnknownGroup, NoSuchField, TooManyVisits, Store, Memory}
+use Rattle.fv_engine_reply.proofs.Apart.{only_done}
 use Rattle.fv_store.specs.Records.{Kept, Records, Roots, with_record}
-use Rattle.fv_request.specs.Requests.{asked_groups, judging, request_of, unjudged, visiting}
-use Rattle.fv_turns.specs.Finite.{AreSoMany}
-use Rattle.fv_turns.specs.Traces.{IsVisit}
-use Rattle.fv_turns.specs.Violations.{IsViolation}
-use Rattle.fv_turns.proofs.Told.{one_number}
-use Rattle.fv_types.specs.Types.{TypeUse, Declared}
+use Rattle.fv_walk_request.specs.Requests.{asked_groups, judging, request_of, unjudged, visiting}
+use Rattle.fv_walk_traces.specs.Finite.{AreSoMany}
+use Rattle.fv_walk_traces.specs.Traces.{IsVisit}
+use Rattle.fv_walk_traces.specs.Violations.{IsViolation}
+use Rattle.fv_walk_traces.proofs.Told.{one_number}
+use Rattle.fv_model_types.specs.Types.{TypeUse, Declared}
 use Rattle.fv_validate.specs.Values.{field_use}
 use Rattle.fv_validate.specs.Violations.{Reported, AreListed}
 use Rattle.fv_validate.proofs.Alike.{one_listing}

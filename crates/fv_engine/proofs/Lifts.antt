@@ -2,16 +2,16 @@
 use Rattle.std.proofs.Common.{◌≡◌, ◌≤◌, ◌<◌, ℤ, length, ℕ, List, [], ◌∷◌, Option, refl, sym, subst}
 use Rattle.sqlite.specs.State.{State}
 use Rattle.fv_datum.specs.Parsing.{json_of}
-use Rattle.fv_declare.specs.Declarations.{Declarations}
-use Rattle.fv_lines.specs.Runs.{Ticks, Session, Run, Served, Stopped}
+use Rattle.fv_declare_schema.specs.Declarations.{Declarations}
+use Rattle.fv_engine_lines.specs.Runs.{Ticks, Session, Run, Served, Stopped}
 use Rattle.fv_registry.specs.Meanings.{Meanings}
-use Rattle.fv_reply.specs.Texts.{refusal_text}
-use Rattle.fv_reply.specs.declared.answer.Refusal.TheVariants.{LineTooLong}
-use Rattle.fv_machine.specs.Keeping.{Replies}
-use Rattle.fv_machine.specs.Machines.{Machine, over, Becomes}
-use Rattle.fv_command.specs.Commands.{of_json}
-use Rattle.fv_machine.specs.Step.{Told}
-use Rattle.fv_machine.proofs.Becoming.{weaker, rests, onwards, long_told, short_told}
+use Rattle.fv_engine_reply.specs.Texts.{refusal_text}
+use Rattle.fv_engine_reply.specs.declared.answer.Refusal.TheVariants.{LineTooLong}
+use Rattle.fv_engine_machine.specs.Keeping.{Replies}
+use Rattle.fv_engine_machine.specs.Machines.{Machine, over, Becomes}
+use Rattle.fv_engine_command.specs.Commands.{of_json}
+use Rattle.fv_engine_machine.specs.Step.{Told}
+use Rattle.fv_engine_machine.proofs.Becoming.{weaker, rests, onwards, long_told, short_told}
 
 module _ {H : Type 0} (means : Meanings) (held : H → State) (line : List ℕ) (moment : ℤ) (text : List ℕ) where
   -- a line that is over the limit

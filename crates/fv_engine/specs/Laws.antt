@@ -2,23 +2,23 @@
 use Rattle.std.specs.Prelude.{◌≡◌, ◌≢◌, ◌⊎◌, ℕ, ℤ, false, List, [], ◌∷◌, Some, Ok}
 use Rattle.std.specs.List.{AllByRecursion}
 use Rattle.serde_json.specs.Data as json
-use Rattle.fv_declare.specs.Declarations.{Declarations}
-use Rattle.fv_machine.specs.Machines.{Machine}
-use Rattle.fv_command.specs.Commands.{Part, put, Request, alone, batch, get, check, check_field, asked}
-use Rattle.fv_machine.specs.Step.{Told}
+use Rattle.fv_declare_schema.specs.Declarations.{Declarations}
+use Rattle.fv_engine_machine.specs.Machines.{Machine}
+use Rattle.fv_engine_command.specs.Commands.{Part, put, Request, alone, batch, get, check, check_field, asked}
+use Rattle.fv_engine_machine.specs.Step.{Told}
 use Rattle.fv_groups.specs.Groups.{numbers_of}
 use Rattle.fv_groups.specs.Judged.{unknown_in}
 use Rattle.fv_model.specs.Bundles.{Bundled}
-use Rattle.fv_judging.specs.Judging.{groups_of}
-use Rattle.fv_pending.specs.Parts.{bundle_under}
-use Rattle.fv_pending.specs.Touched.{IsTouched, needed_id}
+use Rattle.fv_engine_machine.specs.Judging.{groups_of}
+use Rattle.fv_engine_pending.specs.Parts.{bundle_under}
+use Rattle.fv_engine_pending.specs.Touched.{IsTouched, needed_id}
 use Rattle.fv_registry.specs.Meanings.{Meanings}
-use Rattle.fv_reply.specs.Answers.{Answer, done, shown, violated, checked, refused}
-use Rattle.fv_reply.specs.Texts.{answer_text}
-use Rattle.fv_reply.specs.declared.answer.Done.{Done}
-use Rattle.fv_reply.specs.declared.answer.Done.TheVariants.{Put}
-use Rattle.fv_reply.specs.declared.answer.Refusal.TheVariants.{Store, Memory}
-use Rattle.fv_request.specs.Requests.{asked_groups}
+use Rattle.fv_engine_reply.specs.Answers.{Answer, done, shown, violated, checked, refused}
+use Rattle.fv_engine_reply.specs.Texts.{answer_text}
+use Rattle.fv_engine_reply.specs.declared.answer.Done.{Done}
+use Rattle.fv_engine_reply.specs.declared.answer.Done.TheVariants.{Put}
+use Rattle.fv_engine_reply.specs.declared.answer.Refusal.TheVariants.{Store, Memory}
+use Rattle.fv_walk_request.specs.Requests.{asked_groups}
 use Rattle.fv_store.specs.Records.{Kept, Records}
 
 -- the reply tells that a command that changes records was taken

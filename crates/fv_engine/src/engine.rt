@@ -7,17 +7,17 @@ ghost use Rattle.fv_store.specs.Causes.{HasFailed, IsShortAbout};
 ghost use Rattle.fv_store.specs.Stands.{Frame, Holds, HasTables, IsBlank, IsLive, Opens, Stays};
 ghost use Rattle.fv_declare.specs.Declares.{Declares};
 ghost use Rattle.fv_engine.specs.Laws.{ShowsWhatWasPut, ChangesNoGet, ListsSome, MayChangePlaces, LeavesNothingToList, FailsWhereShut};
-ghost use Rattle.fv_machine.specs.Machines.{contents, StandsFor, Becomes};
-ghost use Rattle.fv_machine.specs.Step.{Told};
+ghost use Rattle.fv_engine_machine.specs.Machines.{contents, StandsFor, Becomes};
+ghost use Rattle.fv_engine_machine.specs.Step.{Told};
 ghost use Rattle.fv_engine.specs.FaultNames.{open_fault_name};
-ghost use Rattle.fv_reply.specs.Texts.{refusal_text};
+ghost use Rattle.fv_engine_reply.specs.Texts.{refusal_text};
 
 use fv_declare::{DeclFault, read_schema};
-use fv_lines::{LIMIT, Responder};
+use fv_engine_lines::{LIMIT, Responder};
+use fv_engine_machine::reply_to_line;
+use fv_engine_reply::{Refusal, Reply};
 use fv_local::Rulebook;
-use fv_machine::reply_to_line;
 use fv_registry::RuleSet;
-use fv_reply::{Refusal, Reply};
 use fv_store::{OpenStoreFault, Store};
 use sqlite::{Alter, Connection};
 use std::alloc::Global;
@@ -69,10 +69,10 @@ impl<R: RuleSet, S: Alter> Model for Engine<R, S> {
     ghost use Rattle.std.specs.Coded.{codes};
     ghost use Rattle.sqlite.specs.Held.{Held, held_code, state};
     ghost use Rattle.fv_builtin.specs.Codes.{pattern_code};
-    ghost use Rattle.fv_declare.specs.Codes.{type_use_code};
-    ghost use Rattle.fv_machine.specs.Machines.{Machine, over};
-    ghost use Rattle.fv_occurrence.specs.Codes.{tree_code};
-    ghost use Rattle.fv_occurrence.specs.Nodes.{Node};
+    ghost use Rattle.fv_declare_schema.specs.Codes.{type_use_code};
+    ghost use Rattle.fv_engine_machine.specs.Machines.{Machine, over};
+    ghost use Rattle.fv_constraint_tree.specs.Codes.{tree_code};
+    ghost use Rattle.fv_constraint_tree.specs.Nodes.{Node};
 
     ghost Value = { Machine (Held S) };
 

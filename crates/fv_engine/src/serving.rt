@@ -1,12 +1,12 @@
 ghost use Rattle.std.specs.Prelude.{◌≡◌, OnOk, IsErrOf};
 ghost use Rattle.sqlite.specs.Held.{state};
-ghost use Rattle.fv_machine.specs.Machines.{Becomes};
-ghost use Rattle.fv_machine.specs.Step.{Told};
-ghost use Rattle.fv_lines.specs.Lines.{WholeLines, AllLines};
-ghost use Rattle.fv_lines.specs.Runs.{Served, Stopped};
+ghost use Rattle.fv_engine_machine.specs.Machines.{Becomes};
+ghost use Rattle.fv_engine_machine.specs.Step.{Told};
+ghost use Rattle.fv_engine_lines.specs.Lines.{WholeLines, AllLines};
+ghost use Rattle.fv_engine_lines.specs.Runs.{Served, Stopped};
 
 use crate::engine::Engine;
-use fv_lines::{Clock, ServeFault, answer_lines};
+use fv_engine_lines::{Clock, ServeFault, answer_lines};
 use fv_registry::RuleSet;
 use sqlite::Alter;
 use std::alloc::Global;

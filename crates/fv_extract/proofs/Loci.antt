@@ -1,5 +1,5 @@
 -- No two parts of a datum that can be written have one locus.
-use Rattle.std.proofs.Common.{◌≡◌, ◌≢◌, ℕ, zero, suc, ◌+◌, ◌<◌, Some, slice_get, Result, Ok, Err, IfOk, List, [], ◌∷◌, ◌++◌, map as each, true, ◌&&◌, Ordering, Less, Equal, Greater, nat_cmp, refl, sym, ap, subst, ◌∙◌, arith}
+use Rattle.std.proofs.Common.{◌≡◌, ℕ, zero, suc, ◌+◌, ◌<◌, Some, slice_get, Result, Ok, Err, IfOk, List, [], ◌∷◌, ◌++◌, map as each, true, ◌&&◌, Ordering, Less, Equal, Greater, nat_cmp, refl, sym, ap, subst, ◌∙◌, arith}
 use Rattle.std.proofs.lemmas.Bool.{and_parts}
 use Rattle.std.proofs.lemmas.Cmp.{nat_list_cmp_total, tied_itself}
 use Rattle.std.proofs.lemmas.List.{append_cancel_left}
@@ -14,19 +14,11 @@ use Rattle.fv_model.specs.Writing.{IsWritten}
 use Rattle.fv_extract.specs.Parts.{at_index, at_key, Locus, items_from, keys_in, values_in, inside, below, parts_of, AreApart}
 use Rattle.fv_extract.specs.Places.{Step, element, key, value, content}
 use Rattle.fv_extract.proofs.Writable.{CanBeWritten, keys_of_written, inside_can}
-
--- each is so to each that follows it
-abbrev pub Pairwise : {X : Type 0} → (X → X → Type 0) → List X → Type 0
-Pairwise R [] = Unit {0}
-Pairwise R (x ∷ xs) = AllByRecursion (R x) xs × Pairwise R xs
+use Rattle.fv_extract.specs.Pairs.{Pairwise, Differ}
 
 -- neither locus leads on to a part that the other leads on to
 abbrev pub Aside : Locus × Data → Locus × Data → Type 0
 Aside p q = (x y : Locus) → p.0 ++ x ≡ q.0 ++ y → ⊥
-
--- the loci are two
-abbrev pub Differ : Locus × Data → Locus × Data → Type 0
-Differ p q = p.0 ≢ q.0
 
 module _ {X : Type 0} where
   all_append : (P : X → Type 0) (xs ys : List X) → AllByRecursion P xs → AllByRecursion P ys → AllByRecursion P (xs ++ ys)

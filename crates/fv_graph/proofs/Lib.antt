@@ -1,9 +1,11 @@
-pub mod Lists
 pub mod Chains
-pub mod Searching
 pub mod Endings
-pub mod Moves
-pub mod Unfolding
 pub mod Filling
-pub mod Totals
 pub mod Growth
+pub mod Images
+pub mod Lists
+pub mod Moves
+pub mod Positions
+pub mod Searching
+pub mod Totals
+pub mod Unfolding

@@ -1,6 +1,6 @@
 pub mod Graph
-pub mod Search
-pub mod Recursion
-pub mod Weight
-pub mod Tree
 pub mod Growing
+pub mod Recursion
+pub mod Search
+pub mod Tree
+pub mod Weight

@@ -1,5 +1,5 @@
-pub mod Reaching
-pub mod Ranks
-pub mod Numbers
 pub mod Edges
+pub mod Numbers
 pub mod Plain
+pub mod Ranks
+pub mod Reaching

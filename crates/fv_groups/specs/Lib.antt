@@ -1,7 +1,7 @@
-pub mod Groups
+pub mod FaultNames
 pub mod GroupViews
+pub mod Groups
 pub mod Judged
 pub mod Marked
 pub mod Once
 pub mod Tables
-pub mod FaultNames

@@ -1,25 +1,25 @@
 -- What is told of the visits that are listed are the violations.
 use Rattle.std.proofs.Common.{◌≡◌, ◌<◌, ◌↔◌, ℕ, ℤ, zero, suc, List, [], ◌∷◌, ◌++◌, length, map, get_or, All, inl, inr, refl, sym, ap, ap₂, subst, ◌∙◌, arith}
 use Rattle.fv_datum.specs.Data.{Data}
-use Rattle.fv_declare.specs.Declarations.{Declarations}
+use Rattle.fv_declare_schema.specs.Declarations.{Declarations}
 use Rattle.fv_graph.specs.Graph.{IsIn}
 use Rattle.fv_groups.specs.Tables.{indices}
 use Rattle.fv_local.specs.Own.{own_in}
 use Rattle.fv_model.specs.Bundles.{Bundled}
 use Rattle.fv_path.specs.Nodes.{PathNode}
 use Rattle.fv_registry.specs.Meanings.{Meanings}
-use Rattle.fv_request.specs.Requests.{object_at, asked_groups, request_for, request_of}
-use Rattle.fv_request.specs.Requests as request
-use Rattle.fv_request.proofs.Tidy.{judging_tidy, visiting_tidy}
-use Rattle.fv_turns.specs.Finite.{IsTidy}
-use Rattle.fv_turns.specs.Listing.{IsFailing, IsListed, violation_at}
-use Rattle.fv_turns.specs.OneObject.{IsLocal}
-use Rattle.fv_turns.specs.Requests.{Own, Plain, Request}
-use Rattle.fv_turns.specs.Traces.{Arrives}
-use Rattle.fv_turns.specs.Turns.{Spot, of_object, at, LocalFailure, Ask, Step, Group, Fail, Free, Rank, Turns, Shadows, ShadowsByRecursion}
-use Rattle.fv_turns.specs.Violations.{Reached, Violation, IsViolation, at_object, nodes_to, onward, told, value_at, violation}
-use Rattle.fv_turns.proofs.Listing.{listing_exact}
-use Rattle.fv_turns.proofs.Shadowing.{by_recursion, from_recursion}
+use Rattle.fv_walk_request.specs.Requests.{object_at, asked_groups, request_for, request_of}
+use Rattle.fv_walk_request.specs.Requests as request
+use Rattle.fv_walk_request.proofs.Tidy.{judging_tidy, visiting_tidy}
+use Rattle.fv_walk_traces.specs.Finite.{IsTidy}
+use Rattle.fv_walk_traces.specs.Listing.{IsFailing, IsListed, violation_at}
+use Rattle.fv_walk_traces.specs.OneObject.{IsLocal}
+use Rattle.fv_walk_traces.specs.Requests.{Own, Plain, Request}
+use Rattle.fv_walk_traces.specs.Traces.{Arrives}
+use Rattle.fv_walk_traces.specs.Turns.{Spot, of_object, at, LocalFailure, Ask, Step, Group, Fail, Free, Rank, Turns, Shadows, ShadowsByRecursion}
+use Rattle.fv_walk_traces.specs.Violations.{Reached, Violation, IsViolation, at_object, nodes_to, onward, told, value_at, violation}
+use Rattle.fv_walk_traces.proofs.Listing.{listing_exact}
+use Rattle.fv_walk_traces.proofs.Shadowing.{by_recursion, from_recursion}
 use Rattle.fv_listing.specs.Arrivals.{Arrival, IsArrival, levels}
 use Rattle.fv_listing.specs.Courses.{IsSound, bundle_in, objects_in, visiting, judging}
 use Rattle.fv_listing.specs.Listed.{AreFailing, IsHidden, IsToldOf, AreTold, AreViolations}

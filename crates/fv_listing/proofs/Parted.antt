@@ -14,11 +14,11 @@ use Rattle.fv_path.specs.Paths.{IsPath}
 use Rattle.fv_path.specs.Views.{node_view}
 use Rattle.fv_path.specs.declared.node.Node.{Node}
 use Rattle.fv_path.proofs.Chains.{path_front}
-use Rattle.fv_request.proofs.Parts.{part_there}
-use Rattle.fv_request.specs.Sound.{IsSound}
-use Rattle.fv_spot.specs.Loci.{leads}
-use Rattle.fv_spot.specs.Paths.{field_name, nodes_of}
-use Rattle.fv_turns.specs.Violations.{but_named}
+use Rattle.fv_walk_request.proofs.Parts.{part_there}
+use Rattle.fv_walk_request.specs.Sound.{IsSound}
+use Rattle.fv_walk_request.specs.Loci.{leads}
+use Rattle.fv_walk_request.specs.Paths.{field_name, nodes_of}
+use Rattle.fv_walk_traces.specs.Violations.{but_named}
 use Rattle.fv_walk.specs.Paths.{TakesField}
 use Rattle.fv_walk.proofs.Paths.{field_alone, last_dropped}
 

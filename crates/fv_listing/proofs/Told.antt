@@ -3,7 +3,7 @@ use Rattle.std.proofs.Common.{◌≡◌, ◌<◌, ◌≤◌, ◌↔◌, ℕ, ℤ
 use Rattle.std.proofs.lemmas.List.{take_more, map-append}
 use Rattle.std.specs.declared.alloc.Global.{Global}
 use Rattle.fv_datum.specs.Data.{Data}
-use Rattle.fv_declare.specs.Declarations.{Declarations}
+use Rattle.fv_declare_schema.specs.Declarations.{Declarations}
 use Rattle.fv_graph.specs.Graph.{IsIn}
 use Rattle.fv_graph.proofs.Lists.{in_left, in_right, in_cases}
 use Rattle.fv_local.specs.FailureView.{failure_view}
@@ -11,15 +11,15 @@ use Rattle.fv_local.specs.Own.{own_in}
 use Rattle.fv_local.specs.declared.failure.LocalFailure as found
 use Rattle.fv_model.specs.Bundles.{Thing}
 use Rattle.fv_path.specs.Nodes.{PathNode}
-use Rattle.fv_reach.specs.Below.{below}
+use Rattle.fv_local.specs.Below.{below}
 use Rattle.fv_registry.specs.Meanings.{Meanings}
-use Rattle.fv_request.specs.Requests.{object_at}
-use Rattle.fv_turns.proofs.Lists.{in_map, from_map}
-use Rattle.fv_turns.specs.Listing.{violation_at}
-use Rattle.fv_turns.specs.OneObject.{IsLocalIn}
-use Rattle.fv_turns.specs.Requests.{Request}
-use Rattle.fv_turns.specs.Turns.{LocalFailure, Fail, Free, Turns, ShadowsByRecursion}
-use Rattle.fv_turns.specs.Violations.{Reached, Violation, at_object, nodes_to, onward, told as led, value_at, violation}
+use Rattle.fv_walk_request.specs.Requests.{object_at}
+use Rattle.fv_graph.proofs.Images.{in_map, from_map}
+use Rattle.fv_walk_traces.specs.Listing.{violation_at}
+use Rattle.fv_walk_traces.specs.OneObject.{IsLocalIn}
+use Rattle.fv_walk_traces.specs.Requests.{Request}
+use Rattle.fv_walk_traces.specs.Turns.{LocalFailure, Fail, Free, Turns, ShadowsByRecursion}
+use Rattle.fv_walk_traces.specs.Violations.{Reached, Violation, at_object, nodes_to, onward, told as led, value_at, violation}
 use Rattle.fv_walk.specs.FailureView as told
 use Rattle.fv_walk.specs.declared.failure.Failure.{Failure}
 use Rattle.fv_listing.specs.Arrivals.{Arrival}

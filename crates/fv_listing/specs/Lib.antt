@@ -1,5 +1,5 @@
-pub mod Courses
-pub mod Turns
 pub mod Arrivals
-pub mod Visits
+pub mod Courses
 pub mod Listed
+pub mod Turns
+pub mod Visits

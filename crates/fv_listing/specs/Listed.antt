@@ -1,11 +1,11 @@
 -- What is told of the visits that are listed.
 use Rattle.std.specs.Prelude.{◌≡◌, ◌↔◌, ◌⊎◌, List, [], ◌∷◌, ◌++◌}
 use Rattle.fv_graph.specs.Graph.{IsIn}
-use Rattle.fv_turns.specs.Listing.{violation_at}
-use Rattle.fv_turns.specs.OneObject.{IsLocal}
-use Rattle.fv_turns.specs.Requests.{Request}
-use Rattle.fv_turns.specs.Turns.{LocalFailure, Turns, ShadowsByRecursion}
-use Rattle.fv_turns.specs.Violations.{Violation, IsViolation}
+use Rattle.fv_walk_traces.specs.Listing.{violation_at}
+use Rattle.fv_walk_traces.specs.OneObject.{IsLocal}
+use Rattle.fv_walk_traces.specs.Requests.{Request}
+use Rattle.fv_walk_traces.specs.Turns.{LocalFailure, Turns, ShadowsByRecursion}
+use Rattle.fv_walk_traces.specs.Violations.{Violation, IsViolation}
 use Rattle.fv_listing.specs.Arrivals.{Arrival}
 
 -- this fails at the object of a visit in the group that is carried there

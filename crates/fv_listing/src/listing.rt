@@ -7,9 +7,9 @@ ghost use Rattle.fv_groups.specs.Tables.{indices};
 ghost use Rattle.fv_local.specs.FailureView as local;
 ghost use Rattle.fv_model.specs.Views.{bundle_view};
 ghost use Rattle.fv_model.specs.WellTyped.{IsWellTyped};
-ghost use Rattle.fv_request.specs.Requests.{object_at, request_of};
-ghost use Rattle.fv_turns.specs.Listing.{violation_at};
-ghost use Rattle.fv_turns.specs.Violations.{Violation, IsViolation, value_at};
+ghost use Rattle.fv_walk_request.specs.Requests.{object_at, request_of};
+ghost use Rattle.fv_walk_traces.specs.Listing.{violation_at};
+ghost use Rattle.fv_walk_traces.specs.Violations.{Violation, IsViolation, value_at};
 ghost use Rattle.fv_walk.specs.FailureView.{failure_view};
 ghost use Rattle.fv_listing.specs.Arrivals.{IsArrival};
 ghost use Rattle.fv_listing.specs.Courses.{IsSound, visiting, judging, bundle_in, objects_in, groups_in};
@@ -26,8 +26,8 @@ use fv_groups::GroupId;
 use fv_local::{LocalFailure, Rulebook, Spot};
 use fv_model::Bundle;
 use fv_registry::RuleSet;
-use fv_request::{ObjectGraph, distinct_or_default};
 use fv_walk::Failure;
+use fv_walk_request::{ObjectGraph, distinct_or_default};
 use std::alloc::{AllocError, Global};
 
 /// What fails at the object of a visit in the group that is carried there.

@@ -7,10 +7,10 @@ ghost use Rattle.fv_graph.specs.Graph.{IsIn};
 ghost use Rattle.fv_local.specs.FailureView.{IsFoundIn, spot_view};
 ghost use Rattle.fv_model.specs.Views.{object_view};
 ghost use Rattle.fv_path.specs.Paths.{IsPath};
-ghost use Rattle.fv_request.specs.Graphs.{way_view};
-ghost use Rattle.fv_request.specs.Requests.{nodes_at, object_at};
-ghost use Rattle.fv_request.specs.Sound as parts;
-ghost use Rattle.fv_turns.specs.Violations.{at_object, but_named, nodes_to, onward, told};
+ghost use Rattle.fv_walk_request.specs.Graphs.{way_view};
+ghost use Rattle.fv_walk_request.specs.Requests.{nodes_at, object_at};
+ghost use Rattle.fv_walk_request.specs.Sound as parts;
+ghost use Rattle.fv_walk_traces.specs.Violations.{at_object, but_named, nodes_to, onward, told};
 ghost use Rattle.fv_walk.specs.Paths.{TakesField};
 ghost use Rattle.fv_listing.specs.Arrivals.{IsArrival};
 ghost use Rattle.fv_listing.specs.Courses.{IsSound, visiting, bundle_in, objects_in};
@@ -24,8 +24,7 @@ use fv_extract::{Part, Step};
 use fv_local::Spot;
 use fv_model::Object;
 use fv_path::Path;
-use fv_request::Way;
-use fv_spot::push_spot as push_part_of;
+use fv_walk_request::{Way, push_spot as push_part_of};
 use std::alloc::{AllocError, Global};
 
 /// Adds the nodes of a part of an object.

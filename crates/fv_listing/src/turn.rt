@@ -1,16 +1,16 @@
 //! The turns of a visit, and which of them shadow which.
 ghost use Rattle.std.specs.Prelude.{◌≡◌, ◌↔◌, IsTrue, map};
 ghost use Rattle.fv_extract.specs.Views.{part_view};
-ghost use Rattle.fv_grouping.specs.NumberViews.{valid_place_view};
-ghost use Rattle.fv_request.specs.Graphs.{way_view};
-ghost use Rattle.fv_request.specs.Ways.{place_of};
-ghost use Rattle.fv_turns.specs.Turns.{IsSmallerRank, ShadowsByRecursion};
+ghost use Rattle.fv_declare_schema.specs.NumberViews.{valid_place_view};
+ghost use Rattle.fv_walk_request.specs.Graphs.{way_view};
+ghost use Rattle.fv_walk_request.specs.Ways.{place_of};
+ghost use Rattle.fv_walk_traces.specs.Turns.{IsSmallerRank, ShadowsByRecursion};
 ghost use Rattle.fv_listing.specs.Turns.{turn_view};
 
+use fv_declare_schema::ValidPlace;
 use fv_extract::Part;
-use fv_grouping::ValidPlace;
 use fv_groups::GroupId;
-use fv_request::Way;
+use fv_walk_request::Way;
 
 /// A turn of a visit.
 #[derive(Clone, Copy)]

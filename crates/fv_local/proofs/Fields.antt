@@ -3,27 +3,26 @@ use Rattle.std.proofs.Common.{◌≡◌, ◌<◌, ◌++◌, ◌+◌, ◌∷◌, 
 use Rattle.std.proofs.lemmas.List.Elements.{filter-append}
 use Rattle.std.specs.List.{flat_map, AllZip}
 use Rattle.std.specs.Option.{option_map_or}
-use Rattle.fv_declare.specs.Declarations.{Placed, Declarations}
+use Rattle.fv_declare_schema.specs.Declarations.{Placed, Declarations}
 use Rattle.fv_extract.specs.Parts.{parts_at}
 use Rattle.fv_graph.specs.Graph.{IsIn}
 use Rattle.fv_model.specs.Bundles.{Thing}
-use Rattle.fv_occurrence.specs.Nodes.{Node}
-use Rattle.fv_occurrence.specs.Reports.{violated}
-use Rattle.fv_reach.specs.Below.{below}
-use Rattle.fv_reach.specs.Reached.{is_in, ranks_of, AreReached}
+use Rattle.fv_constraint_tree.specs.Nodes.{Node}
+use Rattle.fv_constraint_tree.specs.Reports.{violated}
+use Rattle.fv_local.specs.Below.{below}
+use Rattle.fv_local.specs.Reached.{is_in, ranks_of, AreReached}
 use Rattle.fv_registry.specs.Meanings.{Meanings}
-use Rattle.fv_turns.specs.OneField.{begins_with, own_of_field}
-use Rattle.fv_turns.specs.Requests.{Plain, InRanks}
-use Rattle.fv_turns.specs.Turns.{LocalFailure}
-use Rattle.fv_turns.proofs.Ends.{from_flat_map}
-use Rattle.fv_turns.proofs.Lists.{from_map}
-use Rattle.fv_types.specs.Types.{number_of}
-use Rattle.fv_uses.specs.Uses.{Place, whole, field}
+use Rattle.fv_walk_traces.specs.OneField.{begins_with, own_of_field}
+use Rattle.fv_walk_traces.specs.Requests.{Plain, InRanks}
+use Rattle.fv_walk_traces.specs.Turns.{LocalFailure}
+use Rattle.fv_graph.proofs.Images.{from_flat_map, from_map, from_filter}
+use Rattle.fv_model_types.specs.Types.{number_of}
+use Rattle.fv_declare_schema.specs.Places.{Place, whole, field}
 use Rattle.fv_local.specs.Failures.{Standing, part_at, standing_at, failures_at, failures_of}
 use Rattle.fv_local.specs.Fields.{is_at, stands_in, is_of_field}
 use Rattle.fv_local.specs.Own.{own_in}
 use Rattle.fv_local.specs.Told.{AreRanksIn}
-use Rattle.fv_local.proofs.Locals.{to_filter, from_filter, and_both, both_and, AreKept, AreKeptRanks, IsOfRank, kept_fails, fails_of_rank, own_by, own_is}
+use Rattle.fv_local.proofs.Locals.{to_filter, and_both, both_and, AreKept, AreKeptRanks, IsOfRank, kept_fails, fails_of_rank, own_by, own_is}
 
 -- ---- lists
 

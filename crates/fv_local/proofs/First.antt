@@ -2,14 +2,14 @@
 use Rattle.std.proofs.Common.{◌≡◌, ◌<◌, ◌≤◌, ◌⊎◌, inl, inr, ℕ, ℤ, zero, suc, ◌+◌, List, [], ◌∷◌, ◌++◌, map, length, get_or, take, Some, slice_get, refl, sym, ap, subst, ◌∙◌, append_assoc, Vec, Global, arith}
 use Rattle.std.proofs.lemmas.List.Elements.{All-from_recursion, recursion_from_All}
 use Rattle.std.specs.List.{All, AllByRecursion}
-use Rattle.fv_declare.specs.Declarations.{Placed}
-use Rattle.fv_declare.specs.PlacedView.{placed_view}
-use Rattle.fv_declare.specs.declared.placed.Placed as code
+use Rattle.fv_declare_schema.specs.Declarations.{Placed}
+use Rattle.fv_declare_schema.specs.PlacedView.{placed_view}
+use Rattle.fv_declare_schema.specs.declared.placed.Placed as code
 use Rattle.fv_graph.specs.Graph.{IsIn}
 use Rattle.fv_model.specs.Bundles.{Thing}
-use Rattle.fv_reach.specs.TableView.{lists_view}
+use Rattle.fv_local.specs.TableView.{lists_view}
 use Rattle.fv_registry.specs.Meanings.{Meanings}
-use Rattle.fv_uses.specs.Uses.{Place}
+use Rattle.fv_declare_schema.specs.Places.{Place}
 use Rattle.fv_local.specs.declared.failure.LocalFailure as failure
 use Rattle.fv_local.specs.Told.{Told, told_view, picked, told_at, IsTold, IsToldFirst, IsSamePlace, AreRun}
 use Rattle.fv_local.proofs.Picked.{asked_at, picked_more, same_default}

@@ -2,17 +2,16 @@
 use Rattle.std.proofs.Common.{◌<◌, ℕ, ℤ, zero, suc, List, [], ◌∷◌, map, length, get_or, inl, inr, refl, sym, subst, arith}
 use Rattle.std.specs.List.{All}
 use Rattle.fv_datum.specs.Data.{Data}
-use Rattle.fv_declare.specs.Declarations.{Placed}
+use Rattle.fv_declare_schema.specs.Declarations.{Placed}
 use Rattle.fv_extract.specs.Parts.{parts_at}
 use Rattle.fv_extract.specs.Places as to
 use Rattle.fv_graph.specs.Graph.{IsIn}
 use Rattle.fv_model.specs.Bundles.{Thing}
-use Rattle.fv_occurrence.specs.Says.{of_datum, of_object}
+use Rattle.fv_constraint_tree.specs.Says.{of_datum, of_object}
 use Rattle.fv_registry.specs.Meanings.{Meanings}
-use Rattle.fv_turns.specs.Turns as turn
-use Rattle.fv_turns.proofs.Ends.{from_flat_map}
-use Rattle.fv_turns.proofs.Lists.{from_map, in_map}
-use Rattle.fv_uses.specs.Uses.{Place, whole, field}
+use Rattle.fv_walk_traces.specs.Turns as turn
+use Rattle.fv_graph.proofs.Images.{from_flat_map, from_map, in_map}
+use Rattle.fv_declare_schema.specs.Places.{Place, whole, field}
 use Rattle.fv_local.specs.FailureView.{spot_view, IsFoundIn}
 use Rattle.fv_local.specs.Told.{Told, datum_of, told_view, numbers_of, told_part, part_told, told_at, IsTold}
 use Rattle.fv_local.specs.declared.failure.LocalFailure as code

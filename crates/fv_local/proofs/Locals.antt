@@ -4,27 +4,28 @@ use Rattle.std.specs.Prelude.{is_some}
 use Rattle.std.specs.List.{list_any, flat_map, AllZip}
 use Rattle.std.specs.Option.{option_map_or}
 use Rattle.fv_datum.specs.Data.{Data, null}
-use Rattle.fv_declare.specs.Declarations.{Placed, Declarations}
+use Rattle.fv_declare_schema.specs.Declarations.{Placed, Declarations}
 use Rattle.fv_extract.specs.Parts.{parts_at}
 use Rattle.fv_extract.specs.Places as to
 use Rattle.fv_graph.specs.Graph.{IsIn}
 use Rattle.fv_graph.proofs.Lists.{in_left, eq_of, eq_same}
 use Rattle.fv_groups.specs.Once.{mem}
 use Rattle.fv_model.specs.Bundles.{Thing}
-use Rattle.fv_occurrence.specs.Nodes.{Node}
-use Rattle.fv_occurrence.specs.Reports.{violated}
-use Rattle.fv_occurrence.specs.Says.{of_datum, of_object}
-use Rattle.fv_reach.specs.Below.{below}
-use Rattle.fv_reach.specs.Reached.{is_in, ranks_of, plain_groups}
+use Rattle.fv_constraint_tree.specs.Nodes.{Node}
+use Rattle.fv_constraint_tree.specs.Reports.{violated}
+use Rattle.fv_constraint_tree.specs.Says.{of_datum, of_object}
+use Rattle.fv_local.specs.Below.{below}
+use Rattle.fv_local.specs.Reached.{is_in, ranks_of, plain_groups}
 use Rattle.fv_registry.specs.Meanings.{Meanings}
-use Rattle.fv_turns.specs.OneObject.{IsLocalIn, first_some, told_of_own, told_in}
-use Rattle.fv_turns.specs.Requests.{Own, Plain, InRanks}
-use Rattle.fv_turns.specs.Turns as turn
-use Rattle.fv_turns.specs.Turns.{LocalFailure}
-use Rattle.fv_turns.proofs.Ends.{in_flat_map, from_flat_map, to_local_in, from_local_in}
-use Rattle.fv_turns.proofs.Lists.{in_map, from_map, or_else_left, or_else_right, or_else_cases}
-use Rattle.fv_types.specs.Types.{number_of}
-use Rattle.fv_uses.specs.Uses.{Place, whole, field}
+use Rattle.fv_walk_traces.specs.OneObject.{IsLocalIn, first_some, told_of_own, told_in}
+use Rattle.fv_walk_traces.specs.Requests.{Own, Plain, InRanks}
+use Rattle.fv_walk_traces.specs.Turns as turn
+use Rattle.fv_walk_traces.specs.Turns.{LocalFailure}
+use Rattle.fv_walk_traces.proofs.Ends.{to_local_in, from_local_in}
+use Rattle.fv_graph.proofs.Images.{in_flat_map, from_flat_map, in_map, from_map, from_filter}
+use Rattle.fv_walk_traces.proofs.Lists.{or_else_left, or_else_right, or_else_cases}
+use Rattle.fv_model_types.specs.Types.{number_of}
+use Rattle.fv_declare_schema.specs.Places.{Place, whole, field}
 use Rattle.fv_local.specs.FailureView.{failure_view}
 use Rattle.fv_local.specs.Failures.{Standing, part_at, standing_at, failures_at, failures_of}
 use Rattle.fv_local.specs.Own.{own_at, own_in}
@@ -43,15 +44,6 @@ to_filter {X} test (y ∷ xs) x h t = go (to_filter test xs x) (test y) refl h
     go ih true e (inr k) = inr (ih k t)
     go ih false e (inl same) = absurd (true≢false (sym t ∙ ap test (sym same) ∙ e))
     go ih false e (inr k) = ih k t
-
-pub from_filter : {X : Type 0} (test : X → Bool) (xs : List X) (x : X) → IsIn (filter test xs) x → IsIn xs x × (test x ≡ true)
-from_filter test [] x h = absurd h
-from_filter {X} test (y ∷ xs) x h = go (from_filter test xs x) (test y) refl h
-  where
-    go : (IsIn (filter test xs) x → IsIn xs x × (test x ≡ true)) → (b : Bool) → test y ≡ b → IsIn (cond b (y ∷ filter test xs) (filter test xs)) x → ((y ≡ x) ⊎ IsIn xs x) × (test x ≡ true)
-    go ih true e (inl same) = (inl same, ap test (sym same) ∙ e)
-    go ih true e (inr k) = (inr (ih k).0, (ih k).1)
-    go ih false e k = (inr (ih k).0, (ih k).1)
 
 get_in : {X : Type 0} (xs : List X) (i : ℕ) (x : X) → slice_get xs i ≡ Some x → IsIn xs x
 get_in [] i x e = absurd (cc)

@@ -4,13 +4,13 @@ use Rattle.std.proofs.lemmas.List.Elements.{All-from_recursion, recursion_from_A
 use Rattle.std.specs.List.{All, AllByRecursion, flat_map}
 use Rattle.fv_datum.specs.View.{view, items_view}
 use Rattle.fv_datum.specs.declared.datum.Datum.{Datum}
-use Rattle.fv_declare.specs.Declarations.{Placed}
+use Rattle.fv_declare_schema.specs.Declarations.{Placed}
 use Rattle.fv_extract.specs.Parts.{Locus, at_index, items_from, below}
 use Rattle.fv_extract.specs.Places as object
-use Rattle.fv_occurrence.proofs.Laws.{empty_is}
-use Rattle.fv_occurrence.specs.Nodes.{Node}
-use Rattle.fv_occurrence.specs.Reports.{is_bad, violated}
-use Rattle.fv_occurrence.specs.Says.{of_datum, refuses}
+use Rattle.fv_constraint_tree.proofs.Laws.{empty_is}
+use Rattle.fv_constraint_tree.specs.Nodes.{Node}
+use Rattle.fv_constraint_tree.specs.Reports.{is_bad, violated}
+use Rattle.fv_constraint_tree.specs.Says.{of_datum, refuses}
 use Rattle.fv_registry.specs.Meanings.{Meanings}
 use Rattle.fv_local.specs.Told.{picked, numbers_of, told_of_numbers, part_told}
 use Rattle.fv_local.proofs.Picked.{numbers_grow}

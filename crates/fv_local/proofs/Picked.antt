@@ -3,12 +3,12 @@ use Rattle.std.proofs.Common.{◌≡◌, ◌<◌, ℕ, ℤ, zero, suc, ◌+◌, 
 use Rattle.std.proofs.lemmas.Grind.{flat_map-append}
 use Rattle.std.proofs.lemmas.List.{take_more}
 use Rattle.std.specs.List.{All, AllByRecursion, cons_option}
-use Rattle.fv_declare.specs.Declarations.{Placed}
-use Rattle.fv_declare.specs.PlacedView.{placed_view}
-use Rattle.fv_declare.specs.declared.placed.Placed as code
-use Rattle.fv_occurrence.specs.Says.{Subject}
+use Rattle.fv_declare_schema.specs.Declarations.{Placed}
+use Rattle.fv_declare_schema.specs.PlacedView.{placed_view}
+use Rattle.fv_declare_schema.specs.declared.placed.Placed as code
+use Rattle.fv_constraint_tree.specs.Says.{Subject}
 use Rattle.fv_registry.specs.Meanings.{Meanings}
-use Rattle.fv_occurrence.specs.Reports.{violated}
+use Rattle.fv_constraint_tree.specs.Reports.{violated}
 use Rattle.fv_local.specs.Told.{picked, numbers_of}
 use Rattle.fv_local.proofs.Reports.{number, numbers_up}
 

@@ -3,24 +3,24 @@ use Rattle.std.proofs.Common.{◌≡◌, ◌<◌, ◌≤◌, ◌+◌, ◌++◌, 
 use Rattle.std.proofs.lemmas.List.{length-map, map-append}
 use Rattle.std.proofs.lemmas.List.Elements.{All-from_recursion, recursion_from_All}
 use Rattle.std.specs.List.{All, AllByRecursion, AllZip}
-use Rattle.fv_declare.specs.Declarations.{Placed, Declarations, count_nodes, AreNumbered}
-use Rattle.fv_declare.specs.Fits.{fits}
-use Rattle.fv_declare.specs.Ordered.{AreOrdered}
-use Rattle.fv_declare.specs.PlacedView.{placed_view}
-use Rattle.fv_declare.specs.declared.placed.Placed as code_placed
+use Rattle.fv_declare_schema.specs.Declarations.{Placed, Declarations, count_nodes, AreNumbered}
+use Rattle.fv_declare_schema.specs.Fits.{fits}
+use Rattle.fv_declare_schema.specs.Ordered.{AreOrdered}
+use Rattle.fv_declare_schema.specs.PlacedView.{placed_view}
+use Rattle.fv_declare_schema.specs.declared.placed.Placed as code_placed
 use Rattle.fv_graph.specs.Graph.{IsIn}
 use Rattle.fv_graph.proofs.Lists.{in_left, in_right, in_cases}
 use Rattle.fv_model.specs.Bundles.{Thing}
-use Rattle.fv_occurrence.specs.Trees.{size}
-use Rattle.fv_reach.specs.Below.{below}
-use Rattle.fv_reach.specs.Reached.{AreReached, AreOfRanks, IsRanked, plain_groups}
-use Rattle.fv_reach.specs.TableView.{lists_view}
+use Rattle.fv_constraint_tree.specs.Trees.{size}
+use Rattle.fv_local.specs.Below.{below}
+use Rattle.fv_local.specs.Reached.{AreReached, AreOfRanks, IsRanked, plain_groups}
+use Rattle.fv_local.specs.TableView.{lists_view}
 use Rattle.fv_registry.specs.Meanings.{Meanings}
 use Rattle.fv_registry.specs.Rules.{Known}
-use Rattle.fv_turns.specs.OneField.{own_of_field}
-use Rattle.fv_turns.specs.OneObject.{IsLocalIn}
-use Rattle.fv_turns.specs.Turns.{LocalFailure}
-use Rattle.fv_types.specs.Types.{number_of}
+use Rattle.fv_walk_traces.specs.OneField.{own_of_field}
+use Rattle.fv_walk_traces.specs.OneObject.{IsLocalIn}
+use Rattle.fv_walk_traces.specs.Turns.{LocalFailure}
+use Rattle.fv_model_types.specs.Types.{number_of}
 use Rattle.fv_local.specs.FailureView.{failure_view, IsFoundIn}
 use Rattle.fv_local.specs.Fields.{stands_in}
 use Rattle.fv_local.specs.Own.{own_in}

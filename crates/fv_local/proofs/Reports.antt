@@ -2,10 +2,10 @@
 use Rattle.std.proofs.Common.{◌≡◌, ℕ, ℤ, ◌+◌, ◌<◌, ◌≤◌, ◌||◌, List, [], ◌∷◌, ◌++◌, map, Bool, true, false, if◌then◌else◌, refl, sym, ap, subst, ◌∙◌, arith}
 use Rattle.std.proofs.lemmas.List.{map-append}
 use Rattle.std.specs.List.{AllByRecursion}
-use Rattle.fv_declare.specs.Declarations.{Placed}
-use Rattle.fv_occurrence.specs.Reports.{any_bad, reported_if, reported, reported_all, violated}
-use Rattle.fv_occurrence.specs.Says.{Subject}
-use Rattle.fv_occurrence.specs.Trees.{Tree, tree, Trees, none, more, size, sizes}
+use Rattle.fv_declare_schema.specs.Declarations.{Placed}
+use Rattle.fv_constraint_tree.specs.Reports.{any_bad, reported_if, reported, reported_all, violated}
+use Rattle.fv_constraint_tree.specs.Says.{Subject}
+use Rattle.fv_constraint_tree.specs.Trees.{Tree, tree, Trees, none, more, size, sizes}
 use Rattle.fv_registry.specs.Meanings.{Meanings}
 
 -- ---- numbers that rise

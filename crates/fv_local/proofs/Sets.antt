@@ -2,19 +2,18 @@
 use Rattle.std.proofs.Common.{◌≡◌, ◌⊎◌, inl, inr, ℕ, ℤ, List, [], ◌∷◌, ◌++◌, map, Option, Some, None, slice_get, refl, sym, ap, subst, ◌∙◌}
 use Rattle.std.specs.List.{AllByRecursion, cons_option}
 use Rattle.fv_datum.specs.Data.{Data}
-use Rattle.fv_declare.specs.Declarations.{Placed}
+use Rattle.fv_declare_schema.specs.Declarations.{Placed}
 use Rattle.fv_extract.specs.Parts.{Locus, parts_at}
 use Rattle.fv_extract.specs.Places as to
 use Rattle.fv_graph.specs.Graph.{IsIn}
 use Rattle.fv_graph.proofs.Lists.{in_left, in_right, in_cases}
 use Rattle.fv_model.specs.Bundles.{Thing}
-use Rattle.fv_occurrence.specs.Nodes.{Node}
-use Rattle.fv_occurrence.specs.Reports.{violated}
-use Rattle.fv_occurrence.specs.Says.{Subject, of_datum, of_object}
+use Rattle.fv_constraint_tree.specs.Nodes.{Node}
+use Rattle.fv_constraint_tree.specs.Reports.{violated}
+use Rattle.fv_constraint_tree.specs.Says.{Subject, of_datum, of_object}
 use Rattle.fv_registry.specs.Meanings.{Meanings}
-use Rattle.fv_turns.proofs.Ends.{in_flat_map, from_flat_map}
-use Rattle.fv_turns.proofs.Lists.{in_map, from_map}
-use Rattle.fv_uses.specs.Uses.{Place, whole, field}
+use Rattle.fv_graph.proofs.Images.{in_flat_map, from_flat_map, in_map, from_map}
+use Rattle.fv_declare_schema.specs.Places.{Place, whole, field}
 use Rattle.fv_local.specs.Told.{Told, picked, numbers_of, told_part, part_told, field_told, object_told, told_at, IsTold, IsSamePlace}
 
 -- ---- uses by their numbers

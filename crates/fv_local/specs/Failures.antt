@@ -2,18 +2,18 @@
 use Rattle.std.specs.Prelude.{ℕ, ℤ, List, [], ◌∷◌, map, filter}
 use Rattle.std.specs.List.{flat_map}
 use Rattle.fv_datum.specs.Data.{Data}
-use Rattle.fv_declare.specs.Declarations.{Placed, Declarations}
+use Rattle.fv_declare_schema.specs.Declarations.{Placed, Declarations}
 use Rattle.fv_extract.specs.Parts.{Locus, parts_at}
 use Rattle.fv_extract.specs.Places as object
 use Rattle.fv_extract.specs.Places.{Step}
 use Rattle.fv_model.specs.Bundles.{Thing}
-use Rattle.fv_occurrence.specs.Reports.{violated}
-use Rattle.fv_occurrence.specs.Says.{Subject, of_datum, of_object}
-use Rattle.fv_reach.specs.Reached.{is_in}
+use Rattle.fv_constraint_tree.specs.Reports.{violated}
+use Rattle.fv_constraint_tree.specs.Says.{Subject, of_datum, of_object}
+use Rattle.fv_local.specs.Reached.{is_in}
 use Rattle.fv_registry.specs.Meanings.{Meanings}
-use Rattle.fv_turns.specs.Turns as turn
-use Rattle.fv_turns.specs.Turns.{LocalFailure}
-use Rattle.fv_uses.specs.Uses.{Place, whole, field}
+use Rattle.fv_walk_traces.specs.Turns as turn
+use Rattle.fv_walk_traces.specs.Turns.{LocalFailure}
+use Rattle.fv_declare_schema.specs.Places.{Place, whole, field}
 
 -- one of those that stand at a place of an object: where in the object, and what is judged
 abbrev pub Standing : Type 0

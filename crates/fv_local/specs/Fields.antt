@@ -1,8 +1,8 @@
 -- Uses of constraints that stand in one field.
 use Rattle.std.specs.Prelude.{ℕ, List, Bool, false, nat_eq, slice_get}
 use Rattle.std.specs.Option.{option_map_or}
-use Rattle.fv_declare.specs.Declarations.{Placed}
-use Rattle.fv_uses.specs.Uses.{Place, whole, field}
+use Rattle.fv_declare_schema.specs.Declarations.{Placed}
+use Rattle.fv_declare_schema.specs.Places.{Place, whole, field}
 
 -- the place is at the field of that number or inside it
 abbrev pub is_at : ℕ → Place → Bool

@@ -1,5 +1,10 @@
-pub mod Failures
+pub mod Below
 pub mod FailureView
+pub mod Failures
 pub mod Fields
+pub mod Judges
 pub mod Own
+pub mod Reached
+pub mod Spans
+pub mod TableView
 pub mod Told

@@ -1,13 +1,13 @@
 -- What fails of an object's own constraints, by groups.
 use Rattle.std.specs.Prelude.{ℕ, ℤ, List, [], ◌∷◌, map, cond, nat_eq}
 use Rattle.std.specs.Option.{option_map_or}
-use Rattle.fv_declare.specs.Declarations.{Declarations}
+use Rattle.fv_declare_schema.specs.Declarations.{Declarations}
 use Rattle.fv_model.specs.Bundles.{Thing}
-use Rattle.fv_reach.specs.Below.{below}
-use Rattle.fv_reach.specs.Reached.{ranks_of}
+use Rattle.fv_local.specs.Below.{below}
+use Rattle.fv_local.specs.Reached.{ranks_of}
 use Rattle.fv_registry.specs.Meanings.{Meanings}
-use Rattle.fv_turns.specs.Requests.{Own, Plain, InRanks}
-use Rattle.fv_types.specs.Types.{number_of}
+use Rattle.fv_walk_traces.specs.Requests.{Own, Plain, InRanks}
+use Rattle.fv_model_types.specs.Types.{number_of}
 use Rattle.fv_local.specs.Failures.{failures_in}
 
 -- what fails in the ranks of a type's sequence. The type's own name is 0 there, the number of `Default`, and has the constraints in

@@ -4,20 +4,20 @@ use Rattle.std.specs.List.{AllByRecursion, flat_map}
 use mathlib.Core.Logic.{◌⊎◌}
 use Rattle.fv_datum.specs.Data.{Data, null}
 use Rattle.fv_datum.specs.View.{view}
-use Rattle.fv_declare.specs.Declarations.{Placed, Declarations}
-use Rattle.fv_declare.specs.Fits.{placed_fits}
+use Rattle.fv_declare_schema.specs.Declarations.{Placed, Declarations}
+use Rattle.fv_declare_schema.specs.Fits.{placed_fits}
 use Rattle.fv_extract.specs.Parts.{Locus, parts_at}
 use Rattle.fv_extract.specs.Places as object
 use Rattle.fv_graph.specs.Graph.{IsIn}
 use Rattle.fv_model.specs.Bundles.{Thing}
-use Rattle.fv_occurrence.specs.Reports.{violated}
-use Rattle.fv_occurrence.specs.Says.{Subject, of_datum, of_object}
-use Rattle.fv_occurrence.specs.Trees.{size}
-use Rattle.fv_reach.specs.Reached.{ranks_of, AreOfRanks}
+use Rattle.fv_constraint_tree.specs.Reports.{violated}
+use Rattle.fv_constraint_tree.specs.Says.{Subject, of_datum, of_object}
+use Rattle.fv_constraint_tree.specs.Trees.{size}
+use Rattle.fv_local.specs.Reached.{ranks_of, AreOfRanks}
 use Rattle.fv_registry.specs.Meanings.{Meanings}
 use Rattle.fv_registry.specs.Rules.{Known}
-use Rattle.fv_turns.specs.Turns as turn
-use Rattle.fv_uses.specs.Uses.{Place, whole, field}
+use Rattle.fv_walk_traces.specs.Turns as turn
+use Rattle.fv_declare_schema.specs.Places.{Place, whole, field}
 use Rattle.fv_local.specs.FailureView.{failure_view}
 use Rattle.fv_local.specs.declared.failure.LocalFailure as code
 use Rattle.fv_local.specs.declared.failure.Spot as code_spot

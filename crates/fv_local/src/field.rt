@@ -1,12 +1,12 @@
 //! The uses of constraints that stand in one field of a type.
-ghost use Rattle.std.specs.Prelude.{◌≡◌, ◌<◌, All, map, filter, length, IfOk};
-ghost use Rattle.fv_declare.specs.PlacedView.{placed_view};
+ghost use Rattle.std.specs.Prelude.{◌≡◌, All, map, filter, IfOk};
+ghost use Rattle.fv_declare_schema.specs.PlacedView.{placed_view};
 ghost use Rattle.fv_local.specs.Fields.{is_at, is_of_field};
-ghost use Rattle.fv_reach.specs.TableView.{lists_view};
-ghost use Rattle.fv_uses.specs.UseViews.{place_view};
+ghost use Rattle.fv_local.specs.Judges.{AreAmong};
+ghost use Rattle.fv_local.specs.TableView.{lists_view};
+ghost use Rattle.fv_declare_schema.specs.PlaceViews.{place_view};
 
-use fv_declare::Placed;
-use fv_uses::Place;
+use fv_declare_schema::{Place, Placed};
 use std::alloc::{AllocError, Global};
 
 /// Whether a place is at the field of that number or inside it.
@@ -26,7 +26,7 @@ pub(crate) fn of_field(
     uses: &[usize],
     field: usize,
 ) -> Result<Vec<usize>, AllocError>
-    requires { All (λ i. i < length occurrences.now) uses.now }
+    requires { AreAmong occurrences.now uses.now }
     ensures { IfOk result (λ kept. kept.items ≡ filter (is_of_field (map placed_view occurrences.now) field) uses.now) }
 {
     let mut kept = Vec::new(alloc);
@@ -45,7 +45,7 @@ pub(crate) fn each_of_field(
     lists: &[Vec<usize>],
     field: usize,
 ) -> Result<Vec<Vec<usize>>, AllocError>
-    requires { All (λ v. All (λ i. i < length occurrences.now) v.items) lists.now }
+    requires { All (λ v. AreAmong occurrences.now v.items) lists.now }
     ensures { IfOk result (λ kept. lists_view kept.items
         ≡ map (filter (is_of_field (map placed_view occurrences.now) field)) (lists_view lists.now)) }
 {

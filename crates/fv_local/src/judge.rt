@@ -1,17 +1,16 @@
 //! Uses of constraints at one place, and the numbers of the constraints that they report.
-ghost use Rattle.std.specs.Prelude.{◌≡◌, ◌<◌, ◌≤◌, ◌+◌, [], ◌++◌, All, map, length, true, IfOk, OnOk};
+ghost use Rattle.std.specs.Prelude.{◌≡◌, ◌≤◌, ◌+◌, [], ◌++◌, All, map, true, IfOk, OnOk};
 ghost use Rattle.std.specs.List.{AllByRecursion};
 ghost use Rattle.fv_datum.specs.Moments.{IsMoment};
 ghost use Rattle.fv_datum.specs.View.{view};
-ghost use Rattle.fv_declare.specs.PlacedView.{placed_view};
-ghost use Rattle.fv_local.specs.Told.{picked, numbers_of, CanBeAsked};
+ghost use Rattle.fv_local.specs.Judges.{AsksKnownUses, CanAsk, numbers_of};
 ghost use Rattle.fv_model.specs.Views.{object_view};
-ghost use Rattle.fv_occurrence.specs.Says.{of_datum, of_object};
+ghost use Rattle.fv_constraint_tree.specs.Says.{of_datum, of_object};
 
+use fv_constraint_tree::{passes_all, report, report_object};
 use fv_datum::Datum;
-use fv_declare::Placed;
+use fv_declare_schema::Placed;
 use fv_model::Object;
-use fv_occurrence::{passes_all, report, report_object};
 use fv_registry::{RuleSet, Ruled};
 use std::alloc::{AllocError, Global};
 
@@ -39,10 +38,9 @@ impl<R: RuleSet> Judge<'_, R> {
     /// The numbers of the nodes that are reported of a datum.
     pub(crate) fn numbers(&self, alloc: Global, datum: &Datum) -> Result<Vec<usize>, AllocError>
         requires moment { IsMoment self.now.moment }
-        requires within { All (λ i. i < length self.now.occurrences.now) self.now.asked.now }
-        requires can { CanBeAsked (R.known self.now.rules.now.rules) (map placed_view self.now.occurrences.now) }
-        ensures { IfOk result (λ v. v.items ≡ numbers_of R.meaning self.now.moment (of_datum (view datum.now))
-            (picked (map placed_view self.now.occurrences.now) self.now.asked.now)) }
+        requires within { AsksKnownUses self.now }
+        requires can { CanAsk self.now }
+        ensures { IfOk result (λ v. v.items ≡ numbers_of self.now (of_datum (view datum.now))) }
     {
         let mut numbers = Vec::new(alloc);
         for index in self.asked {
@@ -56,9 +54,8 @@ impl<R: RuleSet> Judge<'_, R> {
     /// Whether it is known that no node is reported of any of these data. No rule is asked.
     pub(crate) fn passes_all(&self, alloc: Global, data: &[Datum]) -> Result<bool, AllocError>
         requires moment { IsMoment self.now.moment }
-        requires within { All (λ i. i < length self.now.occurrences.now) self.now.asked.now }
-        ensures { IfOk result (λ b. b ≡ true → All (λ d. numbers_of R.meaning self.now.moment (of_datum (view d))
-            (picked (map placed_view self.now.occurrences.now) self.now.asked.now) ≡ []) data.now) }
+        requires within { AsksKnownUses self.now }
+        ensures { IfOk result (λ b. b ≡ true → All (λ d. numbers_of self.now (of_datum (view d)) ≡ []) data.now) }
     {
         for index in self.asked {
             let occurrence = self.occurrences[*index].occurrence();
@@ -76,10 +73,9 @@ impl<R: RuleSet> Judge<'_, R> {
         object: &Object,
     ) -> Result<Vec<usize>, AllocError>
         requires moment { IsMoment self.now.moment }
-        requires within { All (λ i. i < length self.now.occurrences.now) self.now.asked.now }
-        requires can { CanBeAsked (R.known self.now.rules.now.rules) (map placed_view self.now.occurrences.now) }
-        ensures { IfOk result (λ v. v.items ≡ numbers_of R.meaning self.now.moment (of_object (object_view object.now))
-            (picked (map placed_view self.now.occurrences.now) self.now.asked.now)) }
+        requires within { AsksKnownUses self.now }
+        requires can { CanAsk self.now }
+        ensures { IfOk result (λ v. v.items ≡ numbers_of self.now (of_object (object_view object.now))) }
     {
         let mut numbers = Vec::new(alloc);
         for index in self.asked {

@@ -1,13 +1,13 @@
 //! What uses of constraints tell of the parts of an object at their place.
-ghost use Rattle.std.specs.Prelude.{◌≡◌, ◌<◌, ◌++◌, All, map, length, IfOk, OnOk};
+ghost use Rattle.std.specs.Prelude.{map, OnOk};
 ghost use Rattle.std.specs.List.{flat_map};
 ghost use Rattle.fv_datum.specs.Moments.{IsMoment};
 ghost use Rattle.fv_datum.specs.View.{view};
-ghost use Rattle.fv_declare.specs.PlacedView.{placed_view};
 ghost use Rattle.fv_extract.specs.FoundView.{found_view};
 ghost use Rattle.fv_extract.specs.Parts.{below, further};
 ghost use Rattle.fv_extract.specs.Views.{part_view, inside_view, step_view, place_view};
-ghost use Rattle.fv_local.specs.Told.{picked, told_view, part_told, field_told, told_of_numbers, CanBeAsked};
+ghost use Rattle.fv_local.specs.Judges.{Adds, AsksKnownUses, CanAsk, part_told, field_told};
+ghost use Rattle.fv_local.specs.Told.{told_of_numbers};
 ghost use Rattle.fv_model.specs.Views.{object_view};
 
 use crate::failure::{LocalFailure, Spot};
@@ -27,8 +27,8 @@ fn add_numbers<'a>(
     datum: &'a Datum,
     numbers: &[usize],
 ) -> Result<(), AllocError>
-    ensures { OnOk result (map told_view failures.new.items ≡ map told_view failures.old.items
-        ++ told_of_numbers (place_view place.entry) (map part_view locus.now, view datum.now) numbers.now) }
+    ensures { OnOk result (Adds failures.old.items failures.new.items
+        (told_of_numbers (place_view place.entry) (map part_view locus.now, view datum.now) numbers.now)) }
 {
     for number in numbers {
         let spot = Spot::Part(place, locus.to_vec(alloc)?, datum);
@@ -50,11 +50,10 @@ fn add_part<'a, R: RuleSet>(
     part: (Option<Part<'a>>, &'a Datum),
 ) -> Result<(), AllocError>
     requires moment { IsMoment judge.now.moment }
-    requires within { All (λ i. i < length judge.now.occurrences.now) judge.now.asked.now }
-    requires can { CanBeAsked (R.known judge.now.rules.now.rules) (map placed_view judge.now.occurrences.now) }
-    ensures { OnOk result (map told_view failures.new.items ≡ map told_view failures.old.items
-        ++ part_told R.meaning judge.now.moment (picked (map placed_view judge.now.occurrences.now) judge.now.asked.now)
-        (place_view place.entry) (below (map part_view locus.now) (inside_view part.entry))) }
+    requires within { AsksKnownUses judge.now }
+    requires can { CanAsk judge.now }
+    ensures { OnOk result (Adds failures.old.items failures.new.items
+        (part_told judge.now (place_view place.entry) (below (map part_view locus.now) (inside_view part.entry)))) }
 {
     let (added, datum) = part;
     let numbers = judge.numbers(alloc, datum)?;
@@ -76,11 +75,10 @@ fn add_inside<'a, R: RuleSet>(
     part: &Found<'a>,
 ) -> Result<(), AllocError>
     requires moment { IsMoment judge.now.moment }
-    requires within { All (λ i. i < length judge.now.occurrences.now) judge.now.asked.now }
-    requires can { CanBeAsked (R.known judge.now.rules.now.rules) (map placed_view judge.now.occurrences.now) }
-    ensures { OnOk result (map told_view failures.new.items ≡ map told_view failures.old.items
-        ++ flat_map (part_told R.meaning judge.now.moment (picked (map placed_view judge.now.occurrences.now) judge.now.asked.now) (place_view place.entry))
-        (further (step_view step) (found_view part.now))) }
+    requires within { AsksKnownUses judge.now }
+    requires can { CanAsk judge.now }
+    ensures { OnOk result (Adds failures.old.items failures.new.items
+        (flat_map (part_told judge.now (place_view place.entry)) (further (step_view step) (found_view part.now)))) }
 {
     let inside = Inside::new(step, part.1);
     if let Inside::Elements(items, _) = &inside {
@@ -104,11 +102,10 @@ fn add_all_inside<'a, R: RuleSet>(
     parts: &[Found<'a>],
 ) -> Result<(), AllocError>
     requires moment { IsMoment judge.now.moment }
-    requires within { All (λ i. i < length judge.now.occurrences.now) judge.now.asked.now }
-    requires can { CanBeAsked (R.known judge.now.rules.now.rules) (map placed_view judge.now.occurrences.now) }
-    ensures { OnOk result (map told_view failures.new.items ≡ map told_view failures.old.items
-        ++ flat_map (part_told R.meaning judge.now.moment (picked (map placed_view judge.now.occurrences.now) judge.now.asked.now) (place_view place.entry))
-        (flat_map (further (step_view step)) (map found_view parts.now))) }
+    requires within { AsksKnownUses judge.now }
+    requires can { CanAsk judge.now }
+    ensures { OnOk result (Adds failures.old.items failures.new.items
+        (flat_map (part_told judge.now (place_view place.entry)) (flat_map (further (step_view step)) (map found_view parts.now)))) }
 {
     for part in parts {
         add_inside(alloc, failures, judge, place, step, part)?;
@@ -128,11 +125,10 @@ pub(crate) fn add_field<'a, R: RuleSet>(
     place: Place<'a>,
 ) -> Result<(), AllocError>
     requires moment { IsMoment judge.now.moment }
-    requires within { All (λ i. i < length judge.now.occurrences.now) judge.now.asked.now }
-    requires can { CanBeAsked (R.known judge.now.rules.now.rules) (map placed_view judge.now.occurrences.now) }
-    ensures { OnOk result (map told_view failures.new.items ≡ map told_view failures.old.items
-        ++ field_told R.meaning judge.now.moment (picked (map placed_view judge.now.occurrences.now) judge.now.asked.now)
-        (object_view object.now) (place_view place.entry)) }
+    requires within { AsksKnownUses judge.now }
+    requires can { CanAsk judge.now }
+    ensures { OnOk result (Adds failures.old.items failures.new.items
+        (field_told judge.now (object_view object.now) (place_view place.entry))) }
 {
     let Some((_, datum)) = object.field_at(place.field) else {
         return Ok(());

@@ -1,26 +1,27 @@
 ghost use Rattle.std.specs.Prelude.{◌≡◌, ◌<◌, ◌↔◌, true, All, map, length, IfOk};
 ghost use Rattle.fv_datum.specs.Moments.{IsMoment};
-ghost use Rattle.fv_declare.specs.Fits.{fits};
+ghost use Rattle.fv_declare_schema.specs.Fits.{fits};
 ghost use Rattle.fv_graph.specs.Graph.{IsIn};
 ghost use Rattle.fv_local.specs.FailureView.{failure_view, IsFoundIn};
+ghost use Rattle.fv_local.specs.Judges.{AreAmong};
 ghost use Rattle.fv_local.specs.Own.{own_in};
 ghost use Rattle.fv_local.specs.Told.{Told, told_view, IsToldIn, AreRanksIn};
 ghost use Rattle.fv_model.specs.Views.{object_view};
-ghost use Rattle.fv_reach.specs.Below.{below};
-ghost use Rattle.fv_reach.specs.Reached.{AreReached, plain_groups};
-ghost use Rattle.fv_reach.specs.TableView.{lists_view};
-ghost use Rattle.fv_turns.specs.OneField.{own_of_field};
-ghost use Rattle.fv_turns.specs.OneObject.{IsLocalIn};
-ghost use Rattle.fv_turns.specs.Turns as turn;
+ghost use Rattle.fv_local.specs.Below.{below};
+ghost use Rattle.fv_local.specs.Reached.{AreReached, plain_groups};
+ghost use Rattle.fv_local.specs.TableView.{lists_view};
+ghost use Rattle.fv_walk_traces.specs.OneField.{own_of_field};
+ghost use Rattle.fv_walk_traces.specs.OneObject.{IsLocalIn};
+ghost use Rattle.fv_walk_traces.specs.Turns as turn;
 
 use crate::failure::LocalFailure;
 use crate::field::{each_of_field, of_field};
 use crate::ranks::told_in_ranks;
+use crate::reach::Reach;
 use crate::uses::told_of;
-use fv_declare::Schema;
+use fv_declare_schema::Schema;
 use fv_groups::GroupId;
 use fv_model::{Object, TypeId};
-use fv_reach::Reach;
 use fv_registry::{RuleSet, Ruled};
 use std::alloc::{AllocError, Global};
 use std::marker::Model;
@@ -41,12 +42,12 @@ impl<R: RuleSet> Model for Rulebook<R> {
     ghost use Rattle.std.specs.Coded.{codes};
     ghost use Rattle.std.specs.Prelude.{◌≡◌, true};
     ghost use Rattle.fv_builtin.specs.Codes.{pattern_code};
-    ghost use Rattle.fv_declare.specs.Codes.{type_use_code};
-    ghost use Rattle.fv_declare.specs.Declarations.{Declarations};
-    ghost use Rattle.fv_declare.specs.Fits.{fits};
-    ghost use Rattle.fv_occurrence.specs.Codes.{tree_code};
-    ghost use Rattle.fv_occurrence.specs.Nodes.{Node};
-    ghost use Rattle.fv_reach.specs.Reached.{IsTableOf};
+    ghost use Rattle.fv_declare_schema.specs.Codes.{type_use_code};
+    ghost use Rattle.fv_declare_schema.specs.Declarations.{Declarations};
+    ghost use Rattle.fv_declare_schema.specs.Fits.{fits};
+    ghost use Rattle.fv_constraint_tree.specs.Codes.{tree_code};
+    ghost use Rattle.fv_constraint_tree.specs.Nodes.{Node};
+    ghost use Rattle.fv_local.specs.Reached.{IsTableOf};
 
     ghost Value = { Declarations };
 
@@ -117,8 +118,8 @@ impl<R: RuleSet> Rulebook<R> {
         now: i64,
     ) -> Result<Vec<LocalFailure<'a>>, AllocError>
         requires moment { IsMoment now }
-        requires uses { All (λ i. i < length self.now.occurrences) uses.now }
-        requires ranks { All (λ v. All (λ i. i < length self.now.occurrences) v.items) ranks.now }
+        requires uses { AreAmong self.now.occurrences uses.now }
+        requires ranks { All (λ v. AreAmong self.now.occurrences v.items) ranks.now }
         ensures told { IfOk result (λ v. (x : Told) → IsIn (map told_view v.items) x
             ↔ IsToldIn R.meaning now (object_view object.now) self.now.occurrences uses.now (lists_view ranks.now) x) }
         ensures found { IfOk result (λ v. All (λ f. IsFoundIn (object_view object.now) f.spot) v.items) }

@@ -1,22 +1,20 @@
 //! What uses of constraints tell of an object.
-ghost use Rattle.std.specs.Prelude.{◌≡◌, ◌<◌, ◌≤◌, ◌++◌, ◌↔◌, All, IsTrue, map, length, take, IfOk, OnOk};
-ghost use Rattle.std.specs.List.{AllByRecursion};
-ghost use mathlib.Core.Logic.{◌⊎◌};
+ghost use Rattle.std.specs.Prelude.{◌<◌, ◌≤◌, ◌↔◌, All, IsTrue, map, length, take, IfOk, OnOk};
 ghost use Rattle.fv_datum.specs.Moments.{IsMoment};
-ghost use Rattle.fv_declare.specs.PlacedView.{placed_view};
+ghost use Rattle.fv_declare_schema.specs.PlacedView.{placed_view};
 ghost use Rattle.fv_graph.specs.Graph.{IsIn};
 ghost use Rattle.fv_local.specs.FailureView.{IsFoundIn};
-ghost use Rattle.fv_local.specs.Told.{picked, Told, told_view, object_told, told_at, IsTold, CanBeAsked, IsSamePlace, AreRun};
+ghost use Rattle.fv_local.specs.Judges.{AreAmong, Adds, AsksKnownUses, CanAsk, object_told, told_at};
+ghost use Rattle.fv_local.specs.Told.{Told, told_view, IsTold, CanBeAsked, IsSamePlace, AreRun};
 ghost use Rattle.fv_model.specs.Views.{object_view};
-ghost use Rattle.fv_uses.specs.UseViews.{place_view};
+ghost use Rattle.fv_declare_schema.specs.PlaceViews.{place_view};
 
 use crate::failure::{LocalFailure, Spot};
 use crate::judge::Judge;
 use crate::parts::add_field;
-use fv_declare::Placed;
+use fv_declare_schema::{Place, Placed};
 use fv_model::Object;
 use fv_registry::{RuleSet, Ruled};
-use fv_uses::Place;
 use std::alloc::{AllocError, Global};
 
 /// Adds what is told of the object itself.
@@ -27,10 +25,9 @@ fn add_object<'a, R: RuleSet>(
     object: &'a Object,
 ) -> Result<(), AllocError>
     requires moment { IsMoment judge.now.moment }
-    requires within { All (λ i. i < length judge.now.occurrences.now) judge.now.asked.now }
-    requires can { CanBeAsked (R.known judge.now.rules.now.rules) (map placed_view judge.now.occurrences.now) }
-    ensures { OnOk result (map told_view failures.new.items ≡ map told_view failures.old.items
-        ++ object_told R.meaning judge.now.moment (picked (map placed_view judge.now.occurrences.now) judge.now.asked.now) (object_view object.now)) }
+    requires within { AsksKnownUses judge.now }
+    requires can { CanAsk judge.now }
+    ensures { OnOk result (Adds failures.old.items failures.new.items (object_told judge.now (object_view object.now))) }
 {
     for number in judge.object_numbers(alloc, object)? {
         failures.push(LocalFailure {
@@ -50,11 +47,10 @@ fn add_run<'a, R: RuleSet>(
     place: &'a Place,
 ) -> Result<(), AllocError>
     requires moment { IsMoment judge.now.moment }
-    requires within { All (λ i. i < length judge.now.occurrences.now) judge.now.asked.now }
-    requires can { CanBeAsked (R.known judge.now.rules.now.rules) (map placed_view judge.now.occurrences.now) }
-    ensures { OnOk result (map told_view failures.new.items ≡ map told_view failures.old.items
-        ++ told_at R.meaning judge.now.moment (picked (map placed_view judge.now.occurrences.now) judge.now.asked.now)
-        (object_view object.now) (place_view place.now)) }
+    requires within { AsksKnownUses judge.now }
+    requires can { CanAsk judge.now }
+    ensures { OnOk result (Adds failures.old.items failures.new.items
+        (told_at judge.now (object_view object.now) (place_view place.now))) }
 {
     match place {
         Place::Whole => add_object(alloc, failures, judge, object),
@@ -83,7 +79,7 @@ fn is_same(one: &Place, other: &Place) -> bool
 
 /// How many uses stand at the place of the first of these, from it on.
 fn run_length(occurrences: &[Placed], uses: &[usize]) -> usize
-    requires within { All (λ i. i < length occurrences.now) uses.now }
+    requires within { AreAmong occurrences.now uses.now }
     requires some { 0 < length uses.now }
     ensures some { 0 < result }
     ensures within { result ≤ length uses.now }
@@ -108,7 +104,7 @@ pub(crate) fn told_of<'a, R: RuleSet>(
     now: i64,
 ) -> Result<Vec<LocalFailure<'a>>, AllocError>
     requires moment { IsMoment now }
-    requires within { All (λ i. i < length occurrences.now) uses.now }
+    requires within { AreAmong occurrences.now uses.now }
     requires can { CanBeAsked (R.known rules.now.rules) (map placed_view occurrences.now) }
     ensures told { IfOk result (λ v. (x : Told) → IsIn (map told_view v.items) x
         ↔ IsTold R.meaning now (object_view object.now) (map placed_view occurrences.now) uses.now x) }

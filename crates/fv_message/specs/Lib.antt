@@ -1,10 +1,10 @@
-pub mod Template
-pub mod Table
 pub mod BuiltIn
+pub mod Expanded
+pub mod FaultNames
 pub mod Full
 pub mod Judged
 pub mod Measured
-pub mod Expanded
 pub mod Parts
+pub mod Table
+pub mod Template
 pub mod Views
-pub mod FaultNames

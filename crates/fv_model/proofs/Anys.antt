@@ -4,14 +4,11 @@ use Rattle.std.specs.List.{list_any, AllByRecursion}
 use Rattle.fv_model.specs.Draft as spec
 use Rattle.fv_model.specs.Views.{part_view}
 use Rattle.fv_model.specs.declared.parts.Part.{Part}
-
-turn : {X Y : Type 0} (view : X → Y) (test : Y → Bool) (xs : List X) (i : ℕ) (x : X) → i < length xs → x ≡ get_or xs i x
-    → list_any test (map view (drop i xs)) ≡ (test (view x) || list_any test (map view (drop (i + 1) xs)))
-turn view test xs i x h is = rw (add-one, drop-cons xs i x h, ← is) refl
+use Rattle.fv_datum.proofs.Lists.{any_turn}
 
 pub part_turn : (test : spec.Part → Bool) (ps : List Part) (i : ℕ) (p : Part) → i < length ps → p ≡ get_or ps i p
     → list_any test (map part_view (drop i ps)) ≡ (test (part_view p) || list_any test (map part_view (drop (i + 1) ps)))
-part_turn = turn part_view
+part_turn = any_turn part_view
 
 -- what holds of an element and of those after it
 pub each_turn : (P : spec.Part → Type 0) (ps : List Part) (i : ℕ) (p : Part) → i < length ps → p ≡ get_or ps i p → P (part_view p) → AllByRecursion P (map part_view (drop (i + 1) ps)) → AllByRecursion P (map part_view (drop i ps))

@@ -4,7 +4,7 @@ use Rattle.fv_datum.specs.Outcomes.{first}
 use Rattle.fv_model.specs.Conditions.{name_conditions, late_conditions}
 use Rattle.fv_model.specs.Draft.{Drafted}
 use Rattle.fv_model.specs.Reading.{unknown_field, wrong_kind, draft_fault}
-use Rattle.fv_types.specs.Types.{Declared}
+use Rattle.fv_model_types.specs.Types.{Declared}
 use Rattle.fv_model.specs.declared.fault.BundleFault.{BundleFault}
 use Rattle.fv_model.specs.declared.fault.BundleFault.TheVariants.{UnknownField, WrongKind}
 

@@ -19,21 +19,21 @@ use Rattle.fv_datum.specs.Data.{Data, null}
 use Rattle.fv_datum.specs.Lookup.{at_name}
 use Rattle.fv_datum.specs.Name.{names}
 use Rattle.fv_datum.specs.Written.{is_null}
-use Rattle.fv_types.specs.Flaws.{Flaw, flaw_among, undeclared, misfits, is_missing, dangles, is_other, strays, is_large}
-use Rattle.fv_types.specs.Names.{ObjectTypes}
-use Rattle.fv_types.proofs.Back.{read_back, none_large, none_refers}
+use Rattle.fv_model_types.specs.Flaws.{Flaw, flaw_among, undeclared, misfits, is_missing, dangles, is_other, strays, is_large}
+use Rattle.fv_model_types.specs.Names.{ObjectTypes}
+use Rattle.fv_model_types.proofs.Back.{read_back, none_large, none_refers}
 use Rattle.fv_model.specs.Bundles.{IsAscending, Thing, Things, Bundled}
 use Rattle.fv_datum.specs.Members.{pairs, each_some}
 use Rattle.fv_model.specs.Draft.{Part, part_of, draft_of}
 use Rattle.fv_model.specs.Reading.{object_types, root_missing, has_flaw, large_datum, root_type, conditions, draft_fault, datum_at, field_of, object_of, bundle_of, judged, bundle_read}
-use Rattle.fv_types.specs.Types.{TypeUse, DeclaredFields, Declared, AreApart, FieldsApart, name_at}
+use Rattle.fv_model_types.specs.Types.{TypeUse, DeclaredFields, Declared, AreApart, FieldsApart, name_at}
 use Rattle.fv_model.specs.WellTyped.{NamesObject, FitsUse, FieldsFit, FitsType, IsWellTyped, HasRootType}
 use Rattle.fv_model.specs.Writing.{datum_json, added, thing_json, objects_added, bundle_json}
-use Rattle.fv_types.specs.declared.types.TypeId.{TypeId}
-use Rattle.fv_types.proofs.Apart.{apart-head, apart-tail, found_apart}
-use Rattle.fv_types.proofs.Lists.{each_of, none_made}
-use Rattle.fv_types.proofs.Orders.{below_middle}
-use Rattle.fv_types.proofs.Bools.{or_false, or_left, or_right}
+use Rattle.fv_model_types.specs.declared.types.TypeId.{TypeId}
+use Rattle.fv_model_types.proofs.Apart.{apart-head, apart-tail, found_apart}
+use Rattle.fv_datum.proofs.Lists.{each_of, none_made}
+use Rattle.fv_model_types.proofs.Orders.{below_middle}
+use Rattle.fv_datum.proofs.Bools.{or_false, or_left, or_right}
 
 -- ---- the fields
 

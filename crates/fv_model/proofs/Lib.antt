@@ -3,10 +3,13 @@ pub mod Anys
 pub mod Extended
 pub mod Firsts
 pub mod Given
+pub mod Kept
 pub mod Law
 pub mod Listed
 pub mod Made
+pub mod Named
 pub mod Put
+pub mod Sound
 pub mod Typed
 pub mod Unfit
 pub mod Values

@@ -11,14 +11,14 @@ use Rattle.indexmap.specs.IndexMap.{insert_entry}
 use Rattle.serde_json.specs.Data as json
 use Rattle.serde_json.specs.View.{members_view}
 use Rattle.serde_json.specs.declared.value.Value.{Value}
-use Rattle.fv_types.specs.Names.{IsAscending}
-use Rattle.fv_types.proofs.Lists.{both_some}
-use Rattle.fv_types.proofs.Orders.{below_middle, members_ascend}
+use Rattle.fv_datum.specs.Ascending.{IsAscending}
+use Rattle.fv_datum.proofs.Lists.{both_some}
+use Rattle.fv_model_types.proofs.Orders.{below_middle, members_ascend}
 use Rattle.fv_datum.specs.Forms.{map2}
 use Rattle.fv_datum.specs.Members.{pairs, each_some}
 use Rattle.fv_model.specs.Draft.{Part, part_of}
 use Rattle.fv_model.specs.Reading.{object_types, object_of}
-use Rattle.fv_types.specs.Types.{Declared}
+use Rattle.fv_model_types.specs.Types.{Declared}
 
 less_differs : (o : Ordering) → o ≡ Less → o ≡ Equal → true ≡ false
 less_differs o less equal = cc

@@ -12,11 +12,11 @@ use Rattle.fv_model.specs.Bundles.{Thing}
 use Rattle.fv_model.specs.Draft.{Part}
 use Rattle.fv_model.specs.Fitting.{field_misfits, part_misfits, unless_wrong}
 use Rattle.fv_model.specs.Reading.{field_of, object_of}
-use Rattle.fv_types.specs.Types.{DeclaredFields, Declared, use_view, name_at, fields_at}
+use Rattle.fv_model_types.specs.Types.{DeclaredFields, Declared, use_view, name_at, fields_at}
 use Rattle.fv_model.specs.Views.{types_view, named_view}
 use Rattle.fv_model.specs.Writing.{IsWritten}
 use Rattle.fv_model.specs.declared.bundle.Object.{Object}
-use Rattle.fv_types.specs.declared.type_use.TypeUse.{TypeUse}
+use Rattle.fv_model_types.specs.declared.type_use.TypeUse.{TypeUse}
 
 -- each element's images by two functions, side by side
 zip-maps : {X Y Z : Type 0} (f : X → Y) (g : X → Z) (xs : List X) → zip (map f xs) (map g xs) ≡ map (λ x. (f x, g x)) xs

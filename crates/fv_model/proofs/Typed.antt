@@ -14,15 +14,15 @@ use Rattle.serde_json.specs.Find.{get_member, as_str}
 use Rattle.fv_datum.specs.Outcomes.{Gives, first, unless_fault}
 use Rattle.fv_datum.specs.Lookup.{at_name}
 use Rattle.fv_datum.specs.Name.{names}
-use Rattle.fv_types.specs.Flaws.{flaw_among, misfits, referring, is_missing, dangles, is_other, strays, is_large}
-use Rattle.fv_types.specs.Names.{ObjectTypes}
-use Rattle.fv_types.specs.Spelled.{datum_of}
-use Rattle.fv_types.proofs.Fitted.{IsFree, spelled_fits}
+use Rattle.fv_model_types.specs.Flaws.{flaw_among, misfits, referring, is_missing, dangles, is_other, strays, is_large}
+use Rattle.fv_model_types.specs.Names.{ObjectTypes}
+use Rattle.fv_model_types.specs.Spelled.{datum_of}
+use Rattle.fv_model_types.proofs.Fitted.{IsFree, spelled_fits}
 use Rattle.fv_model.specs.Bundles.{IsAscending, Bundled}
 use Rattle.fv_datum.specs.Members.{pairs}
 use Rattle.fv_model.specs.Draft.{Part, Drafted, draft_of}
 use Rattle.fv_model.specs.Reading.{bad_name, root_missing, unknown_type, unknown_field, has_flaw, some_flawed, wrong_kind, object_types, dangling_ref, ref_type, large_datum, too_large, root_type, conditions, draft_fault, datum_at, field_of, object_of, bundle_of, judged, bundle_read}
-use Rattle.fv_types.specs.Types.{TypeUse, DeclaredFields, Declared, FieldsApart, name_at}
+use Rattle.fv_model_types.specs.Types.{TypeUse, DeclaredFields, Declared, FieldsApart, name_at}
 use Rattle.fv_model.specs.Views.{bundle_view}
 use Rattle.fv_model.specs.WellTyped.{NamesObject, FitsUse, FieldsFit, FitsType, IsWellTyped, HasRootType}
 use Rattle.fv_model.specs.Writing.{IsWritten}
@@ -30,9 +30,9 @@ use Rattle.fv_model.proofs.Made.{AreWritten, objects_written}
 use Rattle.fv_model.specs.declared.bundle.Bundle.{Bundle}
 use Rattle.fv_model.specs.declared.fault.BundleFault.{BundleFault}
 use Rattle.fv_model.specs.declared.fault.BundleFault.TheVariants.{Memory}
-use Rattle.fv_types.specs.declared.types.TypeId.{TypeId}
-use Rattle.fv_types.proofs.Apart.{found_apart}
-use Rattle.fv_types.proofs.Bools.{not_false, or_left, or_right}
+use Rattle.fv_model_types.specs.declared.types.TypeId.{TypeId}
+use Rattle.fv_model_types.proofs.Apart.{found_apart}
+use Rattle.fv_datum.proofs.Bools.{not_false, or_left, or_right}
 use Rattle.fv_model.proofs.Law.{found_each, flaw_known}
 
 -- ---- references

@@ -4,8 +4,8 @@ use Rattle.std.specs.Map.{keys_of}
 use Rattle.serde_json.specs.Data as json
 use Rattle.fv_datum.specs.Lookup.{at_name}
 use Rattle.fv_datum.specs.Members.{pairs}
-use Rattle.fv_types.specs.Names.{IsAscending}
-use Rattle.fv_types.specs.Types.{DeclaredFields, Declared}
+use Rattle.fv_datum.specs.Ascending.{IsAscending}
+use Rattle.fv_model_types.specs.Types.{DeclaredFields, Declared}
 use Rattle.fv_model.specs.Draft.{Part}
 
 -- members of which each is below those after it, where there are fields for them

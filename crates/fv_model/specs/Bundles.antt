@@ -1,5 +1,5 @@
 -- Bundles of objects.
-pub use Rattle.fv_types.specs.Names.{IsAscending}
+pub use Rattle.fv_datum.specs.Ascending.{IsAscending}
 use Rattle.std.specs.Prelude.{ℕ, List}
 use Rattle.fv_datum.specs.Data.{Data}
 

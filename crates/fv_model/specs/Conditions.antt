@@ -2,7 +2,7 @@
 use Rattle.std.specs.Prelude.{ℕ, List, [], ◌∷◌, Bool, Option}
 use Rattle.fv_model.specs.Draft.{Drafted}
 use Rattle.fv_model.specs.Reading.{bad_name, root_missing, unknown_type, dangling_ref, ref_type, too_large, root_type}
-use Rattle.fv_types.specs.Types.{Declared}
+use Rattle.fv_model_types.specs.Types.{Declared}
 use Rattle.fv_model.specs.declared.fault.BundleFault.{BundleFault}
 use Rattle.fv_model.specs.declared.fault.BundleFault.TheVariants.{BadName, RootMissing, UnknownType, DanglingRef, RefType, TooLarge, RootType}
 

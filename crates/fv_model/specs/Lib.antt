@@ -10,6 +10,7 @@ pub mod Limits
 pub mod PartViews
 pub mod Reading
 pub mod Replaced
+pub mod Setting
 pub mod Single
 pub mod Types
 pub mod Unfit

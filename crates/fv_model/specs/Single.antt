@@ -3,7 +3,7 @@ use Rattle.std.specs.Prelude.{ℕ, List, map, cond, Option, option_map}
 use Rattle.std.specs.Str.{bytes_eq}
 use Rattle.fv_datum.specs.Data.{Data, null}
 use Rattle.fv_datum.specs.Lookup.{at_name}
-use Rattle.fv_types.specs.Types.{TypeUse, Declared, name_at, fields_at}
+use Rattle.fv_model_types.specs.Types.{TypeUse, Declared, name_at, fields_at}
 use Rattle.fv_model.specs.Bundles.{Thing}
 
 -- a field with its datum: this one where the field has the name, and null elsewhere

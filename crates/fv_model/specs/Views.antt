@@ -5,7 +5,7 @@ use Rattle.std.specs.Prelude.{ℕ, List, map, zip, String, string_bytes}
 use Rattle.std.specs.Map.{keys_of}
 use Rattle.fv_datum.specs.View.{view}
 use Rattle.std.specs.declared.alloc.Global.{Global}
-use Rattle.fv_types.specs.Types.{TextMap, name_at, fields_at}
+use Rattle.fv_model_types.specs.Types.{TextMap, name_at, fields_at}
 use Rattle.fv_model.specs.Bundles.{Thing, Things, Bundled}
 use Rattle.fv_model.specs.Draft as spec
 use Rattle.fv_model.specs.declared.bundle.Object.{Object}

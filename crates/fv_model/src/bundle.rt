@@ -3,13 +3,13 @@ ghost use Rattle.std.proofs.Props.{props};
 ghost use Rattle.fv_datum.specs.Lookup.{at_name};
 ghost use Rattle.fv_datum.specs.View.{view};
 ghost use Rattle.fv_model.specs.FieldViews.{types_view, field_view, fields_left};
-ghost use Rattle.fv_types.specs.Types.{fields_view, fields_at};
+ghost use Rattle.fv_model_types.specs.Types.{fields_view, fields_at};
 ghost use Rattle.fv_model.specs.Replaced.{thing_with, bundle_with};
 ghost use Rattle.fv_model.specs.Writing.{IsWritten};
 
 use crate::fields::ObjectFields;
 use fv_datum::Datum;
-use fv_types::{Fields, TypeId, Types};
+use fv_model_types::{Fields, TypeId, Types};
 use indexmap::IndexMap;
 
 /// An object: its type, and a datum for each field of the type, in the fields' order.

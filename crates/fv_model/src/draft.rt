@@ -15,7 +15,7 @@ ghost use Rattle.fv_model.specs.Views.{given_view, object_types_view, part_view,
 
 use crate::parts::{Draft, Part};
 use fv_datum::has_only;
-use fv_types::TypeNames;
+use fv_model_types::TypeNames;
 use indexmap::IndexMap;
 use serde_json::{Map, Value};
 use std::alloc::{AllocError, Global};
@@ -50,7 +50,7 @@ fn part_of<'a>(name: &'a str, value: &'a Value) -> Option<Part<'a>>
     })
 }
 
-#[tactic(auto, using(fv_types::proofs::Fronts::front_more))]
+#[tactic(auto, using(fv_datum::proofs::Fronts::front_more))]
 fn parts_of<'a>(
     alloc: Global,
     objects: &'a Map<String, Value>,

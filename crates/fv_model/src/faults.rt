@@ -2,16 +2,16 @@
 //! (`name_fault`), and after (`late_fault`).
 ghost use Rattle.std.specs.Prelude.{◌≡◌, map, option_map, Some};
 ghost use Rattle.fv_datum.specs.Outcomes.{first};
-ghost use Rattle.fv_types.specs.Types.{name_at};
+ghost use Rattle.fv_model_types.specs.Types.{name_at};
 ghost use Rattle.fv_model.specs.Views.{types_view, part_view, draft_view};
-ghost use Rattle.fv_types.specs.Tells.{Tells};
+ghost use Rattle.fv_model_types.specs.Tells.{Tells};
 ghost use Rattle.fv_model.specs.Conditions.{name_conditions, late_conditions};
 ghost use Rattle.fv_model.specs.Reading.{bad_name, root_missing, unknown_type, some_flawed, object_types, root_type};
 
 use crate::fault::BundleFault;
 use crate::parts::{Draft, Part};
 use fv_datum::is_name;
-use fv_types::{Flaws, TypeId, Types, is_other};
+use fv_model_types::{Flaws, TypeId, Types, is_other};
 
 /// The most objects.
 const MOST_OBJECTS: usize = 256;

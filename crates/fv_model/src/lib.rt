@@ -1,5 +1,5 @@
-//! Bundles: named objects of declared types, read from JSON and written as JSON; and data by
-//! themselves.
+//! Bundles: named objects of declared types, read from JSON and written as JSON; data by themselves; and
+//! one datum of a bundle changed.
 #![tactic(auto)]
 
 mod build;
@@ -9,8 +9,11 @@ mod fault;
 mod faults;
 mod fields;
 mod flaws;
+mod given_datum;
+mod naming;
 mod parts;
 mod reading;
+mod setting;
 mod singles;
 mod value;
 mod writing;
@@ -18,8 +21,9 @@ mod writing;
 pub use bundle::{Bundle, Object, Objects};
 pub use fault::BundleFault;
 pub use fields::ObjectFields;
-pub use fv_types::{Fields, TypeId, TypeUse, Types, TypesFault};
+pub use fv_model_types::{Fields, TypeId, TypeUse, Types, TypesFault};
 pub use reading::read_bundle;
+pub use setting::set_field;
 pub use singles::single;
-pub use value::{read_value, spelled_datum};
+pub use value::read_value;
 pub use writing::write_bundle;

@@ -3,11 +3,12 @@ ghost use Rattle.std.specs.Prelude.{◌≡◌, map, option_map};
 ghost use Rattle.std.specs.Map.{keys_of};
 ghost use Rattle.std.proofs.Props.{props};
 ghost use Rattle.fv_datum.specs.Lookup.{at_name};
-ghost use Rattle.fv_types.specs.Names.{IsAscending, object_types_view};
+ghost use Rattle.fv_datum.specs.Ascending.{IsAscending};
+ghost use Rattle.fv_model_types.specs.Names.{object_types_view};
 ghost use Rattle.fv_model.specs.Reading.{object_types};
 ghost use Rattle.fv_model.specs.PartViews.{part_view};
 
-use fv_types::{TypeNames, type_at};
+use fv_model_types::{TypeNames, type_at};
 use serde_json::{Map, Value};
 
 /// An object as it is given.

@@ -4,9 +4,9 @@ ghost use Rattle.serde_json.specs.View.{view as json_view};
 ghost use Rattle.fv_datum.specs.Data.{Data};
 ghost use Rattle.fv_datum.specs.Outcomes.{Gives};
 ghost use Rattle.fv_datum.specs.View.{view};
-ghost use Rattle.fv_types.specs.Fits.{Fits};
-ghost use Rattle.fv_types.specs.Flaws.{misfits};
-ghost use Rattle.fv_types.specs.Types.{type_use_view};
+ghost use Rattle.fv_model_types.specs.Fits.{Fits};
+ghost use Rattle.fv_model_types.specs.Flaws.{misfits};
+ghost use Rattle.fv_model_types.specs.Types.{type_use_view};
 ghost use Rattle.fv_model.specs.Fitting.{unless_wrong};
 ghost use Rattle.fv_model.specs.Reading.{datum_at, value_read};
 ghost use Rattle.fv_model.specs.WellTyped.{AnyName};
@@ -14,7 +14,7 @@ ghost use Rattle.fv_model.specs.Writing.{IsWritten, datum_json};
 
 use crate::fault::BundleFault;
 use fv_datum::{Datum, DatumFault};
-use fv_types::{TypeNames, TypeUse, flaws_of, read_use};
+use fv_model_types::{TypeNames, TypeUse, flaws_of, read_use};
 use indexmap::IndexMap;
 use serde_json::Value;
 use std::alloc::Global;
@@ -50,7 +50,11 @@ fn small_datum(alloc: Global, type_use: &TypeUse, value: &Value) -> Result<Datum
 /// The datum of a type use that a JSON value spells, however large it is. References aren't looked up.
 ///
 /// Refused by `WrongKind`; `Memory` at any place.
-pub fn spelled_datum(alloc: Global, type_use: &TypeUse, value: &Value) -> Result<Datum, BundleFault>
+pub(crate) fn spelled_datum(
+    alloc: Global,
+    type_use: &TypeUse,
+    value: &Value,
+) -> Result<Datum, BundleFault>
     ensures exact { Gives BundleFault.Memory view result (unless_wrong
         (misfits (Some (type_use_view type_use.now)) (json_view value.now))
         (datum_at (type_use_view type_use.now) (Some (json_view value.now)))) }

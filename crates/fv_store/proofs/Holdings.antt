@@ -3,13 +3,13 @@ use Rattle.std.proofs.Common.{◌≡◌, ℕ, Bool, true, false, cond, List, [],
 use Rattle.std.specs.Option.{ForSome}
 use Rattle.sqlite.specs.State.{State, HasCleanDisk}
 use Rattle.fv_datum.specs.Outcomes.{Gives}
-use Rattle.fv_types.specs.Types.{Declared}
+use Rattle.fv_model_types.specs.Types.{Declared}
 use Rattle.fv_model.specs.WellTyped.{IsWellTyped}
 use Rattle.fv_store.specs.declared.change.Change.{Change}
 use Rattle.fv_store.specs.declared.change.Change.TheVariants.{Put, Remove}
 use Rattle.fv_store.specs.declared.fault.StoreFault.{StoreFault}
 use Rattle.fv_store.specs.declared.fault.StoreFault.TheVariants.{Store, Memory}
-use Rattle.fv_query.specs.declared.shown.Shown.{Shown}
+use Rattle.fv_store.specs.declared.shown.Shown.{Shown}
 use Rattle.fv_store.specs.declared.stored.Stored.{Stored}
 use Rattle.sqlite.specs.declared.error.Error.{Error}
 use Rattle.fv_store.specs.Faults.{fault_of}

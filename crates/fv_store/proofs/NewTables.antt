@@ -45,8 +45,8 @@ use Rattle.fv_store.specs.Stands.{IsBlank, about_row}
 use Rattle.fv_store.specs.Causes.{IsShortAbout}
 use Rattle.fv_store.specs.Steps.{HasAbout, HasEmptyTables, IsExcused}
 use Rattle.fv_store.proofs.Texts.{about_text, record_text, about_schema, about_is, record_is, create_about_is, create_about_whole, create_about_plain, create_record_is, create_record_whole, create_record_plain, kept_table, version_text, version_terms, version_is, version_plain, version_whole, version_accepted}
-use Rattle.fv_query.proofs.Texts.{IsWhole}
-use Rattle.fv_query.proofs.Refusals.{never_steps, run_cause}
+use Rattle.fv_store.proofs.QueryTexts.{IsWhole}
+use Rattle.fv_store.proofs.Refusals.{never_steps, run_cause}
 use Rattle.fv_store.proofs.Inserts.{same_value, cast_null}
 use Rattle.fv_store.proofs.Creates.{cast_one, one_is_not_zero}
 use Rattle.fv_store.proofs.Writes.{never_ok, never_false, never_edited, never_concluded, no_real}

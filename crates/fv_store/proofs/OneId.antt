@@ -19,7 +19,7 @@ use Rattle.fv_store.specs.Records.{Records}
 use Rattle.fv_store.specs.Tables.{about_table, store_schema}
 use Rattle.fv_store.specs.Stands.{IsRowOf, HasRows}
 use Rattle.fv_store.proofs.Texts.{kept_table}
-use Rattle.fv_query.proofs.OneTable.{and_true, equal_texts}
+use Rattle.fv_store.proofs.OneTable.{and_true, equal_texts}
 use Rattle.fv_store.proofs.RowEdits.{equal_is, same_int}
 
 none_any : {X : Type 0} (p : X → Bool) (xs : List X) → ((x : X) → Has xs x → p x ≡ false) → list_any p xs ≡ false

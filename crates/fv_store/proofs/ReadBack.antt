@@ -19,14 +19,14 @@ use Rattle.serde_json.proofs.Texts.{print-outline}
 use Rattle.fv_datum.specs.Data as datum
 use Rattle.fv_datum.specs.Lookup.{at_name}
 use Rattle.fv_datum.specs.Written.{is_null}
-use Rattle.fv_types.specs.Types.{TypeUse, DeclaredFields, Declared, nested, deep_in, has_deep}
-use Rattle.fv_types.proofs.Bools.{or_left, or_right}
-use Rattle.fv_types.proofs.Lists.{none_each}
-use Rattle.fv_types.proofs.Members.{all_put, ascending_put, put_again}
-use Rattle.fv_types.proofs.PlainJson.{IsWhole, IsPlain, ArePlainItems, ArePlain, IsFlat, Fields, no_fields, fits_flat}
+use Rattle.fv_model_types.specs.Types.{TypeUse, DeclaredFields, Declared, nested, deep_in, has_deep}
+use Rattle.fv_datum.proofs.Bools.{or_left, or_right}
+use Rattle.fv_datum.proofs.Lists.{none_each}
+use Rattle.fv_model_types.proofs.Members.{all_put, ascending_put, put_again}
+use Rattle.fv_model_types.proofs.PlainJson.{IsWhole, IsPlain, ArePlainItems, ArePlain, IsFlat, Fields, no_fields, fits_flat}
 use Rattle.fv_model.specs.Bundles.{Thing, Things, Bundled}
 use Rattle.fv_model.specs.WellTyped.{NamesObject, FitsUse, FitsType, FieldsFit, IsWellTyped}
-use Rattle.fv_types.specs.Writing.{datum_json}
+use Rattle.fv_model_types.specs.Writing.{datum_json}
 use Rattle.fv_model.specs.Writing.{added, thing_json, objects_added, bundle_json}
 use Rattle.fv_store.specs.Records.{bundle_text}
 

@@ -27,7 +27,7 @@ use Rattle.fv_store.proofs.OneId.{ids_apart}
 use Rattle.fv_store.proofs.Updates.{exchange}
 use Rattle.fv_store.proofs.Writes.{never_ok, never_false, never_edited, never_concluded}
 use Rattle.fv_store.proofs.Removes.{spells_removed}
-use Rattle.fv_query.proofs.Refusals.{run_cause, no_sum, never_steps}
+use Rattle.fv_store.proofs.Refusals.{run_cause, no_sum, never_steps}
 
 never_or : (b : Bool) → (b || true) ≡ false → ⊥
 never_or true h = never_false h

@@ -28,7 +28,7 @@ use Rattle.fv_store.specs.Causes.{HasRoom}
 use Rattle.fv_store.specs.Steps.{Advances, Makes, Always}
 use Rattle.fv_store.proofs.Texts.{kept_table, remove_text, remove_query, remove_is, remove_plain}
 use Rattle.fv_store.proofs.RowEdits.{spells_left}
-use Rattle.fv_query.proofs.OneTable.{by_id, by_id_is, shown_sound, shown_complete}
+use Rattle.fv_store.proofs.OneTable.{by_id, by_id_is, shown_sound, shown_complete}
 use Rattle.fv_store.proofs.Rooms.{room_kept, fewer}
 use Rattle.fv_store.proofs.Inserts.{went, same_value, zero_is_not_one}
 

@@ -16,7 +16,7 @@ use Rattle.sqlite_tied.specs.Compute.{everything}
 use Rattle.sqlite.specs.Listing.{understood}
 use Rattle.sqlite.proofs.Callers.{IsPlain, command_of, statement_of}
 use Rattle.sqlite.specs.Table.{Table}
-use Rattle.fv_query.proofs.Texts.{IsWhole}
+use Rattle.fv_store.proofs.QueryTexts.{IsWhole}
 use Rattle.fv_store.specs.Tables.{about_table, record_table, no_schema, store_schema}
 
 -- how the table of the version and the declarations is made

@@ -29,7 +29,7 @@ use Rattle.fv_store.specs.Causes.{HasRoom}
 use Rattle.fv_store.specs.Steps.{Lacks, Updates}
 use Rattle.fv_store.proofs.Texts.{kept_table, update_text, update_terms, update_query, update_is, update_plain}
 use Rattle.fv_store.proofs.RowEdits.{other_id, spells_replaced}
-use Rattle.fv_query.proofs.OneTable.{by_id, by_id_is, none_shown, one_shown}
+use Rattle.fv_store.proofs.OneTable.{by_id, by_id_is, none_shown, one_shown}
 use Rattle.fv_store.proofs.Rooms.{room_kept}
 use Rattle.fv_store.proofs.Inserts.{either, went, same_value, zero_is_not_one}
 

@@ -43,7 +43,7 @@ use Rattle.fv_store.specs.Causes.{HasRoom, IsShort}
 use Rattle.fv_store.specs.Stands.{Spells, HasRows, AreTexts, record_row}
 use Rattle.fv_store.specs.Steps.{IsExcused}
 use Rattle.fv_store.proofs.Texts.{kept_table, insert_text, insert_terms, insert_is, insert_plain, insert_whole, insert_accepted, update_text, update_query, update_is, update_plain, update_whole, update_accepted}
-use Rattle.fv_query.proofs.Refusals.{no_sum, never_steps, run_cause}
+use Rattle.fv_store.proofs.Refusals.{no_sum, never_steps, run_cause}
 use Rattle.fv_store.proofs.Rooms.{next_fits, rowid_fits}
 use Rattle.fv_store.proofs.RowEdits.{spells_put, spells_replaced, fresh_again}
 use Rattle.fv_store.proofs.Inserts.{cast_null}

@@ -1,5 +1,5 @@
 -- Why a store refuses.
-pub use Rattle.fv_query.specs.Excuses.{HasFailed}
+pub use Rattle.fv_store.specs.Excuses.{HasFailed}
 use Rattle.std.specs.Prelude.{ℕ, ◌+◌, ◌^◌, ◌<◌, ◌≤◌, ◌-◌, pos, negsuc, ◌+ℤ◌, ◌≤ℤ◌, ◌<ℤ◌, List, [], ◌∷◌, length, string_bytes}
 use Rattle.sqlite.specs.Edit.{id_in}
 use Rattle.sqlite.specs.Effect.{Database}

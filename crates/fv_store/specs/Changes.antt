@@ -1,6 +1,6 @@
 -- What changes make of the records.
 use Rattle.std.specs.Prelude.{List, [], ◌∷◌, string_bytes}
-use Rattle.fv_types.specs.Types.{Declared}
+use Rattle.fv_model_types.specs.Types.{Declared}
 use Rattle.fv_model.specs.Views.{bundle_view}
 use Rattle.fv_store.specs.declared.change.Change.{Change}
 use Rattle.fv_store.specs.declared.change.Change.TheVariants.{Put, Remove}

@@ -1,3 +1,60 @@
--- Records by their ids. They stand in fv_query.
-pub use Rattle.fv_query.specs.Records.{Kept, Records, no_records, with_record, without_record, Roots, Fits, Contents, with_records, AllFit}
-unfoldable pub use Rattle.fv_query.specs.Records.{bundle_text}
+-- Records by their ids.
+use Rattle.std.specs.Prelude.{◌≡◌, ℕ, List, Option, Some, None, if◌then◌else◌}
+use Rattle.std.specs.Str.{bytes_eq}
+use Rattle.serde_json.specs.Written.{compact_text}
+use Rattle.fv_datum.specs.Lookup.{at_name}
+use Rattle.fv_model_types.specs.Types.{Declared}
+use Rattle.fv_model.specs.Bundles.{Bundled}
+use Rattle.fv_model.specs.WellTyped.{IsWellTyped, HasRootType}
+use Rattle.fv_model.specs.Writing.{bundle_json}
+
+-- a record: the name of its form, and its bundle
+pub record Kept : Type 0 where
+  pub form : List ℕ
+  pub bundle : Bundled
+
+-- the record of each id, where there is one
+abbrev pub Records : Type 0
+Records = List ℕ → Option Kept
+
+-- no id has a record
+abbrev pub no_records : Records
+no_records id = None
+
+-- the id has this record, and the others are as before
+abbrev pub with_record : List ℕ → Kept → Records → Records
+with_record id k m other = if bytes_eq other id then Some k else m other
+
+-- the id has no record, and the others are as before
+abbrev pub without_record : List ℕ → Records → Records
+without_record id m other = if bytes_eq other id then None else m other
+
+-- the text that a bundle is kept as: its JSON with no space
+unfoldable pub bundle_text : Bundled → List ℕ
+bundle_text b = compact_text (bundle_json b)
+
+-- the type of each form's root
+abbrev pub Roots : Type 0
+Roots = List (List ℕ × List ℕ)
+
+-- the form has a root type, and the bundle is well-typed with a root of that type
+pub record Fits (types : Declared) (roots : Roots) (k : Kept) : Type 0 where
+  pub root : List ℕ
+  pub declared : at_name k.form roots ≡ Some root
+  pub typed : IsWellTyped types k.bundle
+  pub rooted : HasRootType root k.bundle
+
+-- what a store keeps: the bytes of the declarations, the types and the roots of forms that they declare, and the records
+pub record Contents : Type 0 where
+  pub bytes : List ℕ
+  pub types : Declared
+  pub roots : Roots
+  pub records : Records
+
+-- the same with these records
+abbrev pub with_records : Records → Contents → Contents
+with_records m c = record { bytes = c.bytes; types = c.types; roots = c.roots; records = m }
+
+-- every record fits
+abbrev pub AllFit : Contents → Type 0
+AllFit c = (id : List ℕ) (k : Kept) → c.records id ≡ Some k → Fits c.types c.roots k

@@ -1,10 +1,12 @@
 -- What one statement does to a database, for private clauses.
-pub use Rattle.fv_query.specs.Keeping.{Keeps, IsSettled}
-pub use Rattle.fv_query.specs.Excuses.{IsRefusal, IsExcused}
+pub use Rattle.fv_store.specs.Keeping.{Keeps, IsSettled}
+pub use Rattle.fv_store.specs.Excuses.{IsRefusal, IsExcused}
 use Rattle.std.specs.Prelude.{◌≡◌, ◌⊎◌, ℕ, ◌+◌, IsTrue, List, [], length, Some, None, IsSome}
 use Rattle.sqlite.specs.Change.{created}
 use Rattle.sqlite.specs.Effect.{Database}
-use Rattle.sqlite.specs.State.{State}
+use Rattle.sqlite.specs.Held.{Held, state}
+use Rattle.sqlite.specs.State.{State, HasCleanDisk}
+use Rattle.sqlite_trees.specs.declared.store.Store.{Ghosts}
 use Rattle.fv_store.specs.declared.change.Change.{Change}
 use Rattle.fv_store.specs.Changes.{after_all}
 use Rattle.fv_store.specs.Causes.{HasFailed, HasRoom}
@@ -14,6 +16,10 @@ use Rattle.fv_store.specs.Faults.{about_fault, IsAboutFault}
 use Rattle.fv_store.specs.Stands.{HasTables, Spells, IsBlank}
 use Rattle.fv_store.specs.declared.fault.OpenStoreFault.{OpenStoreFault}
 use Rattle.fv_store.specs.declared.fault.OpenStoreFault.TheVariants as refusal
+
+-- inside a transaction: where the disk is clean behind a step, this holds of what the connection stands for before and behind it
+abbrev pub Inside : {S : Type 0} → Ghosts S → Held S → Held S → (State → State → Type 0) → Type 0
+Inside store old new Holds = HasCleanDisk (state store new) → IsTrue (state store old).in_transaction → Holds (state store old) (state store new)
 
 -- a statement was run inside a transaction, which is still open: nothing is committed, and the database has changed so
 pub record Advances (old new : State) (Change : Database → Database → Type 0) : Type 0 where

@@ -1,11 +1,11 @@
 //! Changes are made in one transaction.
-ghost use Rattle.std.specs.Prelude.{◌≡◌, false, length, IfErr, IsTrue, None, OnOk, OnErr};
+ghost use Rattle.std.specs.Prelude.{◌≡◌, false, length, IfErr, None, OnOk, OnErr};
 ghost use Rattle.sqlite.specs.State.{HasCleanDisk, KeepsCommit};
 ghost use Rattle.fv_store.specs.Stands.{Frame, IsLive, Spells};
 ghost use Rattle.sqlite.specs.Held.{state};
 ghost use Rattle.fv_store.specs.Causes.{AreShort, HasRoom, PutsShort};
 ghost use Rattle.fv_store.specs.Changes.{after, after_all};
-ghost use Rattle.fv_store.specs.Steps.{Advances, Makes, MakesAll, Always, IsExcused, Keeps};
+ghost use Rattle.fv_store.specs.Steps.{Advances, Always, Inside, IsExcused, Keeps, Makes, MakesAll};
 
 use crate::change::Change;
 use crate::records::{put_record, remove_record};
@@ -21,16 +21,12 @@ fn apply<S: Alter>(
     ensures same_reference { tx.new.conn.ghost_name ≡ tx.old.conn.ghost_name }
     ensures frame { Frame (state S.Store tx.old.conn.now) (state S.Store tx.new.conn.now) }
     ensures limit { tx.new.conn.now.step_limit ≡ tx.old.conn.now.step_limit }
-    ensures kept { HasCleanDisk (state S.Store tx.new.conn.now) → IsTrue (state S.Store tx.old.conn.now).in_transaction
-        → KeepsCommit (state S.Store tx.old.conn.now) (state S.Store tx.new.conn.now) }
-    ensures done { HasCleanDisk (state S.Store tx.new.conn.now) → IsTrue (state S.Store tx.old.conn.now).in_transaction
-        → OnOk result (Advances (state S.Store tx.old.conn.now) (state S.Store tx.new.conn.now)
-        (Makes 1 Always (after change.now))) }
-    ensures cause { HasCleanDisk (state S.Store tx.new.conn.now) → IsTrue (state S.Store tx.old.conn.now).in_transaction
-        → tx.old.conn.now.step_limit ≡ None → IfErr result (λ e. (d : _) (m : _)
-        → Spells (state S.Store tx.old.conn.now).now d m → HasRoom 1 (state S.Store tx.old.conn.now).now
-        → PutsShort change.now
-        → IsExcused (state S.Store tx.old.conn.now) (state S.Store tx.new.conn.now) e) }
+    ensures kept { Inside S.Store tx.old.conn.now tx.new.conn.now KeepsCommit }
+    ensures done { Inside S.Store tx.old.conn.now tx.new.conn.now
+        (λ old new. OnOk result (Advances old new (Makes 1 Always (after change.now)))) }
+    ensures cause { Inside S.Store tx.old.conn.now tx.new.conn.now (λ old new. tx.old.conn.now.step_limit ≡ None
+        → IfErr result (λ e. (d : _) (m : _) → Spells old.now d m → HasRoom 1 old.now → PutsShort change.now
+        → IsExcused old new e)) }
 {
     match change {
         Change::Put { id, form, bundle } => {
@@ -49,16 +45,12 @@ fn apply_all<S: Alter>(
     ensures same_reference { tx.new.conn.ghost_name ≡ tx.old.conn.ghost_name }
     ensures frame { Frame (state S.Store tx.old.conn.now) (state S.Store tx.new.conn.now) }
     ensures limit { tx.new.conn.now.step_limit ≡ tx.old.conn.now.step_limit }
-    ensures kept { HasCleanDisk (state S.Store tx.new.conn.now) → IsTrue (state S.Store tx.old.conn.now).in_transaction
-        → KeepsCommit (state S.Store tx.old.conn.now) (state S.Store tx.new.conn.now) }
-    ensures done { HasCleanDisk (state S.Store tx.new.conn.now) → IsTrue (state S.Store tx.old.conn.now).in_transaction
-        → OnOk result (Advances (state S.Store tx.old.conn.now) (state S.Store tx.new.conn.now)
-        (MakesAll changes.now)) }
-    ensures cause { HasCleanDisk (state S.Store tx.new.conn.now) → IsTrue (state S.Store tx.old.conn.now).in_transaction
-        → tx.old.conn.now.step_limit ≡ None → IfErr result (λ e. (d : _) (m : _)
-        → Spells (state S.Store tx.old.conn.now).now d m
-        → HasRoom (length changes.now) (state S.Store tx.old.conn.now).now → AreShort changes.now
-        → IsExcused (state S.Store tx.old.conn.now) (state S.Store tx.new.conn.now) e) }
+    ensures kept { Inside S.Store tx.old.conn.now tx.new.conn.now KeepsCommit }
+    ensures done { Inside S.Store tx.old.conn.now tx.new.conn.now
+        (λ old new. OnOk result (Advances old new (MakesAll changes.now))) }
+    ensures cause { Inside S.Store tx.old.conn.now tx.new.conn.now (λ old new. tx.old.conn.now.step_limit ≡ None
+        → IfErr result (λ e. (d : _) (m : _) → Spells old.now d m → HasRoom (length changes.now) old.now
+        → AreShort changes.now → IsExcused old new e)) }
 {
     'changes: for change in changes {
         apply(tx, alloc, change)?;

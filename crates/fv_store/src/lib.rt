@@ -1,12 +1,17 @@
-//! The records of a service, kept in a database.
+//! The records of a service, kept in a database: the tables, what their rows show of the records, and
+//! how records are changed.
 #![tactic(auto)]
 
 mod about;
+mod about_rows;
 mod change;
 mod changes;
 mod fault;
+mod finding;
+mod listing;
 mod opening;
 mod records;
+mod shown;
 mod store;
 mod stored;
 mod tables;

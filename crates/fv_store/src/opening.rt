@@ -9,9 +9,9 @@ ghost use Rattle.fv_store.specs.Steps.{Keeps, IsSettled, IsTaken, IsCaused, IsEx
 ghost use Rattle.fv_store.specs.Tables.{store_schema};
 
 use crate::about::agrees;
+use crate::about_rows::read_about;
 use crate::fault::OpenStoreFault;
 use crate::tables::create_tables;
-use fv_query::read_about;
 use sqlite::{Alter, Connection, Error};
 
 /// Whether the database has no table, index or view.

@@ -2,7 +2,7 @@
 ghost use Rattle.std.specs.Prelude.{◌≡◌, Ok, Option, option_map, IfOk, IfSome};
 ghost use Rattle.std.specs.Option.{ForSome};
 ghost use Rattle.fv_datum.specs.Outcomes.{Gives};
-ghost use Rattle.fv_types.specs.TypesView.{types_view};
+ghost use Rattle.fv_model_types.specs.TypesView.{types_view};
 ghost use Rattle.fv_model.specs.Views.{bundle_view};
 ghost use Rattle.fv_model.specs.WellTyped.{IsWellTyped};
 ghost use Rattle.fv_store.specs.Records.{Kept};
@@ -10,9 +10,9 @@ ghost use Rattle.fv_store.specs.Showing.{kept_text, shown_view};
 ghost use Rattle.fv_store.specs.Stored.{stored_view};
 
 use crate::fault::StoreFault;
+use crate::shown::Shown;
 use crate::text::bundle_of;
 use fv_model::{Bundle, Types};
-use fv_query::Shown;
 use std::alloc::Global;
 
 /// A record: the name of its form, and its bundle.

@@ -1,10 +1,10 @@
 //! The tables are made, a statement each.
-ghost use Rattle.std.specs.Prelude.{◌≡◌, IfErr, IsTrue, None, OnOk};
-ghost use Rattle.sqlite.specs.State.{HasCleanDisk, KeepsCommit};
+ghost use Rattle.std.specs.Prelude.{◌≡◌, IfErr, None, OnOk};
+ghost use Rattle.sqlite.specs.State.{KeepsCommit};
 ghost use Rattle.sqlite.specs.Held.{state};
 ghost use Rattle.fv_store.specs.Causes.{IsShortAbout};
 ghost use Rattle.fv_store.specs.Stands.{Frame, IsBlank};
-ghost use Rattle.fv_store.specs.Steps.{Advances, IsExcused, Leads, HasAbout, HasEmptyTables, HasNone};
+ghost use Rattle.fv_store.specs.Steps.{Advances, HasAbout, HasEmptyTables, HasNone, Inside, IsExcused, Leads};
 
 use sqlite::{Alter, Error, Transaction, params};
 
@@ -21,14 +21,11 @@ fn create_about<S: Alter>(tx: &mut Transaction<'_, S>) -> Result<usize, Error>
     ensures same_reference { tx.new.conn.ghost_name ≡ tx.old.conn.ghost_name }
     ensures frame { Frame (state S.Store tx.old.conn.now) (state S.Store tx.new.conn.now) }
     ensures limit { tx.new.conn.now.step_limit ≡ tx.old.conn.now.step_limit }
-    ensures kept { HasCleanDisk (state S.Store tx.new.conn.now) → IsTrue (state S.Store tx.old.conn.now).in_transaction
-        → KeepsCommit (state S.Store tx.old.conn.now) (state S.Store tx.new.conn.now) }
-    ensures done { HasCleanDisk (state S.Store tx.new.conn.now) → IsTrue (state S.Store tx.old.conn.now).in_transaction
-        → OnOk result (Advances (state S.Store tx.old.conn.now) (state S.Store tx.new.conn.now)
-        (Leads IsBlank HasAbout)) }
-    ensures cause { HasCleanDisk (state S.Store tx.new.conn.now) → IsTrue (state S.Store tx.old.conn.now).in_transaction
-        → tx.old.conn.now.step_limit ≡ None → IfErr result (λ e. IsBlank (state S.Store tx.old.conn.now).now
-        → IsExcused (state S.Store tx.old.conn.now) (state S.Store tx.new.conn.now) e) }
+    ensures kept { Inside S.Store tx.old.conn.now tx.new.conn.now KeepsCommit }
+    ensures done { Inside S.Store tx.old.conn.now tx.new.conn.now
+        (λ old new. OnOk result (Advances old new (Leads IsBlank HasAbout))) }
+    ensures cause { Inside S.Store tx.old.conn.now tx.new.conn.now (λ old new. tx.old.conn.now.step_limit ≡ None
+        → IfErr result (λ e. IsBlank old.now → IsExcused old new e)) }
 {
     tx.execute(CREATE_ABOUT, &[])
 }
@@ -37,14 +34,11 @@ fn create_record<S: Alter>(tx: &mut Transaction<'_, S>) -> Result<usize, Error>
     ensures same_reference { tx.new.conn.ghost_name ≡ tx.old.conn.ghost_name }
     ensures frame { Frame (state S.Store tx.old.conn.now) (state S.Store tx.new.conn.now) }
     ensures limit { tx.new.conn.now.step_limit ≡ tx.old.conn.now.step_limit }
-    ensures kept { HasCleanDisk (state S.Store tx.new.conn.now) → IsTrue (state S.Store tx.old.conn.now).in_transaction
-        → KeepsCommit (state S.Store tx.old.conn.now) (state S.Store tx.new.conn.now) }
-    ensures done { HasCleanDisk (state S.Store tx.new.conn.now) → IsTrue (state S.Store tx.old.conn.now).in_transaction
-        → OnOk result (Advances (state S.Store tx.old.conn.now) (state S.Store tx.new.conn.now)
-        (Leads HasAbout HasEmptyTables)) }
-    ensures cause { HasCleanDisk (state S.Store tx.new.conn.now) → IsTrue (state S.Store tx.old.conn.now).in_transaction
-        → tx.old.conn.now.step_limit ≡ None → IfErr result (λ e. HasAbout (state S.Store tx.old.conn.now).now
-        → IsExcused (state S.Store tx.old.conn.now) (state S.Store tx.new.conn.now) e) }
+    ensures kept { Inside S.Store tx.old.conn.now tx.new.conn.now KeepsCommit }
+    ensures done { Inside S.Store tx.old.conn.now tx.new.conn.now
+        (λ old new. OnOk result (Advances old new (Leads HasAbout HasEmptyTables))) }
+    ensures cause { Inside S.Store tx.old.conn.now tx.new.conn.now (λ old new. tx.old.conn.now.step_limit ≡ None
+        → IfErr result (λ e. HasAbout old.now → IsExcused old new e)) }
 {
     tx.execute(CREATE_RECORD, &[])
 }
@@ -53,14 +47,11 @@ fn insert_about<S: Alter>(tx: &mut Transaction<'_, S>, declarations: &[u8]) -> R
     ensures same_reference { tx.new.conn.ghost_name ≡ tx.old.conn.ghost_name }
     ensures frame { Frame (state S.Store tx.old.conn.now) (state S.Store tx.new.conn.now) }
     ensures limit { tx.new.conn.now.step_limit ≡ tx.old.conn.now.step_limit }
-    ensures kept { HasCleanDisk (state S.Store tx.new.conn.now) → IsTrue (state S.Store tx.old.conn.now).in_transaction
-        → KeepsCommit (state S.Store tx.old.conn.now) (state S.Store tx.new.conn.now) }
-    ensures done { HasCleanDisk (state S.Store tx.new.conn.now) → IsTrue (state S.Store tx.old.conn.now).in_transaction
-        → OnOk result (Advances (state S.Store tx.old.conn.now) (state S.Store tx.new.conn.now)
-        (Leads HasEmptyTables (HasNone declarations.now))) }
-    ensures cause { HasCleanDisk (state S.Store tx.new.conn.now) → IsTrue (state S.Store tx.old.conn.now).in_transaction
-        → tx.old.conn.now.step_limit ≡ None → IfErr result (λ e. HasEmptyTables (state S.Store tx.old.conn.now).now
-        → IsShortAbout declarations.now → IsExcused (state S.Store tx.old.conn.now) (state S.Store tx.new.conn.now) e) }
+    ensures kept { Inside S.Store tx.old.conn.now tx.new.conn.now KeepsCommit }
+    ensures done { Inside S.Store tx.old.conn.now tx.new.conn.now
+        (λ old new. OnOk result (Advances old new (Leads HasEmptyTables (HasNone declarations.now)))) }
+    ensures cause { Inside S.Store tx.old.conn.now tx.new.conn.now (λ old new. tx.old.conn.now.step_limit ≡ None
+        → IfErr result (λ e. HasEmptyTables old.now → IsShortAbout declarations.now → IsExcused old new e)) }
 {
     tx.execute(INSERT_ABOUT, params![declarations])
 }
@@ -73,14 +64,11 @@ pub(crate) fn create_tables<S: Alter>(
     ensures same_reference { tx.new.conn.ghost_name ≡ tx.old.conn.ghost_name }
     ensures frame { Frame (state S.Store tx.old.conn.now) (state S.Store tx.new.conn.now) }
     ensures limit { tx.new.conn.now.step_limit ≡ tx.old.conn.now.step_limit }
-    ensures kept { HasCleanDisk (state S.Store tx.new.conn.now) → IsTrue (state S.Store tx.old.conn.now).in_transaction
-        → KeepsCommit (state S.Store tx.old.conn.now) (state S.Store tx.new.conn.now) }
-    ensures done { HasCleanDisk (state S.Store tx.new.conn.now) → IsTrue (state S.Store tx.old.conn.now).in_transaction
-        → OnOk result (Advances (state S.Store tx.old.conn.now) (state S.Store tx.new.conn.now)
-        (Leads IsBlank (HasNone declarations.now))) }
-    ensures cause { HasCleanDisk (state S.Store tx.new.conn.now) → IsTrue (state S.Store tx.old.conn.now).in_transaction
-        → tx.old.conn.now.step_limit ≡ None → IfErr result (λ e. IsBlank (state S.Store tx.old.conn.now).now
-        → IsShortAbout declarations.now → IsExcused (state S.Store tx.old.conn.now) (state S.Store tx.new.conn.now) e) }
+    ensures kept { Inside S.Store tx.old.conn.now tx.new.conn.now KeepsCommit }
+    ensures done { Inside S.Store tx.old.conn.now tx.new.conn.now
+        (λ old new. OnOk result (Advances old new (Leads IsBlank (HasNone declarations.now)))) }
+    ensures cause { Inside S.Store tx.old.conn.now tx.new.conn.now (λ old new. tx.old.conn.now.step_limit ≡ None
+        → IfErr result (λ e. IsBlank old.now → IsShortAbout declarations.now → IsExcused old new e)) }
 {
     create_about(tx)?;
     create_record(tx)?;

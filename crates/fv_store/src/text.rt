@@ -1,7 +1,7 @@
 //! Bundles as texts.
 ghost use Rattle.std.specs.Prelude.{◌≡◌, IfOk, Ok, string_bytes};
 ghost use Rattle.fv_datum.specs.Outcomes.{Gives};
-ghost use Rattle.fv_types.specs.TypesView.{types_view};
+ghost use Rattle.fv_model_types.specs.TypesView.{types_view};
 ghost use Rattle.fv_model.specs.Views.{bundle_view};
 ghost use Rattle.fv_model.specs.Bundles.{Bundled};
 ghost use Rattle.fv_model.specs.WellTyped.{IsWellTyped};
@@ -9,7 +9,7 @@ ghost use Rattle.fv_store.specs.Records.{bundle_text};
 
 use crate::fault::StoreFault;
 use fv_model::{Bundle, Types, read_bundle};
-use fv_text::write_text;
+use fv_model_text::write_text;
 use serde_json::Value;
 use std::alloc::{AllocError, Global};
 

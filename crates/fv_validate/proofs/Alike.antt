@@ -4,10 +4,10 @@ use Rattle.std.proofs.lemmas.Cmp.{nat_list_cmp_total}
 use Rattle.std.specs.Cmp.Lexicographic.{slice_cmp}
 use Rattle.std.specs.List.{AllByRecursion}
 use Rattle.std.specs.Ordering.{is_lt, ordering_reverse}
-use Rattle.fv_declare.specs.Declarations.{Placed}
+use Rattle.fv_declare_schema.specs.Declarations.{Placed}
 use Rattle.fv_graph.specs.Graph.{IsIn}
 use Rattle.fv_message.specs.Table.{Messages}
-use Rattle.fv_turns.specs.Violations.{Violation}
+use Rattle.fv_walk_traces.specs.Violations.{Violation}
 use Rattle.fv_validate.specs.Violations.{Reported, Precedes, IsAscending, AreListed}
 
 -- ---- no two precede each other

@@ -5,11 +5,11 @@ use Rattle.std.proofs.lemmas.List.{length-map}
 use Rattle.std.proofs.lemmas.Option.{slice_get-map}
 use Rattle.std.specs.List.{AllWithin}
 use Rattle.std.specs.List.Sorted.{IsNonDecreasingBy, IsPartitionPoint}
-use Rattle.fv_declare.specs.Declarations.{Placed, AreNumbered}
-use Rattle.fv_occurrence.specs.Codes.{length-preorder}
-use Rattle.fv_occurrence.specs.Nodes.{Node}
-use Rattle.fv_occurrence.specs.Preorder.{preorder, nodes}
-use Rattle.fv_occurrence.specs.Trees.{Tree, size}
+use Rattle.fv_declare_schema.specs.Declarations.{Placed, AreNumbered}
+use Rattle.fv_constraint_tree.specs.Codes.{length-preorder}
+use Rattle.fv_constraint_tree.specs.Nodes.{Node}
+use Rattle.fv_constraint_tree.specs.Preorder.{preorder, nodes}
+use Rattle.fv_constraint_tree.specs.Trees.{Tree, size}
 use Rattle.fv_validate.specs.Violations.{nodes_in}
 
 -- ---- elements of joined lists

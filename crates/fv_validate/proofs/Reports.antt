@@ -1,13 +1,13 @@
 -- The reports of violations.
 use Rattle.std.proofs.Common.{◌≡◌, ◌↔◌, ℕ, List, [], ◌∷◌, map, refl, sym, ap, subst, ◌∙◌, inl, inr}
 use Rattle.std.specs.List.{AllByRecursion}
-use Rattle.fv_declare.specs.Declarations.{Placed}
+use Rattle.fv_declare_schema.specs.Declarations.{Placed}
 use Rattle.fv_graph.specs.Graph.{IsIn}
 use Rattle.fv_path.specs.Paths.{IsPath}
 use Rattle.fv_path.proofs.Joined.{text_same}
-use Rattle.fv_turns.proofs.Lists.{in_map, from_map}
+use Rattle.fv_graph.proofs.Images.{in_map, from_map}
 use Rattle.fv_message.specs.Table.{Messages}
-use Rattle.fv_turns.specs.Violations.{Violation}
+use Rattle.fv_walk_traces.specs.Violations.{Violation}
 use Rattle.fv_validate.specs.Listing.{key_of, AreApart, AreToldApart}
 use Rattle.fv_validate.specs.Violations.{Reported, reported_by, IsReportOf, IsAscending, AreListed}
 

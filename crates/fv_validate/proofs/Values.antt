@@ -11,10 +11,10 @@ use Rattle.fv_model.specs.Bundles.{Thing}
 use Rattle.fv_model.specs.Reading.{fields_of}
 use Rattle.fv_model.specs.Single.{single_field, single_thing, single_of}
 use Rattle.fv_model.specs.WellTyped.{AnyName}
-use Rattle.fv_property.specs.Properties.{field_number}
-use Rattle.fv_property.specs.Typed.{AreOfFields, IsOfType}
-use Rattle.fv_types.specs.Fits.{Fits}
-use Rattle.fv_types.specs.Types.{TypeUse, DeclaredFields, Declared, AreApart, name_at, fields_at}
+use Rattle.fv_walk.specs.Properties.{field_number}
+use Rattle.fv_walk.specs.Typed.{AreOfFields, IsOfType}
+use Rattle.fv_model_types.specs.Fits.{Fits}
+use Rattle.fv_model_types.specs.Types.{TypeUse, DeclaredFields, Declared, AreApart, name_at, fields_at}
 use Rattle.fv_validate.specs.Values.{field_use, valued}
 
 module _ (ts : Declared) (type name : List ℕ) (d : Data) (fields : DeclaredFields) (declared : at_name type ts ≡ Some fields) where

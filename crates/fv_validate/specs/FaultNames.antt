@@ -1,7 +1,7 @@
 -- The names of faults.
 use Rattle.std.specs.Prelude.{ℕ, List, codes}
-use Rattle.fv_property.specs.declared.fault.PropertyFault.{PropertyFault}
-use Rattle.fv_property.specs.declared.fault.PropertyFault.TheVariants as property
+use Rattle.fv_walk.specs.declared.property_fault.PropertyFault.{PropertyFault}
+use Rattle.fv_walk.specs.declared.property_fault.PropertyFault.TheVariants as property
 use Rattle.fv_walk.specs.declared.fault.WalkFault.{WalkFault}
 use Rattle.fv_walk.specs.declared.fault.WalkFault.TheVariants as walk
 use Rattle.fv_validate.specs.declared.fault.ValidateFault.{ValidateFault}

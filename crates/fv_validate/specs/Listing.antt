@@ -4,7 +4,7 @@ use Rattle.std.specs.Ordering.{nat_cmp, ordering_then}
 use Rattle.std.specs.Cmp.Lexicographic.{slice_cmp}
 use Rattle.std.specs.declared.cmp.Ordering.{Ordering}
 use Rattle.fv_graph.specs.Graph.{IsIn}
-use Rattle.fv_turns.specs.Violations.{Violation}
+use Rattle.fv_walk_traces.specs.Violations.{Violation}
 use Rattle.fv_validate.specs.Violations.{Reported}
 
 -- what tells a report from the others: its path and its number

@@ -5,7 +5,7 @@ use Rattle.fv_datum.specs.Lookup.{at_name}
 use Rattle.fv_model.specs.Bundles.{Thing}
 use Rattle.fv_model.specs.Reading.{fields_of}
 use Rattle.fv_model.specs.Single.{single_field}
-use Rattle.fv_types.specs.Types.{TypeUse, Declared}
+use Rattle.fv_model_types.specs.Types.{TypeUse, Declared}
 
 -- what the field of a name holds in the type of a name; none where the type isn't declared, or has no such field
 abbrev pub field_use : Declared → List ℕ → List ℕ → Option TypeUse

@@ -5,18 +5,18 @@ use Rattle.std.specs.Option.{option_map_or}
 use Rattle.std.specs.Ordering.{nat_cmp, is_lt}
 use Rattle.std.specs.Cmp.Lexicographic.{slice_cmp}
 use Rattle.fv_datum.specs.Data.{Data}
-use Rattle.fv_declare.specs.Declarations.{Placed, Declarations}
+use Rattle.fv_declare_schema.specs.Declarations.{Placed, Declarations}
 use Rattle.fv_graph.specs.Graph.{IsIn}
 use Rattle.fv_message.specs.Full.{full_text}
 use Rattle.fv_message.specs.Table.{Messages}
 use Rattle.fv_model.specs.Bundles.{Thing, Bundled}
-use Rattle.fv_occurrence.specs.Nodes.{Node}
-use Rattle.fv_occurrence.specs.Preorder.{nodes}
+use Rattle.fv_constraint_tree.specs.Nodes.{Node}
+use Rattle.fv_constraint_tree.specs.Preorder.{nodes}
 use Rattle.fv_path.specs.Texts.{text_of}
-use Rattle.fv_property.specs.Properties.{IsViolationIn}
+use Rattle.fv_walk.specs.Properties.{IsViolationIn}
 use Rattle.fv_registry.specs.Meanings.{Meanings}
-use Rattle.fv_turns.specs.Violations.{Violation, IsViolation}
-use Rattle.fv_request.specs.Requests.{request_of}
+use Rattle.fv_walk_traces.specs.Violations.{Violation, IsViolation}
+use Rattle.fv_walk_request.specs.Requests.{request_of}
 
 -- a reported constraint: the path of the value, the constraint's name, its number over the whole declarations, the message and the value
 pub record Reported : Type 0 where

@@ -2,8 +2,7 @@ ghost use Rattle.std.specs.Prelude.{◌≡◌};
 ghost use Rattle.fv_validate.specs.FaultNames.{validate_fault_name, walk_fault, property_fault};
 ghost use Rattle.fv_validate.specs.declared.fault.ValidateFault.TheVariants.{Memory};
 
-use fv_property::PropertyFault;
-use fv_walk::WalkFault;
+use fv_walk::{PropertyFault, WalkFault};
 use std::alloc::AllocError;
 use thiserror::Error;
 

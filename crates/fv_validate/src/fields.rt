@@ -6,11 +6,11 @@ ghost use Rattle.fv_groups.specs.Tables.{indices};
 ghost use Rattle.fv_model.specs.Views.{object_view};
 ghost use Rattle.fv_model.specs.WellTyped.{AnyName};
 ghost use Rattle.fv_model.specs.Writing.{IsWritten};
-ghost use Rattle.fv_property.specs.Properties.{field_number};
-ghost use Rattle.fv_property.specs.Typed.{IsOfType};
-ghost use Rattle.fv_property.specs.Visits.{HasFewVisitsAt, HasTooManyVisitsAt};
-ghost use Rattle.fv_types.specs.Fits.{Fits};
-ghost use Rattle.fv_types.specs.Types.{TypeUse};
+ghost use Rattle.fv_walk.specs.Properties.{field_number};
+ghost use Rattle.fv_walk.specs.Typed.{IsOfType};
+ghost use Rattle.fv_walk.specs.FieldVisits.{HasFewVisitsAt, HasTooManyVisitsAt};
+ghost use Rattle.fv_model_types.specs.Fits.{Fits};
+ghost use Rattle.fv_model_types.specs.Types.{TypeUse};
 ghost use Rattle.fv_validate.specs.Values.{field_use, valued};
 ghost use Rattle.fv_validate.specs.ViolationView.{violation_view};
 ghost use Rattle.fv_validate.specs.Violations.{IsListingOfField};
@@ -23,8 +23,8 @@ use fv_datum::Datum;
 use fv_groups::GroupId;
 use fv_local::Rulebook;
 use fv_model::{Object, single};
-use fv_property::failures_of_field;
 use fv_registry::RuleSet;
+use fv_walk::failures_of_field;
 use std::alloc::Global;
 
 /// The violations in the field of that name of an object at a moment, in whole seconds since

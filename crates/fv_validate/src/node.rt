@@ -1,12 +1,12 @@
 //! Constraints by their numbers over the whole declarations.
 ghost use Rattle.std.specs.Prelude.{◌≡◌, map, option_map, slice_get};
-ghost use Rattle.fv_declare.specs.Declarations.{AreNumbered};
-ghost use Rattle.fv_declare.specs.PlacedView.{placed_view};
-ghost use Rattle.fv_occurrence.specs.Views.{node_view};
+ghost use Rattle.fv_declare_schema.specs.Declarations.{AreNumbered};
+ghost use Rattle.fv_declare_schema.specs.PlacedView.{placed_view};
+ghost use Rattle.fv_constraint_tree.specs.Views.{node_view};
 ghost use Rattle.fv_validate.specs.Violations.{nodes_in};
 
-use fv_declare::Placed;
-use fv_occurrence::Node;
+use fv_constraint_tree::Node;
+use fv_declare_schema::Placed;
 
 /// The constraint of a number, in the trees of these uses.
 pub(crate) fn node_of(occurrences: &[Placed], number: usize) -> Option<&Node>

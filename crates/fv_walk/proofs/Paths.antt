@@ -6,9 +6,9 @@ use Rattle.fv_extract.specs.Places.{Step, element, key as key_step, value, conte
 use Rattle.fv_path.specs.Nodes.{PathNode, field, index, key, list_element, map_key, map_value, is_part}
 use Rattle.fv_path.specs.Paths.{takes_field, may_stand, IsPath}
 use Rattle.fv_path.proofs.Chains.{last_of, path_push}
-use Rattle.fv_spot.specs.Loci.{leads}
-use Rattle.fv_spot.specs.Paths.{nodes_of}
-use Rattle.fv_turns.specs.Violations.{but_named}
+use Rattle.fv_walk_request.specs.Loci.{leads}
+use Rattle.fv_walk_request.specs.Paths.{nodes_of}
+use Rattle.fv_walk_traces.specs.Violations.{but_named}
 use Rattle.fv_walk.specs.Paths.{TakesField}
 
 -- the nodes behind a field: none, or the last two are an index or a key and the part that it leads to

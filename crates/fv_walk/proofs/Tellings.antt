@@ -6,7 +6,7 @@ use Rattle.std.specs.declared.alloc.Global.{Global}
 use Rattle.fv_datum.specs.Data.{Data}
 use Rattle.fv_datum.specs.View.{view}
 use Rattle.fv_datum.specs.declared.datum.Datum.{Datum}
-use Rattle.fv_declare.specs.Declarations.{Declarations}
+use Rattle.fv_declare_schema.specs.Declarations.{Declarations}
 use Rattle.fv_extract.specs.Parts.{Locus, parts_at}
 use Rattle.fv_extract.specs.Places.{Place}
 use Rattle.fv_extract.specs.Views.{part_view, place_view}
@@ -23,17 +23,17 @@ use Rattle.fv_path.specs.Nodes.{PathNode}
 use Rattle.fv_path.specs.Paths.{IsPath}
 use Rattle.fv_path.specs.Views.{node_view}
 use Rattle.fv_path.specs.declared.node.Node.{Node}
-use Rattle.fv_request.proofs.Parts.{part_there}
-use Rattle.fv_request.proofs.Ways.{from_filter_map, way_is}
-use Rattle.fv_request.specs.Conversions.{valid_places_at}
-use Rattle.fv_request.specs.Requests.{nodes_at, object_at}
-use Rattle.fv_request.specs.Sound.{IsSound}
-use Rattle.fv_request.specs.Ways.{place_of, way_at, ways_at, ways_of}
-use Rattle.fv_spot.specs.Paths.{field_name}
-use Rattle.fv_turns.proofs.Ends.{from_flat_map}
-use Rattle.fv_turns.specs.Requests.{Request}
-use Rattle.fv_turns.specs.Turns.{Way}
-use Rattle.fv_turns.specs.Violations.{Violation, but_named}
+use Rattle.fv_walk_request.proofs.Parts.{part_there}
+use Rattle.fv_walk_request.proofs.Ways.{way_is}
+use Rattle.fv_graph.proofs.Images.{from_filter_map, from_flat_map}
+use Rattle.fv_walk_request.specs.Conversions.{valid_places_at}
+use Rattle.fv_walk_request.specs.Requests.{nodes_at, object_at}
+use Rattle.fv_walk_request.specs.Sound.{IsSound}
+use Rattle.fv_walk_request.specs.Ways.{place_of, way_at, ways_at, ways_of}
+use Rattle.fv_walk_request.specs.Paths.{field_name}
+use Rattle.fv_walk_traces.specs.Requests.{Request}
+use Rattle.fv_walk_traces.specs.Turns.{Way}
+use Rattle.fv_walk_traces.specs.Violations.{Violation, but_named}
 use Rattle.fv_walk.proofs.Frames.{path_push}
 use Rattle.fv_walk.proofs.Paths.{field_alone, last_dropped}
 use Rattle.fv_walk.specs.Courses.{visiting, bundle_in}

@@ -1,6 +1,6 @@
 -- The failures that contracts see.
 use Rattle.fv_datum.specs.View.{view}
-use Rattle.fv_turns.specs.Violations.{Violation}
+use Rattle.fv_walk_traces.specs.Violations.{Violation}
 use Rattle.fv_walk.specs.declared.failure.Failure.{Failure}
 
 -- a failure

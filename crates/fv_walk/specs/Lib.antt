@@ -1,7 +1,13 @@
-pub mod FaultNames
-pub mod FailureView
-pub mod Visits
 pub mod Courses
-pub mod Stacks
+pub mod FailureView
+pub mod FaultNames
+pub mod FieldVisits
+pub mod Judges
 pub mod Paths
+pub mod Properties
+pub mod PropertyFaultNames
+pub mod Ranks
+pub mod Stacks
+pub mod Typed
+pub mod Visits
 pub mod Walks

@@ -1,17 +1,25 @@
 //! What fails in a bundle, by a request for groups: the objects that the root reaches through valid
 //! references, along each way to them (Jakarta Bean Validation 3.0, "Validation routine" and "Graph
-//! validation").
+//! validation"); and what fails in one field of one object ("Validation methods": `validateProperty`
+//! and `validateValue`).
 #![tactic(auto)]
 
 mod counting;
 mod course;
 mod failure;
 mod fault;
+mod field_telling;
 mod frame;
+mod laws;
+mod property;
+mod property_fault;
 mod telling;
 mod walking;
 
 pub use counting::visits;
 pub use failure::Failure;
 pub use fault::WalkFault;
+pub use laws::{failures_of_a_field_are_told_apart, objects_are_of_their_types};
+pub use property::failures_of_field;
+pub use property_fault::PropertyFault;
 pub use walking::{Walked, walk, walk_counted};

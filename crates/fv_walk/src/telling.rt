@@ -7,15 +7,16 @@ ghost use Rattle.fv_graph.specs.Graph.{IsIn};
 ghost use Rattle.fv_local.specs.FailureView.{IsFoundIn};
 ghost use Rattle.fv_local.specs.FailureView as local;
 ghost use Rattle.fv_model.specs.Views.{object_view};
-ghost use Rattle.fv_request.specs.Graphs.{way_view};
-ghost use Rattle.fv_request.specs.Requests.{nodes_at, object_at};
-ghost use Rattle.fv_request.specs.Sound as parts;
+ghost use Rattle.fv_walk_request.specs.Graphs.{way_view};
+ghost use Rattle.fv_walk_request.specs.Requests.{nodes_at, object_at};
+ghost use Rattle.fv_walk_request.specs.Sound as parts;
 ghost use Rattle.fv_path.specs.Paths.{IsPath};
-ghost use Rattle.fv_turns.specs.Violations.{but_named};
-ghost use Rattle.fv_walk.specs.Courses.{IsSound, visiting, bundle_in, objects_in, groups_in};
+ghost use Rattle.fv_walk_traces.specs.Violations.{but_named};
+ghost use Rattle.fv_walk.specs.Courses.{IsSound, visiting, bundle_in, objects_in};
 ghost use Rattle.fv_walk.specs.FailureView.{failure_view};
+ghost use Rattle.fv_walk.specs.Judges.{IsGoodOn, AreGoodOn};
 ghost use Rattle.fv_walk.specs.Paths.{TakesField};
-ghost use Rattle.fv_walk.specs.Stacks.{IsGood, nodes_above, path_on, way_before};
+ghost use Rattle.fv_walk.specs.Stacks.{nodes_above, path_on, way_before};
 ghost use Rattle.fv_walk.specs.Walks.{told_at};
 
 use crate::course::Course;
@@ -26,8 +27,7 @@ use fv_extract::{Part, Step};
 use fv_local::{LocalFailure, Spot};
 use fv_model::Object;
 use fv_path::Path;
-use fv_request::Way;
-use fv_spot::push_spot;
+use fv_walk_request::{Way, push_spot};
 use std::alloc::{AllocError, Global};
 
 /// The reference before a place.
@@ -93,7 +93,7 @@ fn push_frame(
     frame: &Frame,
 ) -> Result<(), AllocError>
     requires sound { IsSound course.now }
-    requires good { IsGood (visiting course.now) (objects_in course.now) (groups_in course.now) frame.now }
+    requires good { IsGoodOn course.now frame.now }
     requires room { TakesField path.old }
     ensures added { OnOk result (path.new ≡ path.old ++ nodes_above (visiting course.now) frame.now) }
     ensures room { OnOk result (TakesField path.new) }
@@ -108,7 +108,7 @@ fn push_frame(
 /// The path to the object of a frame above these.
 fn path_on(alloc: Global, course: &Course, stack: &[Frame]) -> Result<Path, AllocError>
     requires sound { IsSound course.now }
-    requires good { All (IsGood (visiting course.now) (objects_in course.now) (groups_in course.now)) stack.now }
+    requires good { AreGoodOn course.now stack.now }
     ensures path { IfOk result (λ p. p ≡ path_on (visiting course.now) stack.now) }
     ensures room { IfOk result (λ p. TakesField p) }
 {
@@ -128,7 +128,7 @@ fn failure_of(
     failure: &LocalFailure,
 ) -> Result<Failure, AllocError>
     requires sound { IsSound course.now }
-    requires good { All (IsGood (visiting course.now) (objects_in course.now) (groups_in course.now)) stack.now }
+    requires good { AreGoodOn course.now stack.now }
     requires object { object < objects_in course.now }
     requires found { IsFoundIn (object_at (bundle_in course.now) object) failure.now.spot }
     ensures { IfOk result (λ f. failure_view f
@@ -164,7 +164,7 @@ pub(crate) fn add_failures(
     found: &[LocalFailure],
 ) -> Result<(), AllocError>
     requires sound { IsSound course.now }
-    requires good { All (IsGood (visiting course.now) (objects_in course.now) (groups_in course.now)) stack.now }
+    requires good { AreGoodOn course.now stack.now }
     requires object { object < objects_in course.now }
     requires found { All (λ f. IsFoundIn (object_at (bundle_in course.now) object) f.spot) found.now }
     ensures { OnOk result (map failure_view failures.new.items ≡ map failure_view failures.old.items

@@ -4,10 +4,10 @@ use Rattle.std.specs.Cmp.Lexicographic.{slice_cmp}
 use Rattle.fv_datum.specs.Attributes.{AttributeValue, Attributes, attribute_view, entry_view}
 use Rattle.fv_datum.specs.Lookup.{at_name}
 use Rattle.fv_builtin.specs.Given.{in_effect}
-use Rattle.fv_builtin.specs.Maps.{ascends}
+use Rattle.fv_datum.specs.Maps.{ascends}
 use Rattle.fv_builtin.specs.Table.{default_of}
 use Rattle.fv_builtin.proofs.PutIn.{stands, given_stays, each_stays, each_put}
-use Rattle.fv_builtin.proofs.Maps.{put_seen, ascends-insert}
+use Rattle.fv_datum.proofs.Maps.{put_seen, ascends-insert}
 use Rattle.fv_builtin.proofs.defaults.put_default.Goals as goal
 
 pub returns-then-contains_key-clause-each : goal.returns-then-contains_key-clause-each

@@ -1,6 +1,6 @@
 use Rattle.std.proofs.Common.{◌≡◌, ◌∙◌, ◌++◌, map, sym, ap, append-nil}
-use Rattle.fv_builtin.specs.Maps.{ascends}
-use Rattle.fv_builtin.proofs.Maps.{seen-ascends}
+use Rattle.fv_datum.specs.Maps.{ascends}
+use Rattle.fv_datum.proofs.Maps.{seen-ascends}
 use Rattle.fv_datum.specs.Attributes.{attribute_view, entry_view}
 use Rattle.fv_constraint.proofs.Putting.{copied_more}
 use Rattle.fv_constraint.proofs.copying.copy_entries.Goals as goal

@@ -1,6 +1,6 @@
 use Rattle.std.proofs.Common.{ap, option_map, option_and_then, sym, ◌∙◌}
-use Rattle.fv_constraint.specs.DefinitionViews.{attribute_definition_view}
-use Rattle.fv_builtin.proofs.Lookups.{found_at, option_map-copied}
+use Rattle.fv_declare_definition.specs.DefinitionViews.{attribute_definition_view}
+use Rattle.fv_datum.proofs.Lookups.{found_at, option_map-copied}
 use Rattle.fv_datum.specs.Attributes.{attribute_view}
 use Rattle.fv_constraint.proofs.effect.default_of.Goals as goal
 

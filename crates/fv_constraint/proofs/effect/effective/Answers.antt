@@ -3,8 +3,8 @@ use Rattle.fv_builtin.specs.Given.{given_or}
 use Rattle.fv_builtin.proofs.PutIn.{given_stays}
 use Rattle.fv_datum.specs.Attributes.{attribute_view}
 use Rattle.fv_datum.specs.Lookup.{at_name}
-use Rattle.fv_constraint.specs.Definitions.{declared}
-use Rattle.fv_constraint.specs.DefinitionViews.{definition_view}
+use Rattle.fv_constraint.specs.Meanings.{declared}
+use Rattle.fv_declare_definition.specs.DefinitionViews.{definition_view}
 use Rattle.fv_constraint.specs.Effect.{default_of}
 use Rattle.fv_constraint.proofs.Filled.{given_none}
 use Rattle.fv_constraint.proofs.effect.effective.Goals as goal

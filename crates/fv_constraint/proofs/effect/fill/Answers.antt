@@ -2,8 +2,8 @@ use Rattle.std.proofs.Common.{◌≡◌, ◌∙◌, map, cond, None, true, false
 use Rattle.std.specs.BTreeMap.{insert_entry}
 use Rattle.std.specs.Cmp.Lexicographic.{slice_cmp}
 use Rattle.fv_builtin.specs.Given.{given_or}
-use Rattle.fv_builtin.specs.Maps.{ascends}
-use Rattle.fv_builtin.proofs.Maps.{put_seen, ascends-insert}
+use Rattle.fv_datum.specs.Maps.{ascends}
+use Rattle.fv_datum.proofs.Maps.{put_seen, ascends-insert}
 use Rattle.fv_builtin.proofs.PutIn.{stands, given_stays}
 use Rattle.fv_datum.specs.Attributes.{AttributeValue, Attributes, attribute_view, entry_view}
 use Rattle.fv_datum.specs.Lookup.{at_name}

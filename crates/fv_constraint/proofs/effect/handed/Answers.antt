@@ -1,11 +1,11 @@
 use Rattle.std.proofs.Common.{◌≡◌, ◌∙◌, ℕ, List, map, None, cond, option_map, option_and_then, string_bytes, bytes_eq, sym, ap}
 use Rattle.fv_builtin.specs.Given.{given_or}
-use Rattle.fv_builtin.specs.Maps.{ascends}
+use Rattle.fv_datum.specs.Maps.{ascends}
 use Rattle.fv_builtin.proofs.PutIn.{given_alone}
 use Rattle.fv_datum.specs.Attributes.{Attributes, attribute_view, entry_view}
 use Rattle.fv_datum.specs.Lookup.{at_name}
-use Rattle.fv_constraint.specs.Definitions.{declared}
-use Rattle.fv_constraint.specs.DefinitionViews.{definition_view, override_entry}
+use Rattle.fv_constraint.specs.Meanings.{declared}
+use Rattle.fv_declare_definition.specs.DefinitionViews.{definition_view, override_entry}
 use Rattle.fv_constraint.specs.Effect.{effective}
 use Rattle.fv_constraint.proofs.Filled.{filled_more, left_ascend}
 use Rattle.fv_constraint.proofs.effect.handed.Goals as goal

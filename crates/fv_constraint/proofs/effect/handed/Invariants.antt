@@ -2,11 +2,11 @@ use Rattle.std.proofs.Common.{◌≡◌, ℕ, List, map, true, option_and_then, 
 use Rattle.std.specs.List.Sorted.{IsStrictlySortedBy}
 use Rattle.std.specs.Map.{keys_of}
 use Rattle.fv_builtin.specs.Given.{given_or}
-use Rattle.fv_builtin.specs.Maps.{ascends}
+use Rattle.fv_datum.specs.Maps.{ascends}
 use Rattle.fv_datum.specs.Attributes.{entry_view}
 use Rattle.fv_datum.specs.Lookup.{at_name}
-use Rattle.fv_constraint.specs.Definitions.{declared}
-use Rattle.fv_constraint.specs.DefinitionViews.{definition_view, override_entry, composing_view}
+use Rattle.fv_constraint.specs.Meanings.{declared}
+use Rattle.fv_declare_definition.specs.DefinitionViews.{definition_view, override_entry, composing_view}
 use Rattle.fv_constraint.specs.Effect.{effective, handed}
 use Rattle.fv_constraint.proofs.effect.handed.Given as goal
 

@@ -1,8 +1,8 @@
 use Rattle.std.proofs.Common.{◌∙◌, sym, ap}
-use Rattle.fv_builtin.specs.Maps.{ascends}
+use Rattle.fv_datum.specs.Maps.{ascends}
 use Rattle.fv_datum.specs.Attributes.{Attributes}
 use Rattle.fv_datum.specs.Lookup.{at_name}
-use Rattle.fv_constraint.specs.DefinitionViews.{meant_view}
+use Rattle.fv_constraint.specs.MeantView.{meant_view}
 use Rattle.fv_constraint.specs.Effect.{effective}
 use Rattle.fv_constraint.proofs.effect.in_effect.Goals as goal
 

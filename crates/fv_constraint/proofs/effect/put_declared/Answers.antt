@@ -1,9 +1,9 @@
 use Rattle.std.proofs.Common.{◌≡◌, ◌∙◌, ℕ, List, map, None, cond, option_map, string_bytes, bytes_eq, ap}
 use Rattle.fv_builtin.specs.Given.{given_or}
-use Rattle.fv_builtin.proofs.Lookups.{option_map-copied}
+use Rattle.fv_datum.proofs.Lookups.{option_map-copied}
 use Rattle.fv_datum.specs.Attributes.{Attributes, attribute_view, entry_view}
 use Rattle.fv_datum.specs.Lookup.{at_name}
-use Rattle.fv_constraint.specs.DefinitionViews.{attribute_definition_view}
+use Rattle.fv_declare_definition.specs.DefinitionViews.{attribute_definition_view}
 use Rattle.fv_constraint.proofs.Filled.{filled_more, left_ascend}
 use Rattle.fv_constraint.proofs.effect.put_declared.Goals as goal
 

@@ -1,8 +1,8 @@
 use Rattle.std.proofs.Common.{◌≡◌, None, option_map, sym, ap, ◌∙◌}
 use Rattle.fv_builtin.specs.Names.{builtin_named}
-use Rattle.fv_constraint.specs.DefinitionViews.{definition_view}
-use Rattle.fv_constraint.specs.Definitions.{declared}
-use Rattle.fv_builtin.proofs.Lookups.{found_at}
+use Rattle.fv_declare_definition.specs.DefinitionViews.{definition_view}
+use Rattle.fv_constraint.specs.Meanings.{declared}
+use Rattle.fv_datum.proofs.Lookups.{found_at}
 use Rattle.fv_constraint.proofs.meant.meant_by.Goals as goal
 
 pub returns-in-None-get : goal.returns-in-None-get

@@ -1,5 +1,5 @@
 use Rattle.std.proofs.Common.{◌≡◌, ◌++◌, map}
-use Rattle.fv_constraint.specs.DefinitionViews.{definition_entry}
+use Rattle.fv_declare_definition.specs.DefinitionViews.{definition_entry}
 use Rattle.fv_constraint.specs.Numbered.{numbers_of}
 use Rattle.fv_constraint.proofs.numbers.edges_of.Given as goal
 

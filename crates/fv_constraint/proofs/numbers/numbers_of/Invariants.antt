@@ -1,5 +1,5 @@
 use Rattle.std.proofs.Common.{◌≡◌, map, take}
-use Rattle.fv_constraint.specs.DefinitionViews.{composing_view}
+use Rattle.fv_declare_definition.specs.DefinitionViews.{composing_view}
 use Rattle.fv_constraint.specs.Numbered.{numbers_of}
 use Rattle.fv_constraint.proofs.numbers.numbers_of.Given as goal
 

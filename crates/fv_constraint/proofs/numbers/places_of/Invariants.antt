@@ -1,5 +1,5 @@
 use Rattle.std.proofs.Common.{◌≡◌, ◌+◌, ◌++◌, length, map}
-use Rattle.fv_constraint.specs.DefinitionViews.{definition_entry}
+use Rattle.fv_declare_definition.specs.DefinitionViews.{definition_entry}
 use Rattle.fv_constraint.specs.Numbered.{placed, place_entry}
 use Rattle.fv_constraint.proofs.numbers.places_of.Given as goal
 

@@ -1,11 +1,13 @@
 use Rattle.std.proofs.Common.{◌≡◌, ◌∙◌, map, Option, Some, None, option_map, slice_get, refl, sym, ap}
 use Rattle.std.specs.Option.{unwrap_or}
-use Rattle.fv_builtin.proofs.Maps.{same_map}
-use Rattle.fv_types.proofs.Lookups.{seen_option}
+use Rattle.fv_datum.proofs.Maps.{same_map}
+use Rattle.fv_datum.proofs.Lookups.{seen_option}
 use Rattle.fv_constraint.specs.Composed.{Planned}
-use Rattle.fv_constraint.specs.Definitions as spec
-use Rattle.fv_constraint.specs.Definitions.{Definitions, Meant, meant_by, declared, composing_of}
-use Rattle.fv_constraint.specs.DefinitionViews.{composing_view, definition_entry, definition_view, meant_view}
+use Rattle.fv_declare_definition.specs.Definitions as spec
+use Rattle.fv_declare_definition.specs.Definitions.{Definitions}
+use Rattle.fv_constraint.specs.Meanings.{Meant, meant_by, declared, composing_of}
+use Rattle.fv_declare_definition.specs.DefinitionViews.{composing_view, definition_entry, definition_view}
+use Rattle.fv_constraint.specs.MeantView.{meant_view}
 use Rattle.fv_constraint.specs.Effect.{effective, handed}
 use Rattle.fv_constraint.specs.Numbered.{composing_at, handed_map}
 use Rattle.fv_constraint.specs.PlannedViews.{planned_view}

@@ -1,7 +1,7 @@
 use Rattle.std.proofs.Common.{◌≡◌, map, not, is_some}
 use Rattle.std.specs.List.{list_any}
-use Rattle.fv_constraint.specs.Definitions.{meant_by, composes_unknown}
-use Rattle.fv_constraint.specs.DefinitionViews.{definition_entry}
+use Rattle.fv_constraint.specs.Meanings.{meant_by, composes_unknown}
+use Rattle.fv_declare_definition.specs.DefinitionViews.{definition_entry}
 use Rattle.fv_constraint.proofs.unknown.composes_unknown.Given as goal
 
 abbrev pub invariant-loop-definition : goal.invariant-loop-definition

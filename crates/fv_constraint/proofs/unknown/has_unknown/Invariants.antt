@@ -1,7 +1,7 @@
 use Rattle.std.proofs.Common.{◌≡◌, map, drop, not, is_some}
 use Rattle.std.specs.List.{list_any}
-use Rattle.fv_constraint.specs.Definitions.{meant_by}
-use Rattle.fv_constraint.specs.DefinitionViews.{composing_view, definition_entry}
+use Rattle.fv_constraint.specs.Meanings.{meant_by}
+use Rattle.fv_declare_definition.specs.DefinitionViews.{composing_view, definition_entry}
 use Rattle.fv_constraint.proofs.unknown.has_unknown.Given as goal
 
 abbrev pub invariant-loop-constraint : goal.invariant-loop-constraint

@@ -1,14 +1,14 @@
 use Rattle.std.proofs.Common.{◌≡◌, map, Some, None, not, is_some, true, false, string_bytes, option_map, sym, ap, ◌∙◌, true≢false, arith}
-use Rattle.fv_types.specs.Types.{number_of, name_at}
-use Rattle.fv_types.specs.TypesView.{types_view}
+use Rattle.fv_model_types.specs.Types.{number_of, name_at}
+use Rattle.fv_model_types.specs.TypesView.{types_view}
 use Rattle.fv_declare.specs.Declares.{form_declared, form_grouped}
-use Rattle.fv_draft.specs.DraftViews.{form_view}
-use Rattle.fv_declare.specs.SchemaView.{form_entry, form_groups_entry}
-use Rattle.fv_declare.specs.declared.schema.Form.{Form}
-use Rattle.fv_grouping.specs.Numbered.{groups_named}
+use Rattle.fv_declare_draft.specs.DraftViews.{form_view}
+use Rattle.fv_declare_schema.specs.SchemaView.{form_entry, form_groups_entry}
+use Rattle.fv_declare_schema.specs.declared.schema.Form.{Form}
+use Rattle.fv_declare_groups.specs.Numbered.{groups_named}
 use Rattle.fv_groups.specs.Tables.{indices}
 use Rattle.fv_declare.proofs.Found.{known_here, known_later, found_name}
-use Rattle.fv_grouping.proofs.Inserted.{insert_names, insert_entries}
+use Rattle.fv_datum.proofs.Inserted.{insert_names, insert_entries}
 use Rattle.fv_declare.proofs.build.forms_for.Goals as goal
 
 pub returns-in_default : goal.returns-in_default

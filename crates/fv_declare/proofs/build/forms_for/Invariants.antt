@@ -1,9 +1,9 @@
 use Rattle.std.proofs.Common.{◌≡◌, ◌++◌, map, drop, false}
-use Rattle.fv_types.specs.TypesView.{types_view}
+use Rattle.fv_model_types.specs.TypesView.{types_view}
 use Rattle.fv_declare.specs.Declares.{form_declared, form_grouped, unknown_root}
-use Rattle.fv_draft.specs.DraftViews.{form_view}
-use Rattle.fv_definition.specs.EntryNames.{names_of}
-use Rattle.fv_declare.specs.SchemaView.{forms_view, form_groups_view}
+use Rattle.fv_declare_draft.specs.DraftViews.{form_view}
+use Rattle.fv_datum.specs.EntryNames.{names_of}
+use Rattle.fv_declare_schema.specs.SchemaView.{forms_view, form_groups_view}
 use Rattle.fv_declare.proofs.build.forms_for.Given as goal
 
 abbrev pub invariant-loop-form : goal.invariant-loop-form

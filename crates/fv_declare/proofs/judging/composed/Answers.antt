@@ -3,13 +3,13 @@ use Rattle.std.specs.Option.{MatchOption}
 use Rattle.std.specs.Result.{result_err}
 use Rattle.std.proofs.lemmas.Result.{IfOk-weaker, IfErr-weaker, err_from_is_err_and}
 use Rattle.fv_constraint.specs.Composed.{IsCyclic}
-use Rattle.fv_constraint.specs.Definitions.{Definitions}
-use Rattle.fv_draft.specs.Drafts.{Drafted}
-use Rattle.fv_draft.specs.DraftViews.{draft_view}
+use Rattle.fv_declare_definition.specs.Definitions.{Definitions}
+use Rattle.fv_declare_draft.specs.Drafts.{Drafted}
+use Rattle.fv_declare_draft.specs.DraftViews.{draft_view}
 use Rattle.fv_message.specs.Table.{Messages, all_messages}
 use Rattle.fv_message.specs.declared.fault.MessageFault.{MessageFault}
 use Rattle.fv_message.specs.declared.fault.MessageFault.TheVariants as message
-use Rattle.fv_wording.specs.Wording.{IsFirstFault}
+use Rattle.fv_declare.specs.Wording.{IsFirstFault}
 use Rattle.fv_declare.specs.Judging.{lacks_memory}
 use Rattle.fv_declare.proofs.Found.{composed_known}
 use Rattle.fv_declare.proofs.judging.composed.Goals as goal

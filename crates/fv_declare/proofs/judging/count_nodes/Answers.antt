@@ -1,8 +1,9 @@
 use Rattle.std.proofs.Common.{◌≤◌, ◌++◌, ◌∷◌, [], min, not, is_some, sym, ap, ◌∙◌, arith}
-use Rattle.fv_constraint.specs.Definitions.{meant_by}
+use Rattle.fv_constraint.specs.Meanings.{meant_by}
 use Rattle.fv_declare.proofs.Anys.{use_turn}
-use Rattle.fv_declare.proofs.Counts.{own_message, one_more, count_more, capped, few, not_false}
-use Rattle.fv_declare.proofs.Found.{or_left, or_right}
+use Rattle.fv_declare.proofs.Counts.{own_message, one_more, count_more, capped, few}
+use Rattle.fv_datum.proofs.Bools.{not_false}
+use Rattle.fv_datum.proofs.Bools.{or_left, or_right}
 use Rattle.fv_declare.proofs.judging.count_nodes.Goals as goal
 
 pub size_of-requires : goal.size_of-requires

@@ -1,12 +1,12 @@
 use Rattle.std.proofs.Common.{◌≡◌, List, map, min, not, is_some, false, take, drop}
 use Rattle.std.specs.List.{list_any}
 use Rattle.fv_constraint.specs.Composed.{Planned}
-use Rattle.fv_constraint.specs.Definitions.{meant_by}
-use Rattle.fv_flatten.specs.Flattening.{AreTreesOfUses}
-use Rattle.fv_occurrence.specs.Trees.{Tree}
-use Rattle.fv_declare.specs.Declarations.{count_nodes}
-use Rattle.fv_uses.specs.Uses.{used}
-use Rattle.fv_uses.specs.UseViews.{use_view}
+use Rattle.fv_constraint.specs.Meanings.{meant_by}
+use Rattle.fv_constraint.specs.Flattening.{AreTreesOfUses}
+use Rattle.fv_constraint_tree.specs.Trees.{Tree}
+use Rattle.fv_declare_schema.specs.Declarations.{count_nodes}
+use Rattle.fv_declare.specs.Used.{used}
+use Rattle.fv_declare_draft.specs.UseViews.{use_view}
 use Rattle.fv_declare.proofs.judging.count_nodes.Given as goal
 
 abbrev pub invariant-loop-given : goal.invariant-loop-given

@@ -1,8 +1,8 @@
 use Rattle.std.proofs.Common.{◌≡◌, map, drop, not, is_some}
 use Rattle.std.specs.List.{list_any}
-use Rattle.fv_constraint.specs.DefinitionViews.{definition_entry}
-use Rattle.fv_constraint.specs.Definitions.{meant_by}
-use Rattle.fv_uses.specs.UseViews.{use_view}
+use Rattle.fv_declare_definition.specs.DefinitionViews.{definition_entry}
+use Rattle.fv_constraint.specs.Meanings.{meant_by}
+use Rattle.fv_declare_draft.specs.UseViews.{use_view}
 use Rattle.fv_declare.proofs.names.has_unknown_constraint.Given as goal
 
 abbrev pub invariant-loop-given : goal.invariant-loop-given

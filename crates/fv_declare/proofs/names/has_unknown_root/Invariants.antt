@@ -1,7 +1,7 @@
 use Rattle.std.proofs.Common.{◌≡◌, map, drop}
-use Rattle.fv_types.specs.Types.{declared_view}
+use Rattle.fv_model_types.specs.Types.{declared_view}
 use Rattle.fv_declare.specs.Declares.{unknown_root}
-use Rattle.fv_draft.specs.DraftViews.{form_view}
+use Rattle.fv_declare_draft.specs.DraftViews.{form_view}
 use Rattle.fv_declare.proofs.names.has_unknown_root.Given as goal
 
 abbrev pub invariant-loop-form : goal.invariant-loop-form

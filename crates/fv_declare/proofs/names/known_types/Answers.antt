@@ -1,14 +1,14 @@
 use Rattle.std.proofs.Common.{◌≡◌, [], ◌∷◌, Bool, true, false, not, Some, None, Ok, map, is_some, refl, sym, ap, ◌∙◌}
 use Rattle.std.specs.List.{list_any}
-use Rattle.fv_constraint.specs.Definitions.{composes_unknown, meant_by}
+use Rattle.fv_constraint.specs.Meanings.{composes_unknown, meant_by}
 use Rattle.fv_datum.specs.Outcomes.{first, unless_fault}
-use Rattle.fv_draft.specs.DraftViews.{type_view, form_view, draft_view}
-use Rattle.fv_draft.specs.Drafts.{Drafted}
-use Rattle.fv_types.specs.Types.{declared_view, types_fault}
-use Rattle.fv_types.specs.declared.fault.TypesFault.TheVariants.{UnknownType, TooLarge}
+use Rattle.fv_declare_draft.specs.DraftViews.{type_view, form_view, draft_view}
+use Rattle.fv_declare_draft.specs.Drafts.{Drafted}
+use Rattle.fv_model_types.specs.Types.{declared_view, types_fault}
+use Rattle.fv_model_types.specs.declared.fault.TypesFault.TheVariants.{UnknownType, TooLarge}
 use Rattle.fv_declare.specs.Declares.{unknown_constraint, unknown_name, unknown_root, name_conditions}
-use Rattle.fv_naming.specs.Types.{type_declared, types_declared}
-use Rattle.fv_naming.specs.Naming.{bad_name}
+use Rattle.fv_declare.specs.Types.{type_declared, types_declared}
+use Rattle.fv_declare.specs.Naming.{bad_name}
 use Rattle.fv_declare.specs.Judging.{unless_many}
 use Rattle.fv_declare.proofs.names.known_types.Goals as goal
 

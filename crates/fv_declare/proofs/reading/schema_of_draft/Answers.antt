@@ -1,10 +1,10 @@
 use Rattle.std.proofs.Common.{◌≡◌, Option, Some, None, Result, Ok, Err, refl, ap, ◌∙◌}
 use Rattle.std.proofs.lemmas.Result.{IfOk-weaker, IfErr-weaker, err_from_is_err_and}
 use Rattle.fv_datum.specs.Outcomes.{first, unless_fault}
-use Rattle.fv_draft.specs.Drafts.{Drafted}
-use Rattle.fv_draft.specs.DraftViews.{draft_view}
+use Rattle.fv_declare_draft.specs.Drafts.{Drafted}
+use Rattle.fv_declare_draft.specs.DraftViews.{draft_view}
 use Rattle.fv_registry.specs.Rules.{Known}
-use Rattle.fv_declare.specs.Declarations.{Declarations}
+use Rattle.fv_declare_schema.specs.Declarations.{Declarations}
 use Rattle.fv_declare.specs.Declares.{name_conditions, IsGrouped, IsNamed}
 use Rattle.fv_declare.specs.FaultNames.{grouping_fault}
 use Rattle.fv_declare.specs.declared.fault.DeclFault.{DeclFault}

@@ -2,7 +2,7 @@ use Rattle.std.proofs.Common.{◌≡◌, true, false, List, [], ◌∷◌, ◌++
 use Rattle.std.proofs.lemmas.Int.{to_z-of_z}
 use Rattle.std.proofs.lemmas.List.{map-append}
 use mir.Syntax.{w64}
-use Rattle.fv_turns.specs.Turns.{Turns}
+use Rattle.fv_walk_traces.specs.Turns.{Turns}
 use Rattle.fv_listing.specs.Courses.{judging}
 use Rattle.fv_listing.specs.Listed.{AddsFailing}
 use Rattle.fv_listing.specs.Turns.{turn_view, turns_view}

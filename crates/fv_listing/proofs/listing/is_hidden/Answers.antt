@@ -1,5 +1,5 @@
 use Rattle.std.proofs.Common.{◌≡◌, true, false, List, map, take, refl, sym, subst, ◌∙◌, arith}
-use Rattle.fv_turns.specs.Turns.{ShadowsByRecursion, Turns}
+use Rattle.fv_walk_traces.specs.Turns.{ShadowsByRecursion, Turns}
 use Rattle.fv_listing.specs.Listed.{IsHidden}
 use Rattle.fv_listing.specs.Turns.{turn_view, turns_view}
 use Rattle.fv_listing.specs.Visits.{visit_view}

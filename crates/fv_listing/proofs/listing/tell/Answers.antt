@@ -2,7 +2,7 @@ use Rattle.std.proofs.Common.{◌≡◌, ◌++◌, List, length, map, take, ap, 
 use Rattle.std.proofs.lemmas.Int.{to_z-of_z}
 use mir.Syntax.{w64}
 use Rattle.fv_local.specs.FailureView as local
-use Rattle.fv_turns.specs.Listing.{violation_at}
+use Rattle.fv_walk_traces.specs.Listing.{violation_at}
 use Rattle.fv_walk.specs.FailureView.{failure_view}
 use Rattle.fv_listing.specs.Courses.{judging, visiting}
 use Rattle.fv_listing.specs.Visits.{visit_view}

@@ -1,6 +1,6 @@
 use Rattle.std.proofs.Common.{◌≡◌, ◌++◌, map, take}
 use Rattle.fv_local.specs.FailureView as local
-use Rattle.fv_turns.specs.Listing.{violation_at}
+use Rattle.fv_walk_traces.specs.Listing.{violation_at}
 use Rattle.fv_walk.specs.FailureView.{failure_view}
 use Rattle.fv_listing.specs.Courses.{visiting}
 use Rattle.fv_listing.specs.Visits.{visit_view}

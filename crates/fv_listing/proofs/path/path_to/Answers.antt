@@ -1,7 +1,7 @@
 use Rattle.std.proofs.Common.{◌≡◌, ◌≤◌, ℕ, List, [], map, length, sym, ap, ap₂, subst, ◌∙◌}
 use Rattle.std.proofs.Math.ListN.{drop_of_length-le}
 use Rattle.fv_path.specs.Nodes.{PathNode}
-use Rattle.fv_turns.specs.Violations.{at_object, onward, told}
+use Rattle.fv_walk_traces.specs.Violations.{at_object, onward, told}
 use Rattle.fv_walk.proofs.Paths.{field_first}
 use Rattle.fv_listing.specs.Courses.{visiting}
 use Rattle.fv_listing.specs.Turns.{turn_view, IsLedFrom}

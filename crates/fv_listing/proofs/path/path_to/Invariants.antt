@@ -1,5 +1,5 @@
 use Rattle.std.proofs.Common.{◌≡◌, ◌<◌, [], map, drop}
-use Rattle.fv_turns.specs.Violations.{at_object, onward, told}
+use Rattle.fv_walk_traces.specs.Violations.{at_object, onward, told}
 use Rattle.fv_walk.specs.Paths.{TakesField}
 use Rattle.fv_listing.specs.Courses.{visiting, objects_in}
 use Rattle.fv_listing.specs.Turns.{turn_view, IsLedFrom}

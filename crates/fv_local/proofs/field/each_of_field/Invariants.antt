@@ -1,7 +1,7 @@
 use Rattle.std.proofs.Common.{◌≡◌, ◌++◌, map, filter, drop}
-use Rattle.fv_declare.specs.PlacedView.{placed_view}
+use Rattle.fv_declare_schema.specs.PlacedView.{placed_view}
 use Rattle.fv_local.specs.Fields.{is_of_field}
-use Rattle.fv_reach.specs.TableView.{lists_view}
+use Rattle.fv_local.specs.TableView.{lists_view}
 use Rattle.fv_local.proofs.field.each_of_field.Given as goal
 
 abbrev pub invariant-loop-uses : goal.invariant-loop-uses

@@ -1,5 +1,5 @@
 use Rattle.std.proofs.Common.{◌≡◌, ◌++◌, map, filter, drop}
-use Rattle.fv_declare.specs.PlacedView.{placed_view}
+use Rattle.fv_declare_schema.specs.PlacedView.{placed_view}
 use Rattle.fv_local.specs.Fields.{is_of_field}
 use Rattle.fv_local.proofs.field.of_field.Given as goal
 

@@ -1,7 +1,7 @@
 use Rattle.std.proofs.Common.{◌≡◌, ◌++◌, List, [], map, append-nil, sym, ap, ◌∙◌}
 use Rattle.std.specs.List.{flat_map}
 use Rattle.fv_datum.specs.Data.{Data}
-use Rattle.fv_declare.specs.PlacedView.{placed_view}
+use Rattle.fv_declare_schema.specs.PlacedView.{placed_view}
 use Rattle.fv_extract.specs.FoundView.{found_view}
 use Rattle.fv_extract.specs.InsideView.{inside_left}
 use Rattle.fv_extract.specs.Parts.{Locus, below, further}

@@ -1,7 +1,7 @@
 use Rattle.std.proofs.Common.{◌<◌, ◌≤◌, ◌-◌, map, take, length}
 use Rattle.std.specs.List.{AllByRecursion}
-use Rattle.fv_declare.specs.PlacedView.{placed_view}
-use Rattle.fv_uses.specs.UseViews.{place_view}
+use Rattle.fv_declare_schema.specs.PlacedView.{placed_view}
+use Rattle.fv_declare_schema.specs.PlaceViews.{place_view}
 use Rattle.fv_local.specs.Told.{picked, IsSamePlace}
 use Rattle.fv_local.proofs.uses.run_length.Given as goal
 

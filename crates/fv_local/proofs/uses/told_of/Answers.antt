@@ -2,11 +2,11 @@ use Rattle.std.proofs.Common.{◌≡◌, ◌<◌, ◌++◌, List, ℕ, map, leng
 use Rattle.std.proofs.lemmas.Int.{to_z-of_z}
 use Rattle.std.proofs.lemmas.List.{take-append-drop}
 use mir.Syntax.{w64}
-use Rattle.fv_declare.specs.PlacedView.{placed_view}
-use Rattle.fv_declare.specs.declared.placed.Placed.{Placed}
+use Rattle.fv_declare_schema.specs.PlacedView.{placed_view}
+use Rattle.fv_declare_schema.specs.declared.placed.Placed.{Placed}
 use Rattle.fv_local.specs.Told.{told_view, AreRun}
 use Rattle.fv_model.specs.Views.{object_view}
-use Rattle.fv_uses.specs.UseViews.{place_view}
+use Rattle.fv_declare_schema.specs.PlaceViews.{place_view}
 use Rattle.fv_local.proofs.First.{behind, run_more}
 use Rattle.fv_local.proofs.Found.{each_found}
 use Rattle.fv_local.proofs.uses.told_of.Goals as goal

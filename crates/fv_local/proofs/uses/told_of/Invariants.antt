@@ -1,6 +1,6 @@
 use Rattle.std.proofs.Common.{◌≡◌, ◌<◌, ◌++◌, ◌↔◌, ℕ, List, map, length}
 use Rattle.std.specs.List.{All}
-use Rattle.fv_declare.specs.PlacedView.{placed_view}
+use Rattle.fv_declare_schema.specs.PlacedView.{placed_view}
 use Rattle.fv_graph.specs.Graph.{IsIn}
 use Rattle.fv_model.specs.Views.{object_view}
 use Rattle.fv_local.specs.Told.{Told, told_view, IsTold}

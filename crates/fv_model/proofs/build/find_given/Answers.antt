@@ -1,7 +1,7 @@
 use Rattle.std.proofs.Common.{ap, ◌∙◌, option_map}
 use Rattle.serde_json.specs.View.{view as json_view}
 use Rattle.serde_json.proofs.Views.{view-lookup}
-use Rattle.fv_types.proofs.Lookups.{option_map-copied}
+use Rattle.fv_datum.proofs.Lookups.{option_map-copied}
 use Rattle.fv_model.proofs.build.find_given.Goals as goal
 
 pub returns-in-Some : goal.returns-in-Some

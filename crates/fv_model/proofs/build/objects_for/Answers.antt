@@ -7,7 +7,7 @@ use Rattle.fv_model.specs.Fitting.{part_misfits}
 use Rattle.fv_model.specs.Reading.{object_of}
 use Rattle.fv_model.specs.Views.{types_view, object_view, objects_view, part_view}
 use Rattle.fv_model.proofs.Anys.{part_turn}
-use Rattle.fv_types.proofs.Bools.{or_right}
+use Rattle.fv_datum.proofs.Bools.{or_right}
 use Rattle.fv_model.proofs.Listed.{insert_last, objects_named}
 use Rattle.fv_model.proofs.Wrong.{at_exit, right, or_here}
 use Rattle.fv_model.proofs.build.objects_for.Goals as goal

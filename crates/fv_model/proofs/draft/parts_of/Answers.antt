@@ -4,7 +4,7 @@ use Rattle.serde_json.specs.View.{view as json_view, members_view}
 use Rattle.fv_datum.specs.Members.{pairs, each_some}
 use Rattle.fv_model.specs.Draft.{part_of}
 use Rattle.fv_model.specs.Views.{part_view}
-use Rattle.fv_types.proofs.Fronts.{with_front, front_more}
+use Rattle.fv_datum.proofs.Fronts.{with_front, front_more}
 use Rattle.fv_model.proofs.draft.parts_of.Goals as goal
 
 pub loop-name-preserved : goal.loop-name-preserved

@@ -3,7 +3,7 @@ use Rattle.serde_json.specs.View.{members_view}
 use Rattle.fv_datum.specs.Members.{pairs, each_some}
 use Rattle.fv_model.specs.Draft.{part_of}
 use Rattle.fv_model.specs.Views.{part_view}
-use Rattle.fv_types.proofs.Fronts.{with_front}
+use Rattle.fv_datum.proofs.Fronts.{with_front}
 use Rattle.fv_model.proofs.draft.parts_of.Given as goal
 
 abbrev pub invariant-loop-name : goal.invariant-loop-name

@@ -2,7 +2,7 @@ use Rattle.std.proofs.Common.{◌≡◌, List, ℕ, refl, sym, ap, subst, ◌∙
 use Rattle.std.specs.List.{AllByRecursion}
 use Rattle.std.specs.Map.{keys_of}
 use Rattle.fv_datum.specs.Data.{Data}
-use Rattle.fv_types.specs.Types.{fields_at}
+use Rattle.fv_model_types.specs.Types.{fields_at}
 use Rattle.fv_model.specs.Views.{types_view, fields_left, object_view}
 use Rattle.fv_model.specs.Writing.{IsWritten}
 use Rattle.fv_model.proofs.Made.{written_fields}

@@ -3,7 +3,7 @@ use Rattle.std.proofs.lemmas.List.{take_more}
 use Rattle.sqlite.specs.Held.{state}
 use Rattle.fv_store.specs.Steps.{Advances, MakesAll}
 use Rattle.fv_store.proofs.Steps.{then, one_more, keeps_then, frame_then, step_cause}
-use Rattle.fv_query.proofs.Refusals.{handed_on}
+use Rattle.fv_store.proofs.Refusals.{handed_on}
 use Rattle.fv_store.proofs.changes.apply_all.Goals as goal
 
 pub changes-preserved : goal.changes-preserved

@@ -6,7 +6,7 @@ use Rattle.fv_store.specs.Causes.{AreShort, HasRoom}
 use Rattle.fv_store.specs.Changes.{after_all}
 use Rattle.fv_store.specs.Steps.{IsExcused, Keeps}
 use Rattle.fv_store.proofs.Steps.{commit_on_ok, make_cause}
-use Rattle.fv_query.proofs.Refusals.{handed_on}
+use Rattle.fv_store.proofs.Refusals.{handed_on}
 use Rattle.fv_store.proofs.changes.commit.Goals as goal
 
 pub returns-clause-done : goal.returns-clause-done

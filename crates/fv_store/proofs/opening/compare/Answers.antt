@@ -1,8 +1,8 @@
 use Rattle.sqlite.specs.Held.{state}
 use Rattle.fv_store.specs.Faults.{open_fault_of}
-use Rattle.fv_query.proofs.Queries.{about_first, about_never}
+use Rattle.fv_store.proofs.Queries.{about_first, about_never}
 use Rattle.fv_store.proofs.Openings.{taken_all, caused_all, excused_all, is_refusal}
-use Rattle.fv_query.proofs.Refusals.{handed_on}
+use Rattle.fv_store.proofs.Refusals.{handed_on}
 use Rattle.fv_store.proofs.opening.compare.Goals as goal
 
 pub returns-in-Some-clause-taken : goal.returns-in-Some-clause-taken

@@ -5,7 +5,7 @@ use Rattle.fv_store.specs.Causes.{IsShortAbout}
 use Rattle.fv_store.specs.Stands.{IsBlank}
 use Rattle.fv_store.specs.Steps.{IsExcused}
 use Rattle.fv_store.proofs.Steps.{failed_still}
-use Rattle.fv_query.proofs.Refusals.{handed_on}
+use Rattle.fv_store.proofs.Refusals.{handed_on}
 use Rattle.fv_store.proofs.opening.create.Goals as goal
 
 pub returns-in_err-create_tables-clause-cause : goal.returns-in_err-create_tables-clause-cause

@@ -1,6 +1,6 @@
 use Rattle.fv_store.specs.Faults.{open_fault_of}
 use Rattle.fv_store.proofs.Openings.{is_refusal}
-use Rattle.fv_query.proofs.Refusals.{handed_on}
+use Rattle.fv_store.proofs.Refusals.{handed_on}
 use Rattle.fv_store.proofs.opening.settle.Goals as goal
 
 pub returns-in_err-create-clause-store_blank : goal.returns-in_err-create-clause-store_blank

@@ -4,7 +4,7 @@ use Rattle.fv_model.specs.Views.{bundle_view}
 use Rattle.fv_store.specs.Records.{Kept}
 use Rattle.fv_store.proofs.Rooms.{fewer}
 use Rattle.fv_store.proofs.Steps.{keeps_then, then_on_ok, put_new, put_in_place, put_cause}
-use Rattle.fv_query.proofs.Refusals.{handed_on}
+use Rattle.fv_store.proofs.Refusals.{handed_on}
 use Rattle.fv_store.proofs.records.put_record.Goals as goal
 
 pub returns-in_err-changed-clause-cause : goal.returns-in_err-changed-clause-cause

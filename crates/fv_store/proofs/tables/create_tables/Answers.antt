@@ -4,7 +4,7 @@ use Rattle.fv_store.specs.Causes.{IsShortAbout}
 use Rattle.fv_store.specs.Stands.{IsBlank}
 use Rattle.fv_store.specs.Steps.{HasAbout, HasEmptyTables, HasNone}
 use Rattle.fv_store.proofs.Steps.{then, then_on_ok, turned, frame_then, failed_then, next_cause}
-use Rattle.fv_query.proofs.Refusals.{handed_on}
+use Rattle.fv_store.proofs.Refusals.{handed_on}
 use Rattle.fv_store.proofs.tables.create_tables.Goals as goal
 
 pub returns-clause-done : goal.returns-clause-done

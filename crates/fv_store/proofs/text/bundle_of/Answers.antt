@@ -1,7 +1,7 @@
 use Rattle.std.proofs.Common.{◌≡◌, Ok, Some, sym, ap, ◌∙◌}
 use Rattle.serde_json.specs.Read.{read}
 use Rattle.serde_json.specs.View.{view as json_view}
-use Rattle.fv_types.specs.TypesView.{types_view}
+use Rattle.fv_model_types.specs.TypesView.{types_view}
 use Rattle.fv_model.specs.Views.{bundle_view}
 use Rattle.fv_model.specs.Writing.{bundle_json}
 use Rattle.fv_store.specs.Faults.{json_fault, bundle_fault}

@@ -1,13 +1,13 @@
 use Rattle.std.proofs.Common.{◌≡◌, ℕ, List, Some, None, sym, ap, subst, ◌∙◌}
 use Rattle.std.proofs.lemmas.List.Elements.{recursion_from_All}
 use Rattle.fv_datum.specs.View.{view}
-use Rattle.fv_declare.specs.Declarations.{Declarations}
+use Rattle.fv_declare_schema.specs.Declarations.{Declarations}
 use Rattle.fv_model.specs.Single.{single_of}
 use Rattle.fv_model.specs.Views.{types_view, object_view}
-use Rattle.fv_property.specs.Properties.{field_number}
-use Rattle.fv_property.specs.Typed.{IsOfType}
-use Rattle.fv_request.proofs.Objects.{all_get}
-use Rattle.fv_types.specs.Types.{DeclaredFields, Declared, AreApart, fields_view}
+use Rattle.fv_walk.specs.Properties.{field_number}
+use Rattle.fv_walk.specs.Typed.{IsOfType}
+use Rattle.fv_datum.proofs.Lists.{all_get}
+use Rattle.fv_model_types.specs.Types.{DeclaredFields, Declared, AreApart, fields_view}
 use Rattle.fv_validate.specs.Values.{field_use, valued}
 use Rattle.fv_validate.proofs.Values.{value_of_type, made, absent}
 use Rattle.fv_validate.proofs.fields.validate_value.Goals as goal

@@ -1,8 +1,8 @@
 use Rattle.std.proofs.Common.{◌≡◌, ◌-◌, leb, sym, ◌∙◌, arith, rules}
 use Rattle.std.proofs.lemmas.List.Sorted.{IsPartitionPoint-from_clause, IsPartitionedBy-leb}
-use Rattle.fv_declare.specs.PlacedView.{placed_view}
-use Rattle.fv_declare.specs.declared.placed.Placed.{Placed}
-use Rattle.fv_occurrence.specs.Views.{node_view, entry_view}
+use Rattle.fv_declare_schema.specs.PlacedView.{placed_view}
+use Rattle.fv_declare_schema.specs.declared.placed.Placed.{Placed}
+use Rattle.fv_constraint_tree.specs.Views.{node_view, entry_view}
 use Rattle.fv_validate.proofs.Numbers.{rise, number_le, node_at, none_at, node_of_entry}
 use Rattle.fv_validate.proofs.node.node_of.Goals as goal
 

@@ -1,7 +1,7 @@
 use Rattle.std.proofs.Common.{◌↔◌, List, map, sym, subst}
-use Rattle.fv_declare.specs.PlacedView.{placed_view}
+use Rattle.fv_declare_schema.specs.PlacedView.{placed_view}
 use Rattle.fv_graph.specs.Graph.{IsIn}
-use Rattle.fv_turns.specs.Violations.{Violation}
+use Rattle.fv_walk_traces.specs.Violations.{Violation}
 use Rattle.fv_validate.specs.Listing.{AreToldApart}
 use Rattle.fv_validate.specs.ViolationView.{violation_view}
 use Rattle.fv_validate.specs.Violations.{Reported, reported_by}

@@ -1,13 +1,13 @@
 use Rattle.std.proofs.Common.{◌↔◌, List, map, subst}
 use Rattle.std.proofs.lemmas.Int.{to_z-of_z}
 use mir.Syntax.{w64}
-use Rattle.fv_declare.specs.Ordered.{AreOrdered}
+use Rattle.fv_declare_schema.specs.Ordered.{AreOrdered}
 use Rattle.fv_graph.specs.Graph.{IsIn}
 use Rattle.fv_groups.specs.Tables.{indices}
 use Rattle.fv_model.specs.Views.{bundle_view}
-use Rattle.fv_request.proofs.Apart.{told_apart}
-use Rattle.fv_request.specs.Requests.{request_of}
-use Rattle.fv_turns.specs.Violations.{Violation, IsViolation}
+use Rattle.fv_walk_request.proofs.Apart.{told_apart}
+use Rattle.fv_walk_request.specs.Requests.{request_of}
+use Rattle.fv_walk_traces.specs.Violations.{Violation, IsViolation}
 use Rattle.fv_validate.specs.ViolationView.{violation_view}
 use Rattle.fv_validate.specs.Violations.{Reported, AreListed, IsListing}
 use Rattle.fv_validate.proofs.Alike.{one_listing}

@@ -1,7 +1,7 @@
 use Rattle.std.proofs.Common.{◌≡◌, ◌++◌, map}
 use Rattle.std.specs.List.{AllByRecursion}
 use Rattle.std.specs.Vec.Iter.{into_iter_items}
-use Rattle.fv_declare.specs.PlacedView.{placed_view}
+use Rattle.fv_declare_schema.specs.PlacedView.{placed_view}
 use Rattle.fv_path.specs.Paths.{IsPath}
 use Rattle.fv_validate.specs.ViolationView.{violation_view}
 use Rattle.fv_validate.specs.Violations.{reported_by}

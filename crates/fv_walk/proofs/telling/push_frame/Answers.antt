@@ -1,9 +1,9 @@
 use Rattle.std.proofs.Common.{◌≡◌, List, ◌++◌, Some, None, OnOk, sym, ap, subst, ◌∙◌}
 use Rattle.fv_model.specs.Views.{object_view}
 use Rattle.fv_path.specs.Nodes.{PathNode}
-use Rattle.fv_request.specs.Graphs.{way_view}
-use Rattle.fv_request.specs.Sound.{IsSound}
-use Rattle.fv_turns.specs.Turns.{Way}
+use Rattle.fv_walk_request.specs.Graphs.{way_view}
+use Rattle.fv_walk_request.specs.Sound.{IsSound}
+use Rattle.fv_walk_traces.specs.Turns.{Way}
 use Rattle.fv_walk.specs.Courses.{visiting}
 use Rattle.fv_walk.specs.Stacks.{way_before}
 use Rattle.fv_walk.proofs.Tellings.{before_part, nodes_before, none_before}

@@ -5,7 +5,7 @@ use Rattle.fv_graph.specs.Graph.{next_of}
 use Rattle.fv_graph.specs.Graph as graph
 use Rattle.fv_graph.specs.Weight.{own_of}
 use Rattle.fv_constraint.specs.Composed.{IsCyclic}
-use Rattle.fv_constraint.specs.Definitions.{composes_unknown}
+use Rattle.fv_constraint.specs.Meanings.{composes_unknown}
 use Rattle.fv_constraint.specs.Numbered.{IsNumbered}
 use Rattle.fv_constraint.proofs.Cycles.{cyclic_in, cyclic_out}
 use Rattle.fv_constraint.proofs.Unfolded.{are_within, numbered}

@@ -8,12 +8,14 @@ use Rattle.fv_graph.specs.declared.flatten.Spot.{Spot}
 use Rattle.fv_datum.specs.Attributes.{Attributes}
 use Rattle.fv_constraint.specs.Composed.{IsTreeOf}
 use Rattle.fv_constraint.specs.Composed as spec
-use Rattle.fv_constraint.specs.Definitions.{Definitions, meant_by}
-use Rattle.fv_constraint.specs.DefinitionViews.{definition_entry, meant_view}
+use Rattle.fv_declare_definition.specs.Definitions.{Definitions}
+use Rattle.fv_constraint.specs.Meanings.{meant_by}
+use Rattle.fv_declare_definition.specs.DefinitionViews.{definition_entry}
+use Rattle.fv_constraint.specs.MeantView.{meant_view}
 use Rattle.fv_constraint.specs.Numbered.{number_of}
 use Rattle.fv_constraint.specs.PlannedViews.{planned_view, planned_entry}
-use Rattle.fv_occurrence.specs.Preorder.{preorder}
-use Rattle.fv_occurrence.specs.Trees.{Tree}
+use Rattle.fv_constraint_tree.specs.Preorder.{preorder}
+use Rattle.fv_constraint_tree.specs.Trees.{Tree}
 use Rattle.fv_constraint.specs.declared.planning.Planned.{Planned}
 use Rattle.fv_constraint.proofs.Unfolded.{hands_of, no_cycle, kept_within, root_within, kept_plan}
 use Rattle.fv_constraint.proofs.composition.Composition.plan.Goals as goal

@@ -2,8 +2,9 @@ use Rattle.std.proofs.Common.{◌≡◌, ◌<◌, ◌∙◌, true, subst, sym, a
 use Rattle.std.specs.Option.{is_some}
 use Rattle.std.proofs.lemmas.List.{get_or_read}
 use Rattle.fv_constraint.specs.Composed.{Planned, IsTreeOf}
-use Rattle.fv_constraint.specs.Definitions.{Definitions, meant_by}
-use Rattle.fv_occurrence.specs.Trees.{Tree}
+use Rattle.fv_declare_definition.specs.Definitions.{Definitions}
+use Rattle.fv_constraint.specs.Meanings.{meant_by}
+use Rattle.fv_constraint_tree.specs.Trees.{Tree}
 use Rattle.fv_constraint.proofs.Unfolded.{node_within, kept_tree}
 use Rattle.fv_constraint.proofs.composition.Composition.size_of.Goals as goal
 

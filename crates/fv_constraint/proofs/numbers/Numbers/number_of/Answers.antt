@@ -1,8 +1,8 @@
 use Rattle.std.proofs.Common.{◌≡◌, ◌∙◌, map, length, option_map, sym, ap, arith}
 use Rattle.std.specs.Option.{unwrap_or}
 use Rattle.std.proofs.lemmas.List.{length-map}
-use Rattle.fv_constraint.specs.Definitions.{Definitions}
-use Rattle.fv_constraint.specs.DefinitionViews.{definition_entry}
+use Rattle.fv_declare_definition.specs.Definitions.{Definitions}
+use Rattle.fv_declare_definition.specs.DefinitionViews.{definition_entry}
 use Rattle.fv_constraint.specs.Numbered.{number_of}
 use Rattle.fv_constraint.proofs.Numbering.{number_declared}
 use Rattle.fv_constraint.proofs.Placing.{place_found}

@@ -3,16 +3,16 @@ use Rattle.std.proofs.lemmas.Int.{to_z-of_z}
 use Rattle.std.specs.List.{AllByRecursion}
 use mir.Val.{SFits}
 use mir.Syntax.{w64}
-use Rattle.fv_declare.specs.Declarations.{Placed}
-use Rattle.fv_declare.specs.Fits.{placed_fits}
-use Rattle.fv_declare.specs.PlacedView.{placed_view}
+use Rattle.fv_declare_schema.specs.Declarations.{Placed}
+use Rattle.fv_declare_schema.specs.Fits.{placed_fits}
+use Rattle.fv_declare_schema.specs.PlacedView.{placed_view}
 use Rattle.fv_model.specs.Views.{object_view}
-use Rattle.fv_occurrence.specs.Fits.{fits}
-use Rattle.fv_occurrence.specs.Nodes.{Node}
-use Rattle.fv_occurrence.specs.Reports.{violated}
-use Rattle.fv_occurrence.specs.Says.{of_object}
-use Rattle.fv_occurrence.specs.Trees.{Tree, size}
-use Rattle.fv_uses.specs.Uses.{judged_at}
+use Rattle.fv_constraint_tree.specs.Fits.{fits}
+use Rattle.fv_constraint_tree.specs.Nodes.{Node}
+use Rattle.fv_constraint_tree.specs.Reports.{violated}
+use Rattle.fv_constraint_tree.specs.Says.{of_object}
+use Rattle.fv_constraint_tree.specs.Trees.{Tree, size}
+use Rattle.fv_declare_schema.specs.Places.{judged_at}
 use Rattle.fv_local.proofs.Fitting.{rules_there}
 use Rattle.fv_local.proofs.Picked.{all_at, asked_at, numbers_grow}
 use Rattle.fv_local.proofs.Reports.{number, numbers_room}

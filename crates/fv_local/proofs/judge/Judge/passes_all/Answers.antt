@@ -6,11 +6,11 @@ use mir.Val.{SFits}
 use mir.Syntax.{w64}
 use Rattle.fv_datum.specs.View.{view}
 use Rattle.fv_datum.specs.declared.datum.Datum.{Datum}
-use Rattle.fv_declare.specs.PlacedView.{placed_view}
-use Rattle.fv_occurrence.specs.Nodes.{Node}
-use Rattle.fv_occurrence.specs.Reports.{is_bad}
-use Rattle.fv_occurrence.specs.Says.{of_datum, refuses}
-use Rattle.fv_occurrence.specs.Trees.{Tree}
+use Rattle.fv_declare_schema.specs.PlacedView.{placed_view}
+use Rattle.fv_constraint_tree.specs.Nodes.{Node}
+use Rattle.fv_constraint_tree.specs.Reports.{is_bad}
+use Rattle.fv_constraint_tree.specs.Says.{of_datum, refuses}
+use Rattle.fv_constraint_tree.specs.Trees.{Tree}
 use Rattle.fv_local.specs.Told.{picked}
 use Rattle.fv_local.proofs.Passing.{Passes, Good, passes_more}
 use Rattle.fv_local.proofs.Picked.{asked_at}

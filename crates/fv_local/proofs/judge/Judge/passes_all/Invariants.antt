@@ -1,6 +1,6 @@
 use Rattle.std.proofs.Common.{map, take}
 use Rattle.std.specs.List.{All}
-use Rattle.fv_declare.specs.PlacedView.{placed_view}
+use Rattle.fv_declare_schema.specs.PlacedView.{placed_view}
 use Rattle.fv_local.specs.Told.{picked}
 use Rattle.fv_local.proofs.Passing.{Passes}
 use Rattle.fv_local.proofs.judge.Judge.passes_all.Given as goal

@@ -2,11 +2,11 @@ use Rattle.std.proofs.Common.{◌≡◌, ℕ, List, Some, true, sym, ap, ◌∙�
 use Rattle.std.proofs.lemmas.Int.{to_z-of_z}
 use mir.Syntax.{w64}
 use Rattle.fv_model.specs.Views.{object_view}
-use Rattle.fv_reach.specs.Below.{below}
-use Rattle.fv_reach.specs.Reached.{plain_groups}
-use Rattle.fv_reach.specs.TableView.{lists_view}
-use Rattle.fv_types.specs.Types.{Declared, number_of}
-use Rattle.fv_types.specs.TypesView.{types_view}
+use Rattle.fv_local.specs.Below.{below}
+use Rattle.fv_local.specs.Reached.{plain_groups}
+use Rattle.fv_local.specs.TableView.{lists_view}
+use Rattle.fv_model_types.specs.Types.{Declared, number_of}
+use Rattle.fv_model_types.specs.TypesView.{types_view}
 use Rattle.fv_local.proofs.Reaching.{kept_within, ranks_within, local_all}
 use Rattle.fv_local.proofs.rulebook.Rulebook.local.Goals as goal
 

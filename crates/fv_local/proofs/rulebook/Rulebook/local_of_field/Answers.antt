@@ -1,14 +1,14 @@
 use Rattle.std.proofs.Common.{◌≡◌, ◌<◌, ℕ, List, Vec, Global, All, map, Some, true, sym, ap, subst, ◌∙◌}
 use Rattle.std.proofs.lemmas.Int.{to_z-of_z}
 use mir.Syntax.{w64}
-use Rattle.fv_declare.specs.Declarations.{Declarations}
-use Rattle.fv_declare.specs.PlacedView.{placed_view}
+use Rattle.fv_declare_schema.specs.Declarations.{Declarations}
+use Rattle.fv_declare_schema.specs.PlacedView.{placed_view}
 use Rattle.fv_model.specs.Views.{object_view}
-use Rattle.fv_reach.specs.Below.{below}
-use Rattle.fv_reach.specs.Reached.{plain_groups}
-use Rattle.fv_reach.specs.TableView.{lists_view}
-use Rattle.fv_types.specs.Types.{Declared, number_of}
-use Rattle.fv_types.specs.TypesView.{types_view}
+use Rattle.fv_local.specs.Below.{below}
+use Rattle.fv_local.specs.Reached.{plain_groups}
+use Rattle.fv_local.specs.TableView.{lists_view}
+use Rattle.fv_model_types.specs.Types.{Declared, number_of}
+use Rattle.fv_model_types.specs.TypesView.{types_view}
 use Rattle.fv_local.specs.Fields.{stands_in}
 use Rattle.fv_local.proofs.Fields.{reached_in_field, ranks_reached_in_field}
 use Rattle.fv_local.proofs.Reaching.{same_length, kept_within, ranks_within, field_all}

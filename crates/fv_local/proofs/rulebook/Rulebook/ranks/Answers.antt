@@ -1,12 +1,12 @@
 use Rattle.std.proofs.Common.{◌≡◌, ◌<◌, inl, inr, length, true, refl, sym, subst, arith}
 use Rattle.std.proofs.lemmas.Grind.{common_steps}
-use Rattle.fv_declare.specs.Declarations.{Declarations}
+use Rattle.fv_declare_schema.specs.Declarations.{Declarations}
 use Rattle.fv_graph.specs.Graph.{IsIn}
 use Rattle.fv_groups.specs.Groups.{Groups, Inherits}
-use Rattle.fv_reach.specs.Below.{below}
-use Rattle.fv_reach.specs.Reached.{ranks_of}
-use Rattle.fv_reach.specs.TableView.{lists_view}
-use Rattle.fv_reach.proofs.Below.{below_is}
+use Rattle.fv_local.specs.Below.{below}
+use Rattle.fv_local.specs.Reached.{ranks_of}
+use Rattle.fv_local.specs.TableView.{lists_view}
+use Rattle.fv_local.proofs.Below.{below_is}
 use Rattle.fv_local.proofs.Reaching.{ranked_some}
 use Rattle.fv_local.proofs.rulebook.Rulebook.ranks.Goals as goal
 

@@ -1,7 +1,6 @@
-use Rattle.std.proofs.Common.{Bor, List, ℕ, [], arith}
+use Rattle.std.proofs.Common.{Bor, List, ℕ, [], arith, map, fold}
 use Rattle.fv_message.specs.Table.{with_message}
 use Rattle.fv_message.specs.Views.{messages_view}
-use Rattle.std.proofs.Common.{map, fold}
 use Rattle.fv_message.proofs.Built.{row_message, row_more, rows_all}
 use Rattle.fv_message.proofs.table.Table.new.Goals as goal
 

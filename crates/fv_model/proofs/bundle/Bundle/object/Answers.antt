@@ -1,6 +1,6 @@
 use Rattle.std.proofs.Common.{ap, ◌∙◌, option_map}
 use Rattle.fv_model.specs.Views.{object_view}
-use Rattle.fv_types.proofs.Lookups.{lookup-at_name, option_map-copied}
+use Rattle.fv_datum.proofs.Lookups.{lookup-at_name, option_map-copied}
 use Rattle.fv_model.proofs.bundle.Bundle.object.Goals as goal
 
 pub returns : goal.returns

@@ -2,9 +2,9 @@ use Rattle.std.proofs.Common.{◌≡◌, ◌≤◌, ◌∙◌, ℕ, List, Some, 
 use Rattle.std.specs.Map.{keys_of}
 use Rattle.fv_datum.specs.Data.{Data}
 use Rattle.fv_datum.specs.View.{view}
-use Rattle.fv_types.specs.Types.{use_view, name_at}
-use Rattle.fv_types.specs.declared.type_use.TypeUse.{TypeUse}
-use Rattle.fv_types.proofs.Lookups.{position-map}
+use Rattle.fv_model_types.specs.Types.{use_view, name_at}
+use Rattle.fv_model_types.specs.declared.type_use.TypeUse.{TypeUse}
+use Rattle.fv_datum.proofs.Lookups.{position-map}
 use Rattle.fv_model.specs.Bundles.{Thing}
 use Rattle.fv_model.specs.Views.{types_view, object_view}
 use Rattle.fv_model.specs.declared.bundle.Object.{Object}

@@ -2,7 +2,7 @@ use Rattle.sqlite.specs.Held.{state}
 use Rattle.fv_store.specs.Faults.{fault_of}
 use Rattle.fv_store.proofs.Holdings.{commit_made, commit_done, commit_undone, is_refusal}
 use Rattle.fv_store.proofs.Openings.{keeps_of}
-use Rattle.fv_query.proofs.Refusals.{handed_on}
+use Rattle.fv_store.proofs.Refusals.{handed_on}
 use Rattle.fv_store.proofs.store.Store.commit.Goals as goal
 
 pub returns-clause-made : goal.returns-clause-made

@@ -1,10 +1,10 @@
 use Rattle.std.proofs.Common.{Result, Ok, Err, OnOk}
 use Rattle.sqlite.specs.Held.{state}
-use Rattle.fv_types.specs.TypesView.{types_view}
+use Rattle.fv_model_types.specs.TypesView.{types_view}
 use Rattle.fv_store.specs.Faults.{fault_of}
 use Rattle.fv_store.proofs.Openings.{keeps_of, holds_still}
 use Rattle.fv_store.proofs.Holdings.{handed_out, never_refused, is_refusal}
-use Rattle.fv_query.proofs.Refusals.{handed_on}
+use Rattle.fv_store.proofs.Refusals.{handed_on}
 use Rattle.fv_store.proofs.store.Store.get.Goals as goal
 
 -- what holds in any case holds where it is answered

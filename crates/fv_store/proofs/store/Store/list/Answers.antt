@@ -4,7 +4,7 @@ use Rattle.fv_store.specs.Faults.{fault_of}
 use Rattle.fv_store.specs.Lists.{Lists, beginning}
 use Rattle.fv_store.proofs.Openings.{keeps_of, holds_still}
 use Rattle.fv_store.proofs.Holdings.{is_refusal}
-use Rattle.fv_query.proofs.Refusals.{handed_on}
+use Rattle.fv_store.proofs.Refusals.{handed_on}
 use Rattle.fv_store.proofs.store.Store.list.Goals as goal
 
 -- where a list begins

@@ -1,0 +1,13 @@
+use Rattle.std.proofs.lemmas.Result.{IfOk-weaker}
+use Rattle.std.proofs.lemmas.Int.{to_z-of_z}
+use mir.Syntax.{w64}
+use Rattle.fv_datum.specs.View.{view}
+use Rattle.fv_constraint_tree.specs.Nodes.{Node}
+use Rattle.fv_constraint_tree.specs.Says.{of_datum, refuses}
+use Rattle.fv_constraint_tree.proofs.Laws.{empty_is}
+use Rattle.fv_constraint_tree.proofs.reporting.report.Goals as goal
+
+pub returns-clause-some : goal.returns-clause-some
+returns-clause-some g c =
+    IfOk-weaker c.violated.result _ _
+    (λ v is. empty_is (λ (n : Node). n.single) (refuses g.R.RuleSet.meaning c.args.now (of_datum (view c.args.datum.now))) 0 c.args.occurrence.now v.items (rw (to_z-of_z w64 c.args.now c.ranges.now) at is)) c.violated.ensures

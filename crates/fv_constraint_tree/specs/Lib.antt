@@ -1,0 +1,11 @@
+pub mod Codes
+pub mod Fits
+pub mod Nodes
+pub mod Preorder
+pub mod Reports
+pub mod Says
+pub mod TargetFits
+pub mod TargetViews
+pub mod Targets
+pub mod Trees
+pub mod Views

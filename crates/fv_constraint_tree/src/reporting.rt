@@ -1,0 +1,135 @@
+//! The nodes that a composed constraint reports.
+ghost use Rattle.std.specs.Prelude.{◌≡◌, ◌≤◌, ◌⊎◌, ◌↔◌, ◌||◌, ◌&&◌, [], ◌∷◌, IfOk, length, take, map, true, false};
+ghost use Rattle.std.specs.List.{list_all, list_any};
+ghost use Rattle.fv_datum.specs.Moments.{IsMoment};
+ghost use Rattle.fv_datum.specs.View.{view};
+ghost use Rattle.fv_model.specs.Views.{object_view};
+ghost use Rattle.fv_constraint_tree.specs.Fits.{test_fits, fits};
+ghost use Rattle.fv_constraint_tree.specs.Reports.{is_bad, violated};
+ghost use Rattle.fv_constraint_tree.specs.Says.{of_datum, of_object, refuses};
+ghost use Rattle.fv_constraint_tree.specs.Trees.{root};
+ghost use Rattle.fv_constraint_tree.specs.Views.{node_view, test_view, subject_view};
+
+use crate::node::Node;
+use crate::occurrence::Occurrence;
+use crate::subject::{Subject, says};
+use fv_datum::Datum;
+use fv_model::Object;
+use fv_registry::{RuleSet, Ruled};
+use std::alloc::{AllocError, Global};
+
+/// Whether one of these constraints refuses a subject at a moment.
+fn any_refuses<R: RuleSet>(
+    alloc: Global,
+    rules: &Ruled<R>,
+    nodes: &[Node],
+    subject: Subject,
+    now: i64,
+) -> Result<bool, AllocError>
+    requires moment { IsMoment now }
+    requires fit { list_all (λ n. test_fits (R.known rules.now.rules) (test_view n.test)) nodes.now ≡ true }
+    ensures { IfOk result (λ b. b
+        ≡ list_any (λ n. refuses R.meaning now (subject_view subject.entry) (node_view n)) nodes.now) }
+{
+    for node in nodes {
+        if !says(alloc, rules, node, subject, now)? {
+            return Ok(true);
+        }
+    }
+    Ok(false)
+}
+
+/// Whether a node is reported, before all nodes behind it: its own constraint refuses, or it reports
+/// as one and one of those below it refuses.
+#[inline(always)]
+fn is_reported<R: RuleSet>(
+    alloc: Global,
+    rules: &Ruled<R>,
+    node: &Node,
+    behind: &[Node],
+    subject: Subject,
+    now: i64,
+) -> Result<bool, AllocError>
+    requires moment { IsMoment now }
+    requires fit { list_all (λ n. test_fits (R.known rules.now.rules) (test_view n.test)) (node.now ∷ behind.now) ≡ true }
+    requires room { node.now.below ≤ length behind.now }
+    ensures { IfOk result (λ b. b ≡ (refuses R.meaning now (subject_view subject.entry) (node_view node.now)
+        || (node.now.single && list_any (λ n. refuses R.meaning now (subject_view subject.entry) (node_view n))
+        (take node.now.below behind.now)))) }
+{
+    let refuses = !says(alloc, rules, node, subject, now)?;
+    if refuses || !node.single {
+        return Ok(refuses);
+    }
+    any_refuses(alloc, rules, &behind[..node.below], subject, now)
+}
+
+/// The numbers of the nodes that are reported of a subject at a moment, in preorder.
+#[inline(always)]
+fn violated<R: RuleSet>(
+    alloc: Global,
+    rules: &Ruled<R>,
+    occurrence: &Occurrence,
+    subject: Subject,
+    now: i64,
+) -> Result<Vec<usize>, AllocError>
+    requires moment { IsMoment now }
+    requires fit { fits (R.known rules.now.rules) occurrence.now ≡ true }
+    ensures { IfOk result (λ v. v.items
+        ≡ map (λ r. r.0) (violated R.meaning now (subject_view subject.entry) 0 occurrence.now)) }
+{
+    let mut numbers = Vec::new(alloc);
+    let mut number = 0;
+    while number < occurrence.size() {
+        let (node, behind) = occurrence.split_at(number);
+        if is_reported(alloc, rules, node, behind, subject, now)? {
+            numbers.push(number)?;
+        }
+        number += if node.single { node.below + 1 } else { 1 };
+    }
+    Ok(numbers)
+}
+
+/// The numbers of the nodes that are reported of a datum at a moment, in preorder.
+///
+/// A node that reports as one is reported alone where its own constraint or one below it refuses;
+/// another where its own constraint refuses, before what is reported below it. Each is asked at most
+/// once. Only the answer and a Pattern take memory.
+pub fn report<R: RuleSet>(
+    alloc: Global,
+    rules: &Ruled<R>,
+    occurrence: &Occurrence,
+    datum: &Datum,
+    now: i64,
+) -> Result<Vec<usize>, AllocError>
+    requires moment { IsMoment now }
+    requires fit { fits (R.known rules.now.rules) occurrence.now ≡ true }
+    ensures exact { IfOk result (λ v. v.items
+        ≡ map (λ r. r.0) (violated R.meaning now (of_datum (view datum.now)) 0 occurrence.now)) }
+    ensures some { IfOk result (λ v. (v.items ≡ [])
+        ↔ (is_bad (refuses R.meaning now (of_datum (view datum.now))) occurrence.now ≡ false)) }
+    ensures alone { IfOk result (λ v. (root occurrence.now).single ≡ true
+        → (v.items ≡ []) ⊎ (v.items ≡ 0 ∷ [])) }
+{
+    violated(alloc, rules, occurrence, Subject::Datum(datum), now)
+}
+
+/// The same of an object.
+pub fn report_object<R: RuleSet>(
+    alloc: Global,
+    rules: &Ruled<R>,
+    occurrence: &Occurrence,
+    object: &Object,
+    now: i64,
+) -> Result<Vec<usize>, AllocError>
+    requires moment { IsMoment now }
+    requires fit { fits (R.known rules.now.rules) occurrence.now ≡ true }
+    ensures exact { IfOk result (λ v. v.items
+        ≡ map (λ r. r.0) (violated R.meaning now (of_object (object_view object.now)) 0 occurrence.now)) }
+    ensures some { IfOk result (λ v. (v.items ≡ [])
+        ↔ (is_bad (refuses R.meaning now (of_object (object_view object.now))) occurrence.now ≡ false)) }
+    ensures alone { IfOk result (λ v. (root occurrence.now).single ≡ true
+        → (v.items ≡ []) ⊎ (v.items ≡ 0 ∷ [])) }
+{
+    violated(alloc, rules, occurrence, Subject::Object(object), now)
+}

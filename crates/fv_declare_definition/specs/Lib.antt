@@ -1,0 +1,4 @@
+pub mod Attributes
+pub mod DefinitionViews
+pub mod Definitions
+pub mod Written

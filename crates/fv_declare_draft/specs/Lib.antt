@@ -1,0 +1,10 @@
+pub mod AllCascades
+pub mod AllUses
+pub mod Cascades
+pub mod DraftViews
+pub mod Drafts
+pub mod Groups
+pub mod Messages
+pub mod Places
+pub mod UseViews
+pub mod Uses

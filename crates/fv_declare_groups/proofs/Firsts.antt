@@ -1,0 +1,123 @@
+-- The first fault of a draft's groups, by what is known of each condition.
+use Rattle.std.proofs.Common.{◌≡◌, ◌≢◌, ◌⊎◌, inl, inr, List, [], ◌∷◌, Bool, true, false, ◌||◌, Option, Some, None, refl, ap, subst, true≢false, sym, ◌∙◌}
+use Rattle.std.specs.List.{list_any}
+use Rattle.fv_declare_draft.specs.Drafts.{TypeDraft, Drafted}
+use Rattle.fv_graph.specs.Graph.{IsCyclic}
+use Rattle.fv_groups.specs.Groups.{Groups, inherit_next, member_next}
+use Rattle.fv_groups.specs.Judged.{has_unknown, has_inherited_sequence, sequence_in, AreSound}
+use Rattle.fv_declare_draft.specs.AllCascades.{Cascade, cascades_in}
+use Rattle.fv_declare_draft.specs.AllUses.{Use, uses_in}
+use Rattle.fv_declare_groups.specs.First.{IsFirst, HasSome}
+use Rattle.fv_declare_groups.specs.Graphed.{IsFaultOf}
+use Rattle.fv_declare_groups.specs.Grouping.{groups_in, named_unknown, unknown_group, misused, lacks_type, MembersMeet, is_misplaced, grouping_faults, Holds}
+use Rattle.fv_declare_groups.specs.declared.fault.GroupingFault.{GroupingFault}
+use Rattle.fv_declare_groups.specs.declared.fault.GroupingFault.TheVariants.{UnknownGroup, CyclicInheritance, CyclicSequence, SequenceMisused, SequenceLacksType, DefaultInTypeSequence, ConversionMisplaced, Memory}
+
+or_first : (a b : Bool) → a ≡ true → (a || b) ≡ true
+or_first a b e = rw e refl
+
+or_second : (a b : Bool) → b ≡ true → (a || b) ≡ true
+or_second true b e = refl
+or_second false b e = e
+
+or_neither : (a b : Bool) → a ≡ false → b ≡ false → (a || b) ≡ false
+or_neither a b e h = rw (e, h) refl
+
+not_both : (b : Bool) → b ≡ false → b ≡ true → ⊥
+not_both b e h = true≢false (sym h ∙ e)
+
+module _ (d : Drafted) where
+  abbrev pub Told : Option GroupingFault → Type 0
+  Told found = IsFirst (Holds d) grouping_faults found
+
+  abbrev all : Groups
+  all = groups_in d
+
+  abbrev named : Bool
+  named = named_unknown all (uses_in d.types) d.types (cascades_in d.types) d.forms
+
+  -- a name outside of groups is no group's
+  pub name_unknown : named ≡ true → Told (Some UnknownGroup)
+  name_unknown is = inl (or_first named (has_unknown all) is, refl)
+
+  module _ (names : named ≡ false) where
+    -- a fault of groups by themselves
+    pub group_fault : (f : GroupingFault) → IsFaultOf all f → Told (Some f)
+    group_fault UnknownGroup is = inl (or_second named (has_unknown all) is, refl)
+    group_fault CyclicInheritance is = inr (not_both _ (or_neither named (has_unknown all) names is.0), inl (is.1, refl))
+    group_fault CyclicSequence is = inr (not_both _ (or_neither named (has_unknown all) names is.0), inr (is.1, inl (is.2, refl)))
+    group_fault SequenceMisused is =
+        inr (
+          not_both _ (or_neither named (has_unknown all) names is.0),
+          inr (
+            is.1,
+            inr (
+              is.2,
+              inl (or_second (list_any (λ u. sequence_in all u.groups) (uses_in d.types)) (has_inherited_sequence all) is.3, refl),
+            ),
+          ),
+        )
+    group_fault SequenceLacksType is = absurd is
+    group_fault DefaultInTypeSequence is = absurd is
+    group_fault ConversionMisplaced is = absurd is
+    group_fault Memory is = absurd is
+
+    module _ (sound : AreSound all) where
+      later : (found : Option GroupingFault) → IsFirst (Holds d) (SequenceMisused ∷ SequenceLacksType ∷ DefaultInTypeSequence ∷ ConversionMisplaced ∷ []) found → Told found
+      later found h = inr (not_both _ (or_neither named (has_unknown all) names sound.known), inr (sound.inheritance, inr (sound.expansion, h)))
+
+      abbrev in_sequence : Bool
+      in_sequence = list_any (λ u. sequence_in all u.groups) (uses_in d.types)
+
+      -- a constraint is in a sequence
+      pub use_misused : in_sequence ≡ true → Told (Some SequenceMisused)
+      use_misused is = later (Some SequenceMisused) (inl (or_first in_sequence (has_inherited_sequence all) is, refl))
+
+      module _ (proper : in_sequence ≡ false) where
+        not_misused : Holds d SequenceMisused → ⊥
+        not_misused = not_both _ (or_neither in_sequence (has_inherited_sequence all) proper sound.proper)
+
+        -- a type's sequence lacks the type
+        pub type_lacking : list_any lacks_type d.types ≡ true → Told (Some SequenceLacksType)
+        type_lacking is = later (Some SequenceLacksType) (inr (not_misused, inl (is, refl)))
+
+        module _ (own : list_any lacks_type d.types ≡ false) where
+          -- a member of one meets `Default`
+          pub default_met : HasSome (MembersMeet all) d.types → Told (Some DefaultInTypeSequence)
+          default_met is = later (Some DefaultInTypeSequence) (inr (not_misused, inr (not_both _ own, inl (is, refl))))
+
+          module _ (apart : HasSome (MembersMeet all) d.types → ⊥) where
+            -- a conversion is misplaced
+            pub conversion_misplaced : list_any (is_misplaced all) (cascades_in d.types) ≡ true → Told (Some ConversionMisplaced)
+            conversion_misplaced is = later (Some ConversionMisplaced) (inr (not_misused, inr (not_both _ own, inr (apart, inl (is, refl)))))
+
+            -- there is no fault
+            pub none_told : list_any (is_misplaced all) (cascades_in d.types) ≡ false → Told None
+            none_told is = later None (inr (not_misused, inr (not_both _ own, inr (apart, inr (not_both _ is, refl)))))
+
+-- ---- what is asked of lists that are the draft's
+
+module _ (d : Drafted) where
+  pub named_same : (gs : Groups) (us : List Use) (cs : List Cascade) (b : Bool) → gs ≡ groups_in d → us ≡ uses_in d.types → cs ≡ cascades_in d.types → b ≡ named_unknown gs us d.types cs d.forms
+      → named_unknown (groups_in d) (uses_in d.types) d.types (cascades_in d.types) d.forms ≡ b
+  named_same gs us cs b groups uses cascades is =
+      sym (is ∙ ap (λ (g : Groups). named_unknown g us d.types cs d.forms) groups ∙ ap (λ (u : List Use). named_unknown (groups_in d) u d.types cs d.forms) uses
+      ∙ ap (λ (c : List Cascade). named_unknown (groups_in d) (uses_in d.types) d.types c d.forms) cascades)
+
+  pub sequenced_same : (gs : Groups) (us : List Use) (b : Bool) → gs ≡ groups_in d → us ≡ uses_in d.types → b ≡ list_any (λ u. sequence_in gs u.groups) us
+      → list_any (λ u. sequence_in (groups_in d) u.groups) (uses_in d.types) ≡ b
+  sequenced_same gs us b groups uses is =
+      sym (is ∙ ap (λ (g : Groups). list_any (λ (u : Use). sequence_in g u.groups) us) groups ∙ ap (λ (u : List Use). list_any (λ (v : Use). sequence_in (groups_in d) v.groups) u) uses)
+
+  pub lacking_same : (ts : List TypeDraft) (b : Bool) → ts ≡ d.types → b ≡ list_any lacks_type ts → list_any lacks_type d.types ≡ b
+  lacking_same ts b types is = sym (is ∙ ap (list_any lacks_type) types)
+
+  pub met_same : (gs : Groups) (ts : List TypeDraft) → gs ≡ groups_in d → ts ≡ d.types → HasSome (MembersMeet gs) ts → HasSome (MembersMeet (groups_in d)) d.types
+  met_same gs ts groups types h = subst (λ (g : Groups). HasSome (MembersMeet g) d.types) groups (subst (λ (t : List TypeDraft). HasSome (MembersMeet gs) t) types h)
+
+  pub unmet_same : (gs : Groups) (ts : List TypeDraft) → gs ≡ groups_in d → ts ≡ d.types → (HasSome (MembersMeet gs) ts → false ≡ true) → HasSome (MembersMeet (groups_in d)) d.types → ⊥
+  unmet_same gs ts groups types none h =
+      true≢false (sym (none (subst (λ (g : Groups). HasSome (MembersMeet g) ts) (sym groups) (subst (λ (t : List TypeDraft). HasSome (MembersMeet (groups_in d)) t) (sym types) h))))
+
+  pub misplaced_same : (gs : Groups) (cs : List Cascade) (b : Bool) → gs ≡ groups_in d → cs ≡ cascades_in d.types → b ≡ list_any (is_misplaced gs) cs → list_any (is_misplaced (groups_in d)) (cascades_in d.types) ≡ b
+  misplaced_same gs cs b groups cascades is = sym (is ∙ ap (λ (g : Groups). list_any (is_misplaced g) cs) groups ∙ ap (list_any (is_misplaced (groups_in d))) cascades)

@@ -1,0 +1,4 @@
+pub mod First
+pub mod Graphed
+pub mod Grouping
+pub mod Numbered

@@ -1,0 +1,19 @@
+//! The groups of declarations: whether uses of constraints, sequences, conversions and forms name them
+//! as they may, and what they then name by its number.
+#![tactic(auto)]
+
+mod conversions;
+mod declared;
+mod fault;
+mod found;
+mod judging;
+mod numbers;
+mod places;
+mod sequences;
+mod unknown;
+
+pub use fault::GroupingFault;
+pub use judging::{Grouping, grouped};
+pub use numbers::{groups_named, sequences_of};
+pub use places::valid_places;
+pub use sequences::has_long_sequence;

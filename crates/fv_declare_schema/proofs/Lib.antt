@@ -1,0 +1,3 @@
+pub mod FormGroups
+pub mod Nodes
+pub mod OfType

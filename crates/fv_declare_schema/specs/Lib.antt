@@ -1,0 +1,10 @@
+pub mod Codes
+pub mod Declarations
+pub mod Fits
+pub mod NumberViews
+pub mod Ordered
+pub mod PlaceViews
+pub mod PlacedView
+pub mod Places
+pub mod SchemaView
+pub mod ValidPlaces

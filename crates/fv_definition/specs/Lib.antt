@@ -1,4 +1,0 @@
-pub mod Attributes
-pub mod Definitions
-pub mod EntryNames
-pub mod Names

@@ -1,0 +1,244 @@
+//! What a line asks for.
+ghost use Rattle.std.specs.Prelude.{◌≡◌, IfOk, codes, map, option_map};
+ghost use Rattle.fv_datum.specs.Forms.{maybe, optional};
+ghost use Rattle.serde_json.specs.View.{view as json_view};
+ghost use Rattle.fv_engine_command.specs.CommandView.{command_view, part_view};
+ghost use Rattle.fv_engine_command.specs.Commands.{alone, batch_of, get_of, groups_at, check_of, check_field_of, check_value_of, id_in, limit_in, list_of, done_by, command_of};
+
+use crate::ids::{id_in, id_of};
+use crate::members::text_at;
+use crate::part::{Part, parts_in, put_of, remove_of, set_of};
+use fv_datum::{has_only, names_of};
+use serde_json::Value;
+use std::alloc::{AllocError, Global};
+
+/// The most groups that a check names, repeats included.
+const MOST_GROUPS: usize = 32;
+
+/// The most ids that a list gives.
+const MOST_IDS: u64 = 1000;
+
+/// A command, its parts borrowed from the line's JSON.
+#[derive(Drop)]
+pub enum Command<'a> {
+    /// A put, a set or a remove by itself.
+    Alone(Part<'a>),
+    /// All of these in order, or none; 1 to 64.
+    Batch {
+        parts: Vec<Part<'a>>,
+    },
+    Get {
+        id: &'a str,
+    },
+    Check {
+        id: &'a str,
+        groups: Vec<&'a str>,
+    },
+    CheckField {
+        id: &'a str,
+        object: &'a str,
+        field: &'a str,
+        groups: Vec<&'a str>,
+    },
+    CheckValue {
+        type_name: &'a str,
+        field: &'a str,
+        value: &'a Value,
+        groups: Vec<&'a str>,
+    },
+    /// The ids of a form above one, at most so many.
+    List {
+        form: &'a str,
+        after: Option<&'a str>,
+        limit: u32,
+    },
+}
+
+fn get_of<'a>(value: &'a Value) -> Option<Command<'a>>
+    ensures { option_map command_view result ≡ get_of (json_view value.now) }
+{
+    if !has_only(value, &["do", "id"]) {
+        return None;
+    }
+    let id = id_of(value)?;
+    Some(Command::Get { id })
+}
+
+/// The names at the member `groups`: an array of at most 32 texts, and none where it is missing.
+fn groups_of<'a>(alloc: Global, value: &'a Value) -> Result<Option<Vec<&'a str>>, AllocError>
+    ensures { IfOk result (λ o. option_map (λ v. map (λ n. n.now) v.items) o ≡ groups_at (json_view value.now)) }
+{
+    match names_of(alloc, value.get("groups"))? {
+        Some(names) if names.len() <= MOST_GROUPS => Ok(Some(names)),
+        _ => Ok(None),
+    }
+}
+
+fn check_of<'a>(alloc: Global, value: &'a Value) -> Result<Option<Command<'a>>, AllocError>
+    ensures { IfOk result (λ o. option_map command_view o ≡ check_of (json_view value.now)) }
+{
+    if !has_only(value, &["do", "id", "groups"]) {
+        return Ok(None);
+    }
+    let Some(id) = id_of(value) else {
+        return Ok(None);
+    };
+    match groups_of(alloc, value)? {
+        None => Ok(None),
+        Some(groups) => Ok(Some(Command::Check { id, groups })),
+    }
+}
+
+fn check_field_of<'a>(alloc: Global, value: &'a Value) -> Result<Option<Command<'a>>, AllocError>
+    ensures { IfOk result (λ o. option_map command_view o ≡ check_field_of (json_view value.now)) }
+{
+    if !has_only(value, &["do", "id", "object", "field", "groups"]) {
+        return Ok(None);
+    }
+    let Some(id) = id_of(value) else {
+        return Ok(None);
+    };
+    let Some(object) = text_at(value, "object") else {
+        return Ok(None);
+    };
+    let Some(field) = text_at(value, "field") else {
+        return Ok(None);
+    };
+    match groups_of(alloc, value)? {
+        None => Ok(None),
+        Some(groups) => Ok(Some(Command::CheckField {
+            id,
+            object,
+            field,
+            groups,
+        })),
+    }
+}
+
+fn check_value_of<'a>(alloc: Global, value: &'a Value) -> Result<Option<Command<'a>>, AllocError>
+    ensures { IfOk result (λ o. option_map command_view o ≡ check_value_of (json_view value.now)) }
+{
+    if !has_only(value, &["do", "type", "field", "value", "groups"]) {
+        return Ok(None);
+    }
+    let Some(type_name) = text_at(value, "type") else {
+        return Ok(None);
+    };
+    let Some(field) = text_at(value, "field") else {
+        return Ok(None);
+    };
+    let Some(told) = value.get("value") else {
+        return Ok(None);
+    };
+    match groups_of(alloc, value)? {
+        None => Ok(None),
+        Some(groups) => Ok(Some(Command::CheckValue {
+            type_name,
+            field,
+            value: told,
+            groups,
+        })),
+    }
+}
+
+/// The id at the member `after`, which may be missing.
+fn after_of<'a>(value: &'a Value) -> Option<Option<&'a str>>
+    ensures { option_map (λ o. option_map (λ s. s.now) o) result ≡ maybe id_in (codes "after") (json_view value.now) }
+{
+    match value.get("after") {
+        None => Some(None),
+        Some(after) => Some(Some(id_in(after)?)),
+    }
+}
+
+/// The limit that a JSON value is: a whole number from 1 to 1,000.
+fn limit_in(value: &Value) -> Option<u32>
+    ensures { result ≡ limit_in (json_view value.now) }
+{
+    let limit = value.as_u64()?;
+    if limit == 0 {
+        return None;
+    }
+    if limit > MOST_IDS {
+        return None;
+    }
+    Some(limit as u32)
+}
+
+/// The limit at the member `limit`; 100 where it is missing.
+fn limit_of(value: &Value) -> Option<u32>
+    ensures { result ≡ optional 100 limit_in (codes "limit") (json_view value.now) }
+{
+    match value.get("limit") {
+        None => Some(100),
+        Some(limit) => limit_in(limit),
+    }
+}
+
+fn list_of<'a>(value: &'a Value) -> Option<Command<'a>>
+    ensures { option_map command_view result ≡ list_of (json_view value.now) }
+{
+    if !has_only(value, &["do", "form", "after", "limit"]) {
+        return None;
+    }
+    let form = text_at(value, "form")?;
+    let after = after_of(value)?;
+    let limit = limit_of(value)?;
+    Some(Command::List { form, after, limit })
+}
+
+fn batch_of<'a>(alloc: Global, value: &'a Value) -> Result<Option<Command<'a>>, AllocError>
+    ensures { IfOk result (λ o. option_map command_view o ≡ batch_of (json_view value.now)) }
+{
+    if !has_only(value, &["do", "parts"]) {
+        return Ok(None);
+    }
+    let Some(told) = value.get("parts") else {
+        return Ok(None);
+    };
+    match parts_in(alloc, told)? {
+        None => Ok(None),
+        Some(parts) => Ok(Some(Command::Batch { parts })),
+    }
+}
+
+/// A part by itself.
+fn alone<'a>(part: Option<Part<'a>>) -> Option<Command<'a>>
+    ensures { option_map command_view result ≡ option_map alone (option_map part_view part.entry) }
+{
+    Some(Command::Alone(part?))
+}
+
+/// The command of a name that a JSON value is.
+fn done_by<'a>(
+    alloc: Global,
+    name: &str,
+    value: &'a Value,
+) -> Result<Option<Command<'a>>, AllocError>
+    ensures { IfOk result (λ o. option_map command_view o ≡ done_by name.now (json_view value.now)) }
+{
+    match name {
+        "put" => Ok(alone(put_of(value))),
+        "set" => Ok(alone(set_of(value))),
+        "remove" => Ok(alone(remove_of(value))),
+        "batch" => batch_of(alloc, value),
+        "get" => Ok(get_of(value)),
+        "check" => check_of(alloc, value),
+        "checkfield" => check_field_of(alloc, value),
+        "checkvalue" => check_value_of(alloc, value),
+        "list" => Ok(list_of(value)),
+        _ => Ok(None),
+    }
+}
+
+/// The command that a JSON value is: an object with the members of the command that `do` names, and
+/// no others. A put's bundle and the value of a set and of a checkvalue are any values here; forms,
+/// objects, fields, types and groups are any texts. So is each part of a batch.
+pub fn command_of<'a>(alloc: Global, value: &'a Value) -> Result<Option<Command<'a>>, AllocError>
+    ensures { IfOk result (λ o. option_map command_view o ≡ command_of (json_view value.now)) }
+{
+    match text_at(value, "do") {
+        None => Ok(None),
+        Some(name) => done_by(alloc, name, value),
+    }
+}

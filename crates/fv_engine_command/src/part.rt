@@ -1,0 +1,130 @@
+//! The parts of commands that change records.
+ghost use Rattle.std.specs.Prelude.{◌≡◌, IfOk, map, option_map};
+ghost use Rattle.serde_json.specs.View.{view as json_view, items_view};
+ghost use Rattle.fv_datum.specs.Members.{listed, each_some};
+ghost use Rattle.fv_engine_command.specs.CommandView.{part_view};
+ghost use Rattle.fv_engine_command.specs.Commands.{put_of, set_of, remove_of, part_by, part_of, parts_in};
+
+use crate::ids::id_of;
+use crate::members::text_at;
+use fv_datum::has_only;
+use serde_json::Value;
+use std::alloc::{AllocError, Global};
+
+/// The most parts of a batch.
+const MOST_PARTS: usize = 64;
+
+/// A part of a command that changes records, borrowed from the line's JSON.
+#[derive(Clone, Copy)]
+pub enum Part<'a> {
+    /// The record of the id is this one, whether or not there is one.
+    Put {
+        id: &'a str,
+        form: &'a str,
+        bundle: &'a Value,
+    },
+    /// One datum of a record is this one.
+    Set {
+        id: &'a str,
+        object: &'a str,
+        field: &'a str,
+        value: &'a Value,
+    },
+    /// The id's record goes.
+    Remove {
+        id: &'a str,
+    },
+}
+
+pub(crate) fn put_of<'a>(value: &'a Value) -> Option<Part<'a>>
+    ensures { option_map part_view result ≡ put_of (json_view value.now) }
+{
+    if !has_only(value, &["do", "id", "form", "bundle"]) {
+        return None;
+    }
+    let id = id_of(value)?;
+    let form = text_at(value, "form")?;
+    let bundle = value.get("bundle")?;
+    Some(Part::Put { id, form, bundle })
+}
+
+pub(crate) fn set_of<'a>(value: &'a Value) -> Option<Part<'a>>
+    ensures { option_map part_view result ≡ set_of (json_view value.now) }
+{
+    if !has_only(value, &["do", "id", "object", "field", "value"]) {
+        return None;
+    }
+    let id = id_of(value)?;
+    let object = text_at(value, "object")?;
+    let field = text_at(value, "field")?;
+    let told = value.get("value")?;
+    Some(Part::Set {
+        id,
+        object,
+        field,
+        value: told,
+    })
+}
+
+pub(crate) fn remove_of<'a>(value: &'a Value) -> Option<Part<'a>>
+    ensures { option_map part_view result ≡ remove_of (json_view value.now) }
+{
+    if !has_only(value, &["do", "id"]) {
+        return None;
+    }
+    let id = id_of(value)?;
+    Some(Part::Remove { id })
+}
+
+/// The part of a name that a JSON value is.
+fn part_by<'a>(name: &str, value: &'a Value) -> Option<Part<'a>>
+    ensures { option_map part_view result ≡ part_by name.now (json_view value.now) }
+{
+    match name {
+        "put" => put_of(value),
+        "set" => set_of(value),
+        "remove" => remove_of(value),
+        _ => None,
+    }
+}
+
+/// The part that a JSON value is: a put, a set or a remove.
+fn part_of<'a>(value: &'a Value) -> Option<Part<'a>>
+    ensures { option_map part_view result ≡ part_of (json_view value.now) }
+{
+    part_by(text_at(value, "do")?, value)
+}
+
+/// The parts that JSON values are.
+fn each_part<'a>(alloc: Global, values: &'a [Value]) -> Result<Option<Vec<Part<'a>>>, AllocError>
+    ensures { IfOk result (λ o. option_map (λ v. map part_view v.items) o
+        ≡ each_some part_of (listed (items_view values.now))) }
+{
+    let mut parts = Vec::with_capacity(alloc, values.len())?;
+    for value in values {
+        match part_of(value) {
+            None => return Ok(None),
+            Some(part) => parts.push(part)?,
+        }
+    }
+    Ok(Some(parts))
+}
+
+/// The parts that an array has, 1 to 64 of them.
+pub(crate) fn parts_in<'a>(
+    alloc: Global,
+    value: &'a Value,
+) -> Result<Option<Vec<Part<'a>>>, AllocError>
+    ensures { IfOk result (λ o. option_map (λ v. map part_view v.items) o ≡ parts_in (json_view value.now)) }
+{
+    let Some(values) = value.as_array() else {
+        return Ok(None);
+    };
+    if values.is_empty() {
+        return Ok(None);
+    }
+    if values.len() > MOST_PARTS {
+        return Ok(None);
+    }
+    each_part(alloc, values)
+}

@@ -1,0 +1,38 @@
+ghost use Rattle.std.specs.Prelude.{◌∷◌, [], ◌++◌, OnOk, OnErr};
+ghost use Rattle.std.specs.Io.KnownBytes.{Appends};
+ghost use Rattle.fv_engine_lines.specs.Writes.{AppendsFront};
+
+use std::io::Write;
+
+/// A write failed, or took nothing.
+#[derive(Clone, Copy, Debug, PartialEq, Eq)]
+pub struct WriteFailed;
+
+/// Writes all of the bytes, by its own loop.
+pub fn write_bytes<W: Write>(writer: &mut W, bytes: &[u8]) -> Result<(), WriteFailed>
+    ensures ok { OnOk result (Appends (W.contents writer.old) (W.contents writer.new) bytes.now) }
+    ensures err { OnErr result (AppendsFront (W.contents writer.old) (W.contents writer.new) bytes.now) }
+{
+    let mut at = 0;
+    while at < bytes.len() {
+        match writer.write(&bytes[at..]) {
+            Ok(0) => return Err(WriteFailed),
+            Ok(n) => at += n,
+            Err(_) => return Err(WriteFailed),
+        }
+    }
+    Ok(())
+}
+
+/// Writes a line and its end, and flushes.
+pub fn write_line<W: Write>(writer: &mut W, text: &[u8]) -> Result<(), WriteFailed>
+    ensures ok { OnOk result (Appends (W.contents writer.old) (W.contents writer.new) (text.now ++ 10 ∷ [])) }
+    ensures err { OnErr result (AppendsFront (W.contents writer.old) (W.contents writer.new) (text.now ++ 10 ∷ [])) }
+{
+    write_bytes(writer, text)?;
+    write_bytes(writer, b"\n")?;
+    match writer.flush() {
+        Ok(()) => Ok(()),
+        Err(_) => Err(WriteFailed),
+    }
+}

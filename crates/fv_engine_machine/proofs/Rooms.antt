@@ -1,0 +1,38 @@
+-- Room for so many more rows.
+use Rattle.std.proofs.Common.{◌≡◌, ◌⊎◌, ◌<◌, ◌-◌, ◌^◌, ◌≤ℤ◌, ◌<ℤ◌, ℕ, ℤ, pos, negsuc, ◌+ℤ◌, nat_lt, min, if◌then◌else◌, List, [], ◌∷◌, Bool, true, false, inl, inr, refl, sym, ap, subst, arith}
+use Rattle.std.proofs.lemmas.Bool.Decides.{nat_tests}
+use Rattle.std.proofs.lemmas.Int.{ints}
+use Rattle.sqlite.specs.Edit.{id_in}
+use Rattle.sqlite.specs.Effect.{Database}
+use Rattle.sqlite.specs.Order.{Row}
+use Rattle.sqlite.specs.Tree.{rowid}
+use Rattle.sqlite_rules.specs.Lists.{Has}
+use Rattle.fv_store.specs.Causes.{HasRoom}
+use Rattle.fv_engine_machine.specs.Machines.{rowids_from, room_above, room_in}
+
+-- fewer than there are rowids from one on leave it a rowid, and the one so many further
+below_so_many : (i : ℤ) (n : ℕ) → n < rowids_from i → (negsuc (2 ^ 63 - 1) ≤ℤ i) × ((i +ℤ pos n) <ℤ pos (2 ^ 63))
+below_so_many (pos m) n less = (omega (arith, ints), omega (arith, ints, less))
+below_so_many (negsuc m) n less = go (nat_lt m (2 ^ 63)) refl less
+  where
+    go : (b : Bool) → nat_lt m (2 ^ 63) ≡ b → n < (if b then 2 ^ 63 else 0) → (negsuc (2 ^ 63 - 1) ≤ℤ negsuc m) × ((negsuc m +ℤ pos n) <ℤ pos (2 ^ 63))
+    go true is few = (grind (arith, ints, nat_tests, is), omega (arith, ints, few))
+    go false is none = absurd (omega (arith, none))
+
+fewer_than_both : (n a b : ℕ) → n < min a b → (n < a) × (n < b)
+fewer_than_both n a b less = (omega (arith, less), omega (arith, less))
+
+at_most : (rows : List Row) (n : ℕ) → n < room_above rows → n < 2 ^ 63
+at_most [] n less = less
+at_most (row ∷ rows) n less = at_most rows n (fewer_than_both n (rowids_from (id_in (rowid row))) (room_above rows) less).1
+
+each_below : (rows : List Row) (n : ℕ) → n < room_above rows → (row : Row) → Has rows row → n < rowids_from (id_in (rowid row))
+each_below [] n less row has = absurd has
+each_below (r ∷ rows) n less row (inl here) = subst (λ (q : Row). n < rowids_from (id_in (rowid q))) (sym here) (fewer_than_both n (rowids_from (id_in (rowid r))) (room_above rows) less).0
+each_below (r ∷ rows) n less row (inr later) = each_below rows n (fewer_than_both n (rowids_from (id_in (rowid r))) (room_above rows) less).1 row later
+
+pub room_for : (db : Database) (n : ℕ) → n < room_in db → HasRoom n db
+room_for db n less = record {
+  few = at_most (db.trees 1) n less;
+  below = λ row has. below_so_many (id_in (rowid row)) n (each_below (db.trees 1) n less row has);
+}

@@ -1,0 +1,50 @@
+use Rattle.std.proofs.Common.{◌≡◌, map, sym, subst, ap, ◌∙◌}
+use Rattle.std.proofs.lemmas.Int.{to_z-of_z}
+use mir.Syntax.{w64}
+use Rattle.sqlite.specs.Held.{state}
+use Rattle.fv_declare_schema.specs.Declarations.{Declarations}
+use Rattle.fv_model.specs.Views.{bundle_view}
+use Rattle.fv_model.specs.WellTyped.{IsWellTyped}
+use Rattle.fv_store.specs.Stored.{stored_view}
+use Rattle.fv_model_types.specs.Types.{Declared}
+use Rattle.fv_model_types.specs.TypesView.{types_view}
+use Rattle.fv_engine_machine.specs.Machines.{contents}
+use Rattle.fv_engine_machine.proofs.Becoming.{unchanged, checked_none, checked_some, checked_not, fails_so}
+use Rattle.fv_engine_machine.proofs.checking.check.Goals as goal
+
+pub returns-in-Ok-None : goal.returns-in-Ok-None
+returns-in-Ok-None g c =
+    let ds = c.args.book.now in
+    let names = map (λ n. n.now) c.args.names.now in
+    let same : ds.types ≡ types_view c.types.result.now = sym (c.types.ensures ∙ ap (λ (d : Declarations). d.types) c.schema.ensures) in
+    let found = rw c.in-Ok-None.field-0-is at c.in-Ok-None.ensures.found in
+    unchanged (state g.S.Store) ds _ _ c.in-Ok-None.ensures.frame _
+    (λ clean bytes m holds stay. checked_none g.R.RuleSet.meaning c.args.now c.args.id.now names _ _ stay (c.in-Ok-None.ensures.frame.was_open clean (c.in-Ok-None.ensures.open clean))
+    (sym (found clean (contents bytes ds m) same holds)))
+    (λ bytes m holds. c.in-Ok-None.ensures.stays (contents bytes ds m) holds)
+
+pub returns-in-Ok-Some : goal.returns-in-Ok-Some
+returns-in-Ok-Some g c =
+    let ds = c.args.book.now in
+    let names = map (λ n. n.now) c.args.names.now in
+    let same : ds.types ≡ types_view c.types.result.now = sym (c.types.ensures ∙ ap (λ (d : Declarations). d.types) c.schema.ensures) in
+    let found = rw c.in-Ok-Some.field-0-is at c.in-Ok-Some.ensures.found in
+    let told = rw (to_z-of_z w64 c.args.now c.ranges.now) at c.checked.ensures in
+    unchanged (state g.S.Store) ds _ _ c.in-Ok-Some.ensures.frame _
+    (λ clean bytes m holds stay. checked_some g.R.RuleSet.meaning c.args.now c.args.id.now names _ _ stay (c.in-Ok-Some.ensures.frame.was_open clean (c.in-Ok-Some.ensures.open clean)) (stored_view c.in-Ok-Some.stored)
+    (sym (found clean (contents bytes ds m) same holds)) _ told)
+    (λ bytes m holds. c.in-Ok-Some.ensures.stays (contents bytes ds m) holds)
+
+pub returns-in-Err : goal.returns-in-Err
+returns-in-Err g c =
+    let ds = c.args.book.now in
+    let names = map (λ n. n.now) c.args.names.now in
+    let same : ds.types ≡ types_view c.types.result.now = sym (c.types.ensures ∙ ap (λ (d : Declarations). d.types) c.schema.ensures) in
+    unchanged (state g.S.Store) ds _ _ c.in-Err.ensures.frame _ (λ clean bytes m holds stay. checked_not g.R.RuleSet.meaning c.args.now c.args.id.now names _ _ stay c.undone.result
+    (fails_so c.in-Err.fault c.undone.result _ c.undone.ensures.store c.undone.ensures.memory (λ is. c.in-Err.ensures.cause clean is (contents bytes ds m) same holds)))
+    (λ bytes m holds. c.in-Err.ensures.stays (contents bytes ds m) holds)
+
+pub checked-requires-clause-typed : goal.checked-requires-clause-typed
+checked-requires-clause-typed g c =
+    let same : types_view c.types.result.now ≡ c.args.book.now.types = c.types.ensures ∙ ap (λ (d : Declarations). d.types) c.schema.ensures in
+    subst (λ (ts : Declared). IsWellTyped ts (bundle_view c.in-Ok-Some.stored.bundle)) same (rw c.in-Ok-Some.field-0-is at c.in-Ok-Some.ensures.typed)

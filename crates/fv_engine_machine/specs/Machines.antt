@@ -1,0 +1,70 @@
+-- The record machine, and what a call does to it.
+use Rattle.std.specs.Prelude.{◌≡◌, ℕ, ◌-◌, ◌^◌, ℤ, pos, negsuc, List, [], ◌∷◌, Bool, min, nat_lt, if◌then◌else◌}
+use Rattle.sqlite.specs.Edit.{id_in}
+use Rattle.sqlite.specs.Effect.{Database}
+use Rattle.sqlite.specs.Order.{Row}
+use Rattle.sqlite.specs.State.{State, HasCleanDisk}
+use Rattle.sqlite.specs.Tree.{rowid}
+use Rattle.fv_declare_schema.specs.Declarations.{Declarations}
+use Rattle.fv_store.specs.Records.{Records, Contents}
+use Rattle.fv_store.specs.Stands.{Holds}
+
+-- What is declared and the records, as a map or as the connection to the database that keeps them; whether the connection is open, as a
+-- failure of the disk may shut it; how often the disk has failed; how many rowids there are from the
+-- highest that is taken on, that one included.
+pub record Machine (R : Type 0) : Type 0 where
+  pub declared : Declarations
+  pub records : R
+  pub is_open : Bool
+  pub faults : ℕ
+  pub room : ℕ
+
+-- how many rowids there are from one on, itself included: below 2 ^ 63, at most so many, and none from one that is no rowid
+abbrev pub rowids_from : ℤ → ℕ
+rowids_from (pos n) = 2 ^ 63 - n
+rowids_from (negsuc n) = if nat_lt n (2 ^ 63) then 2 ^ 63 else 0
+
+-- the same from the highest of rows on
+abbrev pub room_above : List Row → ℕ
+room_above [] = 2 ^ 63
+room_above (row ∷ rows) = min (rowids_from (id_in (rowid row))) (room_above rows)
+
+-- the same in the table of records
+abbrev pub room_in : Database → ℕ
+room_in db = room_above (db.trees 1)
+
+-- the machine over a connection
+abbrev pub over : {H : Type 0} → (H → State) → Declarations → H → Machine H
+over held ds connection = record {
+  declared = ds;
+  records = connection;
+  is_open = (held connection).is_open;
+  faults = (held connection).faults;
+  room = room_in (held connection).now;
+}
+
+-- the machine with these records; the connection says the rest
+abbrev pub with_map : {H : Type 0} → (H → State) → Machine H → Records → Machine Records
+with_map held machine m = record {
+  declared = machine.declared;
+  records = m;
+  is_open = (held machine.records).is_open;
+  faults = (held machine.records).faults;
+  room = room_in (held machine.records).now;
+}
+
+-- what a store keeps of declarations of these bytes, and these records
+abbrev pub contents : List ℕ → Declarations → Records → Contents
+contents bytes ds m = record { bytes = bytes; types = ds.types; roots = ds.forms; records = m }
+
+-- its database stands for these records, under declarations of these bytes
+abbrev pub StandsFor : {H : Type 0} → (H → State) → List ℕ → Machine H → Records → Type 0
+StandsFor held bytes machine m = Holds (held machine.records) (contents bytes machine.declared m)
+
+-- The old machine becomes the new one: what is declared stays, and where the disk is clean, the records that the old one stood for are in
+-- the relation with those that the new one stands for.
+pub record Becomes {H : Type 0} (held : H → State) (old new : Machine H) (relation : Machine Records → Machine Records → Type 0) : Type 0 where
+  pub declared : new.declared ≡ old.declared
+  pub clean : HasCleanDisk (held new.records) → HasCleanDisk (held old.records)
+  pub related : HasCleanDisk (held new.records) → (bytes : List ℕ) (m : Records) → StandsFor held bytes old m
+      → (n : Records) × relation (with_map held old m) (with_map held new n) × StandsFor held bytes new n

@@ -1,0 +1,113 @@
+//! Records on the way are judged by the groups of their forms.
+ghost use Rattle.std.specs.Prelude.{◌++◌, ◌<◌, ◌≡◌, ◌≢◌, All, MatchResult, length, map};
+ghost use Rattle.std.specs.Map.{keys_of};
+ghost use Rattle.fv_datum.specs.Moments.{IsMoment};
+ghost use Rattle.fv_groups.specs.Tables.{indices};
+ghost use Rattle.fv_engine_machine.specs.Judging.{groups_of, IsOverVisited, IsListingOf, some_of, with_some};
+ghost use Rattle.fv_engine_machine.specs.Records.{AreJudged, OneIsOver};
+ghost use Rattle.fv_model.specs.WellTyped.{IsWellTyped};
+ghost use Rattle.fv_engine_pending.specs.Fits.{AreTyped};
+ghost use Rattle.fv_engine_pending.specs.Ways.{pending_view, standing};
+ghost use Rattle.fv_engine_reply.specs.AnswerView.{judged_view};
+ghost use Rattle.fv_store.specs.Stored.{stored_view};
+ghost use Rattle.fv_datum.specs.Ascending.{IsAscending};
+ghost use Rattle.fv_validate.specs.ViolationView.{violation_view};
+
+use fv_declare_schema::Schema;
+use fv_engine_pending::Pending;
+use fv_engine_reply::Judged;
+use fv_groups::GroupId;
+use fv_local::Rulebook;
+use fv_registry::RuleSet;
+use fv_store::Stored;
+use fv_validate::{ValidateFault, Violation, validate};
+use std::alloc::Global;
+
+/// The groups that a form asks for; none where it isn't declared.
+fn asked_by<'a>(schema: &'a Schema, form: &str) -> &'a [GroupId]
+    ensures groups { indices result.now ≡ groups_of schema.now form.now }
+    ensures within { All (λ g. g.index < length schema.now.groups) result.now }
+{
+    match schema.groups_of(form) {
+        Some(groups) => groups,
+        None => &[],
+    }
+}
+
+/// The violations of a record for the groups of its form.
+fn judge_record<R: RuleSet>(
+    alloc: Global,
+    book: &Rulebook<R>,
+    stored: &Stored,
+    now: i64,
+) -> Result<Vec<Violation>, ValidateFault>
+    requires moment { IsMoment now }
+    requires typed { IsWellTyped book.now.types (stored_view stored.now).bundle }
+    ensures { MatchResult result
+        (λ v. IsListingOf R.meaning book.now now (stored_view stored.now) (map violation_view v.items))
+        (λ fault. (fault ≢ ValidateFault.NoSuchField)
+        × (fault ≡ ValidateFault.TooManyVisits → IsOverVisited book.now (stored_view stored.now))) }
+{
+    validate(
+        alloc,
+        book,
+        &stored.bundle,
+        asked_by(book.schema(), stored.form.as_str()),
+        now,
+    )
+}
+
+/// Adds a record to those that have violations, if it has some for the groups of its form.
+fn add_judged<'a, R: RuleSet>(
+    alloc: Global,
+    book: &Rulebook<R>,
+    judged: &mut Vec<Judged<'a>>,
+    id: &'a str,
+    stored: &Stored,
+    now: i64,
+) -> Result<(), ValidateFault>
+    requires moment { IsMoment now }
+    requires typed { IsWellTyped book.now.types (stored_view stored.now).bundle }
+    ensures { MatchResult result
+        (λ _. (vs : _) × IsListingOf R.meaning book.now now (stored_view stored.now) vs
+        × (map judged_view judged.new.items ≡ map judged_view judged.old.items ++ some_of id.now vs))
+        (λ fault. (fault ≢ ValidateFault.NoSuchField)
+        × (fault ≡ ValidateFault.TooManyVisits → IsOverVisited book.now (stored_view stored.now))) }
+{
+    let violations = judge_record(alloc, book, stored, now)?;
+    if violations.is_empty() {
+        return Ok(());
+    }
+    match judged.push(Judged { id, violations }) {
+        Ok(()) => Ok(()),
+        Err(_) => Err(ValidateFault::Memory),
+    }
+}
+
+/// The records on the way that have violations for the groups of their forms, with all of them, by id.
+///
+/// Refused by `TooManyVisits` where one of the records has more than 4,096 visits; by `Memory` at any
+/// place.
+pub(crate) fn judge<'a, R: RuleSet>(
+    alloc: Global,
+    book: &Rulebook<R>,
+    pending: &Pending<'a>,
+    now: i64,
+) -> Result<Vec<Judged<'a>>, ValidateFault>
+    requires moment { IsMoment now }
+    requires typed { AreTyped book.now.types (pending_view pending.now) }
+    ensures judged { MatchResult result
+        (λ v. (ls : _) × AreJudged R.meaning book.now now (standing (pending_view pending.now)) ls
+        × (map judged_view v.items ≡ with_some ls))
+        (λ fault. (fault ≢ ValidateFault.NoSuchField)
+        × (fault ≡ ValidateFault.TooManyVisits → OneIsOver book.now (standing (pending_view pending.now)))) }
+    ensures ascending { IsAscending (keys_of (pending_view pending.now)) }
+{
+    let mut judged = Vec::new(alloc);
+    for (id, record) in pending.records().iter() {
+        if let Some(stored) = record {
+            add_judged(alloc, book, &mut judged, *id, stored, now)?;
+        }
+    }
+    Ok(judged)
+}

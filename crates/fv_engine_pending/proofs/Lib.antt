@@ -1,0 +1,9 @@
+pub mod Again
+pub mod Changing
+pub mod Entries
+pub mod Fitting
+pub mod Found
+pub mod Made
+pub mod Readings
+pub mod Stepping
+pub mod Touching

@@ -1,0 +1,12 @@
+use Rattle.std.proofs.Common.{◌∙◌, string_bytes}
+use Rattle.std.proofs.lemmas.Result.{IfOk-weaker}
+use Rattle.fv_model.specs.Views.{bundle_view}
+use Rattle.fv_model.specs.Writing.{bundle_json}
+use Rattle.fv_engine_reply.proofs.Shown.{shown_text}
+use Rattle.fv_engine_reply.proofs.texts.record_shown.Goals as goal
+
+pub returns : goal.returns
+returns c =
+    IfOk-weaker c.format.result _ _
+    (λ s is. is ∙ shown_text c.args.id.now c.args.form.now (bundle_json (bundle_view c.args.bundle.now)) (string_bytes c.in_ok-id.id) (string_bytes c.in_ok-form.form) (string_bytes c.in_ok-bundle.bundle) c.in_ok-bundle.ensures c.in_ok-form.ensures c.in_ok-id.ensures)
+    c.format.ensures.ok

@@ -1,0 +1,24 @@
+-- The answer that an answer of the code is.
+use Rattle.std.specs.Prelude.{map, string_bytes}
+use Rattle.fv_model.specs.Views.{bundle_view}
+use Rattle.fv_validate.specs.ViolationView.{violation_view}
+use Rattle.fv_engine_reply.specs.Answers as spec
+use Rattle.fv_engine_reply.specs.declared.answer.Answer.{Answer}
+use Rattle.fv_engine_reply.specs.declared.answer.Answer.TheVariants.{Done, Shown, Violated, Checked, FieldChecked, ValueChecked, Ids, Refused, PartRefused}
+use Rattle.fv_engine_reply.specs.declared.answer.Judged.{Judged}
+
+-- the record with its violations
+abbrev pub judged_view : Judged → spec.Judged
+judged_view j = (j.id.now, map violation_view j.violations.items)
+
+-- the answer that it is
+abbrev pub answer_view : Answer → spec.Answer
+answer_view (Done what) = spec.done what
+answer_view (Shown id form bundle) = spec.shown id.now (string_bytes form) (bundle_view bundle)
+answer_view (Violated records) = spec.violated (map judged_view records.items)
+answer_view (Checked violations) = spec.checked (map violation_view violations.items)
+answer_view (FieldChecked violations) = spec.field_checked (map violation_view violations.items)
+answer_view (ValueChecked violations) = spec.value_checked (map violation_view violations.items)
+answer_view (Ids ids) = spec.ids (map string_bytes ids.items)
+answer_view (Refused why) = spec.refused why
+answer_view (PartRefused part why) = spec.part_refused part why

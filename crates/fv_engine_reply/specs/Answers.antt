@@ -1,0 +1,30 @@
+-- What a command is answered.
+use Rattle.std.specs.Prelude.{ℕ, List}
+use Rattle.fv_model.specs.Bundles.{Bundled}
+use Rattle.fv_validate.specs.Violations.{Reported}
+use Rattle.fv_engine_reply.specs.declared.answer.Done.{Done}
+use Rattle.fv_engine_reply.specs.declared.answer.Refusal.{Refusal}
+
+-- a record by its id, with its violations
+abbrev pub Judged : Type 0
+Judged = List ℕ × List Reported
+
+pub data Answer : Type 0 where
+  -- a command that changes records was taken
+  done : Done → Answer
+  -- the record of an id: its form and its bundle
+  shown : List ℕ → List ℕ → Bundled → Answer
+  -- a command that changes records was refused, with all violations of the records that have some
+  violated : List Judged → Answer
+  -- all violations of a record that was checked
+  checked : List Reported → Answer
+  -- those of a field of a stored object
+  field_checked : List Reported → Answer
+  -- those of a value that isn't stored
+  value_checked : List Reported → Answer
+  -- ids of a form
+  ids : List (List ℕ) → Answer
+  -- another refusal
+  refused : Refusal → Answer
+  -- the same for a part of a batch, by its number
+  part_refused : ℕ → Refusal → Answer

@@ -1,0 +1,4 @@
+pub mod AnswerView
+pub mod Answers
+pub mod Content
+pub mod Texts

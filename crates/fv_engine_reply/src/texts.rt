@@ -1,0 +1,244 @@
+//! The texts of answers that are made.
+ghost use Rattle.std.specs.Prelude.{◌≡◌, false, IfOk, map, string_bytes};
+ghost use Rattle.fv_datum.specs.View.{view};
+ghost use Rattle.fv_model.specs.Views.{bundle_view};
+ghost use Rattle.fv_model_types.specs.Writing.{datum_json};
+ghost use Rattle.fv_engine_reply.specs.AnswerView.{judged_view};
+ghost use Rattle.fv_engine_reply.specs.Texts.{bundle_refused_json, violation_json, judged_json, record_judged_json, refusal_json, violations_refused_json, listing_json, violations_listed_json, listed_json, ids_json, part_bundle_json, part_json, part_refused_json, record_json};
+ghost use Rattle.fv_validate.specs.ViolationView.{violation_view};
+ghost use Rattle.json.specs.Print.{quoted};
+ghost use Rattle.serde_json.specs.Data as json;
+ghost use Rattle.serde_json.specs.View.{view as json_view};
+ghost use Rattle.serde_json.specs.Written.{compact_text, has_float};
+
+use crate::answer::{Judged, Refusal};
+use fv_datum::{DatumFault, write_datum};
+use fv_model::{Bundle, BundleFault};
+use fv_model_text::write_text;
+use fv_validate::Violation;
+use serde_json::{Value, json, push};
+use std::alloc::{AllocError, Global};
+
+/// The compact text of JSON without floats.
+fn text_of(alloc: Global, value: &Value) -> Result<String, AllocError>
+    requires { has_float (json_view value.now) ≡ false }
+    ensures { IfOk result (λ s. string_bytes s ≡ compact_text (json_view value.now)) }
+{
+    value.to_string(alloc)
+}
+
+fn bundle_refused_value(alloc: Global, fault: BundleFault) -> Result<Value, AllocError>
+    ensures { IfOk result (λ v. json_view v ≡ bundle_refused_json fault) }
+{
+    let code = fault.code();
+    json!(in alloc; {"error": "C5", "fault": code, "name": "Bundle"})
+}
+
+/// `{"error":"C5","fault":..,"name":"Bundle"}`.
+pub(crate) fn bundle_refused(alloc: Global, fault: BundleFault) -> Result<String, AllocError>
+    ensures { IfOk result (λ s. string_bytes s ≡ compact_text (bundle_refused_json fault)) }
+{
+    let value = bundle_refused_value(alloc, fault)?;
+    text_of(alloc, &value)
+}
+
+/// The JSON of a violation's value; null for a datum that can't be written, which no bundle holds.
+fn value_of(alloc: Global, violation: &Violation) -> Result<Value, AllocError>
+    ensures { IfOk result (λ v. json_view v ≡ datum_json (view violation.now.value)) }
+{
+    match write_datum(alloc, &violation.value) {
+        Ok(value) => Ok(value),
+        Err(DatumFault::WrongKind) => Ok(Value::Null),
+        Err(DatumFault::Memory) => Err(AllocError),
+    }
+}
+
+/// `{"constraint":..,"message":..,"occurrence":..,"path":..,"value":..}`.
+fn violation_value(alloc: Global, violation: &Violation) -> Result<Value, AllocError>
+    ensures { IfOk result (λ v. json_view v ≡ violation_json (violation_view violation.now)) }
+{
+    let value = value_of(alloc, violation)?;
+    let constraint = violation.constraint.as_str();
+    let message = violation.message.as_str();
+    let occurrence = violation.occurrence;
+    let path = violation.path.as_str();
+    json!(in alloc; {
+        "constraint": constraint,
+        "message": message,
+        "occurrence": occurrence,
+        "path": path,
+        "value": value
+    })
+}
+
+fn violation_values(alloc: Global, violations: &[Violation]) -> Result<Vec<Value>, AllocError>
+    ensures { IfOk result (λ v. map json_view v.items ≡ map violation_json (map violation_view violations.now)) }
+{
+    let mut values = Vec::with_capacity(alloc, violations.len())?;
+    for violation in violations {
+        push(&mut values, violation_value(alloc, violation)?)?;
+    }
+    Ok(values)
+}
+
+fn judged_value_of(alloc: Global, id: &str, violations: Value) -> Result<Value, AllocError>
+    ensures { IfOk result (λ v. json_view v ≡ judged_json id.now (json_view violations)) }
+{
+    json!(in alloc; {"id": id, "violations": violations})
+}
+
+/// `{"id":..,"violations":[..]}`.
+fn judged_value(alloc: Global, judged: &Judged) -> Result<Value, AllocError>
+    ensures { IfOk result (λ v. json_view v ≡ record_judged_json (judged_view judged.now)) }
+{
+    let values = Value::Array(violation_values(alloc, &judged.violations)?);
+    judged_value_of(alloc, judged.id, values)
+}
+
+fn judged_values(alloc: Global, records: &[Judged]) -> Result<Vec<Value>, AllocError>
+    ensures { IfOk result (λ v. map json_view v.items ≡ map record_judged_json (map judged_view records.now)) }
+{
+    let mut values = Vec::with_capacity(alloc, records.len())?;
+    for judged in records {
+        push(&mut values, judged_value(alloc, judged)?)?;
+    }
+    Ok(values)
+}
+
+fn refusal_value(alloc: Global, records: Value) -> Result<Value, AllocError>
+    ensures { IfOk result (λ v. json_view v ≡ refusal_json (json_view records)) }
+{
+    json!(in alloc; {"error": "C10", "name": "Violations", "records": records})
+}
+
+fn violations_refused_value(alloc: Global, records: &[Judged]) -> Result<Value, AllocError>
+    ensures { IfOk result (λ v. json_view v ≡ violations_refused_json (map judged_view records.now)) }
+{
+    refusal_value(alloc, Value::Array(judged_values(alloc, records)?))
+}
+
+/// `{"error":"C10","name":"Violations","records":[..]}`, with the records that have violations.
+pub(crate) fn violations_refused(alloc: Global, records: &[Judged]) -> Result<String, AllocError>
+    ensures { IfOk result (λ s. string_bytes s
+        ≡ compact_text (violations_refused_json (map judged_view records.now))) }
+{
+    let value = violations_refused_value(alloc, records)?;
+    text_of(alloc, &value)
+}
+
+fn listing_value(alloc: Global, name: &str, violations: Value) -> Result<Value, AllocError>
+    ensures { IfOk result (λ v. json_view v ≡ listing_json name.now (json_view violations)) }
+{
+    json!(in alloc; {"ok": name, "violations": violations})
+}
+
+fn violations_listed_value(
+    alloc: Global,
+    name: &str,
+    violations: &[Violation],
+) -> Result<Value, AllocError>
+    ensures { IfOk result (λ v. json_view v ≡ violations_listed_json name.now (map violation_view violations.now)) }
+{
+    listing_value(
+        alloc,
+        name,
+        Value::Array(violation_values(alloc, violations)?),
+    )
+}
+
+/// `{"ok":NAME,"violations":[..]}`, for the check of that name.
+pub(crate) fn violations_listed(
+    alloc: Global,
+    name: &str,
+    violations: &[Violation],
+) -> Result<String, AllocError>
+    ensures { IfOk result (λ s. string_bytes s ≡ compact_text (violations_listed_json name.now (map violation_view violations.now))) }
+{
+    let value = violations_listed_value(alloc, name, violations)?;
+    text_of(alloc, &value)
+}
+
+fn text_values(alloc: Global, texts: &[String]) -> Result<Vec<Value>, AllocError>
+    ensures { IfOk result (λ v. map json_view v.items ≡ map (λ t. json.string t) (map string_bytes texts.now)) }
+{
+    let mut values = Vec::with_capacity(alloc, texts.len())?;
+    for text in texts {
+        push(
+            &mut values,
+            Value::String(String::from_str(alloc, text.as_str())?),
+        )?;
+    }
+    Ok(values)
+}
+
+fn ids_value_of(alloc: Global, ids: Value) -> Result<Value, AllocError>
+    ensures { IfOk result (λ v. json_view v ≡ listed_json (json_view ids)) }
+{
+    json!(in alloc; {"ids": ids, "ok": "list"})
+}
+
+fn ids_value(alloc: Global, ids: &[String]) -> Result<Value, AllocError>
+    ensures { IfOk result (λ v. json_view v ≡ ids_json (map string_bytes ids.now)) }
+{
+    ids_value_of(alloc, Value::Array(text_values(alloc, ids)?))
+}
+
+/// `{"ids":[..],"ok":"list"}`.
+pub(crate) fn ids_listed(alloc: Global, ids: &[String]) -> Result<String, AllocError>
+    ensures { IfOk result (λ s. string_bytes s ≡ compact_text (ids_json (map string_bytes ids.now))) }
+{
+    let value = ids_value(alloc, ids)?;
+    text_of(alloc, &value)
+}
+
+fn part_bundle_value(alloc: Global, part: usize, code: &str) -> Result<Value, AllocError>
+    ensures { IfOk result (λ v. json_view v ≡ part_bundle_json part code.now) }
+{
+    json!(in alloc; {"error": "C5", "fault": code, "name": "Bundle", "part": part})
+}
+
+fn part_value(alloc: Global, part: usize, code: &str, name: &str) -> Result<Value, AllocError>
+    ensures { IfOk result (λ v. json_view v ≡ part_json part code.now name.now) }
+{
+    json!(in alloc; {"error": code, "name": name, "part": part})
+}
+
+fn part_refused_value(alloc: Global, part: usize, why: Refusal) -> Result<Value, AllocError>
+    ensures { IfOk result (λ v. json_view v ≡ part_refused_json part why) }
+{
+    match why {
+        Refusal::Bundle(fault) => part_bundle_value(alloc, part, fault.code()),
+        _ => part_value(alloc, part, why.code(), why.name()),
+    }
+}
+
+/// `{"error":..,"name":..,"part":..}`, with `fault` for a bundle.
+pub(crate) fn part_refused(alloc: Global, part: usize, why: Refusal) -> Result<String, AllocError>
+    ensures { IfOk result (λ s. string_bytes s ≡ compact_text (part_refused_json part why)) }
+{
+    let value = part_refused_value(alloc, part, why)?;
+    text_of(alloc, &value)
+}
+
+/// The JSON of a text.
+fn quoted(alloc: Global, text: &str) -> Result<String, AllocError>
+    ensures { IfOk result (λ s. string_bytes s ≡ quoted text.now) }
+{
+    let value = Value::String(String::from_str(alloc, text)?);
+    text_of(alloc, &value)
+}
+
+/// `{"bundle":..,"form":..,"id":..,"ok":"get"}`.
+pub(crate) fn record_shown(
+    alloc: Global,
+    id: &str,
+    form: &str,
+    bundle: &Bundle,
+) -> Result<String, AllocError>
+    ensures { IfOk result (λ s. string_bytes s ≡ compact_text (record_json id.now form.now (bundle_view bundle.now))) }
+{
+    let bundle = write_text(alloc, bundle)?;
+    let form = quoted(alloc, form)?;
+    let id = quoted(alloc, id)?;
+    format!(in alloc; "{{\"bundle\":{bundle},\"form\":{form},\"id\":{id},\"ok\":\"get\"}}")
+}

@@ -1,9 +1,0 @@
-pub mod Composing
-pub mod FaultNames
-pub mod Fits
-pub mod Flattening
-pub mod PlaceViews
-pub mod Placed
-pub mod Read
-pub mod Refusals
-pub mod UseViews

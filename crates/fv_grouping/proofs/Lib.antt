@@ -1,6 +1,0 @@
-pub mod Anys
-pub mod Firsts
-pub mod Founds
-pub mod Inserted
-pub mod Named
-pub mod Somes

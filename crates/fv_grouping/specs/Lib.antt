@@ -1,5 +1,0 @@
-pub mod First
-pub mod Graphed
-pub mod Grouping
-pub mod NumberViews
-pub mod Numbered

@@ -1,4 +1,0 @@
-pub mod Groups
-pub mod Judged
-pub mod Listings
-pub mod Readings

@@ -1,5 +1,0 @@
-pub mod Becoming
-pub mod Changes
-pub mod Groups
-pub mod OneField
-pub mod Rooms

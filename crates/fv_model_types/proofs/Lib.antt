@@ -1,0 +1,16 @@
+pub mod Again
+pub mod Apart
+pub mod Back
+pub mod Contained
+pub mod Fitted
+pub mod Flawless
+pub mod Lookups
+pub mod Members
+pub mod Orders
+pub mod Plain
+pub mod PlainJson
+pub mod Seen
+pub mod Small
+pub mod Spelling
+pub mod Telling
+pub mod Writable

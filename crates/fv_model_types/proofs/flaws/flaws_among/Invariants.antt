@@ -1,0 +1,12 @@
+use Rattle.serde_json.specs.View.{members_view}
+use Rattle.fv_datum.specs.Members.{pairs}
+use Rattle.fv_model_types.specs.Flaws.{flaw_among}
+use Rattle.fv_model_types.specs.Names.{object_types_view}
+use Rattle.fv_model_types.specs.Types.{fields_view}
+use Rattle.fv_model_types.proofs.Telling.{Telling}
+use Rattle.fv_model_types.proofs.flaws.flaws_among.Given as goal
+
+abbrev pub invariant-loop-name : goal.invariant-loop-name
+invariant-loop-name l =
+    Telling l.flaws (object_types_view l.types) (λ flaw. flaw_among flaw (fields_view l.fields) (pairs (members_view l.name-iterator)))
+    (λ flaw. flaw_among flaw (fields_view l.fields) (pairs (members_view l.given.entries)))

@@ -1,0 +1,16 @@
+use Rattle.std.proofs.Common.{◌≡◌, map, drop}
+use Rattle.std.specs.List.{All}
+use Rattle.serde_json.specs.View.{items_view as json_items}
+use Rattle.fv_datum.specs.Members.{listed, each_some}
+use Rattle.fv_datum.specs.View.{view}
+use Rattle.fv_model_types.specs.Spelled.{datum_of}
+use Rattle.fv_model_types.specs.Types.{integers}
+use Rattle.fv_model_types.specs.Writing.{IsWritten}
+use Rattle.fv_datum.proofs.Fronts.{with_front}
+use Rattle.fv_model_types.proofs.reading.read_integers.Given as goal
+
+abbrev pub invariant-loop-item : goal.invariant-loop-item
+invariant-loop-item l = record {
+  read : with_front (map view l.out.items) (each_some (datum_of integers) (listed (json_items (drop l.item-index l.item-items)))) ≡ each_some (datum_of integers) (listed (json_items l.item-items));
+  written : All (λ d. IsWritten (view d)) l.out.items;
+}

@@ -1,0 +1,98 @@
+-- What can be wrong with a given datum.
+use Rattle.std.specs.Prelude.{◌≡◌, ℕ, ◌||◌, List, [], length, Bool, false, not, nat_lt, Option, Some, None, option_and_then, is_some}
+use Rattle.std.specs.List.{list_any}
+use Rattle.std.specs.Option.{option_map_or}
+use Rattle.std.specs.Str.{bytes_eq}
+use Rattle.serde_json.specs.Data as json
+use Rattle.serde_json.specs.Find.{as_str, as_array, as_object}
+use Rattle.fv_datum.specs.Lookup.{at_name}
+use Rattle.fv_datum.specs.Members.{pairs, listed}
+use Rattle.fv_model_types.specs.Limits.{longest_text, most_entries}
+use Rattle.fv_model_types.specs.Names.{ObjectTypes}
+use Rattle.fv_model_types.specs.Spelled.{datum_of}
+use Rattle.fv_model_types.specs.Types.{TypeUse, texts, references, lists, maps, optionals, DeclaredFields}
+
+-- a test of a datum that is given, and of what its field holds: None where the object's type has no such field
+abbrev pub Flaw : Type 0
+Flaw = Option TypeUse → json.Data → Bool
+
+-- one of the data that are given for the fields of a type has the flaw
+abbrev pub flaw_among : Flaw → DeclaredFields → List (List ℕ × json.Data) → Bool
+flaw_among flaw fields = list_any (λ g. flaw (at_name g.0 fields) g.1)
+
+-- its object's type has no such field
+abbrev pub undeclared : Flaw
+undeclared type_use j = not (is_some type_use)
+
+-- it isn't of its field's type use
+abbrev pub misfits : Flaw
+misfits None j = false
+misfits (Some type_use) j = not (is_some (datum_of type_use j))
+
+-- ---- flaws that stand in containers too
+
+-- the items of an array
+abbrev pub items_in : json.Data → List json.Data
+items_in j = option_map_or listed (as_array j) []
+
+-- the members of an object
+abbrev pub members_in : json.Data → List (List ℕ × json.Data)
+members_in j = option_map_or pairs (as_object j) []
+
+-- a value of a type use passes a test, or one that stands in it does
+abbrev pub anywhere : (TypeUse → json.Data → Bool) → TypeUse → json.Data → Bool
+anywhere test (lists held) j = test (lists held) j || list_any (anywhere test held) (items_in j)
+anywhere test (maps held) j = test (maps held) j || list_any (λ m. anywhere test held m.1) (members_in j)
+anywhere test (optionals held) j = test (optionals held) j || list_any (anywhere test held) (items_in j)
+anywhere test type_use j = test type_use j
+
+-- the same of a given datum, none where the object's type has no such field
+abbrev pub somewhere : (TypeUse → json.Data → Bool) → Flaw
+somewhere test None j = false
+somewhere test (Some type_use) j = anywhere test type_use j
+
+-- a name that no object has
+abbrev pub is_missing : ObjectTypes → Option (List ℕ) → Bool
+is_missing types None = false
+is_missing types (Some name) = not (is_some (at_name name types))
+
+-- another type than this one
+abbrev pub is_other : List ℕ → Option (List ℕ) → Bool
+is_other type None = false
+is_other type (Some own) = not (bytes_eq type own)
+
+-- a reference that is found by a test of its type and of its name
+abbrev pub referring : (List ℕ → Option (List ℕ) → Bool) → TypeUse → json.Data → Bool
+referring test (references type) j = test type (as_str j)
+referring test _ j = false
+
+-- a text of more than 65,536 bytes
+abbrev pub is_long : List ℕ → Bool
+is_long s = nat_lt longest_text (length s)
+
+-- a map of more than 65,536 entries, or with a key that is too long
+abbrev pub is_over_map : List (List ℕ × json.Data) → Bool
+is_over_map ms = nat_lt most_entries (length ms) || list_any (λ m. is_long m.0) ms
+
+-- a text that is too long, a list of more than 65,536 items, or a map that is too large
+abbrev pub is_over : TypeUse → json.Data → Bool
+is_over texts j = option_map_or is_long (as_str j) false
+is_over (lists held) j = nat_lt most_entries (length (items_in j))
+is_over (maps held) j = is_over_map (members_in j)
+is_over _ j = false
+
+-- there is a reference to no object in it
+abbrev pub dangles : ObjectTypes → Flaw
+dangles types = somewhere (referring (λ type name. is_missing types name))
+
+-- there is a reference to an object of another type in it
+abbrev pub strays : ObjectTypes → Flaw
+strays types = somewhere (referring (λ type name. is_other type (option_and_then (λ n. at_name n types) name)))
+
+-- there is a text, a key, a list or a map in it that is too large
+abbrev pub is_large : Flaw
+is_large = somewhere is_over
+
+-- nothing is wrong with any value that is given for the type use but, perhaps, its kind
+abbrev pub IsNeverFlawed : TypeUse → Type 0
+IsNeverFlawed u = (types : ObjectTypes) (j : json.Data) → (dangles types (Some u) j ≡ false) × (strays types (Some u) j ≡ false) × (is_large (Some u) j ≡ false)

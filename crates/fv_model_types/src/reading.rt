@@ -1,0 +1,175 @@
+//! The data of type uses are read from JSON.
+ghost use Rattle.std.specs.Prelude.{◌≡◌, IfOk, IfSome, option_map, map};
+ghost use Rattle.std.specs.Option.{ok_or};
+ghost use Rattle.serde_json.specs.View.{view as json_view, items_view as json_items, members_view};
+ghost use Rattle.fv_datum.specs.Data as datum;
+ghost use Rattle.fv_datum.specs.Members.{pairs, listed, each_some};
+ghost use Rattle.fv_datum.specs.Outcomes.{Gives};
+ghost use Rattle.fv_datum.specs.View.{view, pair_view, items_view, entries_view};
+ghost use Rattle.fv_datum.specs.declared.fault.DatumFault.TheVariants.{WrongKind, Memory};
+ghost use Rattle.fv_model_types.specs.Spelled.{datum_of, entry_read, keyed, only_item};
+ghost use Rattle.fv_model_types.specs.Types.{type_use_view, integers, lists, maps, optionals};
+ghost use Rattle.fv_model_types.specs.Writing.{IsWritten};
+
+use crate::type_use::TypeUse;
+use fv_datum::{Datum, DatumFault, read_datum};
+use serde_json::{Map, Value};
+use std::alloc::Global;
+
+/// The datum of a type use that a JSON value spells. References aren't looked up, and nothing is too
+/// large.
+///
+/// `WrongKind` where the value spells none; `Memory` at any place.
+pub fn read_use(alloc: Global, type_use: &TypeUse, value: &Value) -> Result<Datum, DatumFault>
+    ensures exact { Gives Memory view result
+        (ok_or (datum_of (type_use_view type_use.now) (json_view value.now)) WrongKind) }
+    ensures written { IfOk result (λ d. IsWritten (view d)) }
+{
+    read(alloc, value, type_use)
+}
+
+/// The same. Inlined in the loops over items and entries, so that a datum of a plain kind costs no call of
+/// this function; each kind of container has one of its own.
+#[cycle(read)]
+#[inline(always)]
+fn read(alloc: Global, value: &Value, type_use: &TypeUse) -> Result<Datum, DatumFault>
+    ensures exact { Gives Memory view result
+        (ok_or (datum_of (type_use_view type_use.now) (json_view value.now)) WrongKind) }
+    ensures written { IfOk result (λ d. IsWritten (view d)) }
+{
+    match type_use {
+        TypeUse::List(held) => read_list(alloc, value, held),
+        TypeUse::Map(held) => read_map(alloc, value, held),
+        TypeUse::Optional(held) => read_optional(alloc, value, held),
+        _ => read_datum(alloc, type_use.kind(), value),
+    }
+}
+
+/// A list of what the type use holds.
+#[cycle(read)]
+fn read_list(alloc: Global, value: &Value, held: &TypeUse) -> Result<Datum, DatumFault>
+    ensures exact { Gives Memory view result
+        (ok_or (datum_of (lists (type_use_view held.now)) (json_view value.now)) WrongKind) }
+    ensures written { IfOk result (λ d. IsWritten (view d)) }
+{
+    match value {
+        Value::Null => Ok(Datum::Null),
+        Value::Array(items) => Ok(Datum::List(read_items(alloc, items, held)?)),
+        _ => Err(DatumFault::WrongKind),
+    }
+}
+
+/// A map to what the type use holds.
+#[cycle(read)]
+fn read_map(alloc: Global, value: &Value, held: &TypeUse) -> Result<Datum, DatumFault>
+    ensures exact { Gives Memory view result
+        (ok_or (datum_of (maps (type_use_view held.now)) (json_view value.now)) WrongKind) }
+    ensures written { IfOk result (λ d. IsWritten (view d)) }
+{
+    match value {
+        Value::Null => Ok(Datum::Null),
+        Value::Object(members) => Ok(Datum::Map(read_entries(alloc, members, held)?)),
+        _ => Err(DatumFault::WrongKind),
+    }
+}
+
+/// An optional of what the type use holds.
+#[cycle(read)]
+fn read_optional(alloc: Global, value: &Value, held: &TypeUse) -> Result<Datum, DatumFault>
+    ensures exact { Gives Memory view result
+        (ok_or (datum_of (optionals (type_use_view held.now)) (json_view value.now)) WrongKind) }
+    ensures written { IfOk result (λ d. IsWritten (view d)) }
+{
+    match value {
+        Value::Null => Ok(Datum::Null),
+        Value::Array(items) => {
+            let content = read_content(alloc, items, held)?;
+            Ok(Datum::Optional(Box::new(alloc, content)?))
+        }
+        _ => Err(DatumFault::WrongKind),
+    }
+}
+
+/// The datum of an integer that a JSON value spells; none where it spells none.
+#[inline(always)]
+fn integer_in(value: &Value) -> Option<Datum>
+    ensures exact { option_map view result ≡ datum_of integers (json_view value.now) }
+    ensures written { IfSome result (λ d. IsWritten (view d)) }
+{
+    if value.is_null() {
+        return Some(Datum::Null);
+    }
+    Some(Datum::Integer(value.as_i64()?))
+}
+
+/// The items of a list of integers, which may be long: read with no call for an item.
+fn read_integers(alloc: Global, items: &Vec<Value>) -> Result<Vec<Datum>, DatumFault>
+    ensures exact { Gives Memory (λ v. map view v.items) result
+        (ok_or (each_some (datum_of integers) (listed (json_items items.now.items))) WrongKind) }
+    ensures written { IfOk result (λ v. IsWritten (datum.list (items_view v.items))) }
+{
+    let mut out = Vec::with_capacity(alloc, items.len())?;
+    for item in items {
+        match integer_in(item) {
+            Some(datum) => out.push(datum)?,
+            None => return Err(DatumFault::WrongKind),
+        }
+    }
+    Ok(out)
+}
+
+/// The items of a list.
+#[cycle(read)]
+fn read_items(alloc: Global, items: &Vec<Value>, held: &TypeUse) -> Result<Vec<Datum>, DatumFault>
+    ensures exact { Gives Memory (λ v. map view v.items) result
+        (ok_or (each_some (datum_of (type_use_view held.now)) (listed (json_items items.now.items))) WrongKind) }
+    ensures written { IfOk result (λ v. IsWritten (datum.list (items_view v.items))) }
+{
+    if matches!(held, TypeUse::Integer) {
+        return read_integers(alloc, items);
+    }
+    let mut out = Vec::with_capacity(alloc, items.len())?;
+    for item in items {
+        out.push(read(alloc, item, held)?)?;
+    }
+    Ok(out)
+}
+
+/// The entries of a map, ascending by their keys.
+#[cycle(read)]
+fn read_entries(
+    alloc: Global,
+    members: &Map<String, Value>,
+    held: &TypeUse,
+) -> Result<Vec<(Datum, Datum)>, DatumFault>
+    ensures exact { Gives Memory (λ v. map pair_view v.items) result
+        (ok_or (option_map keyed (each_some (entry_read (datum_of (type_use_view held.now)))
+        (pairs (members_view members.now.entries)))) WrongKind) }
+    ensures written { IfOk result (λ v. IsWritten (datum.map (entries_view v.items))) }
+{
+    let mut out = Vec::with_capacity(alloc, members.len())?;
+    for (name, value) in members.iter() {
+        let datum = read(alloc, value, held)?;
+        out.push((Datum::Text(name.clone()?), datum))?;
+    }
+    Ok(out)
+}
+
+/// What an optional holds: null where there is nothing in the array.
+#[cycle(read)]
+fn read_content(alloc: Global, items: &Vec<Value>, held: &TypeUse) -> Result<Datum, DatumFault>
+    ensures exact { Gives Memory view result
+        (ok_or (only_item (datum_of (type_use_view held.now)) (json_items items.now.items)) WrongKind) }
+    ensures written { IfOk result (λ d. IsWritten (view d)) }
+{
+    if items.is_empty() {
+        return Ok(Datum::Null);
+    }
+    if items.len() > 1 {
+        return Err(DatumFault::WrongKind);
+    }
+    if items[0].is_null() {
+        return Err(DatumFault::WrongKind);
+    }
+    read(alloc, &items[0], held)
+}

@@ -1,0 +1,212 @@
+ghost use Rattle.std.specs.Prelude.{◌≡◌, ◌≢◌, false, length, option_map, slice_get, MatchResult, IfOk, IfSome, Some, None};
+ghost use Rattle.std.specs.Bool.{OnFalse};
+ghost use Rattle.fv_datum.specs.Lookup.{at_name};
+ghost use Rattle.fv_model_types.specs.declared.fault.TypesFault.TheVariants.{Memory};
+ghost use Rattle.fv_model_types.specs.Types.{FieldsApart, declared_view, fields_view, type_use_view, is_unknown, unknown_in, has_unknown, has_large, deep_in, has_deep, types_fault, name_at, number_of};
+
+use crate::fault::TypesFault;
+use crate::type_use::{TypeUse, is_deeper};
+use indexmap::IndexMap;
+use std::alloc::{AllocError, Global};
+use std::rc::Rc;
+
+/// The most types.
+const MOST_TYPES: usize = 256;
+
+/// The most fields of a type.
+const MOST_FIELDS: usize = 256;
+
+/// The most containers one in another.
+const MOST_NESTED: usize = 4;
+
+/// A type's fields: what each holds, by its name.
+pub type Fields = IndexMap<String, TypeUse>;
+
+/// The number of a type among the declared ones.
+#[derive(Clone, Copy, Debug, PartialEq, Eq)]
+pub struct TypeId {
+    pub index: usize,
+}
+
+/// The declared types by their names, each with a number. The fields of a type have names of their
+/// own, and hold at most four containers one in another. Objects share them.
+#[derive(Drop)]
+pub struct Types {
+    declared: Rc<IndexMap<String, Fields>>,
+    ghost apart: { FieldsApart (declared_view declared.value) },
+    ghost shallow: { has_deep (declared_view declared.value) ≡ false },
+}
+
+impl Types {
+    ghost use Rattle.fv_model_types.specs.TypesView.{types_view};
+
+    /// The types of a map of type names to maps of field names to type uses, numbered in the map's
+    /// order.
+    ///
+    /// Refused by `UnknownType` for a reference to a type that isn't declared, else by `TooLarge`
+    /// for more than 256 types, a type of more than 256 fields, or a field that holds more than four
+    /// containers one in another; `Memory` at any place.
+    pub fn build(alloc: Global, declared: IndexMap<String, Fields>) -> Result<Types, TypesFault>
+        ensures { MatchResult result (λ ts. (types_fault (declared_view declared) ≡ None)
+            × (types_view ts ≡ declared_view declared))
+            (λ e. e ≢ Memory → types_fault (declared_view declared) ≡ Some e) }
+    {
+        if has_unknown(&declared) {
+            return Err(TypesFault::UnknownType);
+        }
+        if declared.len() > MOST_TYPES || has_large(&declared) || has_deep(&declared) {
+            return Err(TypesFault::TooLarge);
+        }
+        Ok(Types {
+            declared: Rc::new(alloc, declared)?,
+        })
+    }
+
+    /// The same types, which are shared and not copied.
+    pub fn share(&self) -> Result<Types, AllocError>
+        ensures { IfOk result (λ ts. types_view ts ≡ types_view self.now) }
+    {
+        Ok(Types {
+            declared: self.declared.clone()?,
+        })
+    }
+
+    /// How many types there are.
+    pub fn count(&self) -> usize
+        ensures { result ≡ length (types_view self.now) }
+    {
+        self.declared.len()
+    }
+
+    /// The number of the type of that name.
+    pub fn find(&self, name: &str) -> Option<TypeId>
+        ensures { option_map (λ t. t.index) result ≡ number_of (types_view self.now) name.now }
+    {
+        match self.declared.get_index_of(name) {
+            Some(index) => Some(TypeId { index }),
+            None => None,
+        }
+    }
+
+    /// The name of a type; empty where no type has the number.
+    pub fn name(&self, id: TypeId) -> &str
+        ensures { result.now ≡ name_at (types_view self.now) id.index }
+    {
+        match self.declared.get_index(id.index) {
+            Some((name, _)) => name.as_str(),
+            None => "",
+        }
+    }
+
+    /// The fields of the type of that name.
+    pub fn fields(&self, name: &str) -> Option<&Fields>
+        ensures { option_map (λ m. fields_view m.now) result ≡ at_name name.now (types_view self.now) }
+    {
+        fields_in(&self.declared, name)
+    }
+
+    /// The number of the type of that name, with its fields.
+    pub fn find_with_fields(&self, name: &str) -> Option<(TypeId, &Fields)>
+        ensures found { option_map (λ t. fields_view t.1.now) result ≡ at_name name.now (types_view self.now) }
+        ensures placed { IfSome result (λ t. slice_get (types_view self.now) t.0.index
+            ≡ Some (name.now, fields_view t.1.now)) }
+    {
+        let (index, _, fields) = self.declared.get_full(name)?;
+        Some((TypeId { index }, fields))
+    }
+
+    /// The fields of a type; `None` where no type has the number.
+    pub fn fields_at(&self, id: TypeId) -> Option<&Fields>
+        ensures { option_map (λ m. fields_view m.now) result
+            ≡ option_map (λ t. t.1) (slice_get (types_view self.now) id.index) }
+    {
+        let (_, fields) = self.declared.get_index(id.index)?;
+        Some(fields)
+    }
+}
+
+/// The fields of the type of that name.
+fn fields_in<'a>(declared: &'a IndexMap<String, Fields>, name: &str) -> Option<&'a Fields>
+    ensures { option_map (λ m. fields_view m.now) result ≡ at_name name.now (declared_view declared.now) }
+{
+    declared.get(name)
+}
+
+/// Whether a type use refers to a type that isn't declared, in a container too.
+fn is_unknown(declared: &IndexMap<String, Fields>, type_use: &TypeUse) -> bool
+    ensures { result ≡ is_unknown (declared_view declared.now) (type_use_view type_use.now) }
+{
+    match type_use {
+        TypeUse::Ref(name) => fields_in(declared, name.as_str()).is_none(),
+        TypeUse::List(held) | TypeUse::Map(held) | TypeUse::Optional(held) => is_unknown(
+            declared, held,
+        ),
+        _ => false,
+    }
+}
+
+fn unknown_in(declared: &IndexMap<String, Fields>, fields: &Fields) -> bool
+    ensures { result ≡ unknown_in (declared_view declared.now) (fields_view fields.now) }
+{
+    for (_, type_use) in fields.iter() {
+        if is_unknown(declared, type_use) {
+            return true;
+        }
+    }
+    false
+}
+
+fn has_unknown(declared: &IndexMap<String, Fields>) -> bool
+    ensures { result ≡ has_unknown (declared_view declared.now) }
+{
+    for (_, fields) in declared.iter() {
+        if unknown_in(declared, fields) {
+            return true;
+        }
+    }
+    false
+}
+
+/// Whether a type has too many fields.
+fn has_large(declared: &IndexMap<String, Fields>) -> bool
+    ensures exact { result ≡ has_large (declared_view declared.now) }
+    ensures apart { OnFalse result (FieldsApart (declared_view declared.now)) }
+{
+    for (_, fields) in declared.iter() {
+        if fields.len() > MOST_FIELDS {
+            return true;
+        }
+    }
+    false
+}
+
+/// Whether a field holds too many containers one in another.
+fn deep_in(fields: &Fields) -> bool
+    ensures { result ≡ deep_in (fields_view fields.now) }
+{
+    for (_, type_use) in fields.iter() {
+        if is_deeper(type_use, MOST_NESTED) {
+            return true;
+        }
+    }
+    false
+}
+
+/// The same of one of the types.
+fn has_deep(declared: &IndexMap<String, Fields>) -> bool
+    ensures { result ≡ has_deep (declared_view declared.now) }
+{
+    for (_, fields) in declared.iter() {
+        if deep_in(fields) {
+            return true;
+        }
+    }
+    false
+}
+
+/// What the field of that name holds.
+pub fn use_in<'a>(fields: &'a Fields, name: &str) -> Option<&'a TypeUse>
+    ensures { option_map (λ u. type_use_view u.now) result ≡ at_name name.now (fields_view fields.now) }
+{
+    fields.get(name)
+}

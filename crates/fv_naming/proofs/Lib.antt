@@ -1,2 +1,0 @@
-pub mod Anys
-pub mod Typed

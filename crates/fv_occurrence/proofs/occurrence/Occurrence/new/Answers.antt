@@ -1,8 +1,0 @@
-use Rattle.fv_occurrence.proofs.Entries.{preorder_again}
-use Rattle.fv_occurrence.proofs.occurrence.Occurrence.new.Goals as goal
-
-pub invariant_of-result : goal.invariant_of-result
-invariant_of-result c = preorder_again _ _ _ c.requires
-
-pub returns : goal.returns
-returns c = preorder_again _ _ _ c.requires

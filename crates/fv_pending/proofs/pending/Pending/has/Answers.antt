@@ -1,6 +1,0 @@
-use Rattle.std.proofs.Common.{◌∙◌}
-use Rattle.fv_pending.proofs.Entries.{has_way}
-use Rattle.fv_pending.proofs.pending.Pending.has.Goals as goal
-
-pub returns : goal.returns
-returns c = c.contains_key.ensures ∙ has_way c.args.id.now c.args.self.now.records.entries

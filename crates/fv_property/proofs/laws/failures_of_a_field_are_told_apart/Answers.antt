@@ -1,5 +1,0 @@
-use Rattle.fv_property.proofs.Apart.{field_told_apart}
-use Rattle.fv_property.proofs.laws.failures_of_a_field_are_told_apart.Goals as goal
-
-pub returns : goal.returns
-returns c = field_told_apart

@@ -1,5 +1,0 @@
-use Rattle.fv_property.proofs.Typed.{object_of_type}
-use Rattle.fv_property.proofs.laws.objects_are_of_their_types.Goals as goal
-
-pub returns : goal.returns
-returns c = object_of_type

@@ -1,5 +1,0 @@
-use Rattle.fv_reach.proofs.Below.{below_differs}
-use Rattle.fv_reach.proofs.laws.below_has_each_once.Goals as goal
-
-pub returns : goal.returns
-returns c = λ gs g. below_differs gs g

@@ -1,4 +1,0 @@
-pub mod Below
-pub mod Reached
-pub mod Spans
-pub mod TableView

@@ -1,5 +1,0 @@
-use Rattle.fv_reply.proofs.NoFloats.{part_whole}
-use Rattle.fv_reply.proofs.texts.part_refused.Goals as goal
-
-pub text_of-requires : goal.text_of-requires
-text_of-requires c = rw c.in_ok-value.ensures (part_whole c.args.part c.args.why)

@@ -1,4 +1,0 @@
-pub mod Answers
-pub mod AnswerView
-pub mod Content
-pub mod Texts

@@ -1,4 +1,0 @@
-pub mod Fitted
-pub mod Leading
-pub mod NodesApart
-pub mod Stands

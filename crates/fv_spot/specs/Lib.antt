@@ -1,2 +1,0 @@
-pub mod Loci
-pub mod Paths

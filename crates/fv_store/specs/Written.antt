@@ -1,0 +1,30 @@
+-- What is written of records.
+use Rattle.std.specs.Prelude.{ℕ, List, Option, Some, None, map, option_map, if◌then◌else◌}
+use Rattle.std.specs.Str.{bytes_eq}
+use Rattle.serde_json.specs.Data as json
+use Rattle.fv_model.specs.Writing.{named_written}
+use Rattle.fv_store.specs.Records.{Kept, Records}
+
+-- what is written of a record: its form, its root's name, and its objects by their names, each with its type's name and its fields' JSON
+pub record Written : Type 0 where
+  pub form : List ℕ
+  pub root : List ℕ
+  pub objects : List (List ℕ × (List ℕ × json.Members))
+
+abbrev pub written_of : Kept → Written
+written_of k = record { form = k.form; root = k.bundle.root; objects = map named_written k.bundle.objects }
+
+-- what is written of the record of each id, where there is one
+abbrev pub Writings : Type 0
+Writings = List ℕ → Option Written
+
+abbrev pub writings : Records → Writings
+writings m id = option_map written_of (m id)
+
+-- this is written of the id's record, and of the others the same as before
+abbrev pub with_written : List ℕ → Written → Writings → Writings
+with_written id w ws other = if bytes_eq other id then Some w else ws other
+
+-- the id has no record, and of the others the same is written as before
+abbrev pub without_written : List ℕ → Writings → Writings
+without_written id ws other = if bytes_eq other id then None else ws other

@@ -1,5 +1,0 @@
-use Rattle.fv_turns.proofs.Told.{last_word}
-use Rattle.fv_turns.proofs.traces.last_word.Goals as goal
-
-pub returns : goal.returns
-returns _ request n tidy first rest h = last_word request n tidy first rest h

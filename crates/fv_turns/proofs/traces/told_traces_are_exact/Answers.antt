@@ -1,5 +1,0 @@
-use Rattle.fv_turns.proofs.Told.{stops, told_differ}
-use Rattle.fv_turns.proofs.traces.told_traces_are_exact.Goals as goal
-
-pub returns : goal.returns
-returns _ request n tidy = (told_differ request n tidy, stops request n tidy)

@@ -1,5 +1,0 @@
-use Rattle.fv_turns.proofs.Told.{tells}
-use Rattle.fv_turns.proofs.traces.told_violations_are_exact.Goals as goal
-
-pub returns : goal.returns
-returns _ request n tidy v = tells request n tidy v

@@ -1,3 +1,0 @@
-pub mod Cascades
-pub mod UseViews
-pub mod Uses

@@ -1,0 +1,17 @@
+pub mod Apart
+pub mod Chains
+pub mod Fitted
+pub mod Leading
+pub mod Linked
+pub mod Listed
+pub mod NodesApart
+pub mod Numbers
+pub mod Objects
+pub mod OneReference
+pub mod Parts
+pub mod Places
+pub mod Segments
+pub mod Stands
+pub mod Tidy
+pub mod Visits
+pub mod Ways

@@ -1,0 +1,10 @@
+use Rattle.std.proofs.Common.{◌≡◌, ◌++◌, map}
+use Rattle.fv_extract.specs.FoundView.{found_view}
+use Rattle.fv_declare_schema.specs.NumberViews.{valid_place_view}
+use Rattle.fv_model.specs.Views.{objects_view}
+use Rattle.fv_walk_request.specs.Graphs.{links_among, link_view}
+use Rattle.fv_walk_request.proofs.way.ways_among.Given as goal
+
+abbrev pub invariant-loop-locus : goal.invariant-loop-locus
+invariant-loop-locus l =
+    map link_view l.ways.items ≡ map link_view l.initial.ways.items ++ links_among (objects_view l.objects) (valid_place_view l.place) (map found_view l.yielded)

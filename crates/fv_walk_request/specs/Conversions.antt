@@ -1,0 +1,45 @@
+-- The group that is carried on through a place whose objects are validated ("Group conversion").
+use Rattle.std.specs.Prelude.{ℕ, List, [], ◌∷◌, Bool, true, false, ◌&&◌, cond, nat_eq, filter}
+use Rattle.std.specs.Option.{option_map_or}
+use Rattle.fv_declare_schema.specs.Declarations.{Declarations}
+use Rattle.fv_extract.specs.Places.{Step, element, key, value, content, Place}
+use Rattle.fv_declare_schema.specs.ValidPlaces.{ValidPlace}
+use Rattle.fv_model.specs.Bundles.{Thing}
+use Rattle.fv_model_types.specs.Types.{number_of}
+
+-- the group that these conversions make of a group: that of the first of exactly this group, applied once; the group itself where none is
+-- of it
+abbrev pub convert : List (ℕ × ℕ) → ℕ → ℕ
+convert [] group = group
+convert (c ∷ cs) group = cond (nat_eq c.0 group) c.1 (convert cs group)
+
+-- the same step
+abbrev pub is_same_step : Step → Step → Bool
+is_same_step element element = true
+is_same_step key key = true
+is_same_step value value = true
+is_same_step content content = true
+is_same_step _ _ = false
+
+-- the same steps one after the other
+abbrev pub are_same_steps : List Step → List Step → Bool
+are_same_steps [] [] = true
+are_same_steps (s ∷ ss) (t ∷ ts) = is_same_step s t && are_same_steps ss ts
+are_same_steps _ _ = false
+
+-- the valid place is this place of its type
+abbrev pub stands_at : Place → ValidPlace → Bool
+stands_at place p = nat_eq p.field place.field && are_same_steps p.steps place.steps
+
+-- the group that is made of a group by the one of these valid places that stands there; the group itself where none does
+abbrev pub converted_among : List ValidPlace → Place → ℕ → ℕ
+converted_among [] place group = group
+converted_among (p ∷ ps) place group = cond (stands_at place p) (convert p.conversions group) (converted_among ps place group)
+
+-- the places of a type whose objects are validated
+abbrev pub valid_places_of : Declarations → ℕ → List ValidPlace
+valid_places_of ds type = filter (λ p. nat_eq p.type type) ds.valid_places
+
+-- those of an object's type; none where its type isn't declared
+abbrev pub valid_places_at : Declarations → Thing → List ValidPlace
+valid_places_at ds object = option_map_or (valid_places_of ds) (number_of ds.types object.type_name) []

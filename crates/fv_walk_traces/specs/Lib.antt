@@ -1,0 +1,13 @@
+pub mod Finite
+pub mod Frames
+pub mod Listing
+pub mod Log
+pub mod OneField
+pub mod OneObject
+pub mod Points
+pub mod Requests
+pub mod Traces
+pub mod Tree
+pub mod Turns
+pub mod Unfold
+pub mod Violations

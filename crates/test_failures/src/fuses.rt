@@ -1,0 +1,221 @@
+//! A disk that fails from one of its calls on, under the whole service: a batch is refused, and what
+//! stands on the disk is the records before it or after it, never those of a part.
+use crate::engines::replied;
+use sqlite::{Connection, FileStore, Files, Options};
+use sqlite_disk::{Crash, Disk, Fuse, Memory};
+use std::alloc::Global;
+use std::process::Abort;
+use std::test::Fail;
+
+const DECLARATIONS: &str =
+    r#"{"types":{"Item":{"fields":{"name":{"type":"text"}}}},"forms":{"item":{"root":"Item"}}}"#;
+
+/// The records that stand at first.
+const PUTS: &str =
+    r#"{"do":"put","id":"r1","form":"item","bundle":{"root":"a","objects":{"a":{"type":"Item","fields":{"name":"one"}}}}}
+{"do":"put","id":"r2","form":"item","bundle":{"root":"a","objects":{"a":{"type":"Item","fields":{"name":"two"}}}}}"#;
+
+const PUTS_TAKEN: &str = "{\"ok\":\"put\"}\n{\"ok\":\"put\"}\n";
+
+/// A put in the place of the first, and a field of the second.
+const CHANGE: &str =
+    r#"{"do":"batch","parts":[{"do":"put","id":"r1","form":"item","bundle":{"root":"a","objects":{"a":{"type":"Item","fields":{"name":"three"}}}}},{"do":"set","id":"r2","object":"a","field":"name","value":"four"}]}"#;
+
+const TAKEN: &str = "{\"ok\":\"batch\"}\n";
+
+const REFUSED: &str = "{\"error\":\"C11\",\"name\":\"Store\"}\n";
+
+const GETS: &str = r#"{"do":"get","id":"r1"}
+{"do":"get","id":"r2"}"#;
+
+const BEFORE: &str =
+    r#"{"bundle":{"objects":{"a":{"fields":{"name":"one"},"type":"Item"}},"root":"a"},"form":"item","id":"r1","ok":"get"}
+{"bundle":{"objects":{"a":{"fields":{"name":"two"},"type":"Item"}},"root":"a"},"form":"item","id":"r2","ok":"get"}
+"#;
+
+const AFTER: &str =
+    r#"{"bundle":{"objects":{"a":{"fields":{"name":"three"},"type":"Item"}},"root":"a"},"form":"item","id":"r1","ok":"get"}
+{"bundle":{"objects":{"a":{"fields":{"name":"four"},"type":"Item"}},"root":"a"},"form":"item","id":"r2","ok":"get"}
+"#;
+
+/// The files of a database, all of it written there if the disk lets it.
+fn closed<D: Disk + Drop>(connection: Connection<FileStore<D>>) -> Files<D> {
+    match connection.close_files() {
+        Ok(files) => files,
+        Err((_, store)) => store.close(),
+    }
+}
+
+/// The replies to lines over a database, or why no engine is opened, and its files.
+fn replied_and_closed<D: Disk + Drop>(
+    alloc: Global,
+    connection: Connection<FileStore<D>>,
+    lines: &str,
+) -> Result<(String, Files<D>), Fail> {
+    let (text, connection) = replied(alloc, DECLARATIONS, connection, lines)?;
+    Ok((text, closed(connection)))
+}
+
+/// The same over files, without a reply where they aren't opened.
+fn replied_over<D: Disk + Drop>(
+    alloc: Global,
+    files: Files<D>,
+    lines: &str,
+) -> Result<(String, Files<D>), Fail> {
+    if !files.may_be_used() {
+        return Ok((String::new(alloc), files));
+    }
+    match Connection::open_files(alloc, files, Options::new(1)) {
+        Ok(connection) => replied_and_closed(alloc, connection, lines),
+        Err((_, left)) => Ok((String::new(alloc), left.into_files())),
+    }
+}
+
+/// A log and a database file that hold the first records.
+fn with_records(rt: &impl Abort, alloc: Global) -> Result<Files<Memory>, Fail> {
+    let files = Files {
+        log: Memory::new(alloc),
+        db: Memory::new(alloc),
+    };
+    let (text, files) = replied_over(alloc, files, PUTS)?;
+    assert_eq!(rt; text.as_str(), PUTS_TAKEN);
+    Ok(files)
+}
+
+/// A file with these bytes, which a crash leaves.
+fn file_of(alloc: Global, bytes: &[u8]) -> Result<Memory, Fail> {
+    let mut file = Memory::new(alloc);
+    file.write_at(0, bytes)?;
+    file.sync()?;
+    Ok(file)
+}
+
+/// Copies of the files that fail after so many calls of the log and of the database file.
+fn fused(
+    alloc: Global,
+    files: &Files<Memory>,
+    (log_calls, db_calls): (u64, u64),
+) -> Result<Files<Fuse<Memory>>, Fail> {
+    let log = file_of(alloc, files.log.bytes())?;
+    let db = file_of(alloc, files.db.bytes())?;
+    Ok(Files {
+        log: Fuse::new(log, log_calls),
+        db: Fuse::new(db, db_calls),
+    })
+}
+
+/// Copies of the files as they are on the disk, which don't fail.
+fn mended(alloc: Global, files: &Files<Fuse<Memory>>) -> Result<Files<Memory>, Fail> {
+    let log = file_of(alloc, files.log.inner().bytes())?;
+    let db = file_of(alloc, files.db.inner().bytes())?;
+    Ok(Files { log, db })
+}
+
+/// The records on the disk are those before the batch or after it, and after it where it was taken.
+fn check_left(
+    rt: &impl Abort,
+    alloc: Global,
+    files: &Files<Fuse<Memory>>,
+    taken: bool,
+) -> Result<(), Fail> {
+    let (shown, _) = replied_over(alloc, mended(alloc, files)?, GETS)?;
+    assert!(rt;
+        shown.as_str() == AFTER || (!taken && shown.as_str() == BEFORE),
+        "{shown}"
+    );
+    Ok(())
+}
+
+/// How the batch ends: `t`, it is taken; `r`, it is refused; `-`, no engine is opened.
+fn outcome(rt: &impl Abort, text: &str) -> char {
+    if text == TAKEN {
+        return 't';
+    }
+    if text.starts_with('{') {
+        assert_eq!(rt; text, REFUSED);
+        return 'r';
+    }
+    '-'
+}
+
+/// Adds how a put ends over copies of the files that fail after so many calls of the log and of the
+/// database file. What stands is looked at as it was written, and then without what wasn't synced.
+fn add_outcome(
+    outcomes: &mut String,
+    rt: &impl Abort,
+    alloc: Global,
+    files: &Files<Memory>,
+    calls: (u64, u64),
+) -> Result<(), Fail> {
+    let (text, mut files) = replied_over(alloc, fused(alloc, files, calls)?, CHANGE)?;
+    let ended = outcome(rt, text.as_str());
+    check_left(rt, alloc, &files, ended == 't')?;
+    files.log.crash();
+    files.db.crash();
+    check_left(rt, alloc, &files, ended == 't')?;
+    outcomes.push(ended)?;
+    Ok(())
+}
+
+/// More calls than a run makes.
+const NEVER: u64 = 1000000;
+
+/// The same for each of some calls.
+fn outcomes(rt: &impl Abort, alloc: Global, table: &[(u64, u64)]) -> Result<String, Fail> {
+    let files = with_records(rt, alloc)?;
+    let mut outcomes = String::new(alloc);
+    for calls in table {
+        add_outcome(&mut outcomes, rt, alloc, &files, *calls)?;
+    }
+    Ok(outcomes)
+}
+
+#[test]
+fn a_log_fails_while_it_is_opened(rt: HostRuntime) -> Result<(), Fail> {
+    let table = [(0, NEVER), (8, NEVER), (16, NEVER), (24, NEVER)];
+    let outcomes = outcomes(&rt, rt.alloc(), &table)?;
+    assert!(rt; outcomes.starts_with('-'), "{outcomes}");
+    Ok(())
+}
+
+/// At some of these calls the put is refused.
+#[test]
+fn a_log_fails_while_a_put_is_written(rt: HostRuntime) -> Result<(), Fail> {
+    let table = [
+        (28, NEVER),
+        (29, NEVER),
+        (30, NEVER),
+        (31, NEVER),
+        (32, NEVER),
+        (33, NEVER),
+        (34, NEVER),
+    ];
+    let outcomes = outcomes(&rt, rt.alloc(), &table)?;
+    assert!(rt; outcomes.contains('r'), "{outcomes}");
+    Ok(())
+}
+
+#[test]
+fn a_log_fails_once_a_put_is_taken(rt: HostRuntime) -> Result<(), Fail> {
+    let table = [(35, NEVER), (36, NEVER), (40, NEVER), (48, NEVER)];
+    let outcomes = outcomes(&rt, rt.alloc(), &table)?;
+    assert!(rt; outcomes.ends_with('t'), "{outcomes}");
+    Ok(())
+}
+
+#[test]
+fn a_database_file_fails(rt: HostRuntime) -> Result<(), Fail> {
+    let table = [
+        (NEVER, 0),
+        (NEVER, 12),
+        (NEVER, 20),
+        (NEVER, 22),
+        (NEVER, 23),
+        (NEVER, 24),
+        (NEVER, 48),
+    ];
+    let outcomes = outcomes(&rt, rt.alloc(), &table)?;
+    assert!(rt; outcomes.starts_with('-'), "{outcomes}");
+    assert!(rt; outcomes.ends_with('t'), "{outcomes}");
+    Ok(())
+}

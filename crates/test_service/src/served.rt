@@ -1,0 +1,222 @@
+//! Runs of `serve` over declarations and a database in files.
+use crate::words::{NOT_READ, check_ended, ran};
+use sqlite::Connection;
+use std::fs;
+use std::process::Abort;
+use std::test::Fail;
+
+const DECLARATIONS: &str =
+    r#"{"types":{"T":{"fields":{"at":{"type":"instant","constraints":[{"constraint":"Past"}]}}}},"forms":{"f":{"root":"T"}}}"#;
+
+/// The same, but for a space behind it.
+const OTHERS: &str =
+    r#"{"types":{"T":{"fields":{"at":{"type":"instant","constraints":[{"constraint":"Past"}]}}}},"forms":{"f":{"root":"T"}}} "#;
+
+/// A put of one instant, 3 seconds before 1970.
+const PUT: &str =
+    r#"{"do":"put","id":"r1","form":"f","bundle":{"root":"a","objects":{"a":{"type":"T","fields":{"at":-3}}}}}"#;
+
+const TAKEN: &str = "{\"ok\":\"put\"}\n";
+
+const NOT_PAST: &str =
+    r#"{"error":"C10","name":"Violations","records":[{"id":"r1","violations":[{"constraint":"Past","message":"must be a past date","occurrence":0,"path":"at","value":-3}]}]}
+"#;
+
+const GET: &str = r#"{"do":"get","id":"r1"}"#;
+
+const NO_RECORD: &str = "{\"error\":\"C6\",\"name\":\"NoRecord\"}\n";
+
+const SHOWN: &str =
+    r#"{"bundle":{"objects":{"a":{"fields":{"at":-3},"type":"T"}},"root":"a"},"form":"f","id":"r1","ok":"get"}
+"#;
+
+const CANNOT_OPEN: &str = "formd: cannot open database\n";
+
+pub(crate) const OTHER_DECLARATIONS: &str = "formd: store: OtherDeclarations\n";
+
+const OTHER_VERSION: &str = "formd: store: OtherVersion\n";
+
+/// A run of `serve` over the declarations and the database of these paths, with more words, one a
+/// line, over one command line, ends so: its status and the texts on both writers.
+pub(crate) fn check(
+    rt: &impl Abort,
+    host: &HostRuntime,
+    (declarations, database, more): (&str, &str, &str),
+    line: &str,
+    (status, output, error): (u8, &str, &str),
+) -> Result<(), Fail> {
+    let words = format!(in host.alloc();
+        "serve\n--declarations\n{declarations}\n--database\n{database}\n{more}"
+    )?;
+    let mut told = Vec::new(host.alloc());
+    let (ended, complaint) = ran(host, words.trim(), &mut line.as_bytes(), &mut told)?;
+    check_ended(
+        rt,
+        words.as_str(),
+        (ended, &told, &complaint),
+        (status, output, error),
+    );
+    Ok(())
+}
+
+/// Removes a database with its log.
+pub(crate) fn remove(host: &HostRuntime, database: &str) -> Result<(), Fail> {
+    let log = format!(in host.alloc(); "{database}-wal")?;
+    fs::remove_file(host, database)?;
+    fs::remove_file(host, log.as_str())?;
+    Ok(())
+}
+
+/// Changes a database by a statement of SQL.
+fn change(host: &HostRuntime, database: &str, statement: &str) -> Result<(), Fail> {
+    let mut connection = Connection::open(host, database)?;
+    connection.execute(statement, &[])?;
+    connection.close()?;
+    Ok(())
+}
+
+/// What is stored is there at the next run, under the same declarations and the same version alone. The
+/// version is asked before the declarations, and a database that is refused stays as it was.
+#[test]
+fn records_stay_in_the_file(rt: HostRuntime) -> Result<(), Fail> {
+    fs::write(&rt, "formd_kept.json", DECLARATIONS)?;
+    fs::write(&rt, "formd_kept_others.json", OTHERS)?;
+    let same = ("formd_kept.json", "formd_kept.db", "");
+    let other = ("formd_kept_others.json", "formd_kept.db", "");
+    check(&rt, &rt, same, GET, (0, NO_RECORD, ""))?;
+    check(&rt, &rt, same, PUT, (0, TAKEN, ""))?;
+    check(&rt, &rt, other, GET, (4, "", OTHER_DECLARATIONS))?;
+    check(&rt, &rt, same, GET, (0, SHOWN, ""))?;
+    change(&rt, "formd_kept.db", "UPDATE about SET version = 2")?;
+    check(&rt, &rt, same, GET, (4, "", OTHER_VERSION))?;
+    check(&rt, &rt, other, GET, (4, "", OTHER_VERSION))?;
+    change(&rt, "formd_kept.db", "UPDATE about SET version = 1")?;
+    check(&rt, &rt, same, GET, (0, SHOWN, ""))?;
+    fs::remove_file(&rt, "formd_kept.json")?;
+    fs::remove_file(&rt, "formd_kept_others.json")?;
+    remove(&rt, "formd_kept.db")
+}
+
+/// A folder, a file in a folder that isn't there, a path that no file can have, the name of a
+/// database in memory, a file with other bytes, and one that is in use.
+#[test]
+fn no_database_is_not_opened(rt: HostRuntime) -> Result<(), Fail> {
+    fs::write(&rt, "formd_open.json", DECLARATIONS)?;
+    fs::write(
+        &rt,
+        "formd_garbage.db",
+        "no database, but a text of some words",
+    )?;
+    let refused = (4, "", CANNOT_OPEN);
+    check(&rt, &rt, ("formd_open.json", ".", ""), GET, refused)?;
+    check(
+        &rt,
+        &rt,
+        ("formd_open.json", "formd_missing/a.db", ""),
+        GET,
+        refused,
+    )?;
+    check(&rt, &rt, ("formd_open.json", "a\0b", ""), GET, refused)?;
+    check(&rt, &rt, ("formd_open.json", ":memory:", ""), GET, refused)?;
+    check(
+        &rt,
+        &rt,
+        ("formd_open.json", "formd_garbage.db", ""),
+        GET,
+        refused,
+    )?;
+    let held = Connection::open(&rt, "formd_held.db")?;
+    check(
+        &rt,
+        &rt,
+        ("formd_open.json", "formd_held.db", ""),
+        GET,
+        refused,
+    )?;
+    held.close()?;
+    check(
+        &rt,
+        &rt,
+        ("formd_open.json", "formd_held.db", ""),
+        GET,
+        (0, NO_RECORD, ""),
+    )?;
+    fs::remove_file(&rt, "formd_open.json")?;
+    remove(&rt, "formd_held.db")
+}
+
+/// The declarations are read, then the database is opened, then the declarations are judged, then
+/// they are compared with those of the database.
+#[test]
+fn the_first_failure_is_told(rt: HostRuntime) -> Result<(), Fail> {
+    fs::write(&rt, "formd_first.json", DECLARATIONS)?;
+    fs::write(&rt, "formd_first_bad.json", "{")?;
+    let refused = "formd: declarations refused: F1 NotJson\n";
+    check(
+        &rt,
+        &rt,
+        ("formd_missing.json", ".", ""),
+        GET,
+        (4, "", NOT_READ),
+    )?;
+    check(
+        &rt,
+        &rt,
+        ("formd_first_bad.json", ".", ""),
+        GET,
+        (4, "", CANNOT_OPEN),
+    )?;
+    check(
+        &rt,
+        &rt,
+        ("formd_first.json", "formd_first.db", ""),
+        PUT,
+        (0, TAKEN, ""),
+    )?;
+    check(
+        &rt,
+        &rt,
+        ("formd_first_bad.json", "formd_first.db", ""),
+        GET,
+        (3, "", refused),
+    )?;
+    fs::remove_file(&rt, "formd_first.json")?;
+    fs::remove_file(&rt, "formd_first_bad.json")?;
+    remove(&rt, "formd_first.db")
+}
+
+const NOT_IN_RANGE: &str =
+    "error: invalid value '253402128001' for '--now <SECONDS>': it lies outside 0001-01-01T00:00:00Z to 9999-12-30T00:00:00Z
+
+Usage: formd serve [OPTIONS] --declarations <FILE> --database <FILE>
+
+For more information, try '--help'.
+";
+
+const NO_NUMBER: &str =
+    "error: invalid value 'noon' for '--now <SECONDS>': invalid digit found in string
+
+For more information, try '--help'.
+";
+
+/// The moment of the commands is the one that is given, else the clock's, which these runs hold at 0.
+#[test]
+fn the_moment_may_be_given(rt: HostRuntime) -> Result<(), Fail> {
+    fs::write(&rt, "formd_now.json", DECLARATIONS)?;
+    let at = |now| ("formd_now.json", "formd_now.db", now);
+    check(&rt, &rt, at("--now=-5"), PUT, (0, NOT_PAST, ""))?;
+    check(&rt, &rt, at("--now=-2"), PUT, (0, TAKEN, ""))?;
+    check(&rt, &rt, at(""), PUT, (0, TAKEN, ""))?;
+    check(&rt, &rt, at("--now=-62135596800"), PUT, (0, NOT_PAST, ""))?;
+    check(&rt, &rt, at("--now\n253402128000"), PUT, (0, TAKEN, ""))?;
+    check(
+        &rt,
+        &rt,
+        at("--now\n253402128001"),
+        PUT,
+        (2, "", NOT_IN_RANGE),
+    )?;
+    check(&rt, &rt, at("--now\nnoon"), PUT, (2, "", NO_NUMBER))?;
+    fs::remove_file(&rt, "formd_now.json")?;
+    remove(&rt, "formd_now.db")
+}
