@@ -1,9 +1,13 @@
+ghost use Rattle.std.specs.Prelude.{◌≡◌};
+ghost use Rattle.formd_words.specs.FaultNames.{failure_name};
+
 use crate::files::FileFault;
 use fv_declare::DeclFault;
 use fv_engine::{OpenFault, ServeFault};
 use fv_store::OpenStoreFault;
 use std::alloc::AllocFailed;
 use std::io::Write;
+use thiserror::Error;
 
 /// The text for words that aren't UTF-8, in the form of the other refusals of words.
 const NOT_UTF8: &str = "error: invalid UTF-8 was detected in one or more arguments
@@ -14,23 +18,31 @@ For more information, try '--help'.
 ";
 
 /// Why the program ended early: its text on standard error and its exit status.
-#[derive(Clone, Copy, Debug, PartialEq, Eq)]
+#[derive(Clone, Copy, Debug, PartialEq, Eq, Error)]
 pub enum Failure {
     /// A word isn't UTF-8.
+    #[error("a word that isn't UTF-8")]
     NotUtf8,
     /// The file of the declarations can't be read.
+    #[error("declarations that can't be read")]
     Unreadable,
     /// The database's file can't be opened or made, is in use, or holds no sound database.
+    #[error("a database that can't be opened")]
     CannotOpen,
     /// The declarations aren't taken.
+    #[error("declarations refused")]
     Declarations(DeclFault),
     /// The database isn't taken.
+    #[error("store refused")]
     Store(OpenStoreFault),
     /// A read failed, or there were too many of them.
+    #[error("a read failed")]
     Read,
     /// A write or a flush failed, or a write took nothing.
+    #[error("a write failed")]
     Write,
     /// An allocation was refused.
+    #[error("out of memory")]
     Memory,
 }
 
@@ -79,6 +91,22 @@ impl From<ServeFault> for Failure {
 }
 
 impl Failure {
+    /// The failure's name.
+    pub fn name(&self) -> &str
+        ensures { result.now ≡ failure_name self.now }
+    {
+        match self {
+            Failure::NotUtf8 => "NotUtf8",
+            Failure::Unreadable => "Unreadable",
+            Failure::CannotOpen => "CannotOpen",
+            Failure::Declarations(_) => "Declarations",
+            Failure::Store(_) => "Store",
+            Failure::Read => "Read",
+            Failure::Write => "Write",
+            Failure::Memory => "Memory",
+        }
+    }
+
     /// The exit status: 2 for words, 3 for declarations, else 4.
     fn status(self) -> u8 {
         match self {

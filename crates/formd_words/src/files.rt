@@ -1,5 +1,6 @@
 //! Files as bytes, up to a limit.
 ghost use Rattle.std.specs.Prelude.{◌≡◌, ◌≤◌, IfOk, IfSome, length};
+ghost use Rattle.formd_words.specs.FaultNames.{file_fault_name};
 
 use std::alloc::Global;
 use std::fs;
@@ -10,12 +11,26 @@ use std::io::{Error, ErrorKind, Read};
 const MOST_BYTES: usize = 16777216;
 
 /// Why a file isn't read.
-#[derive(Clone, Copy, Debug, PartialEq, Eq)]
+#[derive(Clone, Copy, Debug, PartialEq, Eq, thiserror::Error)]
 pub enum FileFault {
     /// It isn't opened, a read failed, or it has more bytes than are read.
+    #[error("a file that can't be read")]
     Unreadable,
     /// An allocation was refused.
+    #[error("out of memory")]
     Memory,
+}
+
+impl FileFault {
+    /// The fault's name.
+    pub fn name(&self) -> &str
+        ensures { result.now ≡ file_fault_name self.now }
+    {
+        match self {
+            FileFault::Unreadable => "Unreadable",
+            FileFault::Memory => "Memory",
+        }
+    }
 }
 
 impl From<Error> for FileFault {

@@ -1,3 +1,4 @@
+pub mod FaultNames
 pub mod First
 pub mod Graphed
 pub mod Grouping

@@ -1,4 +1,5 @@
 ghost use Rattle.std.specs.Prelude.{◌≡◌};
+ghost use Rattle.fv_declare_groups.specs.FaultNames.{grouping_fault_name};
 ghost use Rattle.fv_declare_groups.specs.declared.fault.GroupingFault.TheVariants.{Memory};
 
 use std::alloc::{AllocError, AllocFailed};
@@ -31,6 +32,24 @@ pub enum GroupingFault {
     /// An allocation was refused.
     #[error("out of memory")]
     Memory,
+}
+
+impl GroupingFault {
+    /// The fault's name.
+    pub fn name(&self) -> &str
+        ensures { result.now ≡ grouping_fault_name self.now }
+    {
+        match self {
+            GroupingFault::UnknownGroup => "UnknownGroup",
+            GroupingFault::CyclicInheritance => "CyclicInheritance",
+            GroupingFault::CyclicSequence => "CyclicSequence",
+            GroupingFault::SequenceMisused => "SequenceMisused",
+            GroupingFault::SequenceLacksType => "SequenceLacksType",
+            GroupingFault::DefaultInTypeSequence => "DefaultInTypeSequence",
+            GroupingFault::ConversionMisplaced => "ConversionMisplaced",
+            GroupingFault::Memory => "Memory",
+        }
+    }
 }
 
 impl From<AllocError> for GroupingFault {

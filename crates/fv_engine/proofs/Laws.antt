@@ -1,22 +1,23 @@
 -- Laws of a call: each from the step that it is.
-use Rattle.std.proofs.Common.{arith, Ordering, ◌<◌, ◌≤◌, ◌≡◌, ◌≢◌, ◌⊎◌, ◌||◌, ◌++◌, ℕ, ℤ, IsTrue, not, bytes_eq, nat_cmp, Bool, true, false, if◌then◌else◌, List, [], ◌∷◌, Option, Some, None, is_some, option_and_then, Result, Ok, Err, inl, inr, refl, sym, ap, subst, ◌∙◌}
+use Rattle.std.proofs.Common.{arith, Ordering, ◌<◌, ◌≤◌, ◌≡◌, ◌≢◌, ◌⊎◌, ◌||◌, ◌++◌, ℕ, ℤ, IsTrue, not, bytes_eq, nat_cmp, Bool, true, false, if◌then◌else◌, List, [], ◌∷◌, length, Option, Some, None, is_some, option_and_then, Result, Ok, Err, inl, inr, refl, sym, ap, subst, ◌∙◌}
 use Rattle.std.specs.Cmp.Lexicographic.{slice_cmp}
 use Rattle.std.specs.List.{AllByRecursion}
 use Rattle.std.specs.List.Sorted.{IsStrictlySortedBy}
 use Rattle.std.proofs.Math.Path.{fun_ext}
 use Rattle.std.proofs.lemmas.Slice.Eq.{bytes_eq-Decides}
+use Rattle.sqlite.specs.Disk.{MoreFaults}
 use Rattle.sqlite.specs.State.{State}
 use Rattle.sqlite_rules.specs.Lists.{Has}
 use Rattle.serde_json.specs.Data as json
 use Rattle.fv_datum.specs.Lookup.{at_name}
 use Rattle.fv_declare_schema.specs.Declarations.{Declarations}
-use Rattle.fv_engine.specs.Laws.{IsDone, IsFailure, ShowsWhatWasPut, ChangesNoGet, HasSome, ListsSome, MayChangePlaces, LooksFor, FailsWhereShut, LeavesNothingToList, parts_of}
+use Rattle.fv_engine.specs.Laws.{IsDone, IsFailure, LacksRoom, FailsForRoomAlone, ShowsWhatWasPut, ChangesNoGet, HasSome, ListsSome, MayChangePlaces, LooksFor, FailsWhereShut, LeavesNothingToList, parts_of}
 use Rattle.fv_engine_machine.specs.Asked.{Verdict, too_many_visits, listed, IsVerdict}
-use Rattle.fv_engine_machine.specs.Failures.{MayFail, FindsOut, PartsFindOut}
+use Rattle.fv_engine_machine.specs.Failures.{StoreHasFailed, HasRoomFor, WouldBeTaken, ChangeFails, MayFail, FindsOut, PartsFindOut}
 use Rattle.fv_engine_machine.specs.Keeping.{ChangeDoes}
 use Rattle.fv_engine_machine.specs.Machines.{Machine, Becomes}
 use Rattle.fv_engine_machine.specs.Refusals.{when, first_of, fault_of, is_too_long, is_no_json, is_misshapen, lacks_form, value_fault, part_fault, lacks_record, lacks_group, lacks_field, part_refusal, told_part, told_fault, made, done_by, refusals, refusal}
-use Rattle.fv_engine_machine.specs.Step.{Takes, Decided, Changes, told_of, Does, Serves, Handles, Told}
+use Rattle.fv_engine_machine.specs.Step.{Unchanged, Takes, Decided, Changes, told_of, Does, Serves, Handles, Told}
 use Rattle.fv_engine_machine.proofs.Becoming.{not_done_stays, weaker}
 use Rattle.fv_engine_machine.proofs.Changes.{alone_handled, refusal_is}
 use Rattle.fv_engine_command.specs.Commands.{Part, put, set, remove, Request, too_long, not_json, shape, alone, batch, get, check, check_field, check_value, list, asked}
@@ -37,6 +38,7 @@ use Rattle.fv_engine_reply.specs.declared.answer.Done.{Done}
 use Rattle.fv_engine_reply.specs.declared.answer.Done.TheVariants.{Put, Set, Remove, Batch}
 use Rattle.fv_engine_reply.specs.declared.answer.Refusal.{Refusal}
 use Rattle.fv_engine_reply.specs.declared.answer.Refusal.TheVariants.{LineTooLong, NotJson, Shape, UnknownForm, Bundle, NoRecord, UnknownGroup, NoSuchField, TooManyVisits, Store, Memory}
+use Rattle.fv_engine.proofs.OnlyStore.{only_store}
 use Rattle.fv_engine_reply.proofs.Apart.{only_done}
 use Rattle.fv_store.specs.Records.{Kept, Records, Roots, with_record}
 use Rattle.fv_walk_request.specs.Requests.{asked_groups, judging, request_of, unjudged, visiting}
@@ -54,9 +56,14 @@ use Rattle.fv_validate.proofs.Alike.{one_listing}
 done_or_refused : (what : Done) (why : Refusal) → done what ≡ refused why → ⊥
 done_or_refused what why e = cc
 
--- a refusal, of a command or of a part, and not for violations
+-- it doesn't tell that the store failed
+abbrev IsJudged : Refusal → Type 0
+IsJudged Store = ⊥
+IsJudged _ = Unit {0}
+
+-- a refusal, of a command or of a part, and not for violations, nor because the store failed
 abbrev IsRefusal : Answer → Type 0
-IsRefusal (refused why) = Unit {0}
+IsRefusal (refused why) = IsJudged why
 IsRefusal (part_refused n why) = Unit {0}
 IsRefusal _ = ⊥
 
@@ -79,19 +86,25 @@ abbrev Refuses : Option Answer → Type 0
 Refuses None = Unit {0}
 Refuses (Some a) = IsRefusal a
 
-when_refuses : (b : Bool) (why : Refusal) → Refuses (when b why)
-when_refuses true why = tt
-when_refuses false why = tt
+when_refuses : (b : Bool) (why : Refusal) → IsJudged why → Refuses (when b why)
+when_refuses true why is = is
+when_refuses false why is = tt
 
-told_refuses : (told : Done) (n : ℕ) (why : Refusal) → IsRefusal (told_part told n why)
-told_refuses Put n why = tt
-told_refuses Set n why = tt
-told_refuses Remove n why = tt
-told_refuses Batch n why = tt
+told_refuses : (told : Done) (n : ℕ) (why : Refusal) → IsJudged why → IsRefusal (told_part told n why)
+told_refuses Put n why is = is
+told_refuses Set n why is = is
+told_refuses Remove n why is = is
+told_refuses Batch n why is = tt
+
+part_judged : (f : PartFault) → IsJudged (part_refusal f)
+part_judged part.UnknownForm = tt
+part_judged (part.Bundle fault) = tt
+part_judged part.NoRecord = tt
+part_judged part.Memory = tt
 
 fault_refuses : (told : Done) (r : Result Records (ℕ × PartFault)) → Refuses (told_fault told r)
 fault_refuses told (Ok m) = tt
-fault_refuses told (Err e) = told_refuses told e.0 (part_refusal e.1)
+fault_refuses told (Err e) = told_refuses told e.0 (part_refusal e.1) (part_judged e.1)
 
 part_refuses : (x : Machine Records) (r : Request) → Refuses (part_fault x r)
 part_refuses x too_long = tt
@@ -132,14 +145,14 @@ first_refuses (None ∷ os) all = first_refuses os all.1
 
 refusal_refuses : (x : Machine Records) (r : Request) → Refuses (refusal x r)
 refusal_refuses x r = first_refuses (refusals x r) (
-  when_refuses (is_too_long r) LineTooLong,
+  when_refuses (is_too_long r) LineTooLong tt,
   (
-    when_refuses (is_no_json r) NotJson,
+    when_refuses (is_no_json r) NotJson tt,
     (
-      when_refuses (is_misshapen x.declared r) Shape,
+      when_refuses (is_misshapen x.declared r) Shape tt,
       (
-        when_refuses (lacks_form x.declared r) UnknownForm,
-        (value_refuses x.declared r, (part_refuses x r, (when_refuses (lacks_record x.records r) NoRecord, (when_refuses (lacks_group x.declared r) UnknownGroup, (when_refuses (lacks_field x r) NoSuchField, tt))))),
+        when_refuses (lacks_form x.declared r) UnknownForm tt,
+        (value_refuses x.declared r, (part_refuses x r, (when_refuses (lacks_record x.records r) NoRecord tt, (when_refuses (lacks_group x.declared r) UnknownGroup tt, (when_refuses (lacks_field x r) NoSuchField tt, tt))))),
       ),
     ),
   ),
@@ -150,7 +163,7 @@ refusal_refuses x r = first_refuses (refusals x r) (
 -- parts were made, what they left has no violation, and it is stored
 abbrev Took : Meanings → ℤ → List Part → Machine Records → Machine Records → Type 0
 Took means now parts x y =
-    (m : Records) × (made x parts ≡ Ok m) × (ls : List Judged) × AreListings means x.declared now parts m ls × (with_some ls ≡ []) × Takes m x y
+    (m : Records) × (made x parts ≡ Ok m) × (ls : List Judged) × AreListings means x.declared now parts m ls × (with_some ls ≡ []) × Takes m (length parts) x y
 
 -- of records of which none has a violation, each has none
 none_some : (ls : List Judged) → with_some ls ≡ [] → (l : Judged) → Has ls l → l.1 ≡ []
@@ -167,7 +180,7 @@ module _ (means : Meanings) (now : ℤ) (what : Done) (x y : Machine Records) wh
   changed_took parts told (m, is, inl over) = absurd (done_or_refused what TooManyVisits over.1)
   changed_took parts told (m, is, inr settled) = decided (with_some settled.0) refl settled.2
     where
-      decided : (rs : List Judged) → with_some settled.0 ≡ rs → Decided told rs m x (done what) y → Took means now parts x y
+      decided : (rs : List Judged) → with_some settled.0 ≡ rs → Decided told (length parts) rs m x (done what) y → Took means now parts x y
       decided [] none d = (m, is, settled.0, settled.1, none, d.1)
       decided (r ∷ rs) some d = let never : done what ≡ violated (r ∷ rs) = d.0 in absurd cc
 
@@ -199,6 +212,84 @@ module _ (means : Meanings) (now : ℤ) (what : Done) (x y : Machine Records) wh
   told_took line reply is_done told = took (asked line)
       (subst (λ (a : Answer). Handles means now (asked line) x a y) (only_done told.0 what (sym told.1 ∙ is_done)) told.2)
 
+-- ---- a line that the store fails
+
+same_refusal : (why told : Refusal) → refused why ≡ refused told → why ≡ told
+same_refusal why told e = cc
+
+module _ (means : Meanings) (now : ℤ) (x y : Machine Records) where
+  not_changed : (parts : List Part) (told : Done) → Changes means now parts told x (refused Store) y → ⊥
+  not_changed parts told (m, is, inl over) = let never : refused Store ≡ refused TooManyVisits = over.1 in cc
+  not_changed parts told (m, is, inr settled) = decided (with_some settled.0) settled.2
+    where
+      decided : (rs : List Judged) → Decided told (length parts) rs m x (refused Store) y → ⊥
+      decided [] d = let never : refused Store ≡ done told = d.0 in cc
+      decided (r ∷ rs) d = let never : refused Store ≡ violated (r ∷ rs) = d.0 in cc
+
+  not_told : (lists : List Reported → Answer) → ((vs : List Reported) → refused Store ≡ lists vs → ⊥) → (v : Verdict) → refused Store ≡ told_of lists v → ⊥
+  not_told lists each too_many_visits e = let never : refused Store ≡ refused TooManyVisits = e in cc
+  not_told lists each (listed vs) e = each vs e
+
+  not_served : (r : Request) → Serves means now r x (refused Store) y → ⊥
+  not_served too_long s = s
+  not_served not_json s = s
+  not_served shape s = s
+  not_served (alone p) s = not_changed (p ∷ []) (done_by p) s
+  not_served (batch ps) s = not_changed ps Batch s
+  not_served (get id) s = let never : refused Store ≡ shown id s.0.form s.0.bundle = s.2 in cc
+  not_served (check id names) s = not_told checked (λ vs e. cc) s.2.0 s.2.2
+  not_served (check_field id object field names) s = not_told field_checked (λ vs e. cc) s.2.2.0 s.2.2.2
+  not_served (check_value type field value names) s = not_told value_checked (λ vs e. cc) s.2.2.0 s.2.2.2
+  not_served (list form after limit) s = let never : refused Store ≡ ids s.0 = s.2 in cc
+
+  -- then the store fails as it may
+  store_may : (r : Request) → Handles means now r x (refused Store) y → MayFail Store means now r x y
+  store_may r (inl does) = absurd (by_refusal (refusal x r) (refusal_refuses x r) does.0)
+    where
+      by_refusal : (o : Option Answer) → Refuses o → Does o means now r x (refused Store) y → ⊥
+      by_refusal (Some a) is d = subst IsRefusal (sym d.0) is
+      by_refusal None is d = not_served r d
+  store_may r (inr failed) = subst (λ (why : Refusal). MayFail why means now r x y) (sym (same_refusal Store failed.0 failed.2)) failed.1
+
+  module _ (steady : StoreHasFailed x y → ⊥) where
+    change_lacks : (parts : List Part) → ChangeFails means now parts x y → (m : Records) × WouldBeTaken means now parts m x × (HasRoomFor parts m x → ⊥)
+    change_lacks parts (shaped, inl asked) = absurd (steady asked.1)
+    change_lacks parts (shaped, inr would) = (would.0, would.1, λ room. steady (would.2 room))
+
+    store_lacks : (r : Request) → MayFail Store means now r x y → (m : Records) × WouldBeTaken means now (parts_of r) m x × (HasRoomFor (parts_of r) m x → ⊥)
+    store_lacks too_long f = absurd f
+    store_lacks not_json f = absurd f
+    store_lacks shape f = absurd f
+    store_lacks (alone p) f = change_lacks (p ∷ []) f
+    store_lacks (batch ps) f = change_lacks ps f
+    store_lacks (get id) f = absurd (steady f)
+    store_lacks (check id names) f = absurd (steady f)
+    store_lacks (check_field id object field names) f = absurd (steady f)
+    store_lacks (check_value type field value names) f = absurd f
+    store_lacks (list form after limit) f = absurd (steady f.1)
+
+-- ---- a connection that stays open
+
+module _ (means : Meanings) (now : ℤ) (r : Request) (x y : Machine Records) (live : IsTrue x.is_open) (steady : MoreFaults x.faults y.faults → ⊥) where
+  still_open : Unchanged x y → IsTrue y.is_open
+  still_open stay = elim (stay.closes live) [ inl is ↦ is | inr more ↦ absurd (steady more) ]
+
+  left_open : (answer : Answer) → ((what : Done) → answer ≡ done what → ⊥) → Handles means now r x answer y → IsTrue y.is_open
+  left_open answer other (inl does) = still_open (not_done_stays means now (refusal x r) r x y answer other does.0)
+  left_open answer other (inr failed) = still_open failed.3
+
+  -- only a failure of the disk shuts it
+  pub stays_open : (answer : Answer) → Handles means now r x answer y → IsTrue y.is_open
+  stays_open (done what) h = (took means now what x y r h).5.is_open
+  stays_open (shown id form b) h = left_open (shown id form b) (λ what e. cc) h
+  stays_open (violated ls) h = left_open (violated ls) (λ what e. cc) h
+  stays_open (checked vs) h = left_open (checked vs) (λ what e. cc) h
+  stays_open (field_checked vs) h = left_open (field_checked vs) (λ what e. cc) h
+  stays_open (value_checked vs) h = left_open (value_checked vs) (λ what e. cc) h
+  stays_open (ids found) h = left_open (ids found) (λ what e. cc) h
+  stays_open (refused why) h = left_open (refused why) (λ what e. cc) h
+  stays_open (part_refused n why) h = left_open (part_refused n why) (λ what e. cc) h
+
 -- ---- what a taken put did
 
 abbrev keep : List ℕ → Bundled → Kept
@@ -207,7 +298,7 @@ keep form b = record { form = form; bundle = b }
 abbrev TookPut : Meanings → ℤ → List ℕ → List ℕ → json.Data → Machine Records → Machine Records → Type 0
 TookPut means now id form bundle x y =
     (is_some (at_name form x.declared.forms) ≡ true) × (b : Bundled) × (bundle_under x.declared.types x.declared.forms form bundle ≡ Ok b)
-    × IsListingOf means x.declared now (keep form b) [] × Takes (with_record id (keep form b) x.records) x y
+    × IsListingOf means x.declared now (keep form b) [] × Takes (with_record id (keep form b) x.records) 1 x y
 
 one_ascends : (cmp : List ℕ → List ℕ → Ordering) (name : List ℕ) → IsStrictlySortedBy cmp (name ∷ [])
 unfolding IsStrictlySortedBy
@@ -271,7 +362,7 @@ module _ (means : Meanings) (now : ℤ) (id form : List ℕ) (bundle : json.Data
         p.1,
         p.2,
         subst (λ (vs : List Reported). IsListingOf means x.declared now kept vs) (none_some ls none (id, l.0) l.1) listing,
-        subst (λ (n : Records). Takes n x y) p.3 takes,
+        subst (λ (n : Records). Takes n 1 x y) p.3 takes,
       )
 
   -- one record without a violation
@@ -305,7 +396,7 @@ module _ (means : Meanings) (now : ℤ) (id form : List ℕ) (bundle : json.Data
       ))
 
   -- the same on another machine of these declarations
-  elsewhere : (x y v w : Machine Records) → v.declared ≡ x.declared → (t : TookPut means now id form bundle x y) → Takes (with_record id (keep form t.1) v.records) v w → TookPut means now id form bundle v w
+  elsewhere : (x y v w : Machine Records) → v.declared ≡ x.declared → (t : TookPut means now id form bundle x y) → Takes (with_record id (keep form t.1) v.records) 1 v w → TookPut means now id form bundle v w
   elsewhere x y v w same t takes = (
     subst (λ (ds : Declarations). is_some (at_name form ds.forms) ≡ true) (sym same) t.0,
     t.1,
@@ -439,7 +530,7 @@ module _ (means : Meanings) (now : ℤ) (x y : Machine Records) (answer : Answer
   changed_some parts what (m, is, inl over) = subst HasSome (sym over.1) tt
   changed_some parts what (m, is, inr settled) = decided (with_some settled.0) (some_each settled.0) settled.2
     where
-      decided : (rs : List Judged) → AllByRecursion (λ l. l.1 ≢ []) rs → Decided what rs m x answer y → HasSome answer
+      decided : (rs : List Judged) → AllByRecursion (λ l. l.1 ≢ []) rs → Decided what (length parts) rs m x answer y → HasSome answer
       decided [] each d = subst HasSome (sym d.0) tt
       decided (r ∷ rs) each d = subst HasSome (sym d.0) (λ e. cc, each)
 
@@ -499,7 +590,7 @@ module _ {H : Type 0} (held : H → State) (means : Meanings) (line : List ℕ) 
           let mid : Machine Records = record y { declared = x.declared; records = with_record other (keep form_there two.1) x.records } in (
             mid,
             took_told means later other form_there bundle_there next reply asks_next is_taken x mid (elsewhere means later other form_there bundle_there y last x mid (sym one.4.declared) two
-                (record { declared = refl; records = refl; was_open = one.4.was_open; is_open = one.4.is_open; counts = one.4.counts })),
+                (record { declared = refl; records = refl; was_open = one.4.was_open; is_open = one.4.is_open; counts = one.4.counts; room = one.4.room })),
             took_told means now id form bundle line reply asks is_taken mid last (elsewhere means now id form bundle x y mid last refl one
                 (record {
                   declared = two.4.declared ∙ one.4.declared;
@@ -507,6 +598,7 @@ module _ {H : Type 0} (held : H → State) (means : Meanings) (line : List ℕ) 
                   was_open = one.4.is_open;
                   is_open = two.4.is_open;
                   counts = two.4.counts;
+                  room = two.4.room;
                 })),
           )
 
@@ -539,6 +631,19 @@ module _ {H : Type 0} (held : H → State) (means : Meanings) (line : List ℕ) 
         | inl e ↦ inl (told.1 ∙ ap answer_text e)
         | inr e ↦ inr (told.1 ∙ ap answer_text e)
       ]
+
+  pub fails_for_room_alone : Becomes held old new (FailsForRoomAlone means line now reply)
+  fails_for_room_alone = weaker held old new _ _ lacks becoming
+    where
+      steady : (x y : Machine Records) → IsTrue x.is_open → (MoreFaults x.faults y.faults → ⊥) → StoreHasFailed x y → ⊥
+      steady x y live none (inl more) = none more
+      steady x y live none (inr shut) = let never : false ≡ true = sym shut ∙ live in cc
+
+      lacks : (x y : Machine Records) → Told means x line now reply y → FailsForRoomAlone means line now reply x y
+      lacks x y told = λ is live none.
+          let fails : Handles means now (asked line) x (refused Store) y =
+          subst (λ (a : Answer). Handles means now (asked line) x a y) (only_store told.0 (sym told.1 ∙ is)) told.2 in
+          store_lacks means now x y (steady x y live none) (asked line) (store_may means now x y (asked line) fails)
 
   pub leaves_nothing_to_list : Becomes held old new (LeavesNothingToList means line now reply)
   leaves_nothing_to_list = weaker held old new _ _ nothing becoming

@@ -1,3 +1,5 @@
+pub mod InMemory
 pub mod Laws
 pub mod Lifts
+pub mod OnlyStore
 pub mod Openings

@@ -1,8 +1,10 @@
 -- Laws of a call, in a user's words: they are told of its reply, and follow from the step.
-use Rattle.std.specs.Prelude.{◌≡◌, ◌≢◌, ◌⊎◌, ℕ, ℤ, false, List, [], ◌∷◌, Some, Ok}
+use Rattle.std.specs.Prelude.{◌≡◌, ◌≢◌, ◌⊎◌, ℕ, ℤ, IsTrue, false, List, [], ◌∷◌, Some, Ok}
 use Rattle.std.specs.List.{AllByRecursion}
 use Rattle.serde_json.specs.Data as json
+use Rattle.sqlite.specs.Disk.{MoreFaults}
 use Rattle.fv_declare_schema.specs.Declarations.{Declarations}
+use Rattle.fv_engine_machine.specs.Failures.{HasRoomFor, WouldBeTaken}
 use Rattle.fv_engine_machine.specs.Machines.{Machine}
 use Rattle.fv_engine_command.specs.Commands.{Part, put, Request, alone, batch, get, check, check_field, asked}
 use Rattle.fv_engine_machine.specs.Step.{Told}
@@ -74,6 +76,15 @@ abbrev pub parts_of : Request → List Part
 parts_of (alone p) = p ∷ []
 parts_of (batch ps) = ps
 parts_of _ = []
+
+-- a command that changes records would be taken, but the database has no room for what it leaves
+abbrev pub LacksRoom : Meanings → List ℕ → ℤ → Machine Records → Type 0
+LacksRoom means line now old = (m : Records) × WouldBeTaken means now (parts_of (asked line)) m old × (HasRoomFor (parts_of (asked line)) m old → ⊥)
+
+-- Over an open connection whose disk doesn't fail, the store fails a line for want of room alone.
+abbrev pub FailsForRoomAlone : Meanings → List ℕ → ℤ → List ℕ → Machine Records → Machine Records → Type 0
+FailsForRoomAlone means line now reply old new =
+    reply ≡ answer_text (refused Store) → IsTrue old.is_open → (MoreFaults old.faults new.faults → ⊥) → LacksRoom means line now old
 
 -- these are names of the form's groups, in order; each counts where it stands first, and none stand for `Default`
 abbrev pub AreNamesOf : Declarations → List ℕ → List (List ℕ) → Type 0

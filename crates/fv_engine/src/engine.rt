@@ -6,7 +6,7 @@ ghost use Rattle.fv_store.specs.Faults.{about_fault, IsAboutFault};
 ghost use Rattle.fv_store.specs.Causes.{HasFailed, IsShortAbout};
 ghost use Rattle.fv_store.specs.Stands.{Frame, Holds, HasTables, IsBlank, IsLive, Opens, Stays};
 ghost use Rattle.fv_declare.specs.Declares.{Declares};
-ghost use Rattle.fv_engine.specs.Laws.{ShowsWhatWasPut, ChangesNoGet, ListsSome, MayChangePlaces, LeavesNothingToList, FailsWhereShut};
+ghost use Rattle.fv_engine.specs.Laws.{ShowsWhatWasPut, ChangesNoGet, ListsSome, MayChangePlaces, LeavesNothingToList, FailsWhereShut, FailsForRoomAlone};
 ghost use Rattle.fv_engine_machine.specs.Machines.{contents, StandsFor, Becomes};
 ghost use Rattle.fv_engine_machine.specs.Step.{Told};
 ghost use Rattle.fv_engine.specs.FaultNames.{open_fault_name};
@@ -191,6 +191,8 @@ impl<R: RuleSet, S: Alter> Engine<R, S> {
         ensures nothing { Becomes (state S.Store) self.old self.new (LeavesNothingToList R.meaning line.now now result) }
         // A command that looks for the record of an id fails over a connection that is shut.
         ensures shut { Becomes (state S.Store) self.old self.new (λ x y. FailsWhereShut line.now result x) }
+        // Over an open connection whose disk doesn't fail, as in memory, the store fails for want of room alone.
+        ensures room { Becomes (state S.Store) self.old self.new (FailsForRoomAlone R.meaning line.now now result) }
     {
         if line.len() > LIMIT {
             return self.refuse_long();

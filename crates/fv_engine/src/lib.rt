@@ -5,6 +5,6 @@ mod engine;
 mod serving;
 
 pub use engine::{Engine, OpenFault};
-pub use fv_engine_lines::{Clock, FixedClock, ServeFault};
+pub use fv_engine_lines::{Clock, FixedClock, Input, ServeFault};
 pub use fv_engine_reply::Reply;
 pub use serving::serve;

@@ -3,14 +3,15 @@ ghost use Rattle.sqlite.specs.Held.{state};
 ghost use Rattle.fv_engine_machine.specs.Machines.{Becomes};
 ghost use Rattle.fv_engine_machine.specs.Step.{Told};
 ghost use Rattle.fv_engine_lines.specs.Lines.{WholeLines, AllLines};
+ghost use Rattle.fv_engine_lines.specs.Reads.{ReadAtMost};
 ghost use Rattle.fv_engine_lines.specs.Runs.{Served, Stopped};
 
 use crate::engine::Engine;
-use fv_engine_lines::{Clock, ServeFault, answer_lines};
+use fv_engine_lines::{Clock, Input, ServeFault, answer_lines};
 use fv_registry::RuleSet;
 use sqlite::Alter;
 use std::alloc::Global;
-use std::io::{Read, Write};
+use std::io::Write;
 
 /// Answers each line of the input by a line, until the input ends: lines are ended by byte 10, the
 /// last also without its end. The clock is asked once a line. Each reply is written whole, with its
@@ -22,13 +23,15 @@ use std::io::{Read, Write};
 ///
 /// `Memory` where the room for a line was refused; `Read` where a read failed or there were 2^32
 /// reads; `Write` where a write or a flush failed or a write took nothing.
-pub fn serve<R: RuleSet, S: Alter, I: Read, W: Write, C: Clock>(
+pub fn serve<R: RuleSet, S: Alter, I: Input, W: Write, C: Clock>(
     alloc: Global,
     engine: &mut Engine<R, S>,
     reader: &mut I,
     writer: &mut W,
     clock: &mut C,
 ) -> Result<(), ServeFault>
+    // It read at most 2^32 times, however it ended.
+    ensures reads { ReadAtMost I.reads 4294967296 reader.old reader.new }
     // All lines of the input were answered, each reply written with its end.
     ensures ok { OnOk result (Becomes (state S.Store) engine.old engine.new
         (λ m n. Served (Told R.meaning) C.ticks (AllLines (I.remaining reader.old) (I.remaining reader.new))

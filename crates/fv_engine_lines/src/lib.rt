@@ -4,6 +4,7 @@
 
 mod clock;
 mod fixed_clock;
+mod input;
 mod line;
 mod output;
 mod responder;
@@ -11,5 +12,6 @@ mod serving;
 
 pub use clock::Clock;
 pub use fixed_clock::FixedClock;
+pub use input::Input;
 pub use responder::{LIMIT, Responder, Text};
 pub use serving::{ServeFault, answer_lines};

@@ -1,19 +1,21 @@
-ghost use Rattle.std.specs.Prelude.{◌≡◌, ◌≢◌, ℕ, List, [], ◌++◌, Option, OnOk, OnErr, IsErrOf, ◌<◌, length};
+ghost use Rattle.std.specs.Prelude.{◌≡◌, ◌≢◌, ℕ, List, [], ◌++◌, Option, OnOk, OnErr, IsErrOf, ◌<◌, ◌≤◌, length};
 ghost use Rattle.std.specs.Io.KnownBytes.{Appends, Consumes, IsAtEnd};
 ghost use Rattle.fv_datum.specs.Moments.{IsMoment};
 ghost use Rattle.fv_engine_lines.specs.Buffering.{kept, Buffered, Broken, Taken};
 ghost use Rattle.fv_engine_lines.specs.FaultNames.{serve_fault_name};
 ghost use Rattle.fv_engine_lines.specs.Lines.{IsOpen, ended, WholeLines, AllLines};
+ghost use Rattle.fv_engine_lines.specs.Reads.{ReadAtMost};
 ghost use Rattle.fv_engine_lines.specs.Runs.{Session, Answered, Served, Stopped};
 ghost use Rattle.fv_engine_lines.specs.Writes.{AppendsFront};
 
 use crate::clock::Clock;
+use crate::input::Input;
 use crate::line::Line;
 use crate::output::{WriteFailed, write_line};
 use crate::responder::{LIMIT, Responder, Text};
 use memchr::memchr;
 use std::alloc::Global;
-use std::io::{Read, Write};
+use std::io::Write;
 use thiserror::Error;
 
 /// Why serving ended before the input did.
@@ -157,7 +159,7 @@ enum Turn {
 }
 
 /// Reads once, and serves what came.
-fn read_once<P: Responder, R: Read, W: Write, C: Clock>(
+fn read_once<P: Responder, R: Input, W: Write, C: Clock>(
     alloc: Global,
     responder: &mut P,
     reader: &mut R,
@@ -166,7 +168,9 @@ fn read_once<P: Responder, R: Read, W: Write, C: Clock>(
     line: &mut Line,
     chunk: &mut [u8],
 ) -> Turn
-    requires { 0 < length chunk.old }
+    requires some { 0 < length chunk.old }
+    requires few { length chunk.old ≤ 4096 }
+    ensures read { R.reads reader.old reader.new }
     ensures end { result ≡ Turn.End → IsAtEnd (R.remaining reader.new) }
     ensures more { result ≡ Turn.More → (bytes : List ℕ) × (0 < length bytes)
         × Consumes (R.remaining reader.old) (R.remaining reader.new) bytes }
@@ -177,7 +181,7 @@ fn read_once<P: Responder, R: Read, W: Write, C: Clock>(
         Taken P.step C.ticks r (R.remaining reader.old) line.old start (responder.old, clock.old, W.contents writer.old) →
         Stopped P.step C.ticks r (R.remaining reader.new) start (responder.new, clock.new, W.contents writer.new) }
 {
-    match reader.read(chunk) {
+    match reader.fill(chunk) {
         Err(_) => Turn::ReadFailed,
         Ok(0) => Turn::End,
         Ok(count) => match take_bytes(alloc, responder, writer, clock, line, &chunk[..count]) {
@@ -191,7 +195,7 @@ fn read_once<P: Responder, R: Read, W: Write, C: Clock>(
 const READS: u64 = 4294967296;
 
 /// Serves until the input ends.
-fn serve_lines<P: Responder, R: Read, W: Write, C: Clock>(
+fn serve_lines<P: Responder, R: Input, W: Write, C: Clock>(
     alloc: Global,
     responder: &mut P,
     reader: &mut R,
@@ -200,6 +204,7 @@ fn serve_lines<P: Responder, R: Read, W: Write, C: Clock>(
     line: &mut Line,
 ) -> Result<(), ServeFault>
     requires { line.old ≡ [] }
+    ensures reads { ReadAtMost R.reads 4294967296 reader.old reader.new }
     ensures ok { OnOk result (Served P.step C.ticks (AllLines (R.remaining reader.old) (R.remaining reader.new))
         (responder.old, clock.old, W.contents writer.old) (responder.new, clock.new, W.contents writer.new)) }
     ensures read { IsErrOf result ServeFault.Read
@@ -211,7 +216,7 @@ fn serve_lines<P: Responder, R: Read, W: Write, C: Clock>(
     ensures memory { IsErrOf result ServeFault.Memory → ⊥ }
 {
     let mut chunk = [0u8; 4096];
-    for _ in 0..READS {
+    for _turn in 0..READS {
         match read_once(alloc, responder, reader, writer, clock, line, &mut chunk) {
             Turn::More => {}
             Turn::End => {
@@ -233,13 +238,15 @@ fn serve_lines<P: Responder, R: Read, W: Write, C: Clock>(
 ///
 /// `Memory` where the room for a line was refused; `Read` where a read failed or there were 2^32
 /// reads; `Write` where a write or a flush failed or a write took nothing.
-pub fn answer_lines<P: Responder, R: Read, W: Write, C: Clock>(
+pub fn answer_lines<P: Responder, R: Input, W: Write, C: Clock>(
     alloc: Global,
     responder: &mut P,
     reader: &mut R,
     writer: &mut W,
     clock: &mut C,
 ) -> Result<(), ServeFault>
+    // It read at most 2^32 times, however it ended.
+    ensures reads { ReadAtMost R.reads 4294967296 reader.old reader.new }
     // All lines of the input were answered, each reply written with its end.
     ensures ok { OnOk result (Served P.step C.ticks (AllLines (R.remaining reader.old) (R.remaining reader.new))
         (responder.old, clock.old, W.contents writer.old) (responder.new, clock.new, W.contents writer.new)) }

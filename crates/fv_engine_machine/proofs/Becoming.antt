@@ -158,11 +158,12 @@ check_refusal : Option Kept → Bool → Option Answer
 check_refusal o unknown = first_of (when (not (is_some o)) NoRecord ∷ when unknown UnknownGroup ∷ None ∷ [])
 
 -- a bundle that isn't validated
-pub not_checked : (means : Meanings) (ds : Declarations) (now : ℤ) (b : Bundled) (names : List (List ℕ)) (fault : ValidateFault) → unknown_in ds.groups names ≡ false → fault ≢ validate.NoSuchField
+pub not_checked : (means : Meanings) (ds : Declarations) (now : ℤ) (b : Bundled) (names : List (List ℕ)) (fault : ValidateFault) → unknown_in ds.groups names ≡ false → fault ≢ validate.UnknownGroup → fault ≢ validate.NoSuchField
     → (fault ≡ validate.TooManyVisits → HasTooManyVisits ds b (numbers_of ds.groups names)) → Checks means ds now b names (refused (unjudged fault))
-not_checked means ds now b names validate.NoSuchField known other many = absurd (other refl)
-not_checked means ds now b names validate.TooManyVisits known other many = inr (inl (known, (too_many_visits, many refl, refl)))
-not_checked means ds now b names validate.Memory known other many = inr (inr refl)
+not_checked means ds now b names validate.UnknownGroup known named other many = absurd (named refl)
+not_checked means ds now b names validate.NoSuchField known named other many = absurd (other refl)
+not_checked means ds now b names validate.TooManyVisits known named other many = inr (inl (known, (too_many_visits, many refl, refl)))
+not_checked means ds now b names validate.Memory known named other many = inr (inr refl)
 
 module _ (means : Meanings) (now : ℤ) (id : List ℕ) (names : List (List ℕ)) (x y : Machine Records) (stay : Unchanged x y) where
   pub checked_none : IsTrue x.is_open → x.records id ≡ None → Handles means now (check id names) x (refused NoRecord) y
@@ -194,7 +195,7 @@ module _ (means : Meanings) (now : ℤ) where
   settled_stays parts what m x y answer other (inl over) = over.2
   settled_stays parts what m x y answer other (inr decides) = decided (with_some decides.0) decides.2
     where
-      decided : (ls : List Judged) → Decided what ls m x answer y → Unchanged x y
+      decided : (ls : List Judged) → Decided what (length parts) ls m x answer y → Unchanged x y
       decided [] d = absurd (other what d.0)
       decided (l ∷ ls) d = d.1
 

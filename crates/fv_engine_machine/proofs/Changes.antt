@@ -7,7 +7,7 @@ use Rattle.sqlite.specs.State.{State, HasCleanDisk}
 use Rattle.fv_engine_command.specs.Commands.{Part, alone, batch}
 use Rattle.fv_datum.specs.Lookup.{at_name}
 use Rattle.fv_declare_schema.specs.Declarations.{Declarations}
-use Rattle.fv_engine_machine.specs.Judging.{AreListings, with_some}
+use Rattle.fv_engine_machine.specs.Judging.{IsOfJudging, AreListings, with_some}
 use Rattle.fv_engine_machine.specs.Records.{AreJudged, OneIsOver}
 use Rattle.fv_engine_machine.proofs.Listings.{listings, one_over}
 use Rattle.fv_engine_machine.specs.Failures.{StoreHasFailed, HasRoomFor, WouldBeTaken, ChangeFails, PartsFindOut, MayFail}
@@ -16,6 +16,7 @@ use Rattle.fv_engine_machine.specs.Machines.{Machine, over, with_map, contents}
 use Rattle.fv_engine_machine.specs.Refusals.{done_by, first_of, made, part_refusal, refusal, told_fault, told_part, when}
 use Rattle.fv_engine_machine.specs.Step.{Unchanged, Takes, Decided, Settled, Changes, Does, Handles}
 use Rattle.fv_engine_machine.proofs.Becoming.{fails_by, stays_itself}
+use Rattle.fv_engine_machine.proofs.Rooms.{room_left}
 use Rattle.fv_engine_pending.specs.Fits.{AreFitting}
 use Rattle.fv_engine_pending.specs.Parts.{are_misshapen}
 use Rattle.fv_engine_pending.specs.Touched.{IsTouched, needs_record}
@@ -28,6 +29,7 @@ use Rattle.fv_engine_reply.specs.declared.answer.Done.{Done}
 use Rattle.fv_engine_reply.specs.declared.answer.Done.TheVariants as what
 use Rattle.fv_engine_reply.specs.declared.answer.Refusal.{Refusal}
 use Rattle.fv_engine_reply.specs.declared.answer.Refusal.TheVariants.{Shape, TooManyVisits, Store, Memory}
+use Rattle.fv_store.specs.Causes.{LeavesRoom}
 use Rattle.fv_store.specs.Changes.{after_all, changed, ChangesFit}
 use Rattle.fv_store.specs.Records.{Contents, Kept, Records}
 use Rattle.fv_store.specs.Stands.{Frame, Holds}
@@ -51,14 +53,15 @@ still_unchanged x y z one two = record {
   ];
 }
 
--- nothing has changed, and then records are taken
-pub then_takes : (m : Records) (x y z : Machine Records) → Unchanged x y → Takes m y z → Takes m x z
-then_takes m x y z one two = record {
+-- nothing has changed, nor how much room is left, and then records are taken
+pub then_takes : (m : Records) (few many : ℕ) (x y z : Machine Records) → few ≤ many → y.room ≡ x.room → Unchanged x y → Takes m few y z → Takes m many x z
+then_takes m few many x y z less same one two = record {
   declared = two.declared ∙ one.declared;
   records = two.records;
   was_open = one.was_open two.was_open;
   is_open = two.is_open;
   counts = omega (arith, one.counts, two.counts);
+  room = omega (arith, less, same, two.room);
 }
 
 -- the store has failed since where it has failed later
@@ -92,13 +95,15 @@ module _ {H : Type 0} (held : H → State) (ds : Declarations) (bytes : List ℕ
   -- what stands on the way was written
   pub moves_on : (way : Way) (what : Done) (changes : List Change) → Frame (held old) (held new) → (HasCleanDisk (held new) → IsTrue (held new).is_open)
       → ((c : Contents) → ChangesFit c.types c.roots changes → Holds (held old) c → Holds (held new) (changed changes c)) → after_all changes m ≡ overlay way m
+      → length changes ≡ length way
+      → (HasCleanDisk (held new) → (c : Contents) → Holds (held old) c → LeavesRoom (length changes) (held old).now (held new).now)
       → (AreFitting ds.types ds.forms way → ChangesFit ds.types ds.forms changes) → FitsWhereHeld (held old) (contents bytes ds m) way
       → Moves held ds bytes m old new (λ x y. Keeps way what x (done what) y)
-  moves_on way what changes frame live stored after fitting fits = λ clean holds.
+  moves_on way what changes frame live stored after count leaves fitting fits = λ clean holds.
       let now_live = live clean in
       let was = frame.was_open clean now_live in (
         overlay way m,
-        inl (refl, record { declared = refl; records = refl; was_open = was; is_open = now_live; counts = frame.counts }),
+        inl (refl, record { declared = refl; records = refl; was_open = was; is_open = now_live; counts = frame.counts; room = room_left (length way) (held old).now (held new).now (subst (λ (k : ℕ). LeavesRoom k (held old).now (held new).now) count (leaves clean (contents bytes ds m) holds)) }),
         subst (λ (n : Records). Holds (held new) (contents bytes ds n)) after
             (stored (contents bytes ds m) (fitting (fits (frame.clean clean) was holds)) holds),
       )
@@ -108,7 +113,7 @@ module _ {H : Type 0} (held : H → State) (ds : Declarations) (bytes : List ℕ
 module _ (means : Meanings) (now : ℤ) (way : Way) (what : Done) (x y : Machine Records) where
   -- nothing of what stands on the way has a violation
   pub settled_none : (answer : Answer) (ls : List Judged) → AreJudged means x.declared now (standing way) ls → with_some ls ≡ [] → Keeps way what x answer y → Settles means now way what x answer y
-  settled_none answer ls judged none (inl took) = inr (inl (ls, judged, subst (λ (rs : List Judged). Decided what rs (overlay way x.records) x answer y) (sym none) took))
+  settled_none answer ls judged none (inl took) = inr (inl (ls, judged, subst (λ (rs : List Judged). Decided what (length way) rs (overlay way x.records) x answer y) (sym none) took))
   settled_none answer ls judged none (inr failed) = inr (inr (
     failed.0,
     fails_by (λ (why : Refusal). Fails why ((ls : List Judged) × AreJudged means x.declared now (standing way) ls × (with_some ls ≡ []) × (HasRoomOn way x → StoreHasFailed x y)))
@@ -121,14 +126,15 @@ module _ (means : Meanings) (now : ℤ) (way : Way) (what : Done) (x y : Machine
   pub settled_some : (ls rs : List Judged) → AreJudged means x.declared now (standing way) ls → rs ≡ with_some ls → (rs ≡ [] → ⊥) → Unchanged x y → Settles means now way what x (violated rs) y
   settled_some ls rs judged are some stay = inr (inl (ls, judged, decided (with_some ls) are))
     where
-      decided : (ws : List Judged) → rs ≡ ws → Decided what ws (overlay way x.records) x (violated rs) y
+      decided : (ws : List Judged) → rs ≡ ws → Decided what (length way) ws (overlay way x.records) x (violated rs) y
       decided [] e = absurd (some e)
       decided (w ∷ ws) e = (ap violated e, stay)
 
   -- it isn't judged
-  pub settled_not : (fault : ValidateFault) → fault ≢ validate.NoSuchField → (fault ≡ validate.TooManyVisits → OneIsOver x.declared (standing way)) → Unchanged x y
+  pub settled_not : (fault : ValidateFault) → IsOfJudging fault → (fault ≡ validate.TooManyVisits → OneIsOver x.declared (standing way)) → Unchanged x y
       → Settles means now way what x (refused (unjudged fault)) y
-  settled_not validate.NoSuchField other many stay = absurd (other refl)
+  settled_not validate.UnknownGroup other many stay = absurd (other.0 refl)
+  settled_not validate.NoSuchField other many stay = absurd (other.1 refl)
   settled_not validate.TooManyVisits other many stay = inl (many refl, refl, stay)
   settled_not validate.Memory other many stay = inr (inr (Memory, tt, refl, stay))
 
@@ -190,8 +196,8 @@ module _ (means : Meanings) (now : ℤ) (parts : List Part) (what : Done) (x : M
       are_listed ls judged = listings x.declared parts (overlay way x.records) way means now ls
           (subst (λ (ds : Declarations). AreJudged means ds now (standing way) ls) stay.declared judged) ascending stands touched
 
-      decided : (ls : List Judged) (answer : Answer) → Decided what ls (overlay way mid.records) mid answer y → Decided what ls (overlay way x.records) x answer y
-      decided [] answer d = (d.0, then_takes (overlay way x.records) x mid y stay (subst (λ (m : Records). Takes m mid y) same_records d.1))
+      decided : (ls : List Judged) (answer : Answer) → Decided what (length way) ls (overlay way mid.records) mid answer y → Decided what (length parts) ls (overlay way x.records) x answer y
+      decided [] answer d = (d.0, then_takes (overlay way x.records) (length way) (length parts) x mid y few room stay (subst (λ (m : Records). Takes m (length way) mid y) same_records d.1))
       decided (l ∷ ls) answer d = (d.0, still_unchanged x mid y stay d.1)
 
       has_room : HasRoomFor parts (overlay way x.records) x → HasRoomOn way mid

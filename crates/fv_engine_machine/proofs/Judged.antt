@@ -7,7 +7,7 @@ use Rattle.std.specs.Map.{keys_of}
 use Rattle.std.proofs.lemmas.List.{append-nil}
 use Rattle.sqlite_rules.specs.Lists.{Has}
 use Rattle.fv_declare_schema.specs.Declarations.{Declarations}
-use Rattle.fv_engine_machine.specs.Judging.{groups_of, IsOverVisited, IsListingOf, some_of, with_some}
+use Rattle.fv_engine_machine.specs.Judging.{groups_of, IsOfJudging, IsOverVisited, IsListingOf, some_of, with_some}
 use Rattle.fv_engine_machine.specs.Records.{AreJudged, OneIsOver}
 use Rattle.fv_model.specs.WellTyped.{IsWellTyped}
 use Rattle.fv_engine_pending.specs.Fits.{AreTyped}
@@ -20,23 +20,23 @@ use Rattle.fv_store.specs.declared.stored.Stored.{Stored}
 use Rattle.fv_datum.specs.Ascending.{IsAscending}
 use Rattle.fv_validate.specs.Violations.{Reported, IsListing}
 use Rattle.fv_validate.specs.declared.fault.ValidateFault.{ValidateFault}
-use Rattle.fv_validate.specs.declared.fault.ValidateFault.TheVariants.{NoSuchField, TooManyVisits, Memory}
+use Rattle.fv_validate.specs.declared.fault.ValidateFault.TheVariants.{UnknownGroup, NoSuchField, TooManyVisits, Memory}
 use Rattle.fv_walk.specs.Visits.{HasTooManyVisits, HasFewVisits}
 
 -- ---- one record
 
 -- what judging a record gives
 abbrev pub GivesListing : {V : Type 0} → Meanings → Declarations → ℤ → Kept → (V → List Reported) → Result V ValidateFault → Type 0
-GivesListing means ds now k view r = MatchResult r (λ v. IsListingOf means ds now k (view v)) (λ fault. (fault ≢ NoSuchField) × (fault ≡ TooManyVisits → IsOverVisited ds k))
+GivesListing means ds now k view r = MatchResult r (λ v. IsListingOf means ds now k (view v)) (λ fault. IsOfJudging fault × (fault ≡ TooManyVisits → IsOverVisited ds k))
 
-pub for_groups : {V : Type 0} (means : Meanings) (ds : Declarations) (now : ℤ) (k : Kept) (view : V → List Reported) (gs : List ℕ) (r : Result V ValidateFault) → gs ≡ groups_of ds k.form → IfOk r (λ v. IsListing means ds now k.bundle gs (view v)) → OnOk r (HasFewVisits ds k.bundle gs)
-    → IfErr r (λ fault. fault ≡ TooManyVisits → HasTooManyVisits ds k.bundle gs) → IfErr r (λ fault. fault ≢ NoSuchField) → GivesListing means ds now k view r
-for_groups means ds now k view gs (Ok v) same listing few many no_field = subst (λ (hs : List ℕ). HasFewVisits ds k.bundle hs × IsListing means ds now k.bundle hs (view v)) same (few, listing)
-for_groups means ds now k view gs (Err fault) same listing few many no_field = (no_field, λ is. subst (λ (hs : List ℕ). HasTooManyVisits ds k.bundle hs) same (many is))
+pub for_groups : {V : Type 0} (means : Meanings) (ds : Declarations) (now : ℤ) (k : Kept) (view : V → List Reported) (gs : List ℕ) (r : Result V ValidateFault) → gs ≡ groups_of ds k.form → IsWellTyped ds.types k.bundle → IfOk r (λ v. IsWellTyped ds.types k.bundle → IsListing means ds now k.bundle gs (view v)) → OnOk r (IsWellTyped ds.types k.bundle → HasFewVisits ds k.bundle gs)
+    → IfErr r (λ fault. fault ≡ TooManyVisits → HasTooManyVisits ds k.bundle gs) → IfErr r (λ fault. fault ≢ UnknownGroup) → IfErr r (λ fault. fault ≢ NoSuchField) → GivesListing means ds now k view r
+for_groups means ds now k view gs (Ok v) same typed listing few many known no_field = subst (λ (hs : List ℕ). HasFewVisits ds k.bundle hs × IsListing means ds now k.bundle hs (view v)) same (few typed, listing typed)
+for_groups means ds now k view gs (Err fault) same typed listing few many known no_field = ((known, no_field), λ is. subst (λ (hs : List ℕ). HasTooManyVisits ds k.bundle hs) same (many is))
 
-pub memory_alone : (ds : Declarations) (k : Kept) (fault : ValidateFault) → fault ≡ Memory → (fault ≢ NoSuchField) × (fault ≡ TooManyVisits → IsOverVisited ds k)
+pub memory_alone : (ds : Declarations) (k : Kept) (fault : ValidateFault) → fault ≡ Memory → IsOfJudging fault × (fault ≡ TooManyVisits → IsOverVisited ds k)
 memory_alone ds k fault is = (
-  λ no. let never : Memory ≡ NoSuchField = sym is ∙ no in cc,
+  (λ unknown. let never : Memory ≡ UnknownGroup = sym is ∙ unknown in cc, λ no. let never : Memory ≡ NoSuchField = sym is ∙ no in cc),
   λ many. let never : Memory ≡ TooManyVisits = sym is ∙ many in cc,
 )
 

@@ -11,7 +11,7 @@ use Rattle.std.specs.Option.{option_copied}
 use Rattle.fv_declare_schema.specs.Declarations.{Declarations}
 use Rattle.fv_engine_machine.specs.Asked.{too_many_visits, listed}
 use Rattle.fv_engine_machine.specs.Failures.{StoreHasFailed, MayFail}
-use Rattle.fv_engine_machine.specs.Keeping.{Fails, ChecksField, FieldAnswers, IsReadAt, IsMisreadAt, valued_by, misread, unjudged}
+use Rattle.fv_engine_machine.specs.Keeping.{Fails, IsValueOf, ChecksField, FieldAnswers, IsReadAt, IsMisreadAt, valued_by, misread, unjudged}
 use Rattle.fv_engine_machine.specs.Machines.{Machine}
 use Rattle.fv_engine_machine.specs.Refusals.{field_in, fault_of, when, first_of, refusal}
 use Rattle.fv_engine_machine.specs.Step.{Unchanged, Does, Handles}
@@ -19,7 +19,7 @@ use Rattle.fv_engine_machine.proofs.Becoming.{fails_by, is_memory, stays_itself}
 use Rattle.fv_groups.specs.Groups.{numbers_of}
 use Rattle.fv_groups.specs.Judged.{unknown_in}
 use Rattle.fv_model.specs.Bundles.{Thing, Bundled}
-use Rattle.fv_model.specs.WellTyped.{IsWellTyped}
+use Rattle.fv_model.specs.WellTyped.{AnyName, IsWellTyped, IsOfType}
 use Rattle.fv_model.specs.Reading.{value_read}
 use Rattle.fv_model.specs.declared.fault.BundleFault.{BundleFault}
 use Rattle.fv_model.specs.declared.fault.BundleFault.TheVariants as fault
@@ -29,10 +29,10 @@ use Rattle.fv_engine_reply.specs.declared.answer.Refusal.{Refusal}
 use Rattle.fv_engine_reply.specs.declared.answer.Refusal.TheVariants.{Bundle, NoRecord, UnknownGroup, NoSuchField, Memory}
 use Rattle.fv_store.specs.Records.{Kept, Records}
 use Rattle.fv_walk.specs.Properties.{field_number}
-use Rattle.fv_walk.specs.Typed.{IsOfType}
 use Rattle.fv_walk.specs.FieldVisits.{HasTooManyVisitsAt, HasFewVisitsAt}
+use Rattle.fv_model_types.specs.Fits.{Fits}
 use Rattle.fv_model_types.specs.Types.{TypeUse, DeclaredFields, Declared}
-use Rattle.fv_validate.specs.Values.{field_use}
+use Rattle.fv_validate.specs.Values.{FitsField, field_use}
 use Rattle.fv_validate.specs.Violations.{Reported, IsListingOfField}
 use Rattle.fv_validate.specs.declared.fault.ValidateFault.{ValidateFault}
 use Rattle.fv_validate.specs.declared.fault.ValidateFault.TheVariants as validate
@@ -43,14 +43,22 @@ pub found_typed : {X : Type 0} (view : X → Thing) (o : Option X) (ts : Declare
 found_typed view None ts b name found typed law = tt
 found_typed view (Some x) ts b name found typed law = law ts b name (view x) typed (sym found)
 
+same_use : (a : Option TypeUse) (u v : TypeUse) → a ≡ Some u → a ≡ Some v → u ≡ v
+same_use a u v is there = let both : Some u ≡ Some v = sym is ∙ there in cc
+
+-- what a field holds fits it
+pub use_fits : (ts : Declared) (type field : List ℕ) (d : Data) → IsValueOf ts type field d → FitsField ts type field d
+use_fits ts type field d (held, is, fits) = λ u there. subst (λ (v : TypeUse). Fits AnyName v d) (same_use (field_use ts type field) held u is there) fits
+
 -- what a field is told where it isn't validated, and where it is
 module _ (means : Meanings) (ds : Declarations) (now : ℤ) (o : Thing) (field : List ℕ) (names : List (List ℕ)) (lists : List Reported → Answer) (known : unknown_in ds.groups names ≡ false) where
-  pub field_told : (f : ValidateFault) → (f ≡ validate.NoSuchField → field_number ds.types o.type_name field ≡ None)
+  pub field_told : (f : ValidateFault) → f ≢ validate.UnknownGroup → (f ≡ validate.NoSuchField → field_number ds.types o.type_name field ≡ None)
       → (f ≡ validate.TooManyVisits → (is_some (field_number ds.types o.type_name field) ≡ true) × HasTooManyVisitsAt ds o (numbers_of ds.groups names))
       → ChecksField means ds now (Some o) field names lists (refused (unjudged f))
-  field_told validate.NoSuchField absent many = inr (inl (known, inl (absent refl, refl)))
-  field_told validate.TooManyVisits absent many = let m = many refl in inr (inl (known, inr (m.0, (too_many_visits, m.1, refl))))
-  field_told validate.Memory absent many = inr (inr refl)
+  field_told validate.UnknownGroup named absent many = absurd (named refl)
+  field_told validate.NoSuchField named absent many = inr (inl (known, inl (absent refl, refl)))
+  field_told validate.TooManyVisits named absent many = let m = many refl in inr (inl (known, inr (m.0, (too_many_visits, m.1, refl))))
+  field_told validate.Memory named absent many = inr (inr refl)
 
   pub field_listed : (vs : List Reported) → is_some (field_number ds.types o.type_name field) ≡ true → HasFewVisitsAt ds o (numbers_of ds.groups names)
       → IsListingOfField means ds now o field (numbers_of ds.groups names) vs → ChecksField means ds now (Some o) field names lists (lists vs)

@@ -1,5 +1,6 @@
 -- Room for so many more rows.
-use Rattle.std.proofs.Common.{◌≡◌, ◌⊎◌, ◌<◌, ◌-◌, ◌^◌, ◌≤ℤ◌, ◌<ℤ◌, ℕ, ℤ, pos, negsuc, ◌+ℤ◌, nat_lt, min, if◌then◌else◌, List, [], ◌∷◌, Bool, true, false, inl, inr, refl, sym, ap, subst, arith}
+use Rattle.std.proofs.Common.{◌≡◌, ◌⊎◌, ◌<◌, ◌+◌, ◌-◌, ◌^◌, ◌≤◌, ◌≤ℤ◌, ◌<ℤ◌, ℕ, ℤ, pos, negsuc, ◌+ℤ◌, nat_lt, min, if◌then◌else◌, List, [], ◌∷◌, Bool, true, false, inl, inr, refl, sym, ap, subst, arith}
+use Rattle.std.proofs.lemmas.Bool.{cases_lt}
 use Rattle.std.proofs.lemmas.Bool.Decides.{nat_tests}
 use Rattle.std.proofs.lemmas.Int.{ints}
 use Rattle.sqlite.specs.Edit.{id_in}
@@ -7,7 +8,7 @@ use Rattle.sqlite.specs.Effect.{Database}
 use Rattle.sqlite.specs.Order.{Row}
 use Rattle.sqlite.specs.Tree.{rowid}
 use Rattle.sqlite_rules.specs.Lists.{Has}
-use Rattle.fv_store.specs.Causes.{HasRoom}
+use Rattle.fv_store.specs.Causes.{HasRoom, LeavesRoom}
 use Rattle.fv_engine_machine.specs.Machines.{rowids_from, room_above, room_in}
 
 -- fewer than there are rowids from one on leave it a rowid, and the one so many further
@@ -36,3 +37,33 @@ room_for db n less = record {
   few = at_most (db.trees 1) n less;
   below = λ row has. below_so_many (id_in (rowid row)) n (each_below (db.trees 1) n less row has);
 }
+
+-- ---- and back
+
+so_many_below : (i : ℤ) (n : ℕ) → n < 2 ^ 63 → (negsuc (2 ^ 63 - 1) ≤ℤ i) × ((i +ℤ pos n) <ℤ pos (2 ^ 63)) → n < rowids_from i
+so_many_below (pos m) n few h = omega (arith, ints, h.1)
+so_many_below (negsuc m) n few h = go (nat_lt m (2 ^ 63)) refl
+  where
+    go : (b : Bool) → nat_lt m (2 ^ 63) ≡ b → n < (if b then 2 ^ 63 else 0)
+    go true is = few
+    go false is = absurd (grind (arith, ints, nat_tests, is, h.0))
+
+fewer_than_least : (n a b : ℕ) → n < a → n < b → n < min a b
+fewer_than_least n a b first second = omega (arith, first, second)
+
+below_each : (rows : List Row) (n : ℕ) → n < 2 ^ 63 → ((row : Row) → Has rows row → n < rowids_from (id_in (rowid row))) → n < room_above rows
+below_each [] n few each = few
+below_each (row ∷ rows) n few each = fewer_than_least n (rowids_from (id_in (rowid row))) (room_above rows) (each row (inl refl)) (below_each rows n few (λ r there. each r (inr there)))
+
+room_of : (db : Database) (n : ℕ) → HasRoom n db → n < room_in db
+room_of db n room = below_each (db.trees 1) n room.few (λ row has. so_many_below (id_in (rowid row)) n room.few (room.below row has))
+
+at_most_fewer : (given before after : ℕ) → ((n : ℕ) → n + given < before → n < after) → before ≤ after + given
+at_most_fewer given before after h = elim (cases_lt given before) [
+  | inl some ↦ omega (arith, some, h (before - (given + 1)) (omega (arith, some)))
+  | inr none ↦ omega (arith, none)
+]
+
+-- so many rowids fewer are left, at most
+pub room_left : (given : ℕ) (old new : Database) → LeavesRoom given old new → room_in old ≤ room_in new + given
+room_left given old new leaves = at_most_fewer given (room_in old) (room_in new) (λ n less. room_of new n (leaves n (room_for old (n + given) less)))

@@ -1,5 +1,5 @@
 -- The records that a command changes are judged where all its parts are made.
-use Rattle.std.specs.Prelude.{ℕ, ℤ, List, [], ◌∷◌, ◌++◌, unwrap_or}
+use Rattle.std.specs.Prelude.{◌≢◌, ℕ, ℤ, List, [], ◌∷◌, ◌++◌, unwrap_or}
 use Rattle.std.specs.Map.{keys_of}
 use Rattle.sqlite_rules.specs.Lists.{Has}
 use Rattle.fv_engine_command.specs.Commands.{Part}
@@ -11,11 +11,17 @@ use Rattle.fv_engine_reply.specs.Answers.{Judged}
 use Rattle.fv_store.specs.Records.{Kept, Records}
 use Rattle.fv_datum.specs.Ascending.{IsAscending}
 use Rattle.fv_validate.specs.Violations.{Reported, IsListing}
+use Rattle.fv_validate.specs.declared.fault.ValidateFault.{ValidateFault}
+use Rattle.fv_validate.specs.declared.fault.ValidateFault.TheVariants.{UnknownGroup, NoSuchField}
 use Rattle.fv_walk.specs.Visits.{HasTooManyVisits, HasFewVisits}
 
 -- the numbers of a form's groups; none where it isn't declared
 abbrev pub groups_of : Declarations → List ℕ → List ℕ
 groups_of ds form = unwrap_or (at_name form ds.form_groups) []
+
+-- a fault that judging a record may have: neither of a name of a group nor of a field
+abbrev pub IsOfJudging : ValidateFault → Type 0
+IsOfJudging fault = (fault ≢ UnknownGroup) × (fault ≢ NoSuchField)
 
 -- a record has more than 4,096 visits for the groups of its form
 abbrev pub IsOverVisited : Declarations → Kept → Type 0

@@ -62,14 +62,15 @@ HasRoomOn way old = (length way < old.room) × AreShort way
 -- what stands on the way is stored
 abbrev pub Keeps : Way → Done → Machine Records → Answer → Machine Records → Type 0
 Keeps way what old answer new =
-    ((answer ≡ done what) × Takes (overlay way old.records) old new)
+    ((answer ≡ done what) × Takes (overlay way old.records) (length way) old new)
     ⊎ ((why : Refusal) × Fails why (HasRoomOn way old → StoreHasFailed old new) × (answer ≡ refused why) × Unchanged old new)
 
 -- what stands on the way is judged, and stored where nothing of it has a violation
 abbrev pub Settles : Meanings → ℤ → Way → Done → Machine Records → Answer → Machine Records → Type 0
 Settles means now way what old answer new =
     (OneIsOver old.declared (standing way) × (answer ≡ refused TooManyVisits) × Unchanged old new)
-    ⊎ (((ls : List Judged) × AreJudged means old.declared now (standing way) ls × Decided what (with_some ls) (overlay way old.records) old answer new)
+    ⊎ (((ls : List Judged) × AreJudged means old.declared now (standing way) ls
+    × Decided what (length way) (with_some ls) (overlay way old.records) old answer new)
     ⊎ ((why : Refusal) × Fails why ((ls : List Judged) × AreJudged means old.declared now (standing way) ls
     × (with_some ls ≡ []) × (HasRoomOn way old → StoreHasFailed old new))
     × (answer ≡ refused why) × Unchanged old new))
@@ -96,6 +97,7 @@ misread fault = Bundle fault
 
 -- the refusal of a bundle, or of a field of an object, that isn't validated
 abbrev pub unjudged : ValidateFault → Refusal
+unjudged validate.UnknownGroup = UnknownGroup
 unjudged validate.NoSuchField = NoSuchField
 unjudged validate.TooManyVisits = TooManyVisits
 unjudged validate.Memory = Memory

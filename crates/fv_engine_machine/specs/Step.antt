@@ -1,5 +1,5 @@
 -- The step of the record machine: what a line does to it, and the answer.
-use Rattle.std.specs.Prelude.{◌≡◌, ◌≤◌, ◌⊎◌, ℕ, ℤ, IsTrue, List, [], ◌∷◌, Option, Some, None, Ok}
+use Rattle.std.specs.Prelude.{◌≡◌, ◌+◌, ◌≤◌, ◌⊎◌, ℕ, ℤ, IsTrue, List, [], ◌∷◌, length, Option, Some, None, Ok}
 use Rattle.fv_datum.specs.Data.{Data}
 use Rattle.fv_datum.specs.Lookup.{at_name}
 use Rattle.sqlite.specs.Disk.{MoreFaults}
@@ -34,25 +34,26 @@ pub record Unchanged (old new : Machine Records) : Type 0 where
   pub counts : old.faults ≤ new.faults
   pub closes : IsTrue old.is_open → IsTrue new.is_open ⊎ MoreFaults old.faults new.faults
 
--- these are the records now, and what is declared is as before; the connection was open and still is
-pub record Takes (m : Records) (old new : Machine Records) : Type 0 where
+-- These are the records now, and what is declared is as before; the connection was open and still is. So many rowids were given out, at most.
+pub record Takes (m : Records) (given : ℕ) (old new : Machine Records) : Type 0 where
   pub declared : new.declared ≡ old.declared
   pub records : new.records ≡ m
   pub was_open : IsTrue old.is_open
   pub is_open : IsTrue new.is_open
   pub counts : old.faults ≤ new.faults
+  pub room : old.room ≤ new.room + given
 
--- what the records that have violations decide: where there are none, a command is taken and these are the records, and else it is refused by
--- all of them
-abbrev pub Decided : Done → List Judged → Records → Machine Records → Answer → Machine Records → Type 0
-Decided what [] m old answer new = (answer ≡ done what) × Takes m old new
-Decided what (l ∷ ls) m old answer new = (answer ≡ violated (l ∷ ls)) × Unchanged old new
+-- what the records that have violations decide: where there are none, a command of so many parts is taken and these are the records, and else
+-- it is refused by all of them
+abbrev pub Decided : Done → ℕ → List Judged → Records → Machine Records → Answer → Machine Records → Type 0
+Decided what count [] m old answer new = (answer ≡ done what) × Takes m count old new
+Decided what count (l ∷ ls) m old answer new = (answer ≡ violated (l ∷ ls)) × Unchanged old new
 
 -- the records that parts leave are judged at a moment: refused for too many visits of one, and else decided by the violations of all
 abbrev pub Settled : Meanings → ℤ → List Part → Done → Records → Machine Records → Answer → Machine Records → Type 0
 Settled means now parts what m old answer new =
     (OneIsOverVisited old.declared parts m × (answer ≡ refused TooManyVisits) × Unchanged old new)
-    ⊎ ((ls : List Judged) × AreListings means old.declared now parts m ls × Decided what (with_some ls) m old answer new)
+    ⊎ ((ls : List Judged) × AreListings means old.declared now parts m ls × Decided what (length parts) (with_some ls) m old answer new)
 
 -- parts are made in order, and what they leave is judged at a moment
 abbrev pub Changes : Meanings → ℤ → List Part → Done → Machine Records → Answer → Machine Records → Type 0

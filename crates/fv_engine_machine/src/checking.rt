@@ -20,7 +20,7 @@ use fv_local::Rulebook;
 use fv_model::Bundle;
 use fv_registry::RuleSet;
 use fv_store::Store;
-use fv_validate::validate;
+use fv_validate::by_id::validate;
 use sqlite::Alter;
 use std::alloc::{AllocError, Global};
 

@@ -8,7 +8,7 @@ ghost use Rattle.fv_engine_machine.specs.Keeping.{ChecksField, IsValueOf, IsRead
 ghost use Rattle.fv_engine_machine.specs.Machines.{Machine, over, Becomes};
 ghost use Rattle.fv_engine_machine.specs.Step.{Handles};
 ghost use Rattle.fv_model.specs.Views.{object_view};
-ghost use Rattle.fv_walk.specs.Typed.{IsOfType};
+ghost use Rattle.fv_model.specs.WellTyped.{IsOfType};
 ghost use Rattle.fv_model_types.specs.TypesView.{types_view};
 ghost use Rattle.fv_engine_reply.specs.Answers.{field_checked, value_checked};
 ghost use Rattle.fv_engine_reply.specs.AnswerView.{answer_view};
@@ -25,7 +25,7 @@ use fv_model::{BundleFault, Object, Types, read_value};
 use fv_model_types::use_in;
 use fv_registry::RuleSet;
 use fv_store::Store;
-use fv_validate::{validate_property, validate_value};
+use fv_validate::by_id::{validate_property, validate_value};
 use fv_walk::objects_are_of_their_types;
 use serde_json::Value;
 use sqlite::Alter;

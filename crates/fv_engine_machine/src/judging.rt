@@ -1,9 +1,9 @@
 //! Records on the way are judged by the groups of their forms.
-ghost use Rattle.std.specs.Prelude.{◌++◌, ◌<◌, ◌≡◌, ◌≢◌, All, MatchResult, length, map};
+ghost use Rattle.std.specs.Prelude.{◌++◌, ◌<◌, ◌≡◌, All, MatchResult, length, map};
 ghost use Rattle.std.specs.Map.{keys_of};
 ghost use Rattle.fv_datum.specs.Moments.{IsMoment};
 ghost use Rattle.fv_groups.specs.Tables.{indices};
-ghost use Rattle.fv_engine_machine.specs.Judging.{groups_of, IsOverVisited, IsListingOf, some_of, with_some};
+ghost use Rattle.fv_engine_machine.specs.Judging.{groups_of, IsOfJudging, IsOverVisited, IsListingOf, some_of, with_some};
 ghost use Rattle.fv_engine_machine.specs.Records.{AreJudged, OneIsOver};
 ghost use Rattle.fv_model.specs.WellTyped.{IsWellTyped};
 ghost use Rattle.fv_engine_pending.specs.Fits.{AreTyped};
@@ -20,7 +20,8 @@ use fv_groups::GroupId;
 use fv_local::Rulebook;
 use fv_registry::RuleSet;
 use fv_store::Stored;
-use fv_validate::{ValidateFault, Violation, validate};
+use fv_validate::by_id::validate;
+use fv_validate::{ValidateFault, Violation};
 use std::alloc::Global;
 
 /// The groups that a form asks for; none where it isn't declared.
@@ -45,7 +46,7 @@ fn judge_record<R: RuleSet>(
     requires typed { IsWellTyped book.now.types (stored_view stored.now).bundle }
     ensures { MatchResult result
         (λ v. IsListingOf R.meaning book.now now (stored_view stored.now) (map violation_view v.items))
-        (λ fault. (fault ≢ ValidateFault.NoSuchField)
+        (λ fault. IsOfJudging fault
         × (fault ≡ ValidateFault.TooManyVisits → IsOverVisited book.now (stored_view stored.now))) }
 {
     validate(
@@ -71,7 +72,7 @@ fn add_judged<'a, R: RuleSet>(
     ensures { MatchResult result
         (λ _. (vs : _) × IsListingOf R.meaning book.now now (stored_view stored.now) vs
         × (map judged_view judged.new.items ≡ map judged_view judged.old.items ++ some_of id.now vs))
-        (λ fault. (fault ≢ ValidateFault.NoSuchField)
+        (λ fault. IsOfJudging fault
         × (fault ≡ ValidateFault.TooManyVisits → IsOverVisited book.now (stored_view stored.now))) }
 {
     let violations = judge_record(alloc, book, stored, now)?;
@@ -99,7 +100,7 @@ pub(crate) fn judge<'a, R: RuleSet>(
     ensures judged { MatchResult result
         (λ v. (ls : _) × AreJudged R.meaning book.now now (standing (pending_view pending.now)) ls
         × (map judged_view v.items ≡ with_some ls))
-        (λ fault. (fault ≢ ValidateFault.NoSuchField)
+        (λ fault. IsOfJudging fault
         × (fault ≡ ValidateFault.TooManyVisits → OneIsOver book.now (standing (pending_view pending.now)))) }
     ensures ascending { IsAscending (keys_of (pending_view pending.now)) }
 {

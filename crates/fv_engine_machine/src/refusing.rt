@@ -47,6 +47,7 @@ pub(crate) fn unjudged(fault: ValidateFault) -> Refusal
     ensures { result ≡ unjudged fault }
 {
     match fault {
+        ValidateFault::UnknownGroup => Refusal::UnknownGroup,
         ValidateFault::NoSuchField => Refusal::NoSuchField,
         ValidateFault::TooManyVisits => Refusal::TooManyVisits,
         ValidateFault::Memory => Refusal::Memory,

@@ -11,6 +11,8 @@ pub mod Named
 pub mod Put
 pub mod Sound
 pub mod Typed
+pub mod TypingTells
 pub mod Unfit
 pub mod Values
+pub mod Writables
 pub mod Wrong

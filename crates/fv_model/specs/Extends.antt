@@ -9,4 +9,5 @@ HasFields old new = (name : List ℕ) (u : TypeUse) → at_name name old ≡ Som
 
 -- each type is there, with all its fields
 abbrev pub Extends : Declared → Declared → Type 0
-Extends old new = (type : List ℕ) (fields : DeclaredFields) → at_name type old ≡ Some fields → (more : DeclaredFields) × (at_name type new ≡ Some more) × HasFields fields more
+Extends old new = (type : List ℕ) (fields : DeclaredFields) → at_name type old ≡ Some fields
+    → (more : DeclaredFields) × (at_name type new ≡ Some more) × HasFields fields more

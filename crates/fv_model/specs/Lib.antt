@@ -13,6 +13,7 @@ pub mod Replaced
 pub mod Setting
 pub mod Single
 pub mod Types
+pub mod Typing
 pub mod Unfit
 pub mod Views
 pub mod WellTyped

@@ -1,10 +1,15 @@
 -- Objects with a datum in one field.
-use Rattle.std.specs.Prelude.{ℕ, List, map, cond, Option, option_map}
+use Rattle.std.specs.Prelude.{ℕ, List, map, cond, is_some, Option, option_map}
 use Rattle.std.specs.Str.{bytes_eq}
 use Rattle.fv_datum.specs.Data.{Data, null}
 use Rattle.fv_datum.specs.Lookup.{at_name}
+use Rattle.fv_datum.specs.Written.{written}
 use Rattle.fv_model_types.specs.Types.{TypeUse, Declared, name_at, fields_at}
 use Rattle.fv_model.specs.Bundles.{Thing}
+
+-- a datum that can be written; null for another, which no object holds
+abbrev pub kept : Data → Data
+kept d = cond (is_some (written d)) d null
 
 -- a field with its datum: this one where the field has the name, and null elsewhere
 abbrev pub single_field : List ℕ → Data → List ℕ × TypeUse → List ℕ × Data

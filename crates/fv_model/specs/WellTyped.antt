@@ -5,7 +5,7 @@ use Rattle.std.specs.Map.{keys_of}
 use Rattle.fv_datum.specs.Data.{Data}
 use Rattle.fv_datum.specs.Lookup.{at_name}
 use Rattle.fv_datum.specs.Name.{names}
-use Rattle.fv_model_types.specs.Fits.{Fits}
+use Rattle.fv_model_types.specs.Fits.{Referring, Fits}
 use Rattle.fv_model_types.specs.Types.{TypeUse, DeclaredFields, Declared}
 use Rattle.fv_model.specs.Limits.{most_objects}
 use Rattle.fv_model.specs.Bundles.{IsAscending, Thing, Things, Bundled}
@@ -22,18 +22,32 @@ AnyName type name = Unit {0}
 abbrev pub FitsUse : Things → TypeUse → Data → Type 0
 FitsUse os = Fits (NamesObject os)
 
--- each field of a type, in order, with a datum that fits
+-- each field of a type, in order, with null or a datum of its type use within the limits; each reference in it is one of the names
+abbrev pub FieldsAre : Referring → DeclaredFields → List (List ℕ × Data) → Type 0
+FieldsAre Named [] [] = Unit {0}
+FieldsAre Named (d ∷ ds) (f ∷ fs) = (f.0 ≡ d.0) × Fits Named d.1 f.1 × FieldsAre Named ds fs
+FieldsAre Named [] (f ∷ fs) = ⊥
+FieldsAre Named (d ∷ ds) [] = ⊥
+
+-- each field of a type with a datum that fits
 abbrev pub FieldsFit : Things → DeclaredFields → List (List ℕ × Data) → Type 0
-FieldsFit os [] [] = Unit {0}
-FieldsFit os (d ∷ ds) (f ∷ fs) = (f.0 ≡ d.0) × FitsUse os d.1 f.1 × FieldsFit os ds fs
-FieldsFit os [] (f ∷ fs) = ⊥
-FieldsFit os (d ∷ ds) [] = ⊥
+FieldsFit os = FieldsAre (NamesObject os)
 
 -- an object of a declared type, in a bundle of these objects
 pub record FitsType (ts : Declared) (os : Things) (t : Thing) : Type 0 where
   pub fields : DeclaredFields
   pub declared : at_name t.type_name ts ≡ Some fields
   pub fit : FieldsFit os fields t.fields
+
+-- each field of a type with null or a datum of its type use; a reference may be any name
+abbrev pub AreOfFields : DeclaredFields → List (List ℕ × Data) → Type 0
+AreOfFields = FieldsAre AnyName
+
+-- an object of a declared type, whatever its references name
+pub record IsOfType (ts : Declared) (t : Thing) : Type 0 where
+  pub fields : DeclaredFields
+  pub declared : at_name t.type_name ts ≡ Some fields
+  pub fit : AreOfFields fields t.fields
 
 -- at most 256 objects, each by a name, once and in order, which the root is one of; each object is of a declared type,
 -- and each datum of it fits its field

@@ -8,6 +8,7 @@ ghost use Rattle.fv_model.specs.Replaced.{thing_with, bundle_with};
 ghost use Rattle.fv_model.specs.Writing.{IsWritten};
 
 use crate::fields::ObjectFields;
+use crate::typing::object_in;
 use fv_datum::Datum;
 use fv_model_types::{Fields, TypeId, Types};
 use indexmap::IndexMap;
@@ -111,14 +112,14 @@ impl Bundle {
     pub fn object(&self, name: &str) -> Option<&Object>
         ensures { option_map (λ o. object_view o.now) result ≡ at_name name.now (bundle_view self.now).objects }
     {
-        self.objects.get(name)
+        object_in(&self.objects, name)
     }
 
     /// Puts a datum into a field of the object of that name, where there are both. The bundle need
     /// not be well-typed afterwards.
     ///
     /// The keys of each map in the datum are texts in order.
-    pub fn put(&mut self, object: &str, field: &str, datum: Datum)
+    pub(crate) fn put(&mut self, object: &str, field: &str, datum: Datum)
         requires { IsWritten (view datum) }
         ensures { bundle_view self.new ≡ bundle_with object.now field.now (view datum) (bundle_view self.old) }
     {

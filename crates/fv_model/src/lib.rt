@@ -15,6 +15,7 @@ mod parts;
 mod reading;
 mod setting;
 mod singles;
+mod typing;
 mod value;
 mod writing;
 
@@ -25,5 +26,6 @@ pub use fv_model_types::{Fields, TypeId, TypeUse, Types, TypesFault};
 pub use reading::read_bundle;
 pub use setting::set_field;
 pub use singles::single;
+pub use typing::is_of_use;
 pub use value::read_value;
 pub use writing::write_bundle;

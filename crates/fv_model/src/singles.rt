@@ -3,12 +3,13 @@ ghost use Rattle.std.specs.Prelude.{◌≡◌, All, cond, map, option_map, IfOk}
 ghost use Rattle.std.specs.Str.{bytes_eq};
 ghost use Rattle.fv_datum.specs.Data.{null};
 ghost use Rattle.fv_datum.specs.View.{view};
-ghost use Rattle.fv_model.specs.Single.{single_field, single_of};
+ghost use Rattle.fv_model.specs.Single.{kept, single_field, single_of};
 ghost use Rattle.fv_model.specs.Views.{types_view, object_view};
 ghost use Rattle.fv_model.specs.Writing.{IsWritten};
 ghost use Rattle.fv_model_types.specs.Types.{fields_view};
 
 use crate::bundle::Object;
+use crate::writing::is_writable;
 use fv_datum::Datum;
 use fv_model_types::{Fields, TypeId, Types, use_in};
 use std::alloc::{AllocError, Global};
@@ -46,11 +47,8 @@ fn data_with(
     Ok(data)
 }
 
-/// The object of a type with a copy of a datum in the field of that name, and null in the others;
-/// `None` exactly where the type has no such field.
-///
-/// The keys of each map in the datum are texts in order.
-pub fn single(
+/// The same of a datum that can be written.
+fn written_single(
     alloc: Global,
     types: &Types,
     type_id: TypeId,
@@ -72,4 +70,25 @@ pub fn single(
         type_id,
         data: data_with(alloc, fields, field, datum)?,
     }))
+}
+
+/// The object of a type with a copy of a datum in the field of that name, and null in the others;
+/// `None` exactly where the type has no such field.
+///
+/// A datum that can't be written, since the keys of a map in it aren't texts in order, stands there as
+/// null.
+pub fn single(
+    alloc: Global,
+    types: &Types,
+    type_id: TypeId,
+    field: &str,
+    datum: &Datum,
+) -> Result<Option<Object>, AllocError>
+    ensures { IfOk result (λ o. option_map object_view o
+        ≡ single_of (types_view types.now) type_id.index field.now (kept (view datum.now))) }
+{
+    if is_writable(datum) {
+        return written_single(alloc, types, type_id, field, datum);
+    }
+    written_single(alloc, types, type_id, field, &Datum::Null)
 }

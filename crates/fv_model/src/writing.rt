@@ -1,14 +1,66 @@
-ghost use Rattle.std.specs.Prelude.{◌≡◌, IfOk, map};
+ghost use Rattle.std.specs.Prelude.{◌≡◌, ◌↔◌, ◌&&◌, IsTrue, IfOk, map};
 ghost use Rattle.serde_json.specs.Data as json;
 ghost use Rattle.serde_json.specs.View.{view as json_view, members_view};
-ghost use Rattle.fv_datum.specs.View.{view};
+ghost use Rattle.fv_datum.specs.Written.{keys_fit};
+ghost use Rattle.fv_datum.specs.View.{view, items_view, entries_view};
+ghost use Rattle.fv_model.specs.Typing.{is_writable, items_writable, entries_writable};
 ghost use Rattle.fv_model.specs.Views.{object_view, objects_view, bundle_view};
 ghost use Rattle.fv_model.specs.Writing.{IsWritten, datum_json, added, objects_added, thing_json, bundle_json};
 
 use crate::bundle::{Bundle, Object, Objects};
-use fv_datum::{Datum, DatumFault, is_null, write_datum};
+use fv_datum::{Datum, DatumFault, is_null, keys_fit, write_datum};
 use serde_json::{Map, Value, put};
 use std::alloc::{AllocError, Global};
+
+/// Whether a datum can be written: the keys of each map in it are texts in order.
+pub(crate) fn is_writable(datum: &Datum) -> bool
+    ensures { IsTrue result ↔ IsWritten (view datum.now) }
+{
+    is_orderly(datum)
+}
+
+#[cycle(orderly)]
+fn is_orderly(datum: &Datum) -> bool
+    ensures { result ≡ is_writable (view datum.now) }
+{
+    match datum {
+        Datum::List(items) => items_orderly(items),
+        Datum::Map(entries) => map_orderly(entries),
+        Datum::Optional(content) => is_orderly(content),
+        _ => true,
+    }
+}
+
+#[cycle(orderly)]
+fn items_orderly(items: &Vec<Datum>) -> bool
+    ensures { result ≡ items_writable (items_view items.now.items) }
+{
+    for item in items {
+        if !is_orderly(item) {
+            return false;
+        }
+    }
+    true
+}
+
+#[cycle(orderly)]
+fn map_orderly(entries: &Vec<(Datum, Datum)>) -> bool
+    ensures { result ≡ (keys_fit (entries_view entries.now.items) && entries_writable (entries_view entries.now.items)) }
+{
+    keys_fit(entries) && entries_orderly(entries)
+}
+
+#[cycle(orderly)]
+fn entries_orderly(entries: &Vec<(Datum, Datum)>) -> bool
+    ensures { result ≡ entries_writable (entries_view entries.now.items) }
+{
+    for entry in entries {
+        if !is_orderly(&entry.1) {
+            return false;
+        }
+    }
+    true
+}
 
 /// A datum of an object as JSON.
 fn datum_value(alloc: Global, datum: &Datum) -> Result<Value, AllocError>

@@ -1,6 +1,7 @@
 pub mod FaultNames
 pub mod Fits
 pub mod Flaws
+pub mod Held
 pub mod Limits
 pub mod Names
 pub mod Spelled

@@ -3,6 +3,7 @@
 
 mod fault;
 mod flaws;
+mod held;
 mod reading;
 mod type_use;
 mod types;

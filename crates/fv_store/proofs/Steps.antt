@@ -15,7 +15,7 @@ use Rattle.fv_store.specs.declared.change.Change.{Change}
 use Rattle.fv_store.specs.Records.{Kept, Records, with_record, bundle_text}
 use Rattle.fv_store.specs.Steps.{Advances, Makes, MakesAll, Always, IsExcused, Lacks, Keeps, Updates}
 use Rattle.fv_store.specs.Changes.{after, after_all}
-use Rattle.fv_store.specs.Causes.{AreShort, HasFailed, HasRoom, IsShort, PutsShort}
+use Rattle.fv_store.specs.Causes.{AreShort, HasFailed, HasRoom, IsShort, LeavesRoom, PutsShort}
 use Rattle.fv_store.specs.Stands.{Spells, AreTexts, Frame}
 use Rattle.fv_store.proofs.Texts.{insert_text, update_text}
 use Rattle.fv_store.proofs.Rooms.{fewer}
@@ -151,6 +151,17 @@ commit_on_ok old mid new cs (Ok t) late early step ends = λ d m keeps clean liv
     let was = keeps (early (late clean)) (it.was_open end.1.was_open) in
     let spelled = (it.change d m was.0 tt).0 in
     (subst (λ b. Spells b d (after_all cs m)) (sym end.1.now_is) spelled, subst (λ b. Spells b d (after_all cs m)) (sym end.1.committed_is) spelled)
+
+-- each of them was given one rowid at most
+pub commit_leaves : (old mid new : State) (cs : List Change) (r : Result (Unit {0}) Error) → (HasCleanDisk new → HasCleanDisk mid) → (HasCleanDisk mid → HasCleanDisk old)
+    → (HasCleanDisk mid → Advances (record old { in_transaction = true }) mid (MakesAll cs)) → (HasCleanDisk new → OnOk r (Committed mid new))
+    → HasCleanDisk new → OnOk r ((d : List ℕ) (m : Records) → Keeps old d m → LeavesRoom (length cs) old.now new.now)
+commit_leaves old mid new cs (Err e) late early step ends clean = tt
+commit_leaves old mid new cs (Ok t) late early step ends clean = λ d m keeps.
+    let end = ends clean in
+    let it = step (late clean) in
+    let was = keeps (early (late clean)) (it.was_open end.1.was_open) in
+    subst (λ b. LeavesRoom (length cs) old.now b) (sym end.1.now_is) (it.change d m was.0 tt).1
 
 -- ---- turns of a database
 

@@ -17,7 +17,8 @@ all_read read m id = option_and_then (λ k. option_map (with_bundle k) (read k))
 
 -- what is read of a record is what is written of it, under these types and as a bundle of its form, which has to be declared
 abbrev pub ReadsUnder : Declared → Roots → (Kept → Option Bundled) → Type 0
-ReadsUnder types forms read = (k : Kept) (b : Bundled) → read k ≡ Some b → (root : List ℕ) × (at_name k.form forms ≡ Some root) × (bundle_read types (Some root) (bundle_json k.bundle) ≡ Ok b)
+ReadsUnder types forms read = (k : Kept) (b : Bundled) → read k ≡ Some b
+    → (root : List ℕ) × (at_name k.form forms ≡ Some root) × (bundle_read types (Some root) (bundle_json k.bundle) ≡ Ok b)
 
 -- each record's bundle is read
 abbrev pub AllRead : (Kept → Option Bundled) → Records → Type 0

@@ -16,6 +16,10 @@ pub record HasRoom (n : ℕ) (db : Database) : Type 0 where
   pub few : n < 2 ^ 63
   pub below : (row : Row) → Has (db.trees 1) row → (negsuc (2 ^ 63 - 1) ≤ℤ id_in (rowid row)) × ((id_in (rowid row) +ℤ pos n) <ℤ pos (2 ^ 63))
 
+-- so many rowids were given out, at most: as many more rows have room now as had it beside those before
+abbrev pub LeavesRoom : ℕ → Database → Database → Type 0
+LeavesRoom taken old new = (n : ℕ) → HasRoom (n + taken) old → HasRoom n new
+
 -- the row of the record is not too long for the database, which counts 18 bytes for each of the four values beside their own
 abbrev pub IsShort : List ℕ → Kept → Type 0
 IsShort id k = 72 + (length id + (length k.form + length (bundle_text k.bundle))) ≤ 10 ^ 9

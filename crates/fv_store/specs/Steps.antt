@@ -9,7 +9,7 @@ use Rattle.sqlite.specs.State.{State, HasCleanDisk}
 use Rattle.sqlite_trees.specs.declared.store.Store.{Ghosts}
 use Rattle.fv_store.specs.declared.change.Change.{Change}
 use Rattle.fv_store.specs.Changes.{after_all}
-use Rattle.fv_store.specs.Causes.{HasFailed, HasRoom}
+use Rattle.fv_store.specs.Causes.{HasFailed, HasRoom, LeavesRoom}
 use Rattle.fv_store.specs.Records.{Kept, Records, no_records, with_record}
 use Rattle.fv_store.specs.Tables.{no_schema, about_table, store_schema}
 use Rattle.fv_store.specs.Faults.{about_fault, IsAboutFault}
@@ -31,7 +31,7 @@ pub record Advances (old new : State) (Change : Database → Database → Type 0
 -- a change of the records that the database spells, where it applies to them; so many fewer rows have room then
 abbrev pub Makes : ℕ → (Records → Type 0) → (Records → Records) → Database → Database → Type 0
 Makes taken Applies change old new =
-    (d : List ℕ) (m : Records) → Spells old d m → Applies m → Spells new d (change m) × ((n : ℕ) → HasRoom (n + taken) old → HasRoom n new)
+    (d : List ℕ) (m : Records) → Spells old d m → Applies m → Spells new d (change m) × LeavesRoom taken old new
 
 -- to any records
 abbrev pub Always : Records → Type 0

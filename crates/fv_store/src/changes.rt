@@ -3,7 +3,7 @@ ghost use Rattle.std.specs.Prelude.{◌≡◌, false, length, IfErr, None, OnOk,
 ghost use Rattle.sqlite.specs.State.{HasCleanDisk, KeepsCommit};
 ghost use Rattle.fv_store.specs.Stands.{Frame, IsLive, Spells};
 ghost use Rattle.sqlite.specs.Held.{state};
-ghost use Rattle.fv_store.specs.Causes.{AreShort, HasRoom, PutsShort};
+ghost use Rattle.fv_store.specs.Causes.{AreShort, HasRoom, LeavesRoom, PutsShort};
 ghost use Rattle.fv_store.specs.Changes.{after, after_all};
 ghost use Rattle.fv_store.specs.Steps.{Advances, Always, Inside, IsExcused, Keeps, Makes, MakesAll};
 
@@ -71,6 +71,9 @@ pub(crate) fn commit<S: Alter>(
     ensures open { OnOk result (IsLive (state S.Store conn.new)) }
     ensures done { OnOk result ((d : _) (m : _) → Keeps (state S.Store conn.old) d m
         → Keeps (state S.Store conn.new) d (after_all changes.now m)) }
+    ensures room { HasCleanDisk (state S.Store conn.new) → OnOk result ((d : _) (m : _)
+        → Keeps (state S.Store conn.old) d m
+        → LeavesRoom (length changes.now) (state S.Store conn.old).now (state S.Store conn.new).now) }
     ensures undone { OnErr result ((d : _) (m : _) → Keeps (state S.Store conn.old) d m
         → Keeps (state S.Store conn.new) d m) }
     ensures cause { HasCleanDisk (state S.Store conn.new) → conn.old.step_limit ≡ None → IfErr result (λ e.

@@ -5,7 +5,7 @@ ghost use Rattle.sqlite.specs.Held.{state};
 ghost use Rattle.fv_model_types.specs.TypesView.{types_view};
 ghost use Rattle.fv_model.specs.Views.{bundle_view};
 ghost use Rattle.fv_model.specs.WellTyped.{IsWellTyped};
-ghost use Rattle.fv_store.specs.Causes.{AreShort, HasFailed, HasRoom, IsShortAbout};
+ghost use Rattle.fv_store.specs.Causes.{AreShort, HasFailed, HasRoom, IsShortAbout, LeavesRoom};
 ghost use Rattle.fv_store.specs.Changes.{changed, ChangesFit};
 ghost use Rattle.fv_store.specs.Stands.{Frame, Holds, HasTables, IsBlank, IsLive, Opens, Stays};
 ghost use Rattle.fv_store.specs.Faults.{about_fault, IsAboutFault};
@@ -167,6 +167,8 @@ impl<S: Alter> Store<S> {
             → Holds (state S.Store self.new) (changed changes.now c)) }
         ensures done { OnOk result ((c : _) → ChangesFit c.types c.roots changes.now → Holds (state S.Store self.old) c
             → Holds (state S.Store self.new) (changed changes.now c)) }
+        ensures room { HasCleanDisk (state S.Store self.new) → OnOk result ((c : _) → Holds (state S.Store self.old) c
+            → LeavesRoom (length changes.now) (state S.Store self.old).now (state S.Store self.new).now) }
         ensures undone { OnErr result ((c : _) → Holds (state S.Store self.old) c → Holds (state S.Store self.new) c) }
         ensures cause { HasCleanDisk (state S.Store self.new) → IfErr result (λ e. e ≡ StoreFault.Store → (c : _)
             → Holds (state S.Store self.old) c → HasRoom (length changes.now) (state S.Store self.old).now

@@ -8,7 +8,8 @@ use Rattle.fv_path.proofs.Joined.{text_same}
 use Rattle.fv_graph.proofs.Images.{in_map, from_map}
 use Rattle.fv_message.specs.Table.{Messages}
 use Rattle.fv_walk_traces.specs.Violations.{Violation}
-use Rattle.fv_validate.specs.Listing.{key_of, AreApart, AreToldApart}
+use Rattle.fv_validate.specs.Listing.{key_of, AreToldApart}
+use Rattle.fv_walk.specs.Apart.{AreApart}
 use Rattle.fv_validate.specs.Violations.{Reported, reported_by, IsReportOf, IsAscending, AreListed}
 
 -- what holds of each member holds of all

@@ -9,13 +9,13 @@ use Rattle.fv_datum.specs.Lookup.{at_name}
 use Rattle.fv_model.proofs.Law.{found_each}
 use Rattle.fv_model.specs.Bundles.{Thing}
 use Rattle.fv_model.specs.Reading.{fields_of}
-use Rattle.fv_model.specs.Single.{single_field, single_thing, single_of}
-use Rattle.fv_model.specs.WellTyped.{AnyName}
+use Rattle.fv_model.specs.Single.{kept, single_field, single_thing, single_of}
+use Rattle.fv_model.specs.WellTyped.{AnyName, AreOfFields, IsOfType}
 use Rattle.fv_walk.specs.Properties.{field_number}
-use Rattle.fv_walk.specs.Typed.{AreOfFields, IsOfType}
 use Rattle.fv_model_types.specs.Fits.{Fits}
 use Rattle.fv_model_types.specs.Types.{TypeUse, DeclaredFields, Declared, AreApart, name_at, fields_at}
-use Rattle.fv_validate.specs.Values.{field_use, valued}
+use Rattle.fv_model_types.proofs.Back.{fits_writable}
+use Rattle.fv_validate.specs.Values.{FitsField, field_use, valued}
 
 module _ (ts : Declared) (type name : List ℕ) (d : Data) (fields : DeclaredFields) (declared : at_name type ts ≡ Some fields) where
   fields_are : fields_of ts type ≡ fields
@@ -64,6 +64,14 @@ module _ (ts : Declared) (type name : List ℕ) (d : Data) (fields : DeclaredFie
     pub made : (t : Thing) → Some t ≡ single_of ts n name d → t ≡ valued ts type name d
     made t e = some_there (at_name name (fields_at ts n)) t e ∙ thing_is
 
+    use_there : (o : Option TypeUse) (t : Thing) → at_name name (fields_at ts n) ≡ o → Some t ≡ option_map (λ _. single_thing ts n name d) o → (u : TypeUse) × (field_use ts type name ≡ Some u)
+    use_there None t is e = cc
+    use_there (Some u) t is e = (u, use_is ∙ ap (at_name name) (sym fields_there) ∙ is)
+
+    -- the type has the field then
+    pub there : (t : Thing) → Some t ≡ single_of ts n name d → (u : TypeUse) × (field_use ts type name ≡ Some u)
+    there t e = use_there (at_name name (fields_at ts n)) t refl e
+
     -- ---- where it isn't
 
     past : (es : DeclaredFields) → at_name name es ≡ None → position_or_len (λ e. bytes_eq name e.0) es ≡ length es
@@ -90,6 +98,18 @@ module _ (ts : Declared) (type name : List ℕ) (d : Data) (fields : DeclaredFie
         ap (option_and_then (position (λ f. bytes_eq name f.0))) declared
         ∙ ap (λ (k : ℕ). cond (nat_lt k len) (Some k) None) before
         ∙ ap (λ (b : Bool). cond b (Some len) None) (not_less len)
+
+-- a datum that fits the field that is there can be written, so it is kept
+pub kept_same : (ts : Declared) (type name : List ℕ) (d : Data) → (u : TypeUse) × (field_use ts type name ≡ Some u) → FitsField ts type name d → kept d ≡ d
+kept_same ts type name d (u, is) fits = rw (fits_writable AnyName u d (fits u is)) refl
+
+-- an object that was made with a datum that fits is of its type, and has the datum
+pub valued_typed : (ts : Declared) (type name : List ℕ) (d : Data) (fields : DeclaredFields) (declared : at_name type ts ≡ Some fields) (n : ℕ) (placed : slice_get ts n ≡ Some (type, fields)) (t : Thing) → AreApart fields → Some t ≡ single_of ts n name (kept d) → FitsField ts type name d
+    → IsOfType ts t × (t ≡ valued ts type name d)
+valued_typed ts type name d fields declared n placed t apart some fits =
+    let keeps = kept_same ts type name d (there ts type name (kept d) fields declared n placed t some) fits in
+    let whole : t ≡ valued ts type name d = made ts type name (kept d) fields declared n placed t some ∙ ap (valued ts type name) keeps in
+    (subst (IsOfType ts) (sym whole) (value_of_type ts type name d fields declared apart fits), whole)
 
 -- a type that isn't declared has no field
 pub undeclared : (ts : Declared) (type name : List ℕ) → at_name type ts ≡ None → field_number ts type name ≡ None

@@ -5,16 +5,18 @@ use Rattle.fv_walk.specs.declared.property_fault.PropertyFault.TheVariants as pr
 use Rattle.fv_walk.specs.declared.fault.WalkFault.{WalkFault}
 use Rattle.fv_walk.specs.declared.fault.WalkFault.TheVariants as walk
 use Rattle.fv_validate.specs.declared.fault.ValidateFault.{ValidateFault}
-use Rattle.fv_validate.specs.declared.fault.ValidateFault.TheVariants.{NoSuchField, TooManyVisits, Memory}
+use Rattle.fv_validate.specs.declared.fault.ValidateFault.TheVariants.{UnknownGroup, NoSuchField, TooManyVisits, Memory}
 
 -- the name of a fault of validation
 abbrev pub validate_fault_name : ValidateFault → List ℕ
+validate_fault_name UnknownGroup = codes "UnknownGroup"
 validate_fault_name NoSuchField = codes "NoSuchField"
 validate_fault_name TooManyVisits = codes "TooManyVisits"
 validate_fault_name Memory = codes "Memory"
 
 -- the fault that a fault of the walk is
 abbrev pub walk_fault : WalkFault → ValidateFault
+walk_fault walk.UnknownGroup = UnknownGroup
 walk_fault walk.TooManyVisits = TooManyVisits
 walk_fault walk.Memory = Memory
 

@@ -4,16 +4,11 @@ use Rattle.std.specs.Ordering.{nat_cmp, ordering_then}
 use Rattle.std.specs.Cmp.Lexicographic.{slice_cmp}
 use Rattle.std.specs.declared.cmp.Ordering.{Ordering}
 use Rattle.fv_graph.specs.Graph.{IsIn}
-use Rattle.fv_walk_traces.specs.Violations.{Violation}
 use Rattle.fv_validate.specs.Violations.{Reported}
 
 -- what tells a report from the others: its path and its number
 abbrev pub key_of : Reported → List ℕ × ℕ
 key_of v = (v.path, v.occurrence)
-
--- no two failures have one path and one node
-abbrev pub AreApart : List Violation → Type 0
-AreApart fs = (v w : Violation) → IsIn fs v → IsIn fs w → v.path ≡ w.path → v.node ≡ w.node → v ≡ w
 
 -- two with one path and one number are the same
 abbrev pub AreToldApart : List Reported → Type 0

@@ -1,15 +1,21 @@
 -- A datum in a field of a type.
-use Rattle.std.specs.Prelude.{ℕ, List, map, Option, option_and_then}
+use Rattle.std.specs.Prelude.{◌≡◌, ℕ, List, map, Option, Some, option_and_then}
 use Rattle.fv_datum.specs.Data.{Data}
 use Rattle.fv_datum.specs.Lookup.{at_name}
 use Rattle.fv_model.specs.Bundles.{Thing}
 use Rattle.fv_model.specs.Reading.{fields_of}
 use Rattle.fv_model.specs.Single.{single_field}
+use Rattle.fv_model.specs.WellTyped.{AnyName}
+use Rattle.fv_model_types.specs.Fits.{Fits}
 use Rattle.fv_model_types.specs.Types.{TypeUse, Declared}
 
 -- what the field of a name holds in the type of a name; none where the type isn't declared, or has no such field
 abbrev pub field_use : Declared → List ℕ → List ℕ → Option TypeUse
 field_use ts type name = option_and_then (at_name name) (at_name type ts)
+
+-- a datum is null or of what the field of a name holds in the type of a name, within the limits; a reference may be any name
+abbrev pub FitsField : Declared → List ℕ → List ℕ → Data → Type 0
+FitsField ts type name d = (u : TypeUse) → field_use ts type name ≡ Some u → Fits AnyName u d
 
 -- the object of the type of a name with a datum in the field of a name, and null in the others
 abbrev pub valued : Declared → List ℕ → List ℕ → Data → Thing

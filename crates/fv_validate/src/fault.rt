@@ -9,6 +9,9 @@ use thiserror::Error;
 /// Why a bundle, or a field, wasn't validated.
 #[derive(Clone, Copy, Debug, PartialEq, Eq, Drop, Error)]
 pub enum ValidateFault {
+    /// A group that is asked for isn't declared.
+    #[error("unknown group")]
+    UnknownGroup,
     /// The type isn't declared, or has no such field.
     #[error("no such field")]
     NoSuchField,
@@ -16,7 +19,7 @@ pub enum ValidateFault {
     #[error("too many visits")]
     TooManyVisits,
     /// Memory was refused.
-    #[error("memory")]
+    #[error("out of memory")]
     Memory,
 }
 
@@ -26,6 +29,7 @@ impl ValidateFault {
         ensures { result.now ≡ validate_fault_name self.now }
     {
         match self {
+            ValidateFault::UnknownGroup => "UnknownGroup",
             ValidateFault::NoSuchField => "NoSuchField",
             ValidateFault::TooManyVisits => "TooManyVisits",
             ValidateFault::Memory => "Memory",
@@ -38,6 +42,7 @@ impl From<WalkFault> for ValidateFault {
 
     fn from(fault: WalkFault) -> ValidateFault {
         match fault {
+            WalkFault::UnknownGroup => ValidateFault::UnknownGroup,
             WalkFault::TooManyVisits => ValidateFault::TooManyVisits,
             WalkFault::Memory => ValidateFault::Memory,
         }

@@ -3,6 +3,8 @@
 //! "ConstraintViolation").
 #![tactic(auto)]
 
+pub mod by_id;
+mod by_name;
 mod fault;
 mod fields;
 mod listing;
@@ -10,7 +12,6 @@ mod node;
 mod validating;
 mod violation;
 
+pub use by_name::{validate, validate_property, validate_value};
 pub use fault::ValidateFault;
-pub use fields::{validate_property, validate_value};
-pub use validating::validate;
 pub use violation::Violation;

@@ -12,9 +12,9 @@ ghost use Rattle.fv_model.specs.Views.{bundle_view};
 ghost use Rattle.fv_model.specs.WellTyped.{IsWellTyped};
 ghost use Rattle.fv_constraint_tree.specs.Views.{node_view};
 ghost use Rattle.fv_path.specs.Paths.{IsPath};
-ghost use Rattle.fv_validate.specs.Listing.{AreApart};
 ghost use Rattle.fv_validate.specs.ViolationView.{violation_view};
 ghost use Rattle.fv_validate.specs.Violations.{reported_by, AreListed, IsListing};
+ghost use Rattle.fv_walk.specs.Apart.{AreApart};
 ghost use Rattle.fv_walk.specs.FailureView.{failure_view};
 ghost use Rattle.fv_walk.specs.Visits.{HasTooManyVisits, HasFewVisits};
 
@@ -29,7 +29,8 @@ use fv_local::Rulebook;
 use fv_message::Messages;
 use fv_model::Bundle;
 use fv_registry::RuleSet;
-use fv_walk::{Failure, walk};
+use fv_walk::Failure;
+use fv_walk::by_id::walk;
 use std::alloc::{AllocError, Global};
 
 /// What the message of a constraint becomes; empty where there is no constraint.
@@ -105,6 +106,9 @@ pub(crate) fn listing_of(
 /// the constraint. The objects that the root reaches through valid references are validated, along
 /// each way to them on which no object stands twice. Where no group is asked for, `Default` is.
 ///
+/// Nothing is told of a bundle that isn't well-typed by the declarations, which
+/// `Bundle::is_well_typed` tells.
+///
 /// Refused by `TooManyVisits` for more than 4,096 visits, before any validator is asked; `Memory` at
 /// any place.
 pub fn validate<R: RuleSet>(
@@ -115,16 +119,18 @@ pub fn validate<R: RuleSet>(
     now: i64,
 ) -> Result<Vec<Violation>, ValidateFault>
     requires moment { IsMoment now }
-    requires typed { IsWellTyped rulebook.now.types (bundle_view bundle.now) }
     requires asked { All (λ g. g.index < length rulebook.now.groups) asked.now }
-    ensures listing { IfOk result (λ v. IsListing R.meaning rulebook.now now (bundle_view bundle.now) (indices asked.now)
-        (map violation_view v.items)) }
+    ensures listing { IfOk result (λ v. IsWellTyped rulebook.now.types (bundle_view bundle.now)
+        → IsListing R.meaning rulebook.now now (bundle_view bundle.now) (indices asked.now) (map violation_view v.items)) }
     // What is judged twice at one moment is judged alike.
-    ensures alike { IfOk result (λ v. (vs : _) → IsListing R.meaning rulebook.now now (bundle_view bundle.now) (indices asked.now) vs
+    ensures alike { IfOk result (λ v. IsWellTyped rulebook.now.types (bundle_view bundle.now)
+        → (vs : _) → IsListing R.meaning rulebook.now now (bundle_view bundle.now) (indices asked.now) vs
         → vs ≡ map violation_view v.items) }
-    ensures few { OnOk result (HasFewVisits rulebook.now (bundle_view bundle.now) (indices asked.now)) }
+    ensures few { OnOk result (IsWellTyped rulebook.now.types (bundle_view bundle.now)
+        → HasFewVisits rulebook.now (bundle_view bundle.now) (indices asked.now)) }
     ensures many { IfErr result (λ fault. fault ≡ ValidateFault.TooManyVisits
         → HasTooManyVisits rulebook.now (bundle_view bundle.now) (indices asked.now)) }
+    ensures known { IfErr result (λ fault. fault ≢ ValidateFault.UnknownGroup) }
     ensures no_field { IfErr result (λ fault. fault ≢ ValidateFault.NoSuchField) }
 {
     let failures = walk(alloc, rulebook, bundle, asked, now)?;

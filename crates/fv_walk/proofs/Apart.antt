@@ -20,7 +20,7 @@ use Rattle.fv_walk_traces.specs.Violations.{Violation}
 use Rattle.fv_declare_schema.specs.Places.{Place, whole, field}
 use Rattle.fv_walk.specs.Properties.{IsViolationIn}
 use Rattle.fv_walk.specs.Ranks.{nodes_in, violation_in, IsToldFor}
-use Rattle.fv_walk.specs.Typed.{IsOfType}
+use Rattle.fv_model.specs.WellTyped.{IsOfType}
 use Rattle.fv_walk.proofs.Alone.{in_field, violations_told}
 use Rattle.fv_walk.proofs.Typed.{type_sound}
 

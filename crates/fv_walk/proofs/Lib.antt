@@ -1,6 +1,7 @@
 pub mod Adding
 pub mod Alone
 pub mod Apart
+pub mod ApartTold
 pub mod Asked
 pub mod Counted
 pub mod Counts
@@ -10,6 +11,7 @@ pub mod Frames
 pub mod Loops
 pub mod Members
 pub mod Moves
+pub mod Named
 pub mod Paths
 pub mod Ranked
 pub mod Steps

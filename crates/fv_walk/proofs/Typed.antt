@@ -5,7 +5,7 @@ use Rattle.fv_datum.specs.Data.{Data}
 use Rattle.fv_datum.specs.Lookup.{at_name}
 use Rattle.fv_datum.specs.Name.{names}
 use Rattle.fv_model.specs.Bundles.{Thing, Things, Bundled}
-use Rattle.fv_model.specs.WellTyped.{AnyName, NamesObject, FieldsFit, FitsType, IsWellTyped}
+use Rattle.fv_model.specs.WellTyped.{AnyName, NamesObject, FieldsFit, FitsType, IsWellTyped, AreOfFields, IsOfType}
 use Rattle.fv_model_types.specs.Fits.{Referring, OrNull, IsOfUse, Fits}
 use Rattle.fv_model_types.specs.Types.{TypeUse, texts, integers, decimals, booleans, dates, instants, references, lists, maps, optionals, DeclaredFields, Declared}
 use Rattle.fv_model_types.proofs.Back.{fits_writable}
@@ -14,7 +14,6 @@ use Rattle.fv_declare_schema.specs.Ordered.{AreOrdered}
 use Rattle.fv_walk_request.proofs.Objects.{found_all}
 use Rattle.fv_walk_request.specs.Sound.{IsSound}
 use Rattle.fv_walk_request.proofs.Fitted.{fits_indexed}
-use Rattle.fv_walk.specs.Typed.{AreOfFields, IsOfType}
 
 -- ---- a datum that fits, whatever its references name
 

@@ -74,7 +74,8 @@ module _ {R : Type 0} where
   -- what is entered and found of an object itself above a stack, in the group that is carried at a rank
   abbrev pub entering : Meanings → Judge R → List Frame → ℕ → GroupId → ℕ → List (Event Reached)
   entering m j below object group rank =
-      Entered ∷ own_log (judging m j.moment j.course) (objects_in j.course) (path_on (visiting j.course) below) object (carried_at (visiting j.course) group.index rank)
+      Entered ∷ own_log (judging m j.moment j.course) (objects_in j.course) (path_on (visiting j.course) below) object
+      (carried_at (visiting j.course) group.index rank)
 
   -- the frame that is put on the stack there
   abbrev pub entered_frame : Meanings → Judge R → ℕ → GroupId → ℕ → Frame

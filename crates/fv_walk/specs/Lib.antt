@@ -1,3 +1,4 @@
+pub mod Apart
 pub mod Courses
 pub mod FailureView
 pub mod FaultNames
@@ -8,6 +9,5 @@ pub mod Properties
 pub mod PropertyFaultNames
 pub mod Ranks
 pub mod Stacks
-pub mod Typed
 pub mod Visits
 pub mod Walks

@@ -8,11 +8,14 @@ use thiserror::Error;
 /// Why a walk wasn't made.
 #[derive(Clone, Copy, Debug, PartialEq, Eq, Drop, Error)]
 pub enum WalkFault {
+    /// A group that is asked for isn't declared.
+    #[error("unknown group")]
+    UnknownGroup,
     /// The request has more than 4,096 visits.
     #[error("too many visits")]
     TooManyVisits,
     /// Memory was refused.
-    #[error("memory")]
+    #[error("out of memory")]
     Memory,
 }
 
@@ -22,6 +25,7 @@ impl WalkFault {
         ensures { result.now ≡ walk_fault_name self.now }
     {
         match self {
+            WalkFault::UnknownGroup => "UnknownGroup",
             WalkFault::TooManyVisits => "TooManyVisits",
             WalkFault::Memory => "Memory",
         }

@@ -4,6 +4,8 @@
 //! and `validateValue`).
 #![tactic(auto)]
 
+pub mod by_id;
+mod by_name;
 mod counting;
 mod course;
 mod failure;
@@ -16,10 +18,9 @@ mod property_fault;
 mod telling;
 mod walking;
 
-pub use counting::visits;
+pub use by_name::{groups_named, visits, walk, walk_counted};
 pub use failure::Failure;
 pub use fault::WalkFault;
 pub use laws::{failures_of_a_field_are_told_apart, objects_are_of_their_types};
-pub use property::failures_of_field;
 pub use property_fault::PropertyFault;
-pub use walking::{Walked, walk, walk_counted};
+pub use walking::Walked;

@@ -1,5 +1,5 @@
 //! What fails in a field of an object, for the groups that are asked for.
-ghost use Rattle.std.specs.Prelude.{◌≡◌, ◌<◌, ◌↔◌, ℕ, All, IsTrue, None, true, map, length, is_some, IfOk, IfErr, OnOk};
+ghost use Rattle.std.specs.Prelude.{◌≡◌, ◌<◌, ◌↔◌, All, IsTrue, None, true, map, length, is_some, IfOk, IfErr, OnOk};
 ghost use Rattle.fv_datum.specs.Moments.{IsMoment};
 ghost use Rattle.fv_declare_schema.specs.Ordered.{AreOrdered};
 ghost use Rattle.fv_graph.specs.Graph.{IsIn};
@@ -8,13 +8,13 @@ ghost use Rattle.fv_groups.specs.Tables.{indices};
 ghost use Rattle.fv_local.specs.FailureView.{IsFoundIn};
 ghost use Rattle.fv_local.specs.FailureView as local;
 ghost use Rattle.fv_model.specs.Views.{types_view, object_view};
+ghost use Rattle.fv_walk.specs.Apart.{AreApart};
 ghost use Rattle.fv_walk.specs.Properties.{field_number, IsViolationIn};
 ghost use Rattle.fv_walk.specs.Ranks.{FailsFirst, FailsIn, IsToldFor, count_ranks};
-ghost use Rattle.fv_walk.specs.Typed.{IsOfType};
+ghost use Rattle.fv_model.specs.WellTyped.{IsOfType};
 ghost use Rattle.fv_walk.specs.FieldVisits.{HasFewVisitsAt, HasTooManyVisitsAt};
 ghost use Rattle.fv_walk.specs.declared.property_fault.PropertyFault.{PropertyFault};
 ghost use Rattle.fv_walk_request.specs.Sound.{IsSound};
-ghost use Rattle.fv_walk_traces.specs.OneField.{begins_with};
 ghost use Rattle.fv_walk_traces.specs.Turns as turn;
 ghost use Rattle.fv_walk_traces.specs.Violations.{Violation};
 ghost use Rattle.fv_walk.specs.FailureView.{failure_view};
@@ -116,6 +116,8 @@ fn is_ordered(schema: &Schema)
 /// groups ends behind the first in which something fails in this field, whatever fails elsewhere.
 /// Nothing is followed from the field, and a reference in the object may be any name.
 ///
+/// Nothing is told of an object that isn't of a declared type, which `Object::is_of_type` tells.
+///
 /// Refused by `NoSuchField` where the object's type has no such field, else by `TooManyVisits` for
 /// more than 4,096 ranks of the groups that are asked for, before any validator is asked; `Memory` at
 /// any place.
@@ -128,10 +130,11 @@ pub fn failures_of_field<R: RuleSet>(
     now: i64,
 ) -> Result<Vec<Failure>, PropertyFault>
     requires moment { IsMoment now }
-    requires typed { IsOfType rulebook.now.types (object_view object.now) }
     requires asked { All (λ g. g.index < length rulebook.now.groups) asked.now }
-    ensures violations { IfOk result (λ found. (v : Violation) → IsIn (map failure_view found.items) v
+    ensures violations { IfOk result (λ found. IsOfType rulebook.now.types (object_view object.now)
+        → (v : Violation) → IsIn (map failure_view found.items) v
         ↔ IsViolationIn R.meaning rulebook.now now (object_view object.now) field.now (indices asked.now) v) }
+    ensures apart { IfOk result (λ found. AreApart (map failure_view found.items)) }
     ensures there { OnOk result (is_some (field_number rulebook.now.types (object_view object.now).type_name field.now) ≡ true) }
     ensures few { OnOk result (HasFewVisitsAt rulebook.now (object_view object.now) (indices asked.now)) }
     ensures absent { IfErr result (λ fault. fault ≡ PropertyFault.NoSuchField
@@ -148,6 +151,9 @@ pub fn failures_of_field<R: RuleSet>(
     let asked = distinct_or_default(alloc, asked)?;
     if are_too_many(schema.groups(), &asked) {
         return Err(PropertyFault::TooManyVisits);
+    }
+    if !object.is_of_type(schema.types()) {
+        return Ok(Vec::new(alloc));
     }
     Ok(gather(alloc, rulebook, object, number, &asked, now)?)
 }

@@ -15,7 +15,7 @@ pub enum PropertyFault {
     #[error("too many visits")]
     TooManyVisits,
     /// Memory was refused.
-    #[error("memory")]
+    #[error("out of memory")]
     Memory,
 }
 

@@ -1,6 +1,7 @@
-//! The texts of faults of built-in constraints and of registries.
+//! The texts of faults of built-in constraints, of what uses are flattened to, and of registries.
 use crate::given::check;
 use fv_builtin::BuiltinFault;
+use fv_constraint::FlattenFault;
 use fv_registry::RegistryFault;
 use std::alloc::Global;
 use std::fmt::Display;
@@ -32,6 +33,32 @@ fn faults_of_constraints_have_texts(rt: HostRuntime) -> Result<(), Fail> {
     let found = told(rt.alloc(), &faults)?;
     check(&rt, found.as_str(), OF_CONSTRAINTS, "constraints");
     check(&rt, BuiltinFault::Memory.name(), "Memory", "a name");
+    Ok(())
+}
+
+const OF_TREES: &str = "a constraint that is composed of itself
+a constraint with neither a rule nor a composing constraint
+too large
+a rule that isn't registered
+an attribute that the constraint refuses
+a constraint at a place of another sort or kind
+a pattern that isn't built
+out of memory
+";
+
+#[test]
+fn faults_of_trees_have_texts(rt: HostRuntime) -> Result<(), Fail> {
+    let faults = [
+        FlattenFault::CyclicComposition,
+        FlattenFault::EmptyConstraint,
+        FlattenFault::TooLarge,
+        FlattenFault::UnknownRule,
+        FlattenFault::Attribute,
+        FlattenFault::UnexpectedType,
+        FlattenFault::BadPattern,
+        FlattenFault::Memory,
+    ];
+    check(&rt, told(rt.alloc(), &faults)?.as_str(), OF_TREES, "trees");
     Ok(())
 }
 

@@ -12,6 +12,8 @@ use std::{fs, str};
 
 const GET: &[u8] = b"{\"do\":\"get\",\"id\":\"r1\"}\n";
 
+const NO_RECORD: &str = "{\"error\":\"C6\",\"name\":\"NoRecord\"}\n";
+
 /// The words as the program is given them: each is a line.
 fn given(alloc: Global, words: &str) -> Result<Vec<String>, Fail> {
     let mut given = Vec::new(alloc);
@@ -82,14 +84,25 @@ fn check_failed(rt: &impl Abort, words: &str, (status, complaint): (u8, &[u8]), 
     assert_eq!(rt; str::from_utf8(complaint), Ok(wanted), "{words}");
 }
 
+/// A run of these words over a reader that gives these bytes and then fails: what was told before.
+fn check_unread_words(
+    rt: &impl Abort,
+    host: &HostRuntime,
+    words: &str,
+    (bytes, fails_at): (&[u8], usize),
+    told: &str,
+) -> Result<(), Fail> {
+    let mut output = Vec::new(host.alloc());
+    let mut reader = failing(bytes, fails_at, ErrorKind::Other);
+    let (status, complaint) = ran(host, words, &mut reader, &mut output)?;
+    check_failed(rt, words, (status, &complaint), "formd: read\n");
+    assert_eq!(rt; str::from_utf8(&output), Ok(told), "{words}");
+    Ok(())
+}
+
 #[test]
 fn a_failing_reader_ends_with_status_4(rt: HostRuntime) -> Result<(), Fail> {
-    let mut output = Vec::new(rt.alloc());
-    let mut reader = failing(&[], 0, ErrorKind::Other);
-    let (status, complaint) = ran(&rt, "", &mut reader, &mut output)?;
-    check_failed(&rt, "", (status, &complaint), "formd: read\n");
-    assert!(rt; output.is_empty());
-    Ok(())
+    check_unread_words(&rt, &rt, "", (&[], 0), "")
 }
 
 /// A writer that takes all it is given and fails at the write of a number, or at its first flush.
@@ -125,5 +138,20 @@ fn a_failing_writer_ends_with_status_4(rt: HostRuntime) -> Result<(), Fail> {
     check_unwritten(&rt, &rt, words, (0, false))?;
     check_unwritten(&rt, &rt, words, (NEVER, true))?;
     fs::remove_file(&rt, "formd_unwritten.json")?;
+    Ok(())
+}
+
+/// Over files: declarations without a type, and a database that each run opens again.
+#[test]
+fn failing_streams_end_serve_with_status_4(rt: HostRuntime) -> Result<(), Fail> {
+    let words = "serve\n--declarations\nformd_streams.json\n--database\nformd_streams.db";
+    fs::write(&rt, "formd_streams.json", r#"{"types":{},"forms":{}}"#)?;
+    check_unread_words(&rt, &rt, words, (&[], 0), "")?;
+    check_unread_words(&rt, &rt, words, (GET, 1), NO_RECORD)?;
+    check_unwritten(&rt, &rt, words, (0, false))?;
+    check_unwritten(&rt, &rt, words, (NEVER, true))?;
+    fs::remove_file(&rt, "formd_streams.json")?;
+    fs::remove_file(&rt, "formd_streams.db")?;
+    fs::remove_file(&rt, "formd_streams.db-wal")?;
     Ok(())
 }

@@ -1,4 +1,5 @@
 //! The texts of faults.
+use fv_declare::DeclFault;
 use fv_engine::{OpenFault, ServeFault};
 use fv_store::OpenStoreFault;
 use std::alloc::Global;
@@ -20,6 +21,8 @@ fn check_text<F: Display>(
 
 #[test]
 fn faults_have_texts(rt: HostRuntime) -> Result<(), Fail> {
+    let declarations = OpenFault::Declarations(DeclFault::NotJson);
+    check_text(&rt, rt.alloc(), &declarations, "declarations refused")?;
     let store = OpenFault::Store(OpenStoreFault::Store);
     check_text(&rt, rt.alloc(), &store, "store refused")?;
     check_text(&rt, rt.alloc(), &OpenFault::Memory, "out of memory")?;

@@ -36,6 +36,19 @@ pub(crate) const OTHER_DECLARATIONS: &str = "formd: store: OtherDeclarations\n";
 
 const OTHER_VERSION: &str = "formd: store: OtherVersion\n";
 
+const STORE: &str = "formd: store: Store\n";
+
+/// The demonstration's declarations, a put of a record of theirs, and how the record is shown.
+const ITEMS: &str =
+    r#"{"types":{"Item":{"fields":{"count":{"type":"integer","constraints":[{"constraint":"Min","with":{"value":1}}]},"name":{"type":"text","constraints":[{"constraint":"NotNull"},{"constraint":"Size","with":{"min":1,"max":3}}]}}}},"forms":{"item":{"root":"Item"}}}"#;
+
+const PUT_ITEM: &str =
+    r#"{"do":"put","id":"r1","form":"item","bundle":{"root":"a","objects":{"a":{"type":"Item","fields":{"count":1,"name":"abc"}}}}}"#;
+
+const ITEM: &str =
+    r#"{"bundle":{"objects":{"a":{"fields":{"count":1,"name":"abc"},"type":"Item"}},"root":"a"},"form":"item","id":"r1","ok":"get"}
+"#;
+
 /// A run of `serve` over the declarations and the database of these paths, with more words, one a
 /// line, over one command line, ends so: its status and the texts on both writers.
 pub(crate) fn check(
@@ -95,6 +108,25 @@ fn records_stay_in_the_file(rt: HostRuntime) -> Result<(), Fail> {
     fs::remove_file(&rt, "formd_kept.json")?;
     fs::remove_file(&rt, "formd_kept_others.json")?;
     remove(&rt, "formd_kept.db")
+}
+
+/// The demonstration's record stays under the demonstration's declarations; with one more space they
+/// are others. A database without the row that tells of its declarations is refused.
+#[test]
+fn the_demonstration_stays_in_the_file(rt: HostRuntime) -> Result<(), Fail> {
+    let others = format!(in rt.alloc(); "{ITEMS} ")?;
+    fs::write(&rt, "formd_items.json", ITEMS)?;
+    fs::write(&rt, "formd_items_others.json", others.as_str())?;
+    let same = ("formd_items.json", "formd_items.db", "");
+    let other = ("formd_items_others.json", "formd_items.db", "");
+    check(&rt, &rt, same, PUT_ITEM, (0, TAKEN, ""))?;
+    check(&rt, &rt, other, GET, (4, "", OTHER_DECLARATIONS))?;
+    check(&rt, &rt, same, GET, (0, ITEM, ""))?;
+    change(&rt, "formd_items.db", "DELETE FROM about")?;
+    check(&rt, &rt, same, GET, (4, "", STORE))?;
+    fs::remove_file(&rt, "formd_items.json")?;
+    fs::remove_file(&rt, "formd_items_others.json")?;
+    remove(&rt, "formd_items.db")
 }
 
 /// A folder, a file in a folder that isn't there, a path that no file can have, the name of a
@@ -193,6 +225,14 @@ Usage: formd serve [OPTIONS] --declarations <FILE> --database <FILE>
 For more information, try '--help'.
 ";
 
+const TOO_EARLY: &str =
+    "error: invalid value '-62135596801' for '--now <SECONDS>': it lies outside 0001-01-01T00:00:00Z to 9999-12-30T00:00:00Z
+
+Usage: formd serve [OPTIONS] --declarations <FILE> --database <FILE>
+
+For more information, try '--help'.
+";
+
 const NO_NUMBER: &str =
     "error: invalid value 'noon' for '--now <SECONDS>': invalid digit found in string
 
@@ -216,6 +256,7 @@ fn the_moment_may_be_given(rt: HostRuntime) -> Result<(), Fail> {
         PUT,
         (2, "", NOT_IN_RANGE),
     )?;
+    check(&rt, &rt, at("--now=-62135596801"), PUT, (2, "", TOO_EARLY))?;
     check(&rt, &rt, at("--now\nnoon"), PUT, (2, "", NO_NUMBER))?;
     fs::remove_file(&rt, "formd_now.json")?;
     remove(&rt, "formd_now.db")

@@ -1,8 +1,8 @@
-//! Attributes and kinds of the built-in constraints, each judged by itself; which constraints are on
-//! which kinds stands among the rows over the service.
-use crate::given::{Rows, attrs_of, check_rows, kind_of};
-use fv_builtin::{Builtin, builtin_named, is_builtin, takes_attributes, takes_kind};
-use fv_datum::{Attrs, Kind};
+//! Attributes and kinds of the built-in constraints, each judged by itself, and what constraints say of
+//! data; which constraints are on which kinds stands among the rows over the service.
+use crate::given::{Rows, attrs_of, check_rows, datum_of, kind_of};
+use fv_builtin::{Builtin, BuiltinFault, builtin_named, is_builtin, takes_attributes, takes_kind};
+use fv_datum::{Attrs, Kind, moment_ok};
 use std::alloc::Global;
 use std::test::Fail;
 
@@ -23,12 +23,22 @@ Past {"nope":1} O => false false Attribute
 Pattern {"regexp":"("} T => true true BadPattern
 "#;
 
-/// The fault of the constraint of that name with these attributes, for data of a kind, or `taken`.
-fn fault_of(alloc: Global, name: &str, attrs: &Attrs, kind: Kind) -> Result<String, Fail> {
+/// The constraint of that name with these attributes, for data of a kind, or its fault.
+fn read(
+    alloc: Global,
+    name: &str,
+    attrs: &Attrs,
+    kind: Kind,
+) -> Result<Result<Builtin, BuiltinFault>, Fail> {
     if !is_builtin(name) {
         return Err("a built-in".into());
     }
-    match Builtin::read(alloc, name, attrs, kind) {
+    Ok(Builtin::read(alloc, name, attrs, kind))
+}
+
+/// The fault of the constraint of that name with these attributes, for data of a kind, or `taken`.
+fn fault_of(alloc: Global, name: &str, attrs: &Attrs, kind: Kind) -> Result<String, Fail> {
+    match read(alloc, name, attrs, kind)? {
         Ok(_) => Ok(String::from_str(alloc, "taken")?),
         Err(fault) => Ok(String::from_str(alloc, fault.name())?),
     }
@@ -57,4 +67,49 @@ impl Rows for Taken {
 #[test]
 fn attributes_and_kinds_are_taken_or_not(rt: HostRuntime) -> Result<(), Fail> {
     check_rows::<Taken>(&rt, rt.alloc(), TAKEN)
+}
+
+/// A constraint, attributes, a moment, the letter of a kind and a datum: whether the constraint holds.
+const HELD: &str = r#"
+NotBlank {} 0 T : "\u00a0" => false
+NotBlank {} 0 T : "" => false
+NotBlank {} 0 T : " x" => true
+Digits {"integer":2,"fraction":1} 0 D : "12.50" => true
+Digits {"integer":2,"fraction":1} 0 D : "12.05" => false
+Digits {"integer":2,"fraction":1} 0 D : "123" => false
+Digits {"integer":0,"fraction":0} 0 D : "0" => true
+DecimalMin {"value":"0.5","inclusive":false} 0 D : "0.50" => false
+Min {"value":1} 0 D : "0.999999999" => false
+Size {"min":1,"max":3} 0 T : "abc" => true
+Size {"min":1,"max":3} 0 T : "😀bc" => false
+NotNull {} 0 T : null => false
+Future {} 86399 E : "1970-01-02" => true
+Future {} 86400 E : "1970-01-02" => false
+Pattern {"regexp":"a."} 0 T : "ab" => true
+Pattern {"regexp":"x|yz"} 0 T : "yz" => true
+Pattern {"regexp":"x|yz"} 0 T : "xyz" => false
+"#;
+
+struct Held;
+
+impl Rows for Held {
+    fn found(alloc: Global, given: &str) -> Result<String, Fail> {
+        let (name, rest) = given.split_once(' ').ok_or("a name")?;
+        let (with, rest) = rest.split_once(' ').ok_or("attributes")?;
+        let (now, held) = rest.split_once(' ').ok_or("a moment")?;
+        let kind = kind_of(held.chars().next().ok_or("a letter")?)?;
+        let datum = datum_of(alloc, held)?;
+        let now = now.parse::<i64>()?;
+        if !moment_ok(now) {
+            return Err("a moment".into());
+        }
+        let builtin = read(alloc, name, &attrs_of(alloc, with)?, kind)??;
+        let holds = builtin.holds(alloc, &datum, now)?;
+        Ok(format!(in alloc; "{holds}")?)
+    }
+}
+
+#[test]
+fn constraints_hold_or_not(rt: HostRuntime) -> Result<(), Fail> {
+    check_rows::<Held>(&rt, rt.alloc(), HELD)
 }

@@ -16,42 +16,28 @@ fn told<F: Display>(alloc: Global, faults: &[F]) -> Result<String, Fail> {
     Ok(text)
 }
 
-const OF_DATA: &str = "a datum of another kind
+/// The texts of faults of data, of JSON and of types.
+const OF_READING: &str = "a datum of another kind
 out of memory
-";
-
-#[test]
-fn faults_of_data_have_texts(rt: HostRuntime) -> Result<(), Fail> {
-    let found = told(rt.alloc(), &[DatumFault::WrongKind, DatumFault::Memory])?;
-    check(&rt, found.as_str(), OF_DATA, "data");
-    check(&rt, DatumFault::Memory.name(), "Memory", "a name");
-    Ok(())
-}
-
-const OF_JSON: &str = "not JSON
+not JSON
 out of memory
-";
-
-#[test]
-fn faults_of_json_have_texts(rt: HostRuntime) -> Result<(), Fail> {
-    let found = told(rt.alloc(), &[JsonFault::NotJson, JsonFault::Memory])?;
-    check(&rt, found.as_str(), OF_JSON, "JSON");
-    Ok(())
-}
-
-const OF_TYPES: &str = "a reference to a type that isn't declared
+a reference to a type that isn't declared
 too many types, fields or nested containers
 out of memory
 ";
 
 #[test]
-fn faults_of_types_have_texts(rt: HostRuntime) -> Result<(), Fail> {
+fn faults_of_reading_have_texts(rt: HostRuntime) -> Result<(), Fail> {
+    let mut found = told(rt.alloc(), &[DatumFault::WrongKind, DatumFault::Memory])?;
+    found.push_str(told(rt.alloc(), &[JsonFault::NotJson, JsonFault::Memory])?.as_str())?;
     let faults = [
         TypesFault::UnknownType,
         TypesFault::TooLarge,
         TypesFault::Memory,
     ];
-    check(&rt, told(rt.alloc(), &faults)?.as_str(), OF_TYPES, "types");
+    found.push_str(told(rt.alloc(), &faults)?.as_str())?;
+    check(&rt, found.as_str(), OF_READING, "data, JSON and types");
+    check(&rt, DatumFault::Memory.name(), "Memory", "a name");
     Ok(())
 }
 
@@ -112,6 +98,8 @@ a rule that isn't registered
 an attribute that the constraint refuses
 a constraint at a place of another sort or kind
 a pattern that isn't built
+a message that isn't well written
+a message that contains itself
 out of memory
 ";
 
@@ -136,6 +124,8 @@ fn faults_of_declarations_have_texts(rt: HostRuntime) -> Result<(), Fail> {
         DeclFault::Attribute,
         DeclFault::UnexpectedType,
         DeclFault::BadPattern,
+        DeclFault::MessageSyntax,
+        DeclFault::MessageCycle,
         DeclFault::Memory,
     ];
     let found = told(rt.alloc(), &faults)?;

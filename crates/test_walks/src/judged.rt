@@ -10,19 +10,20 @@ use fv_groups::GroupId;
 use fv_listing::list_failures;
 use fv_local::Rulebook;
 use fv_model::{Bundle, read_bundle};
-use fv_walk::{Failure, WalkFault, visits, walk, walk_counted};
+use fv_walk::by_id::{visits, walk, walk_counted};
+use fv_walk::{Failure, WalkFault};
 use serde_json::Value;
 use std::alloc::Global;
 use std::test::Fail;
 
 /// What objects are judged by, by a text of declarations.
-fn book_of(alloc: Global, declarations: &str) -> Result<Rulebook<Strict>, Fail> {
+pub(crate) fn book_of(alloc: Global, declarations: &str) -> Result<Rulebook<Strict>, Fail> {
     let schema = read_schema(alloc, &Strict, declarations.as_bytes())?;
     Ok(Rulebook::new(alloc, Strict, schema)?)
 }
 
 /// The bundle that a text is.
-fn bundle_of(alloc: Global, schema: &Schema, text: &str) -> Result<Bundle, Fail>
+pub(crate) fn bundle_of(alloc: Global, schema: &Schema, text: &str) -> Result<Bundle, Fail>
     ensures { IfOk result (λ b. IsWellTyped schema.now.types (bundle_view b)) }
 {
     let value = Value::from_str(alloc, text)?;

@@ -1,14 +1,21 @@
 //! Tests of the walk of a bundle against a plain list of its visits, on small worlds made at random and
-//! on worked examples, of which the numbers of visits are written down as well; and worked examples of
-//! traces and violations, each the contract of a function that does nothing.
+//! on worked examples, of which the numbers of visits are written down as well; what fails in one object
+//! by itself; violations as they are listed; the texts of faults; and worked examples of traces and
+//! violations, each the contract of a function that does nothing.
 #![tactic(auto)]
 
+#[cfg(test)]
+mod alone;
 #[cfg(test)]
 mod bundles;
 #[cfg(test)]
 mod declarations;
 #[cfg(test)]
+mod faults;
+#[cfg(test)]
 mod judged;
+#[cfg(test)]
+mod listed;
 #[cfg(test)]
 mod random;
 #[cfg(test)]

@@ -3,15 +3,15 @@ use Rattle.fv_engine_lines.specs.declared.serving.Turn.TheVariants.{End, WriteFa
 use Rattle.fv_engine_lines.proofs.Lines.{taken_none}
 use Rattle.fv_engine_lines.proofs.serving.serve_lines.Goals as goal
 
-pub loop-init : goal.loop-init
-loop-init g c = rw c.requires (taken_none g.P.Responder.step g.C.Clock.ticks _ _)
+pub loop-turn-init : goal.loop-turn-init
+loop-turn-init g c = record { reads = refl; taken = rw c.requires (taken_none g.P.Responder.step g.C.Clock.ticks _ _) }
 
 pub returns-in-Ok-clause-ok : goal.returns-in-Ok-clause-ok
 returns-in-Ok-clause-ok g c =
     let other : End ≢ WriteFailed = λ e. cc in
-    c.in-Ok.ensures.ok _ _ _ (c.in-End.ensures.end refl) (c.in-End.ensures.taken other _ _ c.loop.invariant)
+    c.in-Ok.ensures.ok _ _ _ (c.in-End.ensures.end refl) (c.in-End.ensures.taken other _ _ c.loop-turn.invariant.taken)
 
 pub returns-in-Err-clause-write : goal.returns-in-Err-clause-write
 returns-in-Err-clause-write g c = λ is.
     let other : End ≢ WriteFailed = λ e. cc in
-    c.in-Err.ensures.err _ _ _ (c.in-End.ensures.end refl) (c.in-End.ensures.taken other _ _ c.loop.invariant)
+    c.in-Err.ensures.err _ _ _ (c.in-End.ensures.end refl) (c.in-End.ensures.taken other _ _ c.loop-turn.invariant.taken)

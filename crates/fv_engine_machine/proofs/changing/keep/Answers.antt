@@ -16,7 +16,8 @@ returns-in-Err-clause-moves g c = λ ds bytes m fits clean holds. (m, inr (Memor
 pub returns-in-Ok-commit-clause-moves : goal.returns-in-Ok-commit-clause-moves
 returns-in-Ok-commit-clause-moves g c = λ ds bytes m fits.
     let done = rw c.deref.ensures.value at c.in-Ok-commit.ensures.done in
-    moves_on (state g.S.Store) ds bytes m c.args.store.now c.commit.new.self (pending_view c.args.pending) c.args.done _ c.in-Ok-commit.ensures.frame c.in-Ok-commit.ensures.open done (c.in-Ok.ensures.after m) (c.in-Ok.ensures.fit ds.types ds.forms) fits
+    let room = rw c.deref.ensures.value at c.in-Ok-commit.ensures.room in
+    moves_on (state g.S.Store) ds bytes m c.args.store.now c.commit.new.self (pending_view c.args.pending) c.args.done _ c.in-Ok-commit.ensures.frame c.in-Ok-commit.ensures.open done (c.in-Ok.ensures.after m) c.in-Ok.ensures.count room (c.in-Ok.ensures.fit ds.types ds.forms) fits
 
 pub returns-clause-moves : goal.returns-clause-moves
 returns-clause-moves g c = λ ds bytes m fits.

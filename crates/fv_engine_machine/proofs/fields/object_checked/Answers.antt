@@ -15,6 +15,7 @@ use Rattle.fv_engine_reply.specs.declared.answer.Refusal.TheVariants.{NoSuchFiel
 use Rattle.fv_validate.specs.ViolationView.{violation_view}
 use Rattle.fv_validate.specs.Violations.{IsListingOfField}
 use Rattle.fv_model.specs.Views.{object_view}
+use Rattle.fv_model.specs.WellTyped.{IsOfType}
 use Rattle.fv_model.specs.declared.bundle.Object.{Object}
 use Rattle.fv_engine_machine.proofs.OneField.{field_told, field_listed}
 use Rattle.fv_engine_machine.proofs.Groups.{all_named, not_named}
@@ -53,8 +54,9 @@ returns-in-Ok g c =
     let known : unknown_in ds.groups names ≡ false = subst (λ (gs : Groups). unknown_in gs names ≡ false) same named.0 in
     let thing = object_view c.in-Some.object.now in
     let vs = map violation_view c.in-Ok.violations.items in
+    let typed : IsOfType ds.types thing = rw c.in-Some.is at c.requires.typed in
     let few : HasFewVisitsAt ds thing (indices c.in-Ok-Some.asked.items) = rw c.deref.ensures.value at c.in-Ok.ensures.few in
-    let listing : IsListingOfField m ds c.args.now thing c.args.field.now (indices c.in-Ok-Some.asked.items) vs = rw (c.deref.ensures.value, to_z-of_z w64 c.args.now c.ranges.now) at c.in-Ok.ensures.listing in
+    let listing : IsListingOfField m ds c.args.now thing c.args.field.now (indices c.in-Ok-Some.asked.items) vs = rw (c.deref.ensures.value, to_z-of_z w64 c.args.now c.ranges.now) at (c.in-Ok.ensures.listing typed) in
     subst (λ (o : Option (Bor Object)). ChecksField m ds c.args.now (option_map (λ x. object_view x.now) o) c.args.field.now names field_checked (field_checked vs)) (sym c.in-Some.is)
     (field_listed m ds c.args.now thing c.args.field.now names field_checked known vs c.in-Ok.ensures.there (subst (λ (gs : List ℕ). HasFewVisitsAt ds thing gs) numbers few)
     (subst (λ (gs : List ℕ). IsListingOfField m ds c.args.now thing c.args.field.now gs vs) numbers listing))
@@ -73,5 +75,5 @@ returns g c =
     let many = rw c.deref.ensures.value at c.in-Err-validate_property.ensures.many in
     subst (λ (o : Option (Bor Object)). ChecksField m ds c.args.now (option_map (λ x. object_view x.now) o) c.args.field.now names field_checked (refused c.unjudged.result)) (sym c.in-Some.is)
     (subst (λ (r : Refusal). ChecksField m ds c.args.now (Some thing) c.args.field.now names field_checked (refused r)) (sym c.unjudged.ensures)
-    (field_told m ds c.args.now thing c.args.field.now names field_checked known c.in-Err-validate_property.fault c.in-Err-validate_property.ensures.absent
+    (field_told m ds c.args.now thing c.args.field.now names field_checked known c.in-Err-validate_property.fault c.in-Err-validate_property.ensures.known c.in-Err-validate_property.ensures.absent
     (λ is. subst (λ (gs : List ℕ). (is_some (field_number ds.types thing.type_name c.args.field.now) ≡ true) × HasTooManyVisitsAt ds thing gs) numbers (many is))))

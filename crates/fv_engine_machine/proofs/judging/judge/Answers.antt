@@ -35,7 +35,7 @@ returns-in_err-add_judged-clause-judged g c =
     let p = err_from_is_err_and c.from_residual.result c.from_residual.ensures.1 in
     let told = c.in_err-add_judged.ensures in
     rw p.1 (
-      λ is. told.0 (sym p.2 ∙ is),
+      (λ is. told.0.0 (sym p.2 ∙ is), λ is. told.0.1 (sym p.2 ∙ is)),
       λ is. judging_over g.R.RuleSet.meaning c.args.book.now _ (pending_view c.args.pending.now) (map judged_view c.loop-id.judged.items) c.loop-id.id-iterator c.next.new.self c.in-Some.id.now c.in-Some.record.now c.in-Some.ensures.steps c.loop-id.invariant c.in-Some-record.stored c.in-Some-record.is
           (told.1 (sym p.2 ∙ is)),
     )

@@ -1,11 +1,9 @@
-use Rattle.std.proofs.Common.{◌↔◌, List, map, subst}
+use Rattle.std.proofs.Common.{◌↔◌, List, map}
 use Rattle.std.proofs.lemmas.Int.{to_z-of_z}
 use mir.Syntax.{w64}
-use Rattle.fv_declare_schema.specs.Ordered.{AreOrdered}
 use Rattle.fv_graph.specs.Graph.{IsIn}
 use Rattle.fv_groups.specs.Tables.{indices}
 use Rattle.fv_model.specs.Views.{bundle_view}
-use Rattle.fv_walk_request.proofs.Apart.{told_apart}
 use Rattle.fv_walk_request.specs.Requests.{request_of}
 use Rattle.fv_walk_traces.specs.Violations.{Violation, IsViolation}
 use Rattle.fv_validate.specs.ViolationView.{violation_view}
@@ -15,38 +13,27 @@ use Rattle.fv_validate.proofs.Reports.{same_listed}
 use Rattle.fv_walk.specs.FailureView.{failure_view}
 use Rattle.fv_validate.proofs.validating.validate.Goals as goal
 
-pub listing_of-requires-clause-apart : goal.listing_of-requires-clause-apart
-listing_of-requires-clause-apart g c =
-    let m = g.R.RuleSet.meaning in
-    let ds = c.args.rulebook.now in
-    let b = bundle_view c.args.bundle.now in
-    let asked = indices c.args.asked.now in
-    let fs : List Violation = map failure_view c.in_ok-failures.failures.items in
-    let exact : (v : Violation) → IsIn fs v ↔ IsViolation (request_of m ds c.args.now b asked) v = rw (to_z-of_z w64 c.args.now c.ranges.now) at c.in_ok-failures.ensures.violations in
-    let ordered : AreOrdered ds = subst AreOrdered c.schema-schema.ensures c.occurrences.ensures.ordered in
-    λ v w one other path node. told_apart m ds c.args.now b asked ordered c.requires.typed v w ((exact v).0 one) ((exact w).0 other) path node
-
 pub returns-clause-listing : goal.returns-clause-listing
-returns-clause-listing g c =
+returns-clause-listing g c = λ typed.
     let m = g.R.RuleSet.meaning in
     let ds = c.args.rulebook.now in
     let b = bundle_view c.args.bundle.now in
     let asked = indices c.args.asked.now in
     let fs : List Violation = map failure_view c.in_ok-failures.failures.items in
     let vs : List Reported = map violation_view c.in_ok-listing_of.field-0.items in
-    let exact : (v : Violation) → IsIn fs v ↔ IsViolation (request_of m ds c.args.now b asked) v = rw (to_z-of_z w64 c.args.now c.ranges.now) at c.in_ok-failures.ensures.violations in
+    let exact : (v : Violation) → IsIn fs v ↔ IsViolation (request_of m ds c.args.now b asked) v = rw (to_z-of_z w64 c.args.now c.ranges.now) at (c.in_ok-failures.ensures.violations typed) in
     let list : AreListed ds.occurrences ds.messages (IsIn fs) vs = rw (c.occurrences.ensures.uses, c.messages.ensures, c.schema-schema.ensures) at c.in_ok-listing_of.ensures in
     same_listed ds.occurrences ds.messages fs (IsViolation (request_of m ds c.args.now b asked)) vs exact list
 
 pub returns-clause-alike : goal.returns-clause-alike
-returns-clause-alike g c =
+returns-clause-alike g c = λ typed.
     let m = g.R.RuleSet.meaning in
     let ds = c.args.rulebook.now in
     let b = bundle_view c.args.bundle.now in
     let asked = indices c.args.asked.now in
     let fs : List Violation = map failure_view c.in_ok-failures.failures.items in
     let vs : List Reported = map violation_view c.in_ok-listing_of.field-0.items in
-    let exact : (v : Violation) → IsIn fs v ↔ IsViolation (request_of m ds c.args.now b asked) v = rw (to_z-of_z w64 c.args.now c.ranges.now) at c.in_ok-failures.ensures.violations in
+    let exact : (v : Violation) → IsIn fs v ↔ IsViolation (request_of m ds c.args.now b asked) v = rw (to_z-of_z w64 c.args.now c.ranges.now) at (c.in_ok-failures.ensures.violations typed) in
     let list : AreListed ds.occurrences ds.messages (IsIn fs) vs = rw (c.occurrences.ensures.uses, c.messages.ensures, c.schema-schema.ensures) at c.in_ok-listing_of.ensures in
     let listed : IsListing m ds c.args.now b asked vs = same_listed ds.occurrences ds.messages fs (IsViolation (request_of m ds c.args.now b asked)) vs exact list in
     λ other is. one_listing ds.occurrences ds.messages (IsViolation (request_of m ds c.args.now b asked)) other vs is listed

@@ -1,7 +1,7 @@
 use Rattle.sqlite.specs.Held.{state}
 use Rattle.std.proofs.lemmas.Int.{to_z-of_z}
 use mir.Syntax.{w64}
-use Rattle.fv_engine.proofs.Laws.{shows_what_was_put, changes_no_get, lists_some, may_change_places, fails_where_shut, leaves_nothing_to_list}
+use Rattle.fv_engine.proofs.Laws.{shows_what_was_put, changes_no_get, lists_some, may_change_places, fails_where_shut, fails_for_room_alone, leaves_nothing_to_list}
 use Rattle.fv_engine.proofs.Lifts.{long_becomes, short_becomes}
 use Rattle.fv_engine.proofs.engine.Engine.run.Goals as goal
 
@@ -48,3 +48,9 @@ returns-then-line-gt-LIMIT-clause-nothing g c = leaves_nothing_to_list (state g.
 
 pub returns-clause-nothing : goal.returns-clause-nothing
 returns-clause-nothing g c = leaves_nothing_to_list (state g.S.Store) g.R.RuleSet.meaning c.args.line.now _ _ c.args.self.now _ (returns-clause-step g c)
+
+pub returns-then-line-gt-LIMIT-clause-room : goal.returns-then-line-gt-LIMIT-clause-room
+returns-then-line-gt-LIMIT-clause-room g c = fails_for_room_alone (state g.S.Store) g.R.RuleSet.meaning c.args.line.now _ _ c.args.self.now _ (returns-then-line-gt-LIMIT-clause-step g c)
+
+pub returns-clause-room : goal.returns-clause-room
+returns-clause-room g c = fails_for_room_alone (state g.S.Store) g.R.RuleSet.meaning c.args.line.now _ _ c.args.self.now _ (returns-clause-step g c)

@@ -13,6 +13,9 @@ pub returns-clause-done : goal.returns-clause-done
 returns-clause-done g c =
     rw c.self.view_is at (commit_done (state g.S.Store c.self.inside.connection) (state g.S.Store c.commit.new.conn) c.commit.ensures.frame c.args.changes.now c.in_ok-commit.ensures.done)
 
+pub returns-clause-room : goal.returns-clause-room
+returns-clause-room g c = λ clean k holds. rw c.self.view_is at (c.in_ok-commit.ensures.room clean k.bytes k.records) (keeps_of (state g.S.Store c.args.self.now) k holds)
+
 pub returns-in_err-commit-clause-undone : goal.returns-in_err-commit-clause-undone
 returns-in_err-commit-clause-undone g c =
     rw c.self.view_is at (commit_undone (state g.S.Store c.self.inside.connection) (state g.S.Store c.commit.new.conn) c.commit.ensures.frame c.from_residual.result c.in_err-commit.ensures.undone)

@@ -8,7 +8,7 @@ use Rattle.fv_model_types.specs.Types.{TypeUse, DeclaredFields, Declared, type_u
 use Rattle.fv_model.specs.Bundles.{Thing}
 use Rattle.fv_model.specs.Single.{single_field, single_thing, single_of}
 use Rattle.fv_model.specs.Views.{types_view}
-use Rattle.fv_model.proofs.singles.single.Goals as goal
+use Rattle.fv_model.proofs.singles.written_single.Goals as goal
 
 -- an object of the type of a number, with these data beside its fields
 abbrev with_data : Declared → ℕ → List Data → Thing

@@ -1,0 +1,16 @@
+-- How often an input was read.
+use Rattle.std.specs.Prelude.{◌≡◌, ℕ, zero, suc, ◌≤◌, List, length, Option}
+use Rattle.std.specs.Io.KnownBytes.{Consumes}
+
+-- the input lost at most so many known bytes, and only from its front
+abbrev pub GivesAtMost : ℕ → Option (List ℕ) → Option (List ℕ) → Type 0
+GivesAtMost most old new = (bytes : List ℕ) × (length bytes ≤ most) × Consumes old new bytes
+
+-- so many reads, one after another, where this is what one read does
+abbrev pub ReadTimes : {I : Type 0} → (I → I → Type 0) → ℕ → I → I → Type 0
+ReadTimes reads zero old new = new ≡ old
+ReadTimes {I} reads (suc n) old new = (mid : I) × ReadTimes reads n old mid × reads mid new
+
+-- at most so many reads
+abbrev pub ReadAtMost : {I : Type 0} → (I → I → Type 0) → ℕ → I → I → Type 0
+ReadAtMost reads most old new = (times : ℕ) × (times ≤ most) × ReadTimes reads times old new
