@@ -1,8 +1,6 @@
 //! What fails in one object by its own constraints: an object of a type that has one datum, and null in
 //! its other fields.
-ghost use Rattle.std.specs.Prelude.{◌<◌, length, IfOk};
-ghost use Rattle.fv_datum.specs.View.{view};
-ghost use Rattle.fv_model.specs.Writing.{IsWritten};
+ghost use Rattle.std.specs.Prelude.{◌<◌, length};
 
 use crate::judged::book_of;
 use crate::strict::Strict;
@@ -60,9 +58,7 @@ pub(crate) fn datum_of(
     fields: &Fields,
     field: &str,
     value: &str,
-) -> Result<Datum, Fail>
-    ensures { IfOk result (λ d. IsWritten (view d)) }
-{
+) -> Result<Datum, Fail> {
     let value = Value::from_str(alloc, value)?;
     match fields.get(field) {
         Some(held) => Ok(read_value(alloc, held, &value)?),
