@@ -1,5 +1,5 @@
 /* The statements of a put and nothing else, over the system's SQLite: reads lines `ID<tab>FORM<tab>BUNDLE`
-   and writes each as a record, one transaction each, as formd does. loop FILE < LINES */
+   and writes each as a record, so many in one transaction, as formd does. loop FILE COUNT < LINES */
 #include <sqlite3.h>
 #include <stdio.h>
 #include <stdlib.h>
@@ -32,7 +32,8 @@ static void step(sqlite3_stmt *made) {
 }
 
 int main(int count, char **words) {
-    if (count != 2 || sqlite3_open(words[1], &base) != SQLITE_OK) {
+    int together = count == 3 ? atoi(words[2]) : 0, open = 0;
+    if (together < 1 || sqlite3_open(words[1], &base) != SQLITE_OK) {
         return 1;
     }
     run("PRAGMA journal_mode = WAL");
@@ -51,7 +52,9 @@ int main(int count, char **words) {
             parts[part] = strchr(parts[part - 1], '\t');
             *parts[part]++ = 0;
         }
-        step(begin);
+        if (open == 0) {
+            step(begin);
+        }
         sqlite3_stmt *uses[2] = {update, insert};
         for (int use = 0; use < 2; use++) {
             for (int part = 0; part < 3; part++) {
@@ -62,6 +65,12 @@ int main(int count, char **words) {
                 break;
             }
         }
+        open = (open + 1) % together;
+        if (open == 0) {
+            step(commit);
+        }
+    }
+    if (open > 0) {
         step(commit);
     }
     sqlite3_finalize(begin);

@@ -6,11 +6,10 @@
     mix.py --long            peak memory of a million commands beside that of ten thousand
     mix.py --program FILE    with another build of formd than the one that `make` leaves
 
-In a hundred commands 60 are puts, 12 sets, 12 gets, 8 checks, 3 lists of 100 ids, and 5 batches of ten puts. Shapes: the demonstration's one
-object, an order with ten lines, and a graph of twelve objects that refer to one another in a circle through valid references. Each set and put
-has other data than the one before it of its id. All three commit each change by itself, durably (WAL, synchronous FULL). Python parses each line,
-checks the same constraints by hand and makes the texts; its replies have to be those of formd. The loop in C (`mix.c`, needs gcc and SQLite's
-header) gets the statements' values ready-made and runs the same SQL.
+In a hundred commands 60 are puts, 12 sets, 12 gets, 8 checks, 3 lists of 100 ids, and 5 batches of ten puts, of the shapes of `shapes.py`. Each set
+and put has other data than the one before it of its id. All three commit each change by itself, durably (WAL, synchronous FULL). Python parses
+each line, checks the same constraints (by pydantic where it is installed) and makes the texts; its replies have to be those of formd. The loop in C
+(`mix.c`, needs gcc and SQLite's header) gets the statements' values ready-made and runs the same SQL.
 """
 
 import argparse
@@ -21,53 +20,8 @@ import sys
 import tempfile
 from pathlib import Path
 
-from bench import DEMONSTRATION, FORMD, HERE, ORDER, compact, item, item_holds, order, order_holds, spent, timed, total
-
-GRAPH = {
-    "types": {
-        "Part": {
-            "fields": {
-                "code": {"type": "text", "constraints": [{"constraint": "NotNull"}, {"constraint": "Size", "with": {"min": 1, "max": 12}}]},
-                "next": {"type": {"ref": "Part"}, "valid": True},
-                "weight": {"type": "integer", "constraints": [{"constraint": "Min", "with": {"value": 1}}]},
-            }
-        }
-    },
-    "forms": {"graph": {"root": "Part"}},
-}
-
-
-def graph(number):
-    names = [f"p{at:02}" for at in range(12)]
-    objects = {name: {"type": "Part", "fields": {"code": f"C-{(number + at) % 9973}", "next": names[(at + 1) % 12], "weight": number % 89 + 1}} for at, name in enumerate(names)}
-    return {"root": "p00", "objects": objects}
-
-
-def graph_holds(objects, root):
-    seen, name = set(), root
-    while name is not None and name not in seen:
-        seen.add(name)
-        fields = objects[name]["fields"]
-        code, weight = fields.get("code"), fields.get("weight")
-        if code is None or not 1 <= len(code) <= 12 or (weight is not None and weight < 1):
-            return False
-        name = fields.get("next")
-    return True
-
-
-# a shape's declarations, form and bundles, and the object and field that a set changes, with its data
-SHAPES = {
-    "demonstration": (DEMONSTRATION, "item", item, ("a", "count", lambda number: number % 89 + 1)),
-    "order": (ORDER, "order", order, ("order", "customer", lambda number: f"Ada {number % 997}")),
-    "graph": (GRAPH, "graph", graph, ("p07", "weight", lambda number: number % 89 + 1)),
-}
-
-
-def holds(form, bundle):
-    if form == "graph":
-        return graph_holds(bundle["objects"], bundle["root"])
-    fields = bundle["objects"][bundle["root"]]["fields"]
-    return item_holds(fields) if form == "item" else order_holds(fields)
+from bench import FORMD, HERE, spent, timed, total
+from shapes import SHAPES, checks, compact, item
 
 
 def kinds():
@@ -121,12 +75,14 @@ FIND = "SELECT form, bundle FROM record WHERE id = ?1"
 LIST = "SELECT id FROM record WHERE form = ?1 AND id > ?2 ORDER BY id LIMIT ?3"
 
 
-def baseline(file, lines):
-    """The same by hand, as a service in Python would: it runs in a process of its own."""
+def baseline(file, shape, lines):
+    """The same in Python, as a service would: it runs in a process of its own."""
     base = sqlite3.connect(file, isolation_level=None)
     base.execute("PRAGMA journal_mode = WAL")
     base.execute("PRAGMA synchronous = FULL")
     base.execute("CREATE TABLE record (id TEXT NOT NULL PRIMARY KEY, form TEXT NOT NULL, bundle TEXT NOT NULL)")
+
+    holds = checks(shape)
 
     def found(key):
         form, text = base.execute(FIND, (key,)).fetchone()
@@ -135,7 +91,7 @@ def baseline(file, lines):
     def keep(changes):
         base.execute("BEGIN IMMEDIATE")
         for key, form, bundle in changes:
-            if not holds(form, bundle):
+            if not holds(bundle):
                 raise SystemExit("the lines are meant to be taken")
             row = (key, form, compact(bundle))
             if base.execute(UPDATE, row).rowcount == 0:
@@ -159,7 +115,7 @@ def baseline(file, lines):
                 keep([(command["id"], form, bundle)])
             elif what == "get":
                 reply = {"bundle": bundle, "form": form, "id": command["id"], "ok": "get"}
-            elif holds(form, bundle):
+            elif holds(bundle):
                 reply["violations"] = []
         sys.stdout.write(compact(reply) + "\n")
         sys.stdout.flush()
@@ -190,7 +146,7 @@ def statements(shape, count):
 
 
 def words_of(program, folder, shape):
-    (folder / "d.json").write_text(compact(SHAPES[shape][0]))
+    (folder / "d.json").write_text(compact(SHAPES[shape].declarations))
     return [program, "serve", "--declarations", folder / "d.json", "--database", folder / "g.db", "--now", "0"]
 
 
@@ -206,7 +162,7 @@ def seconds(program, count):
                 for at in range(3):
                     with tempfile.TemporaryDirectory(dir=where) as name:
                         folder = Path(name)
-                        words = (words_of(program, folder, shape), [sys.executable, __file__, "--baseline", folder / "g.db"], [loop, folder / "g.db"])[at]
+                        words = (words_of(program, folder, shape), [sys.executable, __file__, "--shape", shape, "--baseline", folder / "g.db"], [loop, folder / "g.db"])[at]
                         found.append(timed(words, rows if at == 2 else lines))
                 (ours, our_peak, output), (python, python_peak, wanted), (bare, bare_peak, _) = found
                 if output != wanted:
@@ -251,9 +207,10 @@ def main():
     words.add_argument("--count", type=int, default=20000)
     words.add_argument("--program", type=Path, default=FORMD)
     words.add_argument("--baseline")
+    words.add_argument("--shape", choices=SHAPES)
     given = words.parse_args()
     if given.baseline:
-        baseline(given.baseline, sys.stdin)
+        baseline(given.baseline, given.shape, sys.stdin)
     elif given.pages:
         pages(given.program.resolve())
     elif given.long:

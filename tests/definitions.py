@@ -4,8 +4,10 @@
     tests/definitions.py CRATE FUNCTION .. [--list]      as in: tests/definitions.py fv_engine serve open
 
 It begins at the names in the calls' clauses and follows each definition of the crates' specs/ to the
-definitions that it names; the libraries of the toolchain are the ground. It prints how many lines
-these definitions have, with the comments over them, and in how many files they stand.
+definitions that it names, through names that are handed on by `pub use`; the libraries of the toolchain
+are the ground. It prints how many lines these definitions have, with the comments over them, and in how
+many files they stand; with --list first the names in each file, with --print the definitions
+themselves, file by file.
 """
 import os
 import re
@@ -14,6 +16,7 @@ import sys
 ROOT = os.path.join(os.path.dirname(os.path.abspath(__file__)), "..", "crates")
 IMPORT = re.compile(r"use Rattle\.([\w.]+?)(?:\.\{([^}]*)\}| as (\w+))")
 BEGINS = re.compile(r"^(?:unfoldable |abbrev )?(?:pub )?(?:(record|data|module) )?([^\s:(]+)(?= .*(?::|$)|\s*:)")
+MUTUAL = ("mutual", "abbrev mutual")
 WORD = re.compile(r"[^\s(){}\[\],;.]+(?:\.[^\s(){}\[\],;.]+)*")
 
 
@@ -34,11 +37,15 @@ def definitions_of(path):
     found, comments, name = {}, [], None
     with open(path, encoding="utf-8") as file:
         lines = file.read().split("\n")
+    mutual = False
     for line in lines[1:]:
-        if line.startswith("use ") or line.startswith("pub use ") or not line.strip() or line == "mutual":
+        # what stands in a mutual block is two columns further in
+        mutual = line in MUTUAL or (mutual and (line.startswith("  ") or not line.strip()))
+        if line.startswith("use ") or line.startswith("pub use ") or not line.strip() or line in MUTUAL:
             if not line.strip():
                 comments = []
             continue
+        line = line.removeprefix("  ") if mutual else line
         if line.startswith("-- "):
             comments.append(line)
             continue
@@ -54,16 +61,17 @@ def definitions_of(path):
 
 
 def modules():
-    """The modules of specs/ by their names, each with its imports, its definitions and its path."""
+    """The modules of specs/ by their names, each with its imports, its definitions, its path and what it hands on."""
     found = {}
     for crate in sorted(os.listdir(ROOT)):
         folder = os.path.join(ROOT, crate, "specs")
         for file in sorted(os.listdir(folder)) if os.path.isdir(folder) else []:
             path = os.path.join(folder, file)
             if file.endswith(".antt") and file != "Lib.antt":
-                with open(path, encoding="utf-8") as text:
-                    imports = imports_of(text.read())
-                found[f"{crate}.specs.{file[:-5]}"] = imports, definitions_of(path), path
+                with open(path, encoding="utf-8") as file:
+                    text = file.read()
+                handed_on = imports_of("\n".join(line for line in text.split("\n") if line.startswith("pub use ")))
+                found[f"{crate}.specs.{path.rsplit('/', 1)[1][:-5]}"] = imports_of(text), definitions_of(path), path, handed_on
     return found
 
 
@@ -95,13 +103,23 @@ def needed(crate, functions):
             for target in (names.get(parts[0]), (module, parts[0]) if parts[0] in own else None):
                 if not target:
                     continue
-                place, name = target[0], target[1] or (parts[1] if len(parts) > 1 else None)
-                if place in known and name:
-                    name = name if name in known[place][1] else holder(known[place][1], name)
-                    if name and (place, name) not in seen:
-                        seen.add((place, name))
-                        waiting.append(("\n".join(known[place][1][name]), known[place][0], place))
+                found = stands_at(known, target[0], target[1] or (parts[1] if len(parts) > 1 else None))
+                if found and found not in seen:
+                    seen.add(found)
+                    place, name = found
+                    waiting.append(("\n".join(known[place][1][name]), known[place][0], place))
     return seen, known
+
+
+def stands_at(known, place, name):
+    """The module and the definition in which a name of a module stands."""
+    while place in known and name:
+        _, definitions, _, handed_on = known[place]
+        name_here = name if name in definitions else holder(definitions, name)
+        if name_here:
+            return place, name_here
+        place, name = handed_on.get(name, (None, None))
+    return None
 
 
 def holder(definitions, name):
@@ -113,15 +131,21 @@ def holder(definitions, name):
 
 
 def main():
-    crate, *functions = (word for word in sys.argv[1:] if word != "--list")
+    crate, *functions = (word for word in sys.argv[1:] if not word.startswith("--"))
     seen, known = needed(crate, functions)
-    lines = {}
+    names = {}
     for place, name in seen:
-        lines[place] = lines.get(place, 0) + len(known[place][1][name])
-    if "--list" in sys.argv:
-        for place, count in sorted(lines.items(), key=lambda it: -it[1]):
-            names = sorted(name for where, name in seen if where == place)
-            print(f"{count:5} {place}: {', '.join(names)}")
+        names.setdefault(place, []).append(name)
+    lines = {place: sum(len(known[place][1][name]) for name in own) for place, own in names.items()}
+    for place, count in sorted(lines.items(), key=lambda it: -it[1]):
+        if "--list" in sys.argv:
+            print(f"{count:5} {place}: {', '.join(sorted(names[place]))}")
+    if "--print" in sys.argv:
+        for place in sorted(names):
+            print(f"\n{os.path.relpath(known[place][2], os.path.dirname(ROOT))}\n")
+            for name, text in known[place][1].items():
+                if name in names[place]:
+                    print("\n".join(text) + "\n")
     print(f"{crate} {', '.join(functions)}: {sum(lines.values())} lines of definitions in {len(lines)} files")
 
 

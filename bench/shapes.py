@@ -1,0 +1,244 @@
+"""The shapes of records that are put, and the same checks in Python: by pydantic where it is installed, else by hand.
+
+Demonstration: one object (129 bytes a line). Order: an order that names ten lines, which aren't validated (1.7 KB). Patterns: an order whose ten lines are
+validated, its number and their articles under patterns: eleven short texts (1.4 KB). Graph: twelve objects that refer to one another in a circle, each
+validated (0.9 KB).
+"""
+
+import json
+import re
+from typing import Callable, NamedTuple
+
+
+class Shape(NamedTuple):
+    declarations: dict
+    form: str
+    bundle: Callable[[int], dict]
+    # the object and field that a set changes, and its data
+    change: tuple[str, str, Callable[[int], object]]
+
+
+def compact(value):
+    return json.dumps(value, separators=(",", ":"), sort_keys=True, ensure_ascii=False)
+
+
+NOT_NULL = {"constraint": "NotNull"}
+NOT_BLANK = {"constraint": "NotBlank"}
+POSITIVE_OR_ZERO = {"constraint": "PositiveOrZero"}
+AT_LEAST_ONE = {"constraint": "Min", "with": {"value": 1}}
+
+
+def size(**limits):
+    return {"constraint": "Size", "with": limits}
+
+
+def pattern(regexp):
+    return {"constraint": "Pattern", "with": {"regexp": regexp}}
+
+
+def field(kind, *constraints, **more):
+    return {"type": kind, **({"constraints": list(constraints)} if constraints else {}), **more}
+
+
+DEMONSTRATION = {
+    "types": {"Item": {"fields": {"count": field("integer", AT_LEAST_ONE), "name": field("text", NOT_NULL, size(min=1, max=3))}}},
+    "forms": {"item": {"root": "Item"}},
+}
+
+
+def order_of(number, article, line):
+    """Declarations of an order with ten lines: the constraints of its number and of a line's article, and what a line's place has."""
+    return {
+        "types": {
+            "Order": {
+                "fields": {
+                    "city": field("text", NOT_BLANK),
+                    "customer": field("text", NOT_BLANK, size(max=80)),
+                    "number": field("text", NOT_NULL, *number),
+                    "placed": field("date", NOT_NULL),
+                    "total": field("decimal", NOT_NULL, POSITIVE_OR_ZERO),
+                    **{f"line{at}": field({"ref": "Line"}, **line) for at in range(10)},
+                }
+            },
+            "Line": {
+                "fields": {
+                    "article": field("text", *article),
+                    "name": field("text", NOT_BLANK),
+                    "price": field("decimal", NOT_NULL, POSITIVE_OR_ZERO),
+                    "quantity": field("integer", AT_LEAST_ONE),
+                }
+            },
+        },
+        "forms": {"order": {"root": "Order"}},
+    }
+
+
+ORDER = order_of([size(min=8, max=8)], [NOT_BLANK], {})
+PATTERNS = order_of([pattern("[0-9]{8}")], [NOT_NULL, pattern("[A-Z]{3}-[0-9]{4}")], {"valid": True})
+GRAPH = {
+    "types": {
+        "Part": {
+            "fields": {
+                "code": field("text", NOT_NULL, size(min=1, max=12)),
+                "next": field({"ref": "Part"}, valid=True),
+                "weight": field("integer", AT_LEAST_ONE),
+            }
+        }
+    },
+    "forms": {"graph": {"root": "Part"}},
+}
+
+
+def item(number):
+    return {"root": "a", "objects": {"a": {"type": "Item", "fields": {"count": number % 97 + 1, "name": "abc"}}}}
+
+
+def order_bundle(number, article, name):
+    fields = {"number": f"{number % 10**8:08}", "customer": "Ada Lovelace", "city": "London", "placed": "2024-02-29", "total": f"{number % 900 + 100}.50"}
+    objects = {}
+    for line in range(10):
+        fields[f"line{line}"] = f"line{line}"
+        objects[f"line{line}"] = {
+            "type": "Line",
+            "fields": {"article": article(number, line), "name": name, "price": f"{line + 1}.25", "quantity": number % 7 + 1},
+        }
+    objects["order"] = {"type": "Order", "fields": fields}
+    return {"root": "order", "objects": objects}
+
+
+def order(number):
+    return order_bundle(number, lambda number, line: f"A-{number % 977:04}-{line}", "Machine screw, steel, zinc plated, M4 x 20")
+
+
+def patterned(number):
+    return order_bundle(number, lambda number, line: f"ABC-{(number * 10 + line) % 9973:04}", "Screw M4 x 20")
+
+
+def graph(number):
+    names = [f"p{at:02}" for at in range(12)]
+    objects = {name: {"type": "Part", "fields": {"code": f"C-{(number + at) % 9973}", "next": names[(at + 1) % 12], "weight": number % 89 + 1}} for at, name in enumerate(names)}
+    return {"root": "p00", "objects": objects}
+
+
+SHAPES = {
+    "demonstration": Shape(DEMONSTRATION, "item", item, ("a", "count", lambda number: number % 89 + 1)),
+    "order": Shape(ORDER, "order", order, ("order", "customer", lambda number: f"Ada {number % 997}")),
+    "patterns": Shape(PATTERNS, "order", patterned, ("order", "customer", lambda number: f"Ada {number % 997}")),
+    "graph": Shape(GRAPH, "graph", graph, ("p07", "weight", lambda number: number % 89 + 1)),
+}
+
+
+def reached(bundle, valid):
+    """The objects that are validated, in the order in which they are met: the root, and what an object names in its valid fields."""
+    objects, met, left = bundle["objects"], set(), [bundle["root"]]
+    while left:
+        name = left.pop()
+        if name not in met:
+            met.add(name)
+            found = objects[name]
+            yield found["type"], found["fields"]
+            left += [found["fields"][name] for name in valid.get(found["type"], ()) if found["fields"].get(name) is not None]
+
+
+VALID = {"demonstration": {}, "order": {}, "patterns": {"Order": [f"line{at}" for at in range(10)]}, "graph": {"Part": ["next"]}}
+
+
+def units(text):
+    return len(text.encode("utf-16-le")) // 2
+
+
+def is_text(value, least=0, most=2**31 - 1):
+    return isinstance(value, str) and least <= units(value) <= most
+
+
+def is_filled(value, most=2**31 - 1):
+    return is_text(value, 0, most) and value.strip() != ""
+
+
+def is_at_least(value, least):
+    return value is not None and float(value) >= least
+
+
+def is_count(value):
+    return value is None or value >= 1
+
+
+def order_by_hand(is_number):
+    return lambda fields: (
+        is_filled(fields.get("city"))
+        and is_filled(fields.get("customer"), 80)
+        and is_number(fields.get("number"))
+        and fields.get("placed") is not None
+        and is_at_least(fields.get("total"), 0)
+    )
+
+
+def by_hand(shape):
+    """For each type, whether an object's fields hold."""
+    number, article = re.compile(r"[0-9]{8}"), re.compile(r"[A-Z]{3}-[0-9]{4}")
+    return {
+        "demonstration": {"Item": lambda fields: is_count(fields.get("count")) and is_text(fields.get("name"), 1, 3)},
+        "order": {"Order": order_by_hand(lambda text: is_text(text, 8, 8))},
+        "patterns": {
+            "Order": order_by_hand(lambda text: text is not None and number.fullmatch(text)),
+            "Line": lambda fields: (
+                fields.get("article") is not None
+                and article.fullmatch(fields["article"])
+                and is_filled(fields.get("name"))
+                and is_at_least(fields.get("price"), 0)
+                and is_count(fields.get("quantity"))
+            ),
+        },
+        "graph": {"Part": lambda fields: is_text(fields.get("code"), 1, 12) and is_count(fields.get("weight"))},
+    }[shape]
+
+
+def by_pydantic(shape):
+    """The same by a model of each type, whose validators are compiled."""
+    from datetime import date
+    from decimal import Decimal
+    from typing import Annotated, Optional
+
+    from pydantic import ConfigDict, Field, ValidationError, create_model
+
+    filled = Annotated[str, Field(pattern=r"\S")]
+    count = (Optional[Annotated[int, Field(ge=1)]], None)
+    amount = Annotated[Decimal, Field(ge=0)]
+    name = (Optional[str], None)
+
+    def model(title, **fields):
+        made = create_model(title, __config__=ConfigDict(extra="forbid"), **{key: kind if isinstance(kind, tuple) else (kind, ...) for key, kind in fields.items()})
+
+        def holds(fields):
+            try:
+                made.model_validate(fields)
+            except ValidationError:
+                return False
+            return True
+
+        return holds
+
+    def order_model(number):
+        return model(
+            "Order", city=filled, customer=Annotated[str, Field(pattern=r"\S", max_length=80)], number=number, placed=date, total=amount, **{f"line{at}": name for at in range(10)}
+        )
+
+    return {
+        "demonstration": lambda: {"Item": model("Item", count=count, name=Annotated[str, Field(min_length=1, max_length=3)])},
+        "order": lambda: {"Order": order_model(Annotated[str, Field(min_length=8, max_length=8)])},
+        "patterns": lambda: {
+            "Order": order_model(Annotated[str, Field(pattern=r"^[0-9]{8}$")]),
+            "Line": model("Line", article=Annotated[str, Field(pattern=r"^[A-Z]{3}-[0-9]{4}$")], name=filled, price=amount, quantity=count),
+        },
+        "graph": lambda: {"Part": model("Part", code=Annotated[str, Field(min_length=1, max_length=12)], next=name, weight=count)},
+    }[shape]()
+
+
+def checks(shape):
+    """Whether a bundle of a shape holds, as a function."""
+    try:
+        by_type = by_pydantic(shape)
+    except ImportError:
+        by_type = by_hand(shape)
+    valid = VALID[shape]
+    return lambda bundle: all(by_type[kind](fields) for kind, fields in reached(bundle, valid))
