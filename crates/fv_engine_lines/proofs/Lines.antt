@@ -19,10 +19,10 @@ is_long buffer whole k long = omega (arith, ap length k, length-take 1048577 who
 pub is_whole : (buffer whole : List ℕ) → buffer ≡ kept whole → length buffer ≤ 1048576 → buffer ≡ whole
 is_whole buffer whole k short = k ∙ take_all 1048577 whole (omega (arith, ap length k, length-take 1048577 whole))
 
-pub answered : {P C : Type 0} (grows : Option (List ℕ) → Option (List ℕ) → List ℕ → Type 0) (step : Steps P) (ticks : Ticks C) (old new : Session P C) (buffer : List ℕ) (moment told : ℤ) (reply text : List ℕ)
-    → told ≡ moment → ticks old.1 moment new.1 → ((whole : List ℕ) → buffer ≡ kept whole → step old.0 whole told reply new.0) → text ≡ reply → grows old.2 new.2 (text ++ 10 ∷ [])
+pub answered : {P C : Type 0} (grows : Option (List ℕ) → Option (List ℕ) → List ℕ → Type 0) (step : Steps P) (ticks : Ticks C) (old new : Session P C) (buffer : List ℕ) (moment told : ℤ) (reply line : List ℕ)
+    → told ≡ moment → ticks old.1 moment new.1 → ((whole : List ℕ) → buffer ≡ kept whole → step old.0 whole told reply new.0) → line ≡ ended reply → grows old.2 new.2 line
     → (whole : List ℕ) → buffer ≡ kept whole → Answered grows step ticks old whole new
-answered grows step ticks old new buffer moment told reply text same_moment t s same g whole k = (text, moment, t, rw (same, ← same_moment) (s whole k), g)
+answered grows step ticks old new buffer moment told reply line same_moment t s same g whole k = (reply, moment, t, rw (← same_moment) (s whole k), rw same at g)
 
 -- what is kept of a line grows by what is kept of the longer line
 kept_on : (rest more : List ℕ) → take 1048577 (take 1048577 rest ++ more) ≡ take 1048577 (rest ++ more)

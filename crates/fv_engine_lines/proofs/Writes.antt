@@ -25,12 +25,6 @@ appends_kept (Some x) (Some y) (Some z) xs p q = q ∙ p
 pub front_all : (a b : Option (List ℕ)) (xs ys : List ℕ) → Appends a b xs → AppendsFront a b (xs ++ ys)
 front_all a b xs ys p = (xs, ys, refl, p)
 
-pub front_here : (a b : Option (List ℕ)) (xs ys : List ℕ) → AppendsFront a b xs → AppendsFront a b (xs ++ ys)
-front_here a b xs ys p = (p.0, p.1 ++ ys, ap (λ (l : List ℕ). l ++ ys) p.2 ∙ append_assoc p.0 p.1 ys, p.3)
-
-pub front_then : (a b c : Option (List ℕ)) (xs ys : List ℕ) → Appends a b xs → AppendsFront b c ys → AppendsFront a c (xs ++ ys)
-front_then a b c xs ys p q = (xs ++ q.0, q.1, ap (λ (l : List ℕ). xs ++ l) q.2 ∙ sym (append_assoc xs q.0 q.1), appends_then a b c xs q.0 p q.3)
-
 -- some more of a slice
 pub take_on : (at n : ℕ) (bs : List ℕ) → at ≤ length bs → take at bs ++ take n (drop at bs) ≡ take (at + n) bs
 take_on at n bs le =

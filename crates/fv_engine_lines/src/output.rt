@@ -1,4 +1,4 @@
-ghost use Rattle.std.specs.Prelude.{◌∷◌, [], ◌++◌, OnOk, OnErr};
+ghost use Rattle.std.specs.Prelude.{OnOk, OnErr};
 ghost use Rattle.std.specs.Io.KnownBytes.{Appends};
 ghost use Rattle.fv_engine_lines.specs.Writes.{AppendsFront};
 
@@ -24,13 +24,12 @@ pub fn write_bytes<W: Write>(writer: &mut W, bytes: &[u8]) -> Result<(), WriteFa
     Ok(())
 }
 
-/// Writes a line and its end, and flushes.
-pub fn write_line<W: Write>(writer: &mut W, text: &[u8]) -> Result<(), WriteFailed>
-    ensures ok { OnOk result (Appends (W.contents writer.old) (W.contents writer.new) (text.now ++ 10 ∷ [])) }
-    ensures err { OnErr result (AppendsFront (W.contents writer.old) (W.contents writer.new) (text.now ++ 10 ∷ [])) }
+/// Writes a line, its end among its bytes, and flushes.
+pub fn write_line<W: Write>(writer: &mut W, line: &[u8]) -> Result<(), WriteFailed>
+    ensures ok { OnOk result (Appends (W.contents writer.old) (W.contents writer.new) line.now) }
+    ensures err { OnErr result (AppendsFront (W.contents writer.old) (W.contents writer.new) line.now) }
 {
-    write_bytes(writer, text)?;
-    write_bytes(writer, b"\n")?;
+    write_bytes(writer, line)?;
     match writer.flush() {
         Ok(()) => Ok(()),
         Err(_) => Err(WriteFailed),

@@ -1,5 +1,6 @@
 ghost use Rattle.std.specs.Prelude.{◌≡◌, ℕ, ℤ, ◌<◌, List, length};
 ghost use Rattle.fv_datum.specs.Moments.{IsMoment};
+ghost use Rattle.fv_engine_lines.specs.Lines.{ended};
 
 use std::alloc::Global;
 
@@ -11,9 +12,9 @@ pub trait Text {
     /// The bytes of the line that is written, without its end.
     ghost bytes: { Self → List ℕ };
 
-    /// The line that is written, without its end.
-    fn text(&self) -> &str
-        ensures { result.now ≡ bytes self.now };
+    /// The line that is written, with its end.
+    fn line(&self) -> &str
+        ensures { result.now ≡ ended (bytes self.now) };
 }
 
 /// What answers lines.

@@ -75,7 +75,7 @@ fn answer<P: Responder, W: Write, C: Clock>(
 {
     let now = clock.now();
     let reply = reply_to(alloc, responder, line, now);
-    write_line(writer, reply.text().as_bytes())
+    write_line(writer, reply.line().as_bytes())
 }
 
 /// Takes the last bytes of a line and its end, and answers it.

@@ -11,7 +11,7 @@ use Rattle.fv_datum.specs.Lookup.{at_name}
 use Rattle.fv_datum.specs.Parsing.{json_of}
 use Rattle.fv_declare_schema.specs.Declarations.{Declarations}
 use Rattle.fv_engine_machine.specs.Keeping.{Replies, Fails, Checks, unjudged}
-use Rattle.fv_engine_machine.specs.Machines.{Machine, over, with_map, contents, Becomes}
+use Rattle.fv_engine_machine.specs.Machines.{Machine, over, with_map, contents, room_in, Becomes}
 use Rattle.fv_engine_machine.specs.Refusals.{done_by, when, first_of, is_too_long, refusal}
 use Rattle.fv_engine_command.specs.Commands as command
 use Rattle.fv_engine_command.specs.Commands.{Part, Request, too_long, not_json, shape, alone, batch, get, check, check_field, check_value, list, id_in, id_at, put_of, set_of, remove_of, parts_in, alone_of, batch_of, get_of, groups_at, check_of, check_field_of, check_value_of, limit_in, list_of, forms, or_shape, command_of, of_json, asked}
@@ -34,7 +34,7 @@ use Rattle.fv_store.specs.Lists.{Lists, beginning}
 use Rattle.fv_store.specs.Records.{Kept, Records}
 use Rattle.fv_store.specs.declared.fault.StoreFault.{StoreFault}
 use Rattle.fv_store.specs.declared.fault.StoreFault.TheVariants as store
-use Rattle.fv_store.specs.Stands.{Frame, Holds}
+use Rattle.fv_store.specs.Stands.{Frame, Holds, Stays}
 use Rattle.fv_validate.specs.Violations.{Reported}
 use Rattle.fv_validate.specs.declared.fault.ValidateFault.{ValidateFault}
 use Rattle.fv_validate.specs.declared.fault.ValidateFault.TheVariants as validate
@@ -46,7 +46,7 @@ abbrev Relation : Type 1
 Relation = Machine Records → Machine Records → Type 0
 
 pub stays_itself : (x : Machine Records) → Unchanged x x
-stays_itself x = record { declared = refl; records = refl; was_open = λ live. live; counts = omega arith; closes = λ live. inl live }
+stays_itself x = record { declared = refl; records = refl; was_open = λ live. live; counts = omega arith; closes = λ live. inl live; room = λ live. refl }
 
 module _ {H : Type 0} (held : H → State) where
   -- the same, by a relation that is weaker
@@ -88,14 +88,18 @@ module _ {H : Type 0} (held : H → State) where
   -- a call on the store
   module _ (ds : Declarations) (old new : H) (frame : Frame (held old) (held new)) where
     -- it changes no record
-    pub unchanged : (T : Relation)
+    pub unchanged : ((bytes : List ℕ) (m : Records) → Holds (held old) (contents bytes ds m) → Stays (held old) (held new)) → (T : Relation)
         → (HasCleanDisk (held new) → (bytes : List ℕ) (m : Records) → Holds (held old) (contents bytes ds m)
         → Unchanged (with_map held (over held ds old) m) (with_map held (over held ds new) m) → T (with_map held (over held ds old) m) (with_map held (over held ds new) m))
         → ((bytes : List ℕ) (m : Records) → Holds (held old) (contents bytes ds m) → Holds (held new) (contents bytes ds m)) → Becomes held (over held ds old) (over held ds new) T
-    unchanged T does undone = record {
+    unchanged untouched T does undone = record {
       declared = refl;
       clean = frame.clean;
-      related = λ c bytes m stands. (m, does c bytes m stands (record { declared = refl; records = refl; was_open = frame.was_open c; counts = frame.counts; closes = frame.closes c }), undone bytes m stands);
+      related = λ c bytes m stands. (
+        m,
+        does c bytes m stands (record { declared = refl; records = refl; was_open = frame.was_open c; counts = frame.counts; closes = frame.closes c; room = λ live. ap room_in (untouched bytes m stands c live).2 }),
+        undone bytes m stands,
+      );
     }
 
 -- ---- failures

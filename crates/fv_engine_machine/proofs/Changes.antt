@@ -12,7 +12,7 @@ use Rattle.fv_engine_machine.specs.Records.{AreJudged, OneIsOver}
 use Rattle.fv_engine_machine.proofs.Listings.{listings, one_over}
 use Rattle.fv_engine_machine.specs.Failures.{StoreHasFailed, HasRoomFor, WouldBeTaken, ChangeFails, PartsFindOut, MayFail}
 use Rattle.fv_engine_machine.specs.Keeping.{Fails, Moves, FitsWhereHeld, HasRoomOn, Keeps, Settles, change_refusal, ChangeDoes, ChangesSo, unjudged}
-use Rattle.fv_engine_machine.specs.Machines.{Machine, over, with_map, contents}
+use Rattle.fv_engine_machine.specs.Machines.{Machine, over, with_map, contents, room_in}
 use Rattle.fv_engine_machine.specs.Refusals.{done_by, first_of, made, part_refusal, refusal, told_fault, told_part, when}
 use Rattle.fv_engine_machine.specs.Step.{Unchanged, Takes, Decided, Settled, Changes, Does, Handles}
 use Rattle.fv_engine_machine.proofs.Becoming.{fails_by, stays_itself}
@@ -32,7 +32,7 @@ use Rattle.fv_engine_reply.specs.declared.answer.Refusal.TheVariants.{Shape, Too
 use Rattle.fv_store.specs.Causes.{LeavesRoom}
 use Rattle.fv_store.specs.Changes.{after_all, changed, ChangesFit}
 use Rattle.fv_store.specs.Records.{Contents, Kept, Records}
-use Rattle.fv_store.specs.Stands.{Frame, Holds}
+use Rattle.fv_store.specs.Stands.{Frame, Holds, Stays}
 use Rattle.fv_store.specs.declared.change.Change.{Change}
 use Rattle.fv_datum.specs.Ascending.{IsAscending}
 use Rattle.fv_validate.specs.declared.fault.ValidateFault.{ValidateFault}
@@ -51,17 +51,18 @@ still_unchanged x y z one two = record {
     | inl live ↦ elim (two.closes live) [ inl still ↦ inl still | inr more ↦ inr (omega (arith, more, one.counts)) ]
     | inr more ↦ inr (omega (arith, more, two.counts))
   ];
+  room = λ live. two.room live ∙ one.room (two.was_open live);
 }
 
--- nothing has changed, nor how much room is left, and then records are taken
-pub then_takes : (m : Records) (few many : ℕ) (x y z : Machine Records) → few ≤ many → y.room ≡ x.room → Unchanged x y → Takes m few y z → Takes m many x z
-then_takes m few many x y z less same one two = record {
+-- nothing has changed, and then records are taken
+pub then_takes : (m : Records) (few many : ℕ) (x y z : Machine Records) → few ≤ many → Unchanged x y → Takes m few y z → Takes m many x z
+then_takes m few many x y z less one two = record {
   declared = two.declared ∙ one.declared;
   records = two.records;
   was_open = one.was_open two.was_open;
   is_open = two.is_open;
   counts = omega (arith, one.counts, two.counts);
-  room = omega (arith, less, same, two.room);
+  room = omega (arith, less, one.room two.was_open, two.room);
 }
 
 -- the store has failed since where it has failed later
@@ -84,11 +85,12 @@ frame_still s = record { clean = λ clean. clean; was_open = λ clean live. live
 module _ {H : Type 0} (held : H → State) (ds : Declarations) (bytes : List ℕ) (m : Records) (old new : H) where
   -- nothing was written
   pub moves_not : (T : Machine Records → Machine Records → Type 0) → Frame (held old) (held new) → (Holds (held old) (contents bytes ds m) → Holds (held new) (contents bytes ds m))
+      → (Holds (held old) (contents bytes ds m) → Stays (held old) (held new))
       → (HasCleanDisk (held new) → Holds (held old) (contents bytes ds m) → Unchanged (with_map held (over held ds old) m) (with_map held (over held ds new) m)
       → T (with_map held (over held ds old) m) (with_map held (over held ds new) m)) → Moves held ds bytes m old new T
-  moves_not T frame undone does = λ clean holds. (
+  moves_not T frame undone untouched does = λ clean holds. (
     m,
-    does clean holds (record { declared = refl; records = refl; was_open = frame.was_open clean; counts = frame.counts; closes = frame.closes clean }),
+    does clean holds (record { declared = refl; records = refl; was_open = frame.was_open clean; counts = frame.counts; closes = frame.closes clean; room = λ live. ap room_in (untouched holds clean live).2 }),
     undone holds,
   )
 
@@ -197,7 +199,7 @@ module _ (means : Meanings) (now : ℤ) (parts : List Part) (what : Done) (x : M
           (subst (λ (ds : Declarations). AreJudged means ds now (standing way) ls) stay.declared judged) ascending stands touched
 
       decided : (ls : List Judged) (answer : Answer) → Decided what (length way) ls (overlay way mid.records) mid answer y → Decided what (length parts) ls (overlay way x.records) x answer y
-      decided [] answer d = (d.0, then_takes (overlay way x.records) (length way) (length parts) x mid y few room stay (subst (λ (m : Records). Takes m (length way) mid y) same_records d.1))
+      decided [] answer d = (d.0, then_takes (overlay way x.records) (length way) (length parts) x mid y few stay (subst (λ (m : Records). Takes m (length way) mid y) same_records d.1))
       decided (l ∷ ls) answer d = (d.0, still_unchanged x mid y stay d.1)
 
       has_room : HasRoomFor parts (overlay way x.records) x → HasRoomOn way mid

@@ -26,13 +26,14 @@ use Rattle.fv_validate.specs.Values.{field_use, valued}
 use Rattle.fv_validate.specs.Violations.{Reported}
 use Rattle.fv_engine_machine.specs.Asked.{Verdict, too_many_visits, listed, IsVerdict, IsFieldVerdict}
 
--- Nothing has changed, but that a failure may have shut the connection. No fault is forgotten. How much room is left isn't said.
+-- Nothing has changed, but that a failure may have shut the connection; else as much room is left. No fault is forgotten.
 pub record Unchanged (old new : Machine Records) : Type 0 where
   pub declared : new.declared ≡ old.declared
   pub records : new.records ≡ old.records
   pub was_open : IsTrue new.is_open → IsTrue old.is_open
   pub counts : old.faults ≤ new.faults
   pub closes : IsTrue old.is_open → IsTrue new.is_open ⊎ MoreFaults old.faults new.faults
+  pub room : IsTrue new.is_open → new.room ≡ old.room
 
 -- These are the records now, and what is declared is as before; the connection was open and still is. So many rowids were given out, at most.
 pub record Takes (m : Records) (given : ℕ) (old new : Machine Records) : Type 0 where

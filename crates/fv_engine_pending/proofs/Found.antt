@@ -5,6 +5,7 @@ use Rattle.std.specs.List.{AllByRecursion, list_any}
 use Rattle.std.specs.Option.{ForSome, IfSome, option_map_or}
 use Rattle.std.specs.Ordering.{match_ordering}
 use Rattle.std.proofs.lemmas.Slice.Eq.{bytes_eq-Decides}
+use Rattle.sqlite.specs.State.{State}
 use Rattle.fv_datum.proofs.Maps.{at_insert}
 use Rattle.fv_engine_command.specs.Commands.{Part}
 use Rattle.fv_datum.specs.Lookup.{at_name}
@@ -13,6 +14,7 @@ use Rattle.fv_engine_pending.specs.Fits.{Agrees, AreNeeded, AreTyped, Covers}
 use Rattle.fv_engine_pending.specs.Touched.{needed_id, needs_record, needs_at, count_needed}
 use Rattle.fv_engine_pending.specs.Ways.{Way, IsOn, left_at}
 use Rattle.fv_store.specs.Records.{Kept, Records}
+use Rattle.fv_store.specs.Stands.{Stays}
 use Rattle.fv_store.specs.Stored.{stored_view}
 use Rattle.fv_store.specs.declared.stored.Stored.{Stored}
 use Rattle.fv_model_types.specs.Types.{Declared}
@@ -25,6 +27,13 @@ on_ok P Q (Err e) more known = tt
 pub on_err : {X E : Type 0} (P : Type 0) (r : Result X E) → P → OnErr r P
 on_err P (Ok x) known = tt
 on_err P (Err e) known = known
+
+-- a database stays as it was, and then again
+pub stays_then : (a b c : State) → Stays a b → Stays b c → Stays a c
+stays_then a b c one two clean live =
+    let later = two clean live in
+    let before = one later.0 later.1 in
+    (before.0, before.1, later.2 ∙ before.2, later.3 ∙ before.3)
 
 -- ---- a record is left at an id
 

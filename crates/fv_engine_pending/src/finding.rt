@@ -8,7 +8,7 @@ ghost use Rattle.fv_engine_pending.specs.Fits.{Agrees, AreNeeded, AreTyped, Cove
 ghost use Rattle.fv_engine_pending.specs.Touched.{needed_id, needs_at, needs_record, count_needed};
 ghost use Rattle.fv_engine_pending.specs.Ways.{pending_view, IsOn};
 ghost use Rattle.fv_store.specs.Causes.{HasFailed};
-ghost use Rattle.fv_store.specs.Stands.{Frame, Holds, IsLive};
+ghost use Rattle.fv_store.specs.Stands.{Frame, Holds, IsLive, Stays};
 ghost use Rattle.fv_model_types.specs.TypesView.{types_view};
 
 use crate::pending::Pending;
@@ -50,6 +50,8 @@ fn find_record<'a, S: Alter>(
         → c.types ≡ types_view types.now → Holds (state S.Store store.old) c
         → HasFailed (state S.Store store.old) (state S.Store store.new)) }
     ensures stays { (c : _) → Holds (state S.Store store.old) c → Holds (state S.Store store.new) c }
+    ensures untouched { (c : _) → Holds (state S.Store store.old) c
+        → Stays (state S.Store store.old) (state S.Store store.new) }
     ensures same { HasCleanDisk (state S.Store store.new) → OnOk result ((c : _) → Holds (state S.Store store.old) c
         → (state S.Store store.new).now ≡ (state S.Store store.old).now) }
 {
@@ -90,6 +92,8 @@ fn find_for<'a, S: Alter>(
         → HasFailed (state S.Store store.old) (state S.Store store.new)) }
     ensures asked { OnErr result (IsTrue (needs_record (part_view part.now))) }
     ensures stays { (c : _) → Holds (state S.Store store.old) c → Holds (state S.Store store.new) c }
+    ensures untouched { (c : _) → Holds (state S.Store store.old) c
+        → Stays (state S.Store store.old) (state S.Store store.new) }
     ensures same { HasCleanDisk (state S.Store store.new) → OnOk result ((c : _) → Holds (state S.Store store.old) c
         → (state S.Store store.new).now ≡ (state S.Store store.old).now) }
 {
@@ -123,6 +127,8 @@ pub fn find_records<'a, S: Alter>(
         → HasFailed (state S.Store store.old) (state S.Store store.new)) }
     ensures asked { IfErr result (λ e. e ≡ StoreFault.Store → IsTrue (list_any needs_record (map part_view parts.now))) }
     ensures stays { (c : _) → Holds (state S.Store store.old) c → Holds (state S.Store store.new) c }
+    ensures untouched { (c : _) → Holds (state S.Store store.old) c
+        → Stays (state S.Store store.old) (state S.Store store.new) }
     ensures same { HasCleanDisk (state S.Store store.new) → OnOk result ((c : _) → Holds (state S.Store store.old) c
         → (state S.Store store.new).now ≡ (state S.Store store.old).now) }
 {

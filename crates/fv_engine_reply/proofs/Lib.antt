@@ -1,3 +1,4 @@
 pub mod Apart
+pub mod Ends
 pub mod NoFloats
 pub mod Shown

@@ -1,6 +1,8 @@
-ghost use Rattle.std.specs.Prelude.{◌≡◌, MatchResult, string_bytes};
+ghost use Rattle.std.specs.Prelude.{◌≡◌, IfOk, MatchResult, string_bytes};
+ghost use Rattle.fv_engine_lines.specs.Lines.{ended};
 ghost use Rattle.fv_engine_reply.specs.Answers.{refused};
 ghost use Rattle.fv_engine_reply.specs.AnswerView.{answer_view};
+ghost use Rattle.fv_engine_reply.specs.Content.{front, content_line};
 ghost use Rattle.fv_engine_reply.specs.Texts.{done_text, refusal_text, Tells};
 
 use crate::answer::{Answer, Done, Refusal};
@@ -11,42 +13,43 @@ use fv_engine_lines::Text;
 use std::alloc::{AllocError, Global};
 use std::marker::Model;
 
-// The texts that are there without memory.
-const LINE_TOO_LONG: &str = r#"{"error":"C1","name":"LineTooLong"}"#;
+// The lines that are there without memory.
+const LINE_TOO_LONG: &str = "{\"error\":\"C1\",\"name\":\"LineTooLong\"}\n";
 
-const NOT_JSON: &str = r#"{"error":"C2","name":"NotJson"}"#;
+const NOT_JSON: &str = "{\"error\":\"C2\",\"name\":\"NotJson\"}\n";
 
-const SHAPE: &str = r#"{"error":"C3","name":"Shape"}"#;
+const SHAPE: &str = "{\"error\":\"C3\",\"name\":\"Shape\"}\n";
 
-const UNKNOWN_FORM: &str = r#"{"error":"C4","name":"UnknownForm"}"#;
+const UNKNOWN_FORM: &str = "{\"error\":\"C4\",\"name\":\"UnknownForm\"}\n";
 
-const NO_RECORD: &str = r#"{"error":"C6","name":"NoRecord"}"#;
+const NO_RECORD: &str = "{\"error\":\"C6\",\"name\":\"NoRecord\"}\n";
 
-const UNKNOWN_GROUP: &str = r#"{"error":"C7","name":"UnknownGroup"}"#;
+const UNKNOWN_GROUP: &str = "{\"error\":\"C7\",\"name\":\"UnknownGroup\"}\n";
 
-const NO_SUCH_FIELD: &str = r#"{"error":"C8","name":"NoSuchField"}"#;
+const NO_SUCH_FIELD: &str = "{\"error\":\"C8\",\"name\":\"NoSuchField\"}\n";
 
-const TOO_MANY_VISITS: &str = r#"{"error":"C9","name":"TooManyVisits"}"#;
+const TOO_MANY_VISITS: &str = "{\"error\":\"C9\",\"name\":\"TooManyVisits\"}\n";
 
-const STORE: &str = r#"{"error":"C11","name":"Store"}"#;
+const STORE: &str = "{\"error\":\"C11\",\"name\":\"Store\"}\n";
 
-const MEMORY: &str = r#"{"error":"C12","name":"Memory"}"#;
+const MEMORY: &str = "{\"error\":\"C12\",\"name\":\"Memory\"}\n";
 
-const PUT: &str = r#"{"ok":"put"}"#;
+const PUT: &str = "{\"ok\":\"put\"}\n";
 
-const SET: &str = r#"{"ok":"set"}"#;
+const SET: &str = "{\"ok\":\"set\"}\n";
 
-const REMOVE: &str = r#"{"ok":"remove"}"#;
+const REMOVE: &str = "{\"ok\":\"remove\"}\n";
 
-const BATCH: &str = r#"{"ok":"batch"}"#;
+const BATCH: &str = "{\"ok\":\"batch\"}\n";
 
-/// The line that answers a command, without its end.
+/// The line that answers a command.
 #[derive(Drop)]
 pub struct Reply {
     content: Content,
+    ghost ends: { content_line content ≡ ended (front (content_line content)) },
 }
 
-/// A text that is there without memory, or one that was made.
+/// A line with its end: one that is there without memory, or one that was made.
 #[derive(Drop)]
 enum Content {
     Fixed(&'static str),
@@ -55,36 +58,41 @@ enum Content {
 
 impl Model for Reply {
     ghost use Rattle.std.specs.Prelude.{ℕ, List};
-    ghost use Rattle.fv_engine_reply.specs.Content.{content_text};
+    ghost use Rattle.fv_engine_reply.specs.Content.{front, content_line};
 
     ghost Value = { List ℕ };
 
-    ghost view = { λ r. content_text r.content };
+    ghost view = { λ r. front (content_line r.content) };
 }
 
 impl Reply {
-    fn fixed(text: &'static str) -> Reply
-        ensures { result ≡ text.now }
+    /// The reply of a line with its end.
+    fn fixed(line: &'static str) -> Reply
+        requires { line.now ≡ ended (front line.now) }
+        ensures { result ≡ front line.now }
     {
         Reply {
-            content: Content::Fixed(text),
+            content: Content::Fixed(line),
         }
     }
 
-    fn made(text: String) -> Reply
-        ensures { result ≡ string_bytes text }
+    /// The reply of a text.
+    pub(crate) fn made(text: String) -> Result<Reply, AllocError>
+        ensures { IfOk result (λ r. r ≡ string_bytes text) }
     {
-        Reply {
-            content: Content::Made(text),
-        }
+        let mut line = text;
+        line.push('\n')?;
+        Ok(Reply {
+            content: Content::Made(line),
+        })
     }
 
-    /// The reply of a text that was made, or the refusal for want of memory.
-    fn made_or_memory(text: Result<String, AllocError>) -> Reply
-        ensures { MatchResult text (λ s. result ≡ string_bytes s) (λ _. result ≡ refusal_text Refusal.Memory) }
+    /// A reply that was made, or the refusal for want of memory.
+    fn or_memory(reply: Result<Reply, AllocError>) -> Reply
+        ensures { MatchResult reply (λ r. result ≡ r) (λ _. result ≡ refusal_text Refusal.Memory) }
     {
-        match text {
-            Ok(text) => Reply::made(text),
+        match reply {
+            Ok(reply) => reply,
             Err(_) => Reply::fixed(MEMORY),
         }
     }
@@ -97,24 +105,22 @@ impl Reply {
         match answer {
             Answer::Done(what) => Reply::done(*what),
             Answer::Shown { id, form, bundle } => {
-                Reply::made_or_memory(record_shown(alloc, id, form.as_str(), bundle))
+                Reply::or_memory(record_shown(alloc, id, form.as_str(), bundle))
             }
-            Answer::Violated { records } => {
-                Reply::made_or_memory(violations_refused(alloc, records))
-            }
+            Answer::Violated { records } => Reply::or_memory(violations_refused(alloc, records)),
             Answer::Checked { violations } => {
-                Reply::made_or_memory(violations_listed(alloc, "check", violations))
+                Reply::or_memory(violations_listed(alloc, "check", violations))
             }
             Answer::FieldChecked { violations } => {
-                Reply::made_or_memory(violations_listed(alloc, "checkfield", violations))
+                Reply::or_memory(violations_listed(alloc, "checkfield", violations))
             }
             Answer::ValueChecked { violations } => {
-                Reply::made_or_memory(violations_listed(alloc, "checkvalue", violations))
+                Reply::or_memory(violations_listed(alloc, "checkvalue", violations))
             }
-            Answer::Ids { ids } => Reply::made_or_memory(ids_listed(alloc, ids)),
+            Answer::Ids { ids } => Reply::or_memory(ids_listed(alloc, ids)),
             Answer::Refused(why) => Reply::refused(alloc, *why),
             Answer::PartRefused { part, why } => {
-                Reply::made_or_memory(part_refused(alloc, *part, *why))
+                Reply::or_memory(part_refused(alloc, *part, *why))
             }
         }
     }
@@ -136,7 +142,7 @@ impl Reply {
         ensures { Tells result (refused why) }
     {
         match why {
-            Refusal::Bundle(fault) => Reply::made_or_memory(bundle_refused(alloc, fault)),
+            Refusal::Bundle(fault) => Reply::or_memory(bundle_refused(alloc, fault)),
             Refusal::LineTooLong => Reply::fixed(LINE_TOO_LONG),
             Refusal::NotJson => Reply::fixed(NOT_JSON),
             Refusal::Shape => Reply::fixed(SHAPE),
@@ -157,21 +163,29 @@ impl Reply {
         Reply::fixed(LINE_TOO_LONG)
     }
 
-    /// The line. It takes no memory.
+    /// The line with its end. It takes no memory.
+    pub fn line(&self) -> &str
+        ensures { result.now ≡ ended self.now }
+    {
+        match &self.content {
+            Content::Fixed(line) => line,
+            Content::Made(line) => line.as_str(),
+        }
+    }
+
+    /// The line without its end. It takes no memory.
     pub fn text(&self) -> &str
         ensures { result.now ≡ self.now }
     {
-        match &self.content {
-            Content::Fixed(text) => text,
-            Content::Made(text) => text.as_str(),
-        }
+        let line = self.line();
+        line.strip_suffix('\n').unwrap_or(line)
     }
 }
 
 impl Text for Reply {
     ghost bytes = { λ r. r };
 
-    fn text(&self) -> &str {
-        self.text()
+    fn line(&self) -> &str {
+        self.line()
     }
 }

@@ -1,4 +1,4 @@
-//! The texts of answers that are made.
+//! The replies whose texts are made.
 ghost use Rattle.std.specs.Prelude.{◌≡◌, false, IfOk, map, string_bytes};
 ghost use Rattle.fv_datum.specs.View.{view};
 ghost use Rattle.fv_model.specs.Views.{bundle_view};
@@ -12,6 +12,7 @@ ghost use Rattle.serde_json.specs.View.{view as json_view};
 ghost use Rattle.serde_json.specs.Written.{compact_text, has_float};
 
 use crate::answer::{Judged, Refusal};
+use crate::reply::Reply;
 use fv_datum::{DatumFault, write_datum};
 use fv_model::{Bundle, BundleFault};
 use fv_model_text::write_text;
@@ -20,11 +21,11 @@ use serde_json::{Value, json, push};
 use std::alloc::{AllocError, Global};
 
 /// The compact text of JSON without floats.
-fn text_of(alloc: Global, value: &Value) -> Result<String, AllocError>
+fn text_of(alloc: Global, value: &Value) -> Result<Reply, AllocError>
     requires { has_float (json_view value.now) ≡ false }
-    ensures { IfOk result (λ s. string_bytes s ≡ compact_text (json_view value.now)) }
+    ensures { IfOk result (λ r. r ≡ compact_text (json_view value.now)) }
 {
-    value.to_string(alloc)
+    Reply::made(value.to_string(alloc)?)
 }
 
 fn bundle_refused_value(alloc: Global, fault: BundleFault) -> Result<Value, AllocError>
@@ -35,8 +36,8 @@ fn bundle_refused_value(alloc: Global, fault: BundleFault) -> Result<Value, Allo
 }
 
 /// `{"error":"C5","fault":..,"name":"Bundle"}`.
-pub(crate) fn bundle_refused(alloc: Global, fault: BundleFault) -> Result<String, AllocError>
-    ensures { IfOk result (λ s. string_bytes s ≡ compact_text (bundle_refused_json fault)) }
+pub(crate) fn bundle_refused(alloc: Global, fault: BundleFault) -> Result<Reply, AllocError>
+    ensures { IfOk result (λ r. r ≡ compact_text (bundle_refused_json fault)) }
 {
     let value = bundle_refused_value(alloc, fault)?;
     text_of(alloc, &value)
@@ -118,9 +119,8 @@ fn violations_refused_value(alloc: Global, records: &[Judged]) -> Result<Value, 
 }
 
 /// `{"error":"C10","name":"Violations","records":[..]}`, with the records that have violations.
-pub(crate) fn violations_refused(alloc: Global, records: &[Judged]) -> Result<String, AllocError>
-    ensures { IfOk result (λ s. string_bytes s
-        ≡ compact_text (violations_refused_json (map judged_view records.now))) }
+pub(crate) fn violations_refused(alloc: Global, records: &[Judged]) -> Result<Reply, AllocError>
+    ensures { IfOk result (λ r. r ≡ compact_text (violations_refused_json (map judged_view records.now))) }
 {
     let value = violations_refused_value(alloc, records)?;
     text_of(alloc, &value)
@@ -151,8 +151,8 @@ pub(crate) fn violations_listed(
     alloc: Global,
     name: &str,
     violations: &[Violation],
-) -> Result<String, AllocError>
-    ensures { IfOk result (λ s. string_bytes s ≡ compact_text (violations_listed_json name.now (map violation_view violations.now))) }
+) -> Result<Reply, AllocError>
+    ensures { IfOk result (λ r. r ≡ compact_text (violations_listed_json name.now (map violation_view violations.now))) }
 {
     let value = violations_listed_value(alloc, name, violations)?;
     text_of(alloc, &value)
@@ -184,8 +184,8 @@ fn ids_value(alloc: Global, ids: &[String]) -> Result<Value, AllocError>
 }
 
 /// `{"ids":[..],"ok":"list"}`.
-pub(crate) fn ids_listed(alloc: Global, ids: &[String]) -> Result<String, AllocError>
-    ensures { IfOk result (λ s. string_bytes s ≡ compact_text (ids_json (map string_bytes ids.now))) }
+pub(crate) fn ids_listed(alloc: Global, ids: &[String]) -> Result<Reply, AllocError>
+    ensures { IfOk result (λ r. r ≡ compact_text (ids_json (map string_bytes ids.now))) }
 {
     let value = ids_value(alloc, ids)?;
     text_of(alloc, &value)
@@ -213,8 +213,8 @@ fn part_refused_value(alloc: Global, part: usize, why: Refusal) -> Result<Value,
 }
 
 /// `{"error":..,"name":..,"part":..}`, with `fault` for a bundle.
-pub(crate) fn part_refused(alloc: Global, part: usize, why: Refusal) -> Result<String, AllocError>
-    ensures { IfOk result (λ s. string_bytes s ≡ compact_text (part_refused_json part why)) }
+pub(crate) fn part_refused(alloc: Global, part: usize, why: Refusal) -> Result<Reply, AllocError>
+    ensures { IfOk result (λ r. r ≡ compact_text (part_refused_json part why)) }
 {
     let value = part_refused_value(alloc, part, why)?;
     text_of(alloc, &value)
@@ -224,8 +224,7 @@ pub(crate) fn part_refused(alloc: Global, part: usize, why: Refusal) -> Result<S
 fn quoted(alloc: Global, text: &str) -> Result<String, AllocError>
     ensures { IfOk result (λ s. string_bytes s ≡ quoted text.now) }
 {
-    let value = Value::String(String::from_str(alloc, text)?);
-    text_of(alloc, &value)
+    Value::String(String::from_str(alloc, text)?).to_string(alloc)
 }
 
 /// `{"bundle":..,"form":..,"id":..,"ok":"get"}`.
@@ -234,11 +233,14 @@ pub(crate) fn record_shown(
     id: &str,
     form: &str,
     bundle: &Bundle,
-) -> Result<String, AllocError>
-    ensures { IfOk result (λ s. string_bytes s ≡ compact_text (record_json id.now form.now (bundle_view bundle.now))) }
+) -> Result<Reply, AllocError>
+    ensures { IfOk result (λ r. r ≡ compact_text (record_json id.now form.now (bundle_view bundle.now))) }
 {
     let bundle = write_text(alloc, bundle)?;
     let form = quoted(alloc, form)?;
     let id = quoted(alloc, id)?;
-    format!(in alloc; "{{\"bundle\":{bundle},\"form\":{form},\"id\":{id},\"ok\":\"get\"}}")
+    let text = format!(in alloc;
+        "{{\"bundle\":{bundle},\"form\":{form},\"id\":{id},\"ok\":\"get\"}}"
+    )?;
+    Reply::made(text)
 }

@@ -164,6 +164,15 @@ module _ (old new : State) (clean : HasCleanDisk old) (settled : IsSettled old) 
   query_stays sql params bare (Ok rows) ok err = same_stays (still sql params old new rows.items bare ok)
   query_stays sql params bare (Err e) ok err = elim (refused_keeps sql params old new e err) [ inl same ↦ same_stays same | inr back ↦ back_stays back ]
 
+-- and so does one that is plain where the records are kept
+module _ (sql : List ℕ) (params : Row) (old new : State) (plain : IsPlain (understood store_schema sql)) (clean : HasCleanDisk old) (settled : IsSettled old) where
+  pub kept_stays : (r : Result (Vec Row Global) Error) → IfOk r (λ rows. Shown sql params old new rows.items) → IfErr r (FailsToQuery sql params old new)
+      → (d : List ℕ) (m : Records) → Keeps old d m → Stays old new
+  kept_stays (Ok rows) ok err d m keeps =
+      let was = (keeps clean (shown_open sql params old new rows.items ok)).0 in
+      same_stays old new clean settled (still sql params old new rows.items (subst (λ s. IsBare s sql) (sym was.tables.schema) (plain_is_bare store_schema sql plain)) ok)
+  kept_stays (Err e) ok err d m keeps = elim (refused_keeps sql params old new e err) [ inl same ↦ same_stays old new clean settled same | inr back ↦ back_stays old new clean settled back ]
+
 pub query_open : (sql : List ℕ) (params : Row) (old new : State) (r : Result (Vec Row Global) Error) → IfOk r (λ rows. Shown sql params old new rows.items) → IfErr r (FailsToQuery sql params old new)
     → IsTrue new.is_open → IsTrue old.is_open
 query_open sql params old new (Ok rows) ok err live = shown_open sql params old new rows.items ok

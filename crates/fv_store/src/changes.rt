@@ -1,11 +1,11 @@
 //! Changes are made in one transaction.
 ghost use Rattle.std.specs.Prelude.{◌≡◌, false, length, IfErr, None, OnOk, OnErr};
 ghost use Rattle.sqlite.specs.State.{HasCleanDisk, KeepsCommit};
-ghost use Rattle.fv_store.specs.Stands.{Frame, IsLive, Spells};
+ghost use Rattle.fv_store.specs.Stands.{Frame, IsLive, Spells, Stays};
 ghost use Rattle.sqlite.specs.Held.{state};
 ghost use Rattle.fv_store.specs.Causes.{AreShort, HasRoom, LeavesRoom, PutsShort};
 ghost use Rattle.fv_store.specs.Changes.{after, after_all};
-ghost use Rattle.fv_store.specs.Steps.{Advances, Always, Inside, IsExcused, Keeps, Makes, MakesAll};
+ghost use Rattle.fv_store.specs.Steps.{Advances, Always, Inside, IsExcused, IsSettled, Keeps, Makes, MakesAll};
 
 use crate::change::Change;
 use crate::records::{put_record, remove_record};
@@ -64,7 +64,8 @@ pub(crate) fn commit<S: Alter>(
     alloc: Global,
     changes: &[Change],
 ) -> Result<(), Error>
-    requires { conn.old.in_transaction ≡ false }
+    requires mode { conn.old.in_transaction ≡ false }
+    requires settled { IsSettled (state S.Store conn.old) }
     ensures mode { conn.new.in_transaction ≡ false }
     ensures frame { Frame (state S.Store conn.old) (state S.Store conn.new) }
     ensures limit { conn.new.step_limit ≡ conn.old.step_limit }
@@ -76,6 +77,7 @@ pub(crate) fn commit<S: Alter>(
         → LeavesRoom (length changes.now) (state S.Store conn.old).now (state S.Store conn.new).now) }
     ensures undone { OnErr result ((d : _) (m : _) → Keeps (state S.Store conn.old) d m
         → Keeps (state S.Store conn.new) d m) }
+    ensures untouched { OnErr result (Stays (state S.Store conn.old) (state S.Store conn.new)) }
     ensures cause { HasCleanDisk (state S.Store conn.new) → conn.old.step_limit ≡ None → IfErr result (λ e.
         (d : _) (m : _) → Keeps (state S.Store conn.old) d m → HasRoom (length changes.now) (state S.Store conn.old).now
         → AreShort changes.now → IsExcused (state S.Store conn.old) (state S.Store conn.new) e) }

@@ -3,9 +3,9 @@ ghost use Rattle.std.specs.Prelude.{◌≡◌, false, IsTrue, IfErr, IfOk, OnOk,
 ghost use Rattle.sqlite.specs.State.{HasCleanDisk};
 ghost use Rattle.sqlite.specs.Held.{state};
 ghost use Rattle.fv_store.specs.Excuses.{IsExcused};
-ghost use Rattle.fv_store.specs.Keeping.{Keeps};
+ghost use Rattle.fv_store.specs.Keeping.{IsSettled, Keeps};
 ghost use Rattle.fv_store.specs.Showing.{kept_text, ShowsRecord, shown_view};
-ghost use Rattle.fv_store.specs.Stands.{Frame, IsLive};
+ghost use Rattle.fv_store.specs.Stands.{Frame, IsLive, Stays};
 
 use crate::shown::{Shown, shown_in};
 use sqlite::{Alter, Connection, Error, Row, params};
@@ -27,6 +27,8 @@ fn find_record<S: Alter>(conn: &mut Connection<S>, id: &str) -> Result<Vec<Row>,
     ensures same { HasCleanDisk (state S.Store conn.new) → OnOk result ((d : _) (m : _)
         → Keeps (state S.Store conn.old) d m → (state S.Store conn.new).now ≡ (state S.Store conn.old).now) }
     ensures stays { (d : _) (m : _) → Keeps (state S.Store conn.old) d m → Keeps (state S.Store conn.new) d m }
+    ensures untouched { IsSettled (state S.Store conn.old) → (d : _) (m : _) → Keeps (state S.Store conn.old) d m
+        → Stays (state S.Store conn.old) (state S.Store conn.new) }
 {
     conn.query_all(FIND_RECORD, params![id])
 }
@@ -46,6 +48,8 @@ pub(crate) fn find<S: Alter>(conn: &mut Connection<S>, id: &str) -> Result<Optio
     ensures same { HasCleanDisk (state S.Store conn.new) → OnOk result ((d : _) (m : _)
         → Keeps (state S.Store conn.old) d m → (state S.Store conn.new).now ≡ (state S.Store conn.old).now) }
     ensures stays { (d : _) (m : _) → Keeps (state S.Store conn.old) d m → Keeps (state S.Store conn.new) d m }
+    ensures untouched { IsSettled (state S.Store conn.old) → (d : _) (m : _) → Keeps (state S.Store conn.old) d m
+        → Stays (state S.Store conn.old) (state S.Store conn.new) }
 {
     let rows = find_record(conn, id)?;
     match rows.first() {

@@ -4,10 +4,10 @@ ghost use Rattle.std.specs.List.{AllByRecursion};
 ghost use Rattle.sqlite.specs.State.{HasCleanDisk};
 ghost use Rattle.sqlite.specs.Held.{state};
 ghost use Rattle.fv_store.specs.Excuses.{IsExcused, IsRefusal};
-ghost use Rattle.fv_store.specs.Keeping.{Keeps};
+ghost use Rattle.fv_store.specs.Keeping.{IsSettled, Keeps};
 ghost use Rattle.fv_store.specs.Lists.{Lists, id_row};
 ghost use Rattle.fv_store.specs.Showing.{ShowsIds};
-ghost use Rattle.fv_store.specs.Stands.{Frame, IsLive};
+ghost use Rattle.fv_store.specs.Stands.{Frame, IsLive, Stays};
 
 use sqlite::{Alter, Connection, Error, Row, params};
 use std::alloc::{AllocError, Global};
@@ -32,6 +32,8 @@ fn find_id_rows<S: Alter>(
         (d : _) (m : _) → Keeps (state S.Store conn.old) d m
         → IsExcused (state S.Store conn.old) (state S.Store conn.new) e) }
     ensures stays { (d : _) (m : _) → Keeps (state S.Store conn.old) d m → Keeps (state S.Store conn.new) d m }
+    ensures untouched { IsSettled (state S.Store conn.old) → (d : _) (m : _) → Keeps (state S.Store conn.old) d m
+        → Stays (state S.Store conn.old) (state S.Store conn.new) }
 {
     conn.query_all(FIND_IDS, params![form, above, limit])
 }
@@ -78,6 +80,8 @@ pub(crate) fn find_ids<S: Alter>(
         (d : _) (m : _) → Keeps (state S.Store conn.old) d m
         → IsExcused (state S.Store conn.old) (state S.Store conn.new) e) }
     ensures stays { (d : _) (m : _) → Keeps (state S.Store conn.old) d m → Keeps (state S.Store conn.new) d m }
+    ensures untouched { IsSettled (state S.Store conn.old) → (d : _) (m : _) → Keeps (state S.Store conn.old) d m
+        → Stays (state S.Store conn.old) (state S.Store conn.new) }
 {
     let rows = find_id_rows(conn, form, above, limit)?;
     ids_in(alloc, &rows)

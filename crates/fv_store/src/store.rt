@@ -123,7 +123,10 @@ impl<S: Alter> Store<S> {
         ensures same { HasCleanDisk (state S.Store self.new) → OnOk result ((c : _) → Holds (state S.Store self.old) c
             → (state S.Store self.new).now ≡ (state S.Store self.old).now) }
         ensures stays { (c : _) → Holds (state S.Store self.old) c → Holds (state S.Store self.new) c }
+        ensures untouched { (c : _) → Holds (state S.Store self.old) c
+            → Stays (state S.Store self.old) (state S.Store self.new) }
     {
+        prove!(self.connection.is_autocommit());
         let shown = find(&mut self.connection, id)?;
         stored_if(alloc, types, shown)
     }
@@ -149,7 +152,10 @@ impl<S: Alter> Store<S> {
         ensures cause { HasCleanDisk (state S.Store self.new) → IfErr result (λ e. e ≡ StoreFault.Store → (c : _)
             → Holds (state S.Store self.old) c → HasFailed (state S.Store self.old) (state S.Store self.new)) }
         ensures stays { (c : _) → Holds (state S.Store self.old) c → Holds (state S.Store self.new) c }
+        ensures untouched { (c : _) → Holds (state S.Store self.old) c
+            → Stays (state S.Store self.old) (state S.Store self.new) }
     {
+        prove!(self.connection.is_autocommit());
         let above = after.unwrap_or("");
         Ok(find_ids(&mut self.connection, alloc, form, above, limit)?)
     }
@@ -170,10 +176,12 @@ impl<S: Alter> Store<S> {
         ensures room { HasCleanDisk (state S.Store self.new) → OnOk result ((c : _) → Holds (state S.Store self.old) c
             → LeavesRoom (length changes.now) (state S.Store self.old).now (state S.Store self.new).now) }
         ensures undone { OnErr result ((c : _) → Holds (state S.Store self.old) c → Holds (state S.Store self.new) c) }
+        ensures untouched { OnErr result (Stays (state S.Store self.old) (state S.Store self.new)) }
         ensures cause { HasCleanDisk (state S.Store self.new) → IfErr result (λ e. e ≡ StoreFault.Store → (c : _)
             → Holds (state S.Store self.old) c → HasRoom (length changes.now) (state S.Store self.old).now
             → AreShort changes.now → HasFailed (state S.Store self.old) (state S.Store self.new)) }
     {
+        prove!(self.connection.is_autocommit());
         Ok(changes::commit(&mut self.connection, alloc, changes)?)
     }
 

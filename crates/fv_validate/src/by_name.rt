@@ -4,16 +4,15 @@ ghost use Rattle.fv_datum.specs.Moments.{IsMoment};
 ghost use Rattle.fv_datum.specs.View.{view};
 ghost use Rattle.fv_groups.specs.Groups.{numbers_of};
 ghost use Rattle.fv_groups.specs.Judged.{unknown_in};
-ghost use Rattle.fv_model.specs.Single.{kept};
 ghost use Rattle.fv_model.specs.Views.{object_view, bundle_view};
 ghost use Rattle.fv_model.specs.WellTyped.{IsOfType, IsWellTyped};
 ghost use Rattle.fv_validate.specs.Values.{FitsField, valued};
 ghost use Rattle.fv_validate.specs.ViolationView.{violation_view};
 ghost use Rattle.fv_validate.specs.Violations.{IsListing, IsListingOfField};
 ghost use Rattle.fv_validate.specs.declared.fault.ValidateFault.{ValidateFault};
-ghost use Rattle.fv_walk.specs.FieldVisits.{HasTooManyVisitsAt};
+ghost use Rattle.fv_walk.specs.FieldVisits.{HasFewVisitsAt, HasTooManyVisitsAt};
 ghost use Rattle.fv_walk.specs.Properties.{field_number};
-ghost use Rattle.fv_walk.specs.Visits.{HasTooManyVisits};
+ghost use Rattle.fv_walk.specs.Visits.{HasFewVisits, HasTooManyVisits};
 
 use crate::fault::ValidateFault;
 use crate::violation::Violation;
@@ -43,6 +42,8 @@ pub fn validate<R: RuleSet>(
     requires { IsMoment now }
     ensures listing { IfOk result (λ v. IsWellTyped rulebook.now.types (bundle_view bundle.now)
         → IsListing R.meaning rulebook.now now (bundle_view bundle.now) (numbers_of rulebook.now.groups (map string_bytes asked.now)) (map violation_view v.items)) }
+    ensures few { OnOk result (IsWellTyped rulebook.now.types (bundle_view bundle.now)
+        → HasFewVisits rulebook.now (bundle_view bundle.now) (numbers_of rulebook.now.groups (map string_bytes asked.now))) }
     ensures known { OnOk result (unknown_in rulebook.now.groups (map string_bytes asked.now) ≡ false) }
     ensures unknown { IfErr result (λ fault. fault ≡ ValidateFault.UnknownGroup → unknown_in rulebook.now.groups (map string_bytes asked.now) ≡ true) }
     ensures many { IfErr result (λ fault. fault ≡ ValidateFault.TooManyVisits
@@ -76,6 +77,7 @@ pub fn validate_property<R: RuleSet>(
     requires { IsMoment now }
     ensures listing { IfOk result (λ v. IsOfType rulebook.now.types (object_view object.now)
         → IsListingOfField R.meaning rulebook.now now (object_view object.now) field.now (numbers_of rulebook.now.groups (map string_bytes asked.now)) (map violation_view v.items)) }
+    ensures few { OnOk result (HasFewVisitsAt rulebook.now (object_view object.now) (numbers_of rulebook.now.groups (map string_bytes asked.now))) }
     ensures known { OnOk result (unknown_in rulebook.now.groups (map string_bytes asked.now) ≡ false) }
     ensures there { OnOk result (is_some (field_number rulebook.now.types (object_view object.now).type_name field.now) ≡ true) }
     ensures unknown { IfErr result (λ fault. fault ≡ ValidateFault.UnknownGroup → unknown_in rulebook.now.groups (map string_bytes asked.now) ≡ true) }
@@ -112,6 +114,7 @@ pub fn validate_value<R: RuleSet>(
     ensures listing { IfOk result (λ v. FitsField rulebook.now.types type_name.now field.now (view datum.now)
         → IsListingOfField R.meaning rulebook.now now (valued rulebook.now.types type_name.now field.now (view datum.now)) field.now
         (numbers_of rulebook.now.groups (map string_bytes asked.now)) (map violation_view v.items)) }
+    ensures few { OnOk result (HasFewVisitsAt rulebook.now (valued rulebook.now.types type_name.now field.now (view datum.now)) (numbers_of rulebook.now.groups (map string_bytes asked.now))) }
     ensures known { OnOk result (unknown_in rulebook.now.groups (map string_bytes asked.now) ≡ false) }
     ensures there { OnOk result (is_some (field_number rulebook.now.types type_name.now field.now) ≡ true) }
     ensures unknown { IfErr result (λ fault. fault ≡ ValidateFault.UnknownGroup → unknown_in rulebook.now.groups (map string_bytes asked.now) ≡ true) }
@@ -120,7 +123,7 @@ pub fn validate_value<R: RuleSet>(
     ensures many { IfErr result (λ fault. fault ≡ ValidateFault.TooManyVisits
         → (unknown_in rulebook.now.groups (map string_bytes asked.now) ≡ false)
         × (is_some (field_number rulebook.now.types type_name.now field.now) ≡ true)
-        × HasTooManyVisitsAt rulebook.now (valued rulebook.now.types type_name.now field.now (kept (view datum.now))) (numbers_of rulebook.now.groups (map string_bytes asked.now))) }
+        × HasTooManyVisitsAt rulebook.now (valued rulebook.now.types type_name.now field.now (view datum.now)) (numbers_of rulebook.now.groups (map string_bytes asked.now))) }
 {
     let asked = groups_named(alloc, rulebook.schema().groups(), asked)?;
     fields::validate_value(alloc, rulebook, type_name, field, datum, &asked, now)

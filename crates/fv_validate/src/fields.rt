@@ -5,7 +5,6 @@ ghost use Rattle.fv_datum.specs.View.{view};
 ghost use Rattle.fv_groups.specs.Tables.{indices};
 ghost use Rattle.fv_model.specs.Views.{object_view};
 ghost use Rattle.fv_model.specs.WellTyped.{IsOfType};
-ghost use Rattle.fv_model.specs.Single.{kept};
 ghost use Rattle.fv_walk.specs.Properties.{field_number};
 ghost use Rattle.fv_walk.specs.FieldVisits.{HasFewVisitsAt, HasTooManyVisitsAt};
 ghost use Rattle.fv_validate.specs.Values.{FitsField, valued};
@@ -94,11 +93,11 @@ pub fn validate_value<R: RuleSet>(
         (valued rulebook.now.types type_name.now field.now (view datum.now)) field.now (indices asked.now) vs
         → vs ≡ map violation_view v.items) }
     ensures there { OnOk result (is_some (field_number rulebook.now.types type_name.now field.now) ≡ true) }
-    ensures few { OnOk result (HasFewVisitsAt rulebook.now (valued rulebook.now.types type_name.now field.now (kept (view datum.now))) (indices asked.now)) }
+    ensures few { OnOk result (HasFewVisitsAt rulebook.now (valued rulebook.now.types type_name.now field.now (view datum.now)) (indices asked.now)) }
     ensures absent { IfErr result (λ fault. fault ≡ ValidateFault.NoSuchField → field_number rulebook.now.types type_name.now field.now ≡ None) }
     ensures many { IfErr result (λ fault. fault ≡ ValidateFault.TooManyVisits
         → (is_some (field_number rulebook.now.types type_name.now field.now) ≡ true)
-        × HasTooManyVisitsAt rulebook.now (valued rulebook.now.types type_name.now field.now (kept (view datum.now))) (indices asked.now)) }
+        × HasTooManyVisitsAt rulebook.now (valued rulebook.now.types type_name.now field.now (view datum.now)) (indices asked.now)) }
     ensures known { IfErr result (λ fault. fault ≢ ValidateFault.UnknownGroup) }
 {
     let types = rulebook.schema().types();

@@ -13,7 +13,7 @@ ghost use Rattle.fv_walk_traces.specs.Finite.{AreSoMany};
 ghost use Rattle.fv_walk_traces.specs.Traces.{IsEntered};
 ghost use Rattle.fv_walk_traces.specs.Violations.{Violation, IsViolation};
 ghost use Rattle.fv_walk.specs.FailureView.{failure_view};
-ghost use Rattle.fv_walk.specs.Visits.{HasVisits, HasTooManyVisits};
+ghost use Rattle.fv_walk.specs.Visits.{HasVisits, HasFewVisits, HasTooManyVisits};
 ghost use Rattle.fv_walk.specs.declared.fault.WalkFault.{WalkFault};
 
 use crate::failure::Failure;
@@ -119,6 +119,8 @@ pub fn walk_counted<R: RuleSet>(
         ↔ IsViolation (request_of R.meaning rulebook.now now (bundle_view bundle.now) (numbers_of rulebook.now.groups (map string_bytes asked.now))) v) }
     ensures entered { IfOk result (λ w. IsWellTyped rulebook.now.types (bundle_view bundle.now)
         → AreSoMany (IsEntered (request_of R.meaning rulebook.now now (bundle_view bundle.now) (numbers_of rulebook.now.groups (map string_bytes asked.now)))) w.entered) }
+    ensures few { OnOk result (IsWellTyped rulebook.now.types (bundle_view bundle.now)
+        → HasFewVisits rulebook.now (bundle_view bundle.now) (numbers_of rulebook.now.groups (map string_bytes asked.now))) }
     ensures known { OnOk result (unknown_in rulebook.now.groups (map string_bytes asked.now) ≡ false) }
     ensures unknown { IfErr result (λ fault. fault ≡ WalkFault.UnknownGroup → unknown_in rulebook.now.groups (map string_bytes asked.now) ≡ true) }
     ensures many { IfErr result (λ fault. fault ≡ WalkFault.TooManyVisits
@@ -141,6 +143,8 @@ pub fn walk<R: RuleSet>(
     ensures violations { IfOk result (λ found. IsWellTyped rulebook.now.types (bundle_view bundle.now)
         → (v : Violation) → IsIn (map failure_view found.items) v
         ↔ IsViolation (request_of R.meaning rulebook.now now (bundle_view bundle.now) (numbers_of rulebook.now.groups (map string_bytes asked.now))) v) }
+    ensures few { OnOk result (IsWellTyped rulebook.now.types (bundle_view bundle.now)
+        → HasFewVisits rulebook.now (bundle_view bundle.now) (numbers_of rulebook.now.groups (map string_bytes asked.now))) }
     ensures known { OnOk result (unknown_in rulebook.now.groups (map string_bytes asked.now) ≡ false) }
     ensures unknown { IfErr result (λ fault. fault ≡ WalkFault.UnknownGroup → unknown_in rulebook.now.groups (map string_bytes asked.now) ≡ true) }
     ensures many { IfErr result (λ fault. fault ≡ WalkFault.TooManyVisits

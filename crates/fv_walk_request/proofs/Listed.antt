@@ -12,32 +12,16 @@ pub map_join : {X Y : Type 0} (f : X → Y) (xs ys : List X) → map f (xs ++ ys
 map_join f [] ys = refl
 map_join f (x ∷ xs) ys = ap (λ l. f x ∷ l) (map_join f xs ys)
 
-filter_map_none : {X Y : Type 0} (h : X → Option Y) (xs : List X) (x : X) → h x ≡ None → filter_map h (xs ++ x ∷ []) ≡ filter_map h xs
-filter_map_none h [] x e = rw e refl
-filter_map_none {X} {Y} h (y ∷ xs) x e = go (h y) refl (filter_map_none h xs x e)
+filter_map_join : {X Y : Type 0} (h : X → Option Y) (xs ys : List X) → filter_map h (xs ++ ys) ≡ filter_map h xs ++ filter_map h ys
+filter_map_join h [] ys = refl
+filter_map_join {X} {Y} h (x ∷ xs) ys = go (h x) refl (filter_map_join h xs ys)
   where
-    go : (o : Option Y) → h y ≡ o → filter_map h (xs ++ x ∷ []) ≡ filter_map h xs → filter_map h (y ∷ (xs ++ x ∷ [])) ≡ filter_map h (y ∷ xs)
+    go : (o : Option Y) → h x ≡ o → filter_map h (xs ++ ys) ≡ filter_map h xs ++ filter_map h ys → filter_map h (x ∷ (xs ++ ys)) ≡ filter_map h (x ∷ xs) ++ filter_map h ys
     go None d ih = rw d ih
     go (Some z) d ih = rw d (ap (λ l. z ∷ l) ih)
 
-filter_map_some : {X Y : Type 0} (h : X → Option Y) (xs : List X) (x : X) (z : Y) → h x ≡ Some z → filter_map h (xs ++ x ∷ []) ≡ filter_map h xs ++ z ∷ []
-filter_map_some h [] x z e = rw e refl
-filter_map_some {X} {Y} h (y ∷ xs) x z e = go (h y) refl (filter_map_some h xs x z e)
-  where
-    go : (o : Option Y) → h y ≡ o → filter_map h (xs ++ x ∷ []) ≡ filter_map h xs ++ z ∷ [] → filter_map h (y ∷ (xs ++ x ∷ [])) ≡ filter_map h (y ∷ xs) ++ z ∷ []
-    go None d ih = rw d ih
-    go (Some w) d ih = rw d (ap (λ l. w ∷ l) ih)
-
--- one part more, which is no reference
-pub links_same : (os : Things) (p : ValidPlace) (parts : List (Locus × Data)) (part : Locus × Data) → way_at os (place_of p) part ≡ None → links_among os p (parts ++ part ∷ []) ≡ links_among os p parts
-links_same os p parts part e = ap (map (λ (w : Way). (p, w))) (filter_map_none (way_at os (place_of p)) parts part e)
-
--- one that is
-pub links_more : (os : Things) (p : ValidPlace) (parts : List (Locus × Data)) (part : Locus × Data) (w : Way) → way_at os (place_of p) part ≡ Some w → links_among os p (parts ++ part ∷ []) ≡ links_among os p parts ++ (p, w) ∷ []
-links_more os p parts part w e =
-    ap (map (λ (w : Way). (p, w))) (filter_map_some (way_at os (place_of p)) parts part w e)
-    ∙ map_join (λ (w : Way). (p, w)) (filter_map (way_at os (place_of p)) parts) (w ∷ [])
-
--- a list grown by what was added
-pub grown : {X : Type 0} (old before links links' after : List X) (x : X) → before ≡ old ++ links → after ≡ before ++ x ∷ [] → links' ≡ links ++ x ∷ [] → after ≡ old ++ links'
-grown old before links links' after x e d k = d ∙ ap (λ l. l ++ x ∷ []) e ∙ append_assoc old links (x ∷ []) ∙ ap (λ l. old ++ l) (sym k)
+-- the references among some parts and others
+pub links_join : (os : Things) (p : ValidPlace) (parts others : List (Locus × Data)) → links_among os p (parts ++ others) ≡ links_among os p parts ++ links_among os p others
+links_join os p parts others =
+    ap (map (λ (w : Way). (p, w))) (filter_map_join (way_at os (place_of p)) parts others)
+    ∙ map_join (λ (w : Way). (p, w)) (filter_map (way_at os (place_of p)) parts) (filter_map (way_at os (place_of p)) others)

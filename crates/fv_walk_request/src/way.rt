@@ -1,7 +1,8 @@
 //! The references that are followed from an object.
-ghost use Rattle.std.specs.Prelude.{◌≡◌, ◌++◌, IfOk, OnOk, map, option_map};
+ghost use Rattle.std.specs.Prelude.{◌≡◌, ◌++◌, ◌∷◌, [], IfOk, OnOk, map, option_map};
 ghost use Rattle.fv_datum.specs.View.{view};
 ghost use Rattle.fv_extract.specs.FoundView.{found_view};
+ghost use Rattle.fv_extract.specs.Views.{part_view};
 ghost use Rattle.fv_declare_schema.specs.NumberViews.{valid_place_view};
 ghost use Rattle.fv_model.specs.Views.{object_view, objects_view};
 ghost use Rattle.fv_walk_request.specs.Graphs.{links_among, links_at, links_of, link_view};
@@ -46,8 +47,29 @@ fn target_of(objects: &Objects, datum: &Datum) -> Option<usize>
     number_in(objects, name_of(datum)?)
 }
 
-/// The references among the parts of an object at a valid place.
-fn ways_among<'s, 'b>(
+/// Adds the reference that a part of an object at a valid place is, if it is one.
+fn add_way<'s, 'b>(
+    ways: &mut Vec<Way<'s, 'b>>,
+    objects: &Objects,
+    place: &'s ValidPlace,
+    locus: Locus<'b>,
+    datum: &Datum,
+) -> Result<(), AllocError>
+    ensures { OnOk result (map link_view ways.new.items ≡ map link_view ways.old.items
+        ++ links_among (objects_view objects.now) (valid_place_view place.entry.now) ((map part_view locus.entry.items, view datum.now) ∷ [])) }
+{
+    if let Some(target) = target_of(objects, datum) {
+        ways.push(Way {
+            place,
+            locus,
+            target,
+        })?;
+    }
+    Ok(())
+}
+
+/// Adds the references among the parts of an object at a valid place.
+fn add_ways_among<'s, 'b>(
     ways: &mut Vec<Way<'s, 'b>>,
     objects: &Objects,
     place: &'s ValidPlace,
@@ -57,18 +79,13 @@ fn ways_among<'s, 'b>(
         ++ links_among (objects_view objects.now) (valid_place_view place.entry.now) (map found_view parts.entry.items)) }
 {
     for (locus, datum) in parts {
-        if let Some(target) = target_of(objects, datum) {
-            ways.push(Way {
-                place,
-                locus,
-                target,
-            })?;
-        }
+        add_way(ways, objects, place, locus, datum)?;
     }
     Ok(())
 }
 
-/// Adds the references that an object holds at a valid place.
+/// Adds the references that an object holds at a valid place. Where that is a field itself, nothing is
+/// taken for its one part.
 fn add_ways<'s, 'b>(
     alloc: Global,
     ways: &mut Vec<Way<'s, 'b>>,
@@ -79,12 +96,18 @@ fn add_ways<'s, 'b>(
     ensures { OnOk result (map link_view ways.new.items ≡ map link_view ways.old.items
         ++ links_at (objects_view objects.now) (object_view object.now) (valid_place_view place.entry.now)) }
 {
+    if place.steps.is_empty() {
+        return match object.field_at(place.field) {
+            Some((_, datum)) => add_way(ways, objects, place, Vec::new(alloc), datum),
+            None => Ok(()),
+        };
+    }
     let at = Place {
         field: place.field,
         steps: &place.steps,
     };
     let parts = find(alloc, object, at)?;
-    ways_among(ways, objects, place, parts)
+    add_ways_among(ways, objects, place, parts)
 }
 
 /// The references that an object holds at the valid places of its type, in order.
@@ -96,11 +119,12 @@ pub(crate) fn ways_of<'s, 'b>(
 ) -> Result<Vec<Way<'s, 'b>>, AllocError>
     ensures { IfOk result (λ v. map link_view v.items ≡ links_of schema.now (objects_view objects.now) (object_view object.now)) }
 {
-    let mut ways = Vec::new(alloc);
     let Some(type_id) = schema.types().find(object.type_name()) else {
-        return Ok(ways);
+        return Ok(Vec::new(alloc));
     };
-    for place in schema.valid_places_of(type_id) {
+    let places = schema.valid_places_of(type_id);
+    let mut ways = Vec::with_capacity(alloc, places.len())?;
+    for place in places {
         add_ways(alloc, &mut ways, objects, object, place)?;
     }
     Ok(ways)

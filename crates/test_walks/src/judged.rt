@@ -1,17 +1,15 @@
 //! What both walks find in a bundle, as texts.
-ghost use Rattle.std.specs.Prelude.{◌<◌, All, length, IfOk};
+ghost use Rattle.std.specs.Prelude.{IfOk};
 ghost use Rattle.fv_model.specs.Views.{bundle_view};
 ghost use Rattle.fv_model.specs.WellTyped.{IsWellTyped};
 
 use crate::strict::Strict;
 use fv_datum::Datum;
 use fv_declare::{Schema, read_schema};
-use fv_groups::GroupId;
 use fv_listing::list_failures;
 use fv_local::Rulebook;
 use fv_model::{Bundle, read_bundle};
-use fv_walk::by_id::{visits, walk, walk_counted};
-use fv_walk::{Failure, WalkFault};
+use fv_walk::{Failure, WalkFault, groups_named, visits, walk, walk_counted};
 use serde_json::Value;
 use std::alloc::Global;
 use std::test::Fail;
@@ -30,15 +28,13 @@ pub(crate) fn bundle_of(alloc: Global, schema: &Schema, text: &str) -> Result<Bu
     Ok(read_bundle(alloc, schema.types(), None, &value)?)
 }
 
-/// The groups of these names.
-fn groups_of(alloc: Global, schema: &Schema, names: &str) -> Result<Vec<GroupId>, Fail>
-    ensures { IfOk result (λ v. All (λ g. g.index < length schema.now.groups) v.items) }
-{
-    let mut groups = Vec::new(alloc);
+/// The names in a text.
+fn names_of(alloc: Global, names: &str) -> Result<Vec<String>, Fail> {
+    let mut asked = Vec::new(alloc);
     for name in names.split_whitespace() {
-        groups.push(schema.groups().find(name).ok_or("a group")?)?;
+        asked.push(String::from_str(alloc, name)?)?;
     }
-    Ok(groups)
+    Ok(asked)
 }
 
 /// A value that fails: null, or the name of an object.
@@ -73,31 +69,17 @@ fn failures_text(alloc: Global, failures: &[Failure]) -> Result<String, Fail> {
     Ok(text)
 }
 
-/// What the walk finds in a bundle.
-fn walked_text(
-    alloc: Global,
-    book: &Rulebook<Strict>,
-    bundle: &Bundle,
-    groups: &[GroupId],
-) -> Result<String, Fail>
-    requires typed { IsWellTyped book.now.types (bundle_view bundle.now) }
-    requires asked { All (λ g. g.index < length book.now.groups) groups.now }
-{
-    let failures = walk(alloc, book, bundle, groups, 0)?;
-    failures_text(alloc, &failures)
-}
-
 /// What the list of visits finds in a bundle.
 fn listed_text(
     alloc: Global,
     book: &Rulebook<Strict>,
     bundle: &Bundle,
-    groups: &[GroupId],
+    asked: &[String],
 ) -> Result<String, Fail>
-    requires typed { IsWellTyped book.now.types (bundle_view bundle.now) }
-    requires asked { All (λ g. g.index < length book.now.groups) groups.now }
+    requires { IsWellTyped book.now.types (bundle_view bundle.now) }
 {
-    let failures = list_failures(alloc, book, bundle, groups, 0)?;
+    let groups = groups_named(alloc, book.schema().groups(), asked)?;
+    let failures = list_failures(alloc, book, bundle, &groups, 0)?;
     failures_text(alloc, &failures)
 }
 
@@ -106,13 +88,12 @@ fn both_of(
     alloc: Global,
     book: &Rulebook<Strict>,
     bundle: &Bundle,
-    groups: &[GroupId],
+    asked: &[String],
 ) -> Result<(String, String), Fail>
-    requires typed { IsWellTyped book.now.types (bundle_view bundle.now) }
-    requires asked { All (λ g. g.index < length book.now.groups) groups.now }
+    requires { IsWellTyped book.now.types (bundle_view bundle.now) }
 {
-    let walked = walked_text(alloc, book, bundle, groups)?;
-    let listed = listed_text(alloc, book, bundle, groups)?;
+    let walked = failures_text(alloc, &walk(alloc, book, bundle, asked, 0)?)?;
+    let listed = listed_text(alloc, book, bundle, asked)?;
     Ok((walked, listed))
 }
 
@@ -121,13 +102,10 @@ fn counts_of(
     alloc: Global,
     book: &Rulebook<Strict>,
     bundle: &Bundle,
-    groups: &[GroupId],
-) -> Result<(usize, usize), WalkFault>
-    requires typed { IsWellTyped book.now.types (bundle_view bundle.now) }
-    requires asked { All (λ g. g.index < length book.now.groups) groups.now }
-{
-    let all = visits(alloc, book.schema(), bundle, groups)?;
-    let entered = walk_counted(alloc, book, bundle, groups, 0)?.entered;
+    asked: &[String],
+) -> Result<(usize, usize), WalkFault> {
+    let all = visits(alloc, book.schema(), bundle, asked)?;
+    let entered = walk_counted(alloc, book, bundle, asked, 0)?.entered;
     Ok((all, entered))
 }
 
@@ -141,11 +119,24 @@ pub(crate) fn both_found(
     let book = book_of(alloc, declarations)?;
     let schema = book.schema();
     let bundle = bundle_of(alloc, schema, bundle)?;
-    let groups = groups_of(alloc, schema, asked)?;
-    both_of(alloc, &book, &bundle, &groups)
+    both_of(alloc, &book, &bundle, &names_of(alloc, asked)?)
 }
 
-/// How many visits there are, and how many are entered.
+/// The name of a fault, where the walk has the same.
+fn fault_text(
+    alloc: Global,
+    book: &Rulebook<Strict>,
+    bundle: &Bundle,
+    asked: &[String],
+    fault: WalkFault,
+) -> Result<String, Fail> {
+    match walk(alloc, book, bundle, asked, 0) {
+        Err(other) if other == fault => Ok(String::from_str(alloc, fault.name())?),
+        _ => Ok(String::from_str(alloc, "the walk answers something else")?),
+    }
+}
+
+/// How many visits there are, and how many are entered; or the name of the fault.
 pub(crate) fn counts_text(
     alloc: Global,
     declarations: &str,
@@ -153,9 +144,10 @@ pub(crate) fn counts_text(
     asked: &str,
 ) -> Result<String, Fail> {
     let book = book_of(alloc, declarations)?;
-    let schema = book.schema();
-    let bundle = bundle_of(alloc, schema, bundle)?;
-    let groups = groups_of(alloc, schema, asked)?;
-    let (all, entered) = counts_of(alloc, &book, &bundle, &groups)?;
-    Ok(format!(in alloc; "{all} {entered}")?)
+    let bundle = bundle_of(alloc, book.schema(), bundle)?;
+    let asked = names_of(alloc, asked)?;
+    match counts_of(alloc, &book, &bundle, &asked) {
+        Ok((all, entered)) => Ok(format!(in alloc; "{all} {entered}")?),
+        Err(fault) => fault_text(alloc, &book, &bundle, &asked, fault),
+    }
 }

@@ -65,6 +65,13 @@ const MESH: &str = r#"
 => {"root":"a","objects":{"a":{"type":"K","fields":{"to":["b","c","d","e","f","g"]}},"b":{"type":"K","fields":{"to":["a","c","d","e","f","g"]}},"c":{"type":"K","fields":{"to":["a","b","d","e","f","g"]}},"d":{"type":"K","fields":{"to":["a","b","c","e","f","g"]}},"e":{"type":"K","fields":{"to":["a","b","c","d","f","g"]}},"f":{"type":"K","fields":{"to":["a","b","c","d","e","g"]}},"g":{"type":"K","fields":{"to":["a","b","c","d","e","f"]}}}}
 "#;
 
+/// Eight objects each of which lists all others: 13,700 visits.
+const CROWD: &str = r#"
+{"types":{"K":{"fields":{"to":{"type":{"list":{"type":{"ref":"K"},"valid":true}}}}}},"forms":{"f":{"root":"K"}}}
+=> {"root":"a","objects":{"a":{"type":"K","fields":{"to":["b","c","d","e","f","g","h"]}},"b":{"type":"K","fields":{"to":["a","c","d","e","f","g","h"]}},"c":{"type":"K","fields":{"to":["a","b","d","e","f","g","h"]}},"d":{"type":"K","fields":{"to":["a","b","c","e","f","g","h"]}},"e":{"type":"K","fields":{"to":["a","b","c","d","f","g","h"]}},"f":{"type":"K","fields":{"to":["a","b","c","d","e","g","h"]}},"g":{"type":"K","fields":{"to":["a","b","c","d","e","f","h"]}},"h":{"type":"K","fields":{"to":["a","b","c","d","e","f","g"]}}}}
+Nope => {"root":"a","objects":{"a":{"type":"K","fields":{"to":["b","c","d","e","f","g","h"]}},"b":{"type":"K","fields":{"to":["a","c","d","e","f","g","h"]}},"c":{"type":"K","fields":{"to":["a","b","d","e","f","g","h"]}},"d":{"type":"K","fields":{"to":["a","b","c","e","f","g","h"]}},"e":{"type":"K","fields":{"to":["a","b","c","d","f","g","h"]}},"f":{"type":"K","fields":{"to":["a","b","c","d","e","g","h"]}},"g":{"type":"K","fields":{"to":["a","b","c","d","e","f","h"]}},"h":{"type":"K","fields":{"to":["a","b","c","d","e","f","g"]}}}}
+"#;
+
 /// Both find the same in each row's bundle, for the groups in front of it, by the declarations of the
 /// first line.
 fn check_rows(rt: &impl Abort, alloc: Global, rows: &str) -> Result<(), Fail> {
@@ -84,14 +91,17 @@ fn worked_examples_are_found_by_both(rt: HostRuntime) -> Result<(), Fail> {
     Ok(())
 }
 
-/// How many visits there are, and how many are entered, by the rows of the examples, from 0 on.
-const COUNTS: [(&str, usize, &str); 6] = [
+/// How many visits there are, and how many are entered, or the fault, by the rows of the examples, from
+/// 0 on.
+const COUNTS: [(&str, usize, &str); 8] = [
     (NODES, 0, "3 3"),
     (ACCOUNTS, 3, "4 4"),
     (FAMILIES, 0, "5 4"),
     (FAMILIES, 1, "6 3"),
     (CHAIN, 0, "4095 4095"),
     (MESH, 0, "1957 1957"),
+    (CROWD, 0, "TooManyVisits"),
+    (CROWD, 1, "UnknownGroup"),
 ];
 
 /// The visits of a row are as many as is wanted.

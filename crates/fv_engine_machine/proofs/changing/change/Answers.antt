@@ -42,7 +42,7 @@ returns-in-Err-find_records g c =
     let read = rw (c.in-Ok-Some.field-0-is, c.schema-schema.ensures) at c.in-Ok-Some.ensures.read in
     let same : ds.types ≡ types_view c.types.result.now = sym (c.types.ensures ∙ ap (λ (d : Declarations). d.types) c.schema-schema.ensures) in
     let e = c.in-Err-find_records.ensures in
-    unchanged (state g.S.Store) ds _ _ e.frame _ (λ clean bytes m holds stay. change_unfound g.R.RuleSet.meaning c.args.now parts c.args.done _ read.0 c.undone.result _ stay
+    unchanged (state g.S.Store) ds _ _ e.frame (λ bytes m holds. e.untouched (contents bytes ds m) holds) _ (λ clean bytes m holds stay. change_unfound g.R.RuleSet.meaning c.args.now parts c.args.done _ read.0 c.undone.result _ stay
     (fails_so c.in-Err-find_records.fault c.undone.result _ c.undone.ensures.store c.undone.ensures.memory (λ is. (e.asked is, e.cause clean is (contents bytes ds m) same holds))))
     (λ bytes m holds. e.stays (contents bytes ds m) holds)
 
@@ -57,7 +57,7 @@ returns-in-Err-apply_all g c =
     let start = pending_view c.in-Ok.pending in
     let tells = λ (m : Records) (a : Answer). ChangesSo g.R.RuleSet.meaning c.args.now parts c.args.done (with_map (state g.S.Store) (over (state g.S.Store) ds c.args.store.now) m) a
     (with_map (state g.S.Store) (over (state g.S.Store) ds c.find_records.new.store) m) in
-    unchanged (state g.S.Store) ds _ _ e.frame _ (λ clean bytes m holds stay. elim (is_part_memory c.in-Err-apply_all.fault) [
+    unchanged (state g.S.Store) ds _ _ e.frame (λ bytes m holds. e.untouched (contents bytes ds m) holds) _ (λ clean bytes m holds stay. elim (is_part_memory c.in-Err-apply_all.fault) [
       | inl is ↦ subst (λ (a : Answer). tells m a) (sym (c.unmade.ensures.memory is)) (inr (Memory, tt, refl, stay))
       | inr other ↦
           let stops : steps_made ds.types 0 (map (staged ds.types ds.forms) parts) start ≡ Err (c.in-Err-apply_all.part, c.in-Err-apply_all.fault) = rw (read.1, again) at (c.in-Err-apply_all.ensures.made other) in
@@ -103,7 +103,7 @@ returns g c =
           let agrees = e.found mid_clean (contents bytes ds m) same holds in
           let before = with_map held (over held ds c.args.store.now) m in
           let mid = with_map held (over held ds c.find_records.new.store) m in
-          let stay : Unchanged before mid = record { declared = refl; records = refl; was_open = e.frame.was_open mid_clean; counts = e.frame.counts; closes = e.frame.closes mid_clean } in
+          let stay : Unchanged before mid = record { declared = refl; records = refl; was_open = e.frame.was_open mid_clean; counts = e.frame.counts; closes = e.frame.closes mid_clean; room = λ live. ap room_in (e.untouched (contents bytes ds m) holds mid_clean live).2 } in
           let fit : FitsWhereHeld (held c.find_records.new.store) (contents bytes ds m) way = λ now_clean live stands. (keeps ds.forms fits).1 (agreeing_fit ds.types ds.forms start m agrees (stands now_clean live).0.fit) in
           let t = settles bytes m fit clean (e.stays (contents bytes ds m) holds) in (
             t.0,

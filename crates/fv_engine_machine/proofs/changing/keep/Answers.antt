@@ -22,7 +22,7 @@ returns-in-Ok-commit-clause-moves g c = λ ds bytes m fits.
 pub returns-clause-moves : goal.returns-clause-moves
 returns-clause-moves g c = λ ds bytes m fits.
     let cause = rw c.deref.ensures.value at c.in-Err-commit.ensures.cause in
-    moves_not (state g.S.Store) ds bytes m c.args.store.now c.commit.new.self (λ x y. Keeps (pending_view c.args.pending) c.args.done x (refused c.undone.result) y) c.in-Err-commit.ensures.frame (λ holds. c.in-Err-commit.ensures.undone (contents bytes ds m) holds) (λ clean holds stay. inr (
+    moves_not (state g.S.Store) ds bytes m c.args.store.now c.commit.new.self (λ x y. Keeps (pending_view c.args.pending) c.args.done x (refused c.undone.result) y) c.in-Err-commit.ensures.frame (λ holds. c.in-Err-commit.ensures.undone (contents bytes ds m) holds) (λ holds. c.in-Err-commit.ensures.untouched) (λ clean holds stay. inr (
       c.undone.result,
       fails_so c.in-Err-commit.fault c.undone.result _ c.undone.ensures.store c.undone.ensures.memory (λ is room. cause clean is (contents bytes ds m) holds
           (room_for (state g.S.Store c.args.store.now).now (length c.in-Ok.changes.items) (subst (λ (k : ℕ). k < room_in (state g.S.Store c.args.store.now).now) (sym c.in-Ok.ensures.count) room.0)) (c.in-Ok.ensures.short room.1)),

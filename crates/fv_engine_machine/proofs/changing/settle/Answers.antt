@@ -1,4 +1,4 @@
-use Rattle.std.proofs.Common.{◌≡◌, ℕ, [], length, map, sym, ◌∙◌, arith}
+use Rattle.std.proofs.Common.{◌≡◌, ℕ, [], length, map, refl, sym, ◌∙◌, arith}
 use Rattle.std.proofs.lemmas.Grind.{common_steps}
 use Rattle.std.proofs.lemmas.Int.{to_z-of_z}
 use mir.Syntax.{w64}
@@ -14,7 +14,7 @@ use Rattle.fv_engine_machine.proofs.changing.settle.Goals as goal
 
 pub returns-in-Err-clause-moves : goal.returns-in-Err-clause-moves
 returns-in-Err-clause-moves g c = λ bytes m fits.
-    moves_not (state g.S.Store) c.args.book.now bytes m c.args.store.now c.args.store.now (λ x y. Settles g.R.RuleSet.meaning c.args.now (pending_view c.args.pending) c.args.done x (refused c.unjudged.result) y) (frame_still _) (λ holds. holds) (λ clean holds stay.
+    moves_not (state g.S.Store) c.args.book.now bytes m c.args.store.now c.args.store.now (λ x y. Settles g.R.RuleSet.meaning c.args.now (pending_view c.args.pending) c.args.done x (refused c.unjudged.result) y) (frame_still _) (λ holds. holds) (λ holds clean live. (clean, live, refl, refl)) (λ clean holds stay.
     rw c.unjudged.ensures (settled_not g.R.RuleSet.meaning c.args.now (pending_view c.args.pending) c.args.done _ _ c.in-Err.fault c.in-Err.ensures.judged.0 c.in-Err.ensures.judged.1 stay))
 
 pub returns-then-is_empty-clause-moves : goal.returns-then-is_empty-clause-moves
@@ -29,5 +29,5 @@ pub returns-clause-moves : goal.returns-clause-moves
 returns-clause-moves g c = λ bytes m fits.
     let judged = rw (to_z-of_z w64 c.args.now c.ranges.now) at c.in-Ok.ensures.judged in
     let some : length c.in-Ok.records.items ≡ 0 → ⊥ = λ e. grind (arith, common_steps, c.if-is_empty.ensures, c.in-Ok.records.ok) in
-    moves_not (state g.S.Store) c.args.book.now bytes m c.args.store.now c.args.store.now (λ x y. Settles g.R.RuleSet.meaning c.args.now (pending_view c.args.pending) c.args.done x (violated (map judged_view c.in-Ok.records.items)) y) (frame_still _) (λ holds. holds) (λ clean holds stay.
+    moves_not (state g.S.Store) c.args.book.now bytes m c.args.store.now c.args.store.now (λ x y. Settles g.R.RuleSet.meaning c.args.now (pending_view c.args.pending) c.args.done x (violated (map judged_view c.in-Ok.records.items)) y) (frame_still _) (λ holds. holds) (λ holds clean live. (clean, live, refl, refl)) (λ clean holds stay.
     settled_some g.R.RuleSet.meaning c.args.now (pending_view c.args.pending) c.args.done _ _ judged.0 (map judged_view c.in-Ok.records.items) judged.1 judged.2 (some_items judged_view c.in-Ok.records.items some) stay)

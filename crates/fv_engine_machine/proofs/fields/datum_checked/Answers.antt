@@ -14,12 +14,8 @@ use Rattle.fv_engine_reply.specs.declared.answer.Refusal.{Refusal}
 use Rattle.fv_engine_reply.specs.declared.answer.Refusal.TheVariants.{NoSuchField}
 use Rattle.fv_validate.specs.ViolationView.{violation_view}
 use Rattle.fv_validate.specs.Violations.{IsListingOfField}
-use Rattle.fv_datum.specs.Data.{Data}
 use Rattle.fv_datum.specs.View.{view}
 use Rattle.fv_datum.specs.declared.datum.Datum.{Datum}
-use Rattle.fv_model.specs.WellTyped.{AnyName}
-use Rattle.fv_model_types.proofs.Back.{fits_writable}
-use Rattle.fv_model.specs.Single.{kept}
 use Rattle.fv_validate.specs.Values.{FitsField, valued}
 use Rattle.fv_engine_machine.proofs.OneField.{use_fits, field_told, field_listed}
 use Rattle.fv_engine_machine.proofs.Groups.{all_named, not_named}
@@ -61,9 +57,7 @@ returns-in-Ok g c =
     let vs = map violation_view c.in-Ok.violations.items in
     let of = rw c.in-Some.is at c.requires.fits in
     let fits : FitsField ds.types c.args.type_name.now c.args.field.now d = use_fits ds.types c.args.type_name.now c.args.field.now d of in
-    let same_datum : kept d ≡ d = rw (fits_writable AnyName of.0 d of.2) refl in
-    let kept_few : HasFewVisitsAt ds (valued ds.types c.args.type_name.now c.args.field.now (kept d)) (indices c.in-Ok-Some.asked.items) = rw c.deref.ensures.value at c.in-Ok.ensures.few in
-    let few = subst (λ (x : Data). HasFewVisitsAt ds (valued ds.types c.args.type_name.now c.args.field.now x) (indices c.in-Ok-Some.asked.items)) same_datum kept_few in
+    let few : HasFewVisitsAt ds thing (indices c.in-Ok-Some.asked.items) = rw c.deref.ensures.value at c.in-Ok.ensures.few in
     let listing : IsListingOfField m ds c.args.now thing c.args.field.now (indices c.in-Ok-Some.asked.items) vs = rw (c.deref.ensures.value, to_z-of_z w64 c.args.now c.ranges.now) at (c.in-Ok.ensures.listing fits) in
     subst (λ (o : Option (Bor Datum)). ChecksField m ds c.args.now (valued_by ds.types c.args.type_name.now c.args.field.now (option_map (λ x. view x.now) o)) c.args.field.now names value_checked (value_checked vs)) (sym c.in-Some.is)
     (field_listed m ds c.args.now thing c.args.field.now names value_checked known vs c.in-Ok.ensures.there (subst (λ (gs : List ℕ). HasFewVisitsAt ds thing gs) numbers few)
@@ -81,12 +75,8 @@ returns g c =
     let known : unknown_in ds.groups names ≡ false = subst (λ (gs : Groups). unknown_in gs names ≡ false) same named.0 in
     let d = view c.in-Some.datum.now in
     let thing = valued ds.types c.args.type_name.now c.args.field.now d in
-    let of = rw c.in-Some.is at c.requires.fits in
-    let same_datum : kept d ≡ d = rw (fits_writable AnyName of.0 d of.2) refl in
     let many = rw c.deref.ensures.value at c.in-Err-validate_value.ensures.many in
-    let over = λ (h : HasTooManyVisitsAt ds (valued ds.types c.args.type_name.now c.args.field.now (kept d)) (indices c.in-Ok-Some.asked.items)).
-    subst (λ (x : Data). HasTooManyVisitsAt ds (valued ds.types c.args.type_name.now c.args.field.now x) (indices c.in-Ok-Some.asked.items)) same_datum h in
     subst (λ (o : Option (Bor Datum)). ChecksField m ds c.args.now (valued_by ds.types c.args.type_name.now c.args.field.now (option_map (λ x. view x.now) o)) c.args.field.now names value_checked (refused c.unjudged.result)) (sym c.in-Some.is)
     (subst (λ (r : Refusal). ChecksField m ds c.args.now (Some thing) c.args.field.now names value_checked (refused r)) (sym c.unjudged.ensures)
     (field_told m ds c.args.now thing c.args.field.now names value_checked known c.in-Err-validate_value.fault c.in-Err-validate_value.ensures.known c.in-Err-validate_value.ensures.absent
-    (λ is. subst (λ (gs : List ℕ). (is_some (field_number ds.types thing.type_name c.args.field.now) ≡ true) × HasTooManyVisitsAt ds thing gs) numbers ((many is).0, over (many is).1))))
+    (λ is. subst (λ (gs : List ℕ). (is_some (field_number ds.types thing.type_name c.args.field.now) ≡ true) × HasTooManyVisitsAt ds thing gs) numbers (many is))))

@@ -6,7 +6,7 @@ use Rattle.fv_engine_command.specs.CommandView.{part_view}
 use Rattle.fv_engine_pending.specs.Fits.{AreNeeded, Covers}
 use Rattle.fv_engine_pending.specs.Touched.{needs_record, count_needed}
 use Rattle.fv_engine_pending.specs.Ways.{pending_view}
-use Rattle.fv_engine_pending.proofs.Found.{covers_more, needed_more, live_more, count_more, any_item}
+use Rattle.fv_engine_pending.proofs.Found.{covers_more, needed_more, live_more, count_more, any_item, stays_then}
 use Rattle.fv_store.proofs.Refusals.{handed_on}
 use Rattle.fv_store.proofs.Steps.{frame_then, failed_then}
 use Rattle.fv_store.specs.Stands.{IsLive}
@@ -37,6 +37,7 @@ loop-part-preserved g c =
       live = subst (λ ps. IsTrue (list_any needs_record ps) → IsLive now) (sym more) (live_more done (part_view part) old new (IsLive mid) (IsLive now) made.live was.needed was.live);
       count = subst (λ ps. length new ≤ count_needed ps) (sym more) (count_more done (part_view part) old new made.count was.count);
       stays = λ k holds. made.stays k (was.stays k holds);
+      untouched = λ k holds. stays_then begin mid now (was.untouched k holds) (made.untouched k (was.stays k holds));
       same = λ clean k holds. made.same clean k (was.stays k holds) ∙ was.same (made.frame.clean clean) k holds;
     }
 
@@ -56,3 +57,8 @@ returns-in_err-find_for-clause-asked g c =
 
 pub returns-in_err-find_for-clause-stays : goal.returns-in_err-find_for-clause-stays
 returns-in_err-find_for-clause-stays g c k holds = c.find_for.ensures.stays k (c.loop-part.invariant.stays k holds)
+
+pub returns-in_err-find_for-clause-untouched : goal.returns-in_err-find_for-clause-untouched
+returns-in_err-find_for-clause-untouched g c k holds =
+    let was = c.loop-part.invariant in
+    stays_then (state g.S.Store c.args.store.now) (state g.S.Store c.loop-part.store) (state g.S.Store c.find_for.new.store) (was.untouched k holds) (c.find_for.ensures.untouched k (was.stays k holds))

@@ -7,7 +7,7 @@ use Rattle.fv_engine_pending.specs.Fits.{Agrees, AreNeeded, AreTyped, Covers}
 use Rattle.fv_engine_pending.specs.Touched.{needs_record, count_needed}
 use Rattle.fv_engine_pending.specs.Ways.{pending_view}
 use Rattle.fv_store.specs.Records.{Contents}
-use Rattle.fv_store.specs.Stands.{Frame, Holds, IsLive}
+use Rattle.fv_store.specs.Stands.{Frame, Holds, IsLive, Stays}
 use Rattle.fv_model_types.specs.TypesView.{types_view}
 use Rattle.fv_engine_pending.proofs.finding.find_records.Given as goal
 
@@ -21,5 +21,6 @@ invariant-loop-part g l = record {
   live : IsTrue (list_any needs_record (map part_view (take l.part-index l.parts))) → IsLive (state g.S.Store l.store);
   count : length (pending_view l.pending) ≤ count_needed (map part_view (take l.part-index l.parts));
   stays : (c : Contents) → Holds (state g.S.Store l.fn.store) c → Holds (state g.S.Store l.store) c;
+  untouched : (c : Contents) → Holds (state g.S.Store l.fn.store) c → Stays (state g.S.Store l.fn.store) (state g.S.Store l.store);
   same : HasCleanDisk (state g.S.Store l.store) → (c : Contents) → Holds (state g.S.Store l.fn.store) c → (state g.S.Store l.store).now ≡ (state g.S.Store l.fn.store).now;
 }

@@ -7,6 +7,6 @@ use Rattle.fv_engine_reply.proofs.texts.record_shown.Goals as goal
 
 pub returns : goal.returns
 returns c =
-    IfOk-weaker c.format.result _ _
-    (λ s is. is ∙ shown_text c.args.id.now c.args.form.now (bundle_json (bundle_view c.args.bundle.now)) (string_bytes c.in_ok-id.id) (string_bytes c.in_ok-form.form) (string_bytes c.in_ok-bundle.bundle) c.in_ok-bundle.ensures c.in_ok-form.ensures c.in_ok-id.ensures)
-    c.format.ensures.ok
+    IfOk-weaker c.made.result _ _
+    (λ r is. is ∙ c.in_ok-text.ensures.ok ∙ shown_text c.args.id.now c.args.form.now (bundle_json (bundle_view c.args.bundle.now)) (string_bytes c.in_ok-id.id) (string_bytes c.in_ok-form.form) (string_bytes c.in_ok-bundle.bundle) c.in_ok-bundle.ensures c.in_ok-form.ensures c.in_ok-id.ensures)
+    c.made.ensures

@@ -2,7 +2,7 @@ use Rattle.std.proofs.Common.{[], ◌∷◌, arith}
 use Rattle.sqlite.specs.declared.types.Value.TheVariants.{Text}
 use Rattle.sqlite.specs.Held.{state}
 use Rattle.fv_store.proofs.QueryTexts.{find_text, find_plain}
-use Rattle.fv_store.proofs.Queries.{find_shown, query_keeps, query_same, query_open, query_live}
+use Rattle.fv_store.proofs.Queries.{find_shown, kept_stays, query_keeps, query_same, query_open, query_live}
 use Rattle.fv_store.proofs.Refusals.{find_cause}
 use Rattle.fv_store.proofs.finding.find_record.Goals as goal
 
@@ -38,3 +38,8 @@ pub returns-clause-same : goal.returns-clause-same
 returns-clause-same g c clean =
     query_same find_text (Text c.args.id.now ∷ []) (state g.S.Store c.args.conn.now) (state g.S.Store c.query_all.new.self) find_plain (omega (arith, c.query_all.ensures.survives.clean)) c.query_all.result
     (rw c.params-to_sql.ensures at (c.query_all.ensures.ok clean))
+
+pub returns-clause-untouched : goal.returns-clause-untouched
+returns-clause-untouched g c settled d m keeps clean =
+    kept_stays find_text (Text c.args.id.now ∷ []) (state g.S.Store c.args.conn.now) (state g.S.Store c.query_all.new.self) find_plain (omega (arith, c.query_all.ensures.survives.clean)) settled c.query_all.result
+    (rw c.params-to_sql.ensures at (c.query_all.ensures.ok clean)) (rw c.params-to_sql.ensures at (c.query_all.ensures.err clean)) d m keeps clean

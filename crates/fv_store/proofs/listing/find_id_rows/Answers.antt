@@ -3,7 +3,7 @@ use Rattle.sqlite.specs.declared.types.Value.TheVariants.{Int, Text}
 use Rattle.sqlite.specs.Held.{state}
 use Rattle.fv_store.proofs.QueryTexts.{ids_text, ids_plain}
 use Rattle.fv_store.proofs.Listed.{ids_shown}
-use Rattle.fv_store.proofs.Queries.{query_keeps, query_open, query_live}
+use Rattle.fv_store.proofs.Queries.{kept_stays, query_keeps, query_open, query_live}
 use Rattle.fv_store.proofs.Refusals.{ids_cause}
 use Rattle.fv_store.proofs.listing.find_id_rows.Goals as goal
 
@@ -38,3 +38,10 @@ pub returns-clause-cause : goal.returns-clause-cause
 returns-clause-cause g c clean none =
     ids_cause (state g.S.Store c.args.conn.now) (state g.S.Store c.query_all.new.self) (omega (arith, c.query_all.ensures.survives.clean)) none c.args.form.now c.args.above.now c.args.limit c.query_all.result
     (rw (c.params-to_sql.ensures, c.params-to_sql-2.ensures, c.params-to_sql-3.ensures) at (c.query_all.ensures.err clean))
+
+pub returns-clause-untouched : goal.returns-clause-untouched
+returns-clause-untouched g c settled d m keeps clean =
+    kept_stays ids_text (Text c.args.form.now ∷ Text c.args.above.now ∷ Int (pos c.args.limit) ∷ []) (state g.S.Store c.args.conn.now) (state g.S.Store c.query_all.new.self) ids_plain
+    (omega (arith, c.query_all.ensures.survives.clean)) settled c.query_all.result
+    (rw (c.params-to_sql.ensures, c.params-to_sql-2.ensures, c.params-to_sql-3.ensures) at (c.query_all.ensures.ok clean))
+    (rw (c.params-to_sql.ensures, c.params-to_sql-2.ensures, c.params-to_sql-3.ensures) at (c.query_all.ensures.err clean)) d m keeps clean

@@ -15,6 +15,13 @@ returns-clause-listing g c =
     let same : indices c.deref.result.now ≡ numbers_of c.args.rulebook.now.groups names = ap indices c.deref.ensures.value ∙ c.in_ok-asked.ensures.numbers ∙ ap (λ (gs : Groups). numbers_of gs names) own in
     rw (same, to_z-of_z w64 c.args.now c.ranges.now) at c.validate_value.ensures.listing
 
+pub returns-clause-few : goal.returns-clause-few
+returns-clause-few g c =
+    let names = map string_bytes c.args.asked.now in
+    let own : c.groups.result.now ≡ c.args.rulebook.now.groups = c.groups.ensures ∙ ap (λ (x : Declarations). x.groups) c.schema.ensures in
+    let same : indices c.deref.result.now ≡ numbers_of c.args.rulebook.now.groups names = ap indices c.deref.ensures.value ∙ c.in_ok-asked.ensures.numbers ∙ ap (λ (gs : Groups). numbers_of gs names) own in
+    rw same at c.validate_value.ensures.few
+
 pub returns-clause-absent : goal.returns-clause-absent
 returns-clause-absent g c =
     let names = map string_bytes c.args.asked.now in

@@ -7,4 +7,4 @@ use Rattle.fv_walk_request.proofs.way.ways_of.Given as goal
 
 abbrev pub invariant-loop-place : goal.invariant-loop-place
 invariant-loop-place l =
-    map link_view l.ways.items ≡ flat_map (links_at (objects_view l.objects) (object_view l.object)) (map valid_place_view (take l.place-index l.place-items))
+    map link_view l.ways.items ≡ flat_map (links_at (objects_view l.objects) (object_view l.object)) (map valid_place_view (take l.place-index l.places))

@@ -4,5 +4,5 @@ use Rattle.fv_model.specs.Views.{bundle_view}
 use Rattle.fv_model.specs.WellTyped.{IsWellTyped}
 use Rattle.test_walks.proofs.judged.both_found.Goals as goal
 
-pub both_of-requires-clause-typed : goal.both_of-requires-clause-typed
-both_of-requires-clause-typed c = subst (λ (ds : Declarations). IsWellTyped ds.types (bundle_view c.in_ok-bundle.bundle)) c.schema-schema.ensures c.in_ok-bundle.ensures
+pub both_of-requires : goal.both_of-requires
+both_of-requires c = subst (λ (ds : Declarations). IsWellTyped ds.types (bundle_view c.in_ok-bundle.bundle)) c.schema-schema.ensures c.in_ok-bundle.ensures

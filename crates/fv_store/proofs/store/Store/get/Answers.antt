@@ -1,4 +1,4 @@
-use Rattle.std.proofs.Common.{Result, Ok, Err, OnOk}
+use Rattle.std.proofs.Common.{Result, Ok, Err, OnOk, not, ap, ◌∙◌}
 use Rattle.sqlite.specs.Held.{state}
 use Rattle.fv_model_types.specs.TypesView.{types_view}
 use Rattle.fv_store.specs.Faults.{fault_of}
@@ -39,3 +39,11 @@ pub returns-clause-same : goal.returns-clause-same
 returns-clause-same g c clean =
     let same = rw c.self.view_is at (c.in_ok-shown.ensures.same clean) in
     always c.stored_if.result _ (λ k holds. same k.bytes k.records (keeps_of (state g.S.Store c.args.self.now) k holds))
+
+pub returns-clause-untouched : goal.returns-clause-untouched
+returns-clause-untouched g c = λ k holds.
+    rw c.self.view_is at (c.find.ensures.untouched (c.is_autocommit.ensures.settled (c.is_autocommit.ensures.value ∙ ap not c.self.invariant.0)) k.bytes k.records) (keeps_of (state g.S.Store c.args.self.now) k holds)
+
+pub returns-in_err-shown-clause-untouched : goal.returns-in_err-shown-clause-untouched
+returns-in_err-shown-clause-untouched g c = λ k holds.
+    rw c.self.view_is at (c.find.ensures.untouched (c.is_autocommit.ensures.settled (c.is_autocommit.ensures.value ∙ ap not c.self.invariant.0)) k.bytes k.records) (keeps_of (state g.S.Store c.args.self.now) k holds)

@@ -1,4 +1,4 @@
-use Rattle.std.proofs.Common.{◌≡◌, ℕ, List, [], Option, Some, None, Bor, option_map, map, string_bytes, unwrap_or, refl, ap, subst, ◌∙◌}
+use Rattle.std.proofs.Common.{◌≡◌, ℕ, List, [], Option, Some, None, Bor, option_map, map, string_bytes, unwrap_or, refl, ap, subst, ◌∙◌, not}
 use Rattle.sqlite.specs.Held.{state}
 use Rattle.fv_store.specs.Faults.{fault_of}
 use Rattle.fv_store.specs.Lists.{Lists, beginning}
@@ -31,3 +31,11 @@ pub returns-in_err-find_ids-clause-cause : goal.returns-in_err-find_ids-clause-c
 returns-in_err-find_ids-clause-cause g c clean =
     handed_on _ c.from_residual.result (fault_of c.in_err-find_ids.field-0.0) c.from_residual.ensures.1
     (λ is k holds. rw c.self.view_is at (c.in_err-find_ids.ensures.cause clean c.self.invariant.1 k.bytes k.records) (keeps_of (state g.S.Store c.args.self.now) k holds) (is_refusal c.in_err-find_ids.field-0.0 is))
+
+pub returns-clause-untouched : goal.returns-clause-untouched
+returns-clause-untouched g c = λ k holds.
+    rw c.self.view_is at (c.find_ids.ensures.untouched (c.is_autocommit.ensures.settled (c.is_autocommit.ensures.value ∙ ap not c.self.invariant.0)) k.bytes k.records) (keeps_of (state g.S.Store c.args.self.now) k holds)
+
+pub returns-in_err-find_ids-clause-untouched : goal.returns-in_err-find_ids-clause-untouched
+returns-in_err-find_ids-clause-untouched g c = λ k holds.
+    rw c.self.view_is at (c.find_ids.ensures.untouched (c.is_autocommit.ensures.settled (c.is_autocommit.ensures.value ∙ ap not c.self.invariant.0)) k.bytes k.records) (keeps_of (state g.S.Store c.args.self.now) k holds)

@@ -3,7 +3,7 @@ use Rattle.fv_extract.specs.FoundView.{found_view}
 use Rattle.fv_declare_schema.specs.NumberViews.{valid_place_view}
 use Rattle.fv_model.specs.Views.{objects_view}
 use Rattle.fv_walk_request.specs.Graphs.{links_among, link_view}
-use Rattle.fv_walk_request.proofs.way.ways_among.Given as goal
+use Rattle.fv_walk_request.proofs.way.add_ways_among.Given as goal
 
 abbrev pub invariant-loop-locus : goal.invariant-loop-locus
 invariant-loop-locus l =
