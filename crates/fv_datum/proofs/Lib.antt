@@ -2,7 +2,6 @@ pub mod Bools
 pub mod DateOrder
 pub mod DayLemmas
 pub mod DigitLemmas
-pub mod Entries
 pub mod Fronts
 pub mod Inserted
 pub mod Lists

@@ -1,8 +1,7 @@
-//! Data: what the field of a record holds, its kinds, names and attributes, and the JSON that
-//! spells it.
+//! Data: what the field of a record holds, its kinds, names and attributes, and the JSON that is
+//! written of it.
 #![tactic(auto)]
 
-mod adding;
 mod attribute_kind;
 mod attrs;
 mod datum;
@@ -10,15 +9,10 @@ mod day;
 mod decimal;
 mod fault;
 mod kind;
-mod members;
 mod moment;
 mod name;
-mod name_lists;
-mod parsing;
-mod reading;
 mod writing;
 
-pub use adding::add_last;
 pub use attribute_kind::AttributeKind;
 pub use attrs::{Attribute, Attrs};
 pub use datum::Datum;
@@ -26,10 +20,6 @@ pub use day::{day_of, today};
 pub use decimal::{are_digits, decimal_units};
 pub use fault::DatumFault;
 pub use kind::Kind;
-pub use members::has_only;
 pub use moment::{LAST_MOMENT, moment_ok};
 pub use name::{Name, is_name};
-pub use name_lists::{names_in, names_of, told_names_of};
-pub use parsing::{JsonFault, read_json};
-pub use reading::{read_datum, spells_datum};
 pub use writing::{is_null, key_of, keys_fit, write_datum};

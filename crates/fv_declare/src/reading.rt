@@ -1,6 +1,6 @@
 ghost use Rattle.std.specs.Prelude.{◌≡◌, ◌≢◌, true, Some, Ok, Err, IfOk, IfErr};
 ghost use Rattle.std.specs.Option.{ok_or};
-ghost use Rattle.serde_json.specs.View.{view as json_view};
+ghost use Rattle.fv_json.specs.Documents.{view as json_view, document_view};
 ghost use Rattle.fv_datum.specs.Outcomes.{Gives};
 ghost use Rattle.fv_datum.specs.Parsing.{json_of};
 ghost use Rattle.fv_declare.specs.Declares.{Declares, Judged};
@@ -12,20 +12,24 @@ ghost use Rattle.fv_declare.specs.Judging.{AreLed};
 use crate::fault::DeclFault;
 use crate::judging::composed;
 use crate::names::known_types;
-use fv_datum::{JsonFault, read_json};
 use fv_declare_draft::{Draft, draft_of, uses_in};
 use fv_declare_groups::grouped;
 use fv_declare_schema::Schema;
+use fv_json::{Document, Json, JsonFault, read_json};
 use fv_registry::RuleSet;
-use serde_json::Value;
+use json::Scratch;
 use std::alloc::Global;
 
 /// The JSON value that bytes are.
-fn value_of(alloc: Global, bytes: &[u8]) -> Result<Value, DeclFault>
-    ensures { Gives DeclFault.Memory json_view result (ok_or (json_of bytes.now) DeclFault.NotJson) }
+fn document_of<'a>(
+    alloc: Global,
+    bytes: &'a [u8],
+    scratch: &'a mut Scratch,
+) -> Result<Document<'a>, DeclFault>
+    ensures { Gives DeclFault.Memory document_view result (ok_or (json_of bytes.now) DeclFault.NotJson) }
 {
-    match read_json(alloc, bytes) {
-        Ok(value) => Ok(value),
+    match read_json(alloc, bytes, scratch) {
+        Ok(document) => Ok(document),
         Err(JsonFault::NotJson) => Err(DeclFault::NotJson),
         Err(JsonFault::Memory) => Err(DeclFault::Memory),
     }
@@ -46,7 +50,7 @@ fn schema_of_draft<R: RuleSet>(alloc: Global, rules: &R, draft: &Draft) -> Resul
 }
 
 /// The schema that a JSON value declares.
-fn schema_of<R: RuleSet>(alloc: Global, rules: &R, value: &Value) -> Result<Schema, DeclFault>
+fn schema_of<R: RuleSet>(alloc: Global, rules: &R, value: &Json) -> Result<Schema, DeclFault>
     ensures taken { IfOk result (λ s. Judged (R.known rules.now) (spec_draft (json_view value.now)) (Ok s)) }
     ensures fits { IfOk result (λ s. fits (R.known rules.now) s ≡ true) }
     ensures refused { IfErr result (λ f. f ≢ DeclFault.Memory
@@ -70,6 +74,7 @@ pub fn read_schema<R: RuleSet>(alloc: Global, rules: &R, bytes: &[u8]) -> Result
     ensures fits { IfOk result (λ s. fits (R.known rules.now) s ≡ true) }
     ensures refused { IfErr result (λ f. f ≢ DeclFault.Memory → Declares (R.known rules.now) bytes.now (Err f)) }
 {
-    let value = value_of(alloc, bytes)?;
-    schema_of(alloc, rules, &value)
+    let mut scratch = Scratch::new(alloc);
+    let document = document_of(alloc, bytes, &mut scratch)?;
+    schema_of(alloc, rules, &document.root())
 }

@@ -1,4 +1,5 @@
 pub mod Attributes
 pub mod DefinitionViews
 pub mod Definitions
+pub mod MemberNames
 pub mod Written

@@ -2,6 +2,7 @@
 //! composing constraints out, or none where the form isn't kept.
 #![tactic(auto)]
 
+mod adding;
 mod attributes;
 mod composing;
 mod definition;

@@ -2,13 +2,11 @@
 ghost use Rattle.std.proofs.Props.{props};
 ghost use Rattle.std.specs.Prelude.{◌≡◌, map};
 ghost use Rattle.fv_datum.specs.Ascending.{IsAscending};
-ghost use Rattle.fv_datum.specs.EntryNames.{names_of};
 
 use fv_datum::{Attrs, Kind};
 use fv_declare_definition::Definition;
 use fv_extract::Step;
 use fv_model_types::TypeUse;
-use serde_json::{Map, Value};
 use std::collections::BTreeMap;
 
 /// A use of a constraint.
@@ -112,15 +110,12 @@ pub struct MessageDraft<'a> {
 /// Declarations, types, forms, groups and messages ascending by the bytes of their names and keys.
 #[derive(Drop)]
 pub struct Draft<'a> {
-    /// The types by their names.
-    pub named: &'a Map<String, Value>,
     pub types: Vec<TypeDraft<'a>>,
     pub forms: Vec<FormDraft<'a>>,
     /// The declared constraints by their names.
     pub definitions: BTreeMap<String, Definition>,
     pub groups: Vec<GroupDraft<'a>>,
     pub messages: Vec<MessageDraft<'a>>,
-    pub ghost named_are: { map (λ t. t.name.now) types.items ≡ names_of named.now.entries },
     pub ghost types_ascend: { IsAscending (map (λ t. t.name.now) types.items) } by { Prim.hlevel props },
     pub ghost groups_ascend: { IsAscending (map (λ g. g.name.now) groups.items) } by { Prim.hlevel props },
     pub ghost forms_ascend: { IsAscending (map (λ f. f.name.now) forms.items) } by { Prim.hlevel props },

@@ -19,6 +19,7 @@ use fv_engine_reply::{Refusal, Reply};
 use fv_local::Rulebook;
 use fv_registry::RuleSet;
 use fv_store::{OpenStoreFault, Store};
+use json::Scratch;
 use sqlite::{Alter, Connection};
 use std::alloc::Global;
 use std::marker::Model;
@@ -53,15 +54,21 @@ impl OpenFault {
 
 /// The record machine: declarations with the rules that they use, and the records that a database
 /// keeps. Contracts see it as a machine whose records are the connection to the database, which is outside a
-/// transaction.
+/// transaction. The scratch is the memory that the JSON of a line is read with: it is kept from
+/// line to line, so that no line asks for it anew, and contracts leave it out.
 pub struct Engine<R: RuleSet, S: Alter> {
     book: Rulebook<R>,
     store: Store<S>,
+    scratch: Scratch,
 }
 
 impl<R: RuleSet + Drop, S: Alter + Drop> Drop for Engine<R, S> {
     fn drop(self) {
-        let Engine { book: _, store: _ } = self;
+        let Engine {
+            book: _,
+            store: _,
+            scratch: _,
+        } = self;
     }
 }
 
@@ -167,7 +174,11 @@ impl<R: RuleSet + Drop, S: Alter + Drop> Engine<R, S> {
             Err(_) => return Err((OpenFault::Memory, connection)),
         };
         match Store::open(connection, declarations) {
-            Ok(store) => Ok(Engine { book, store }),
+            Ok(store) => Ok(Engine {
+                book,
+                store,
+                scratch: Scratch::new(alloc),
+            }),
             Err((fault, connection)) => Err((store_fault(fault), connection)),
         }
     }
@@ -197,7 +208,14 @@ impl<R: RuleSet, S: Alter> Engine<R, S> {
         if line.len() > LIMIT {
             return self.refuse_long();
         }
-        reply_to_line(&mut self.store, alloc, &self.book, line, now)
+        reply_to_line(
+            &mut self.store,
+            alloc,
+            &self.book,
+            line,
+            &mut self.scratch,
+            now,
+        )
     }
 
     /// The refusal of a line that is over the limit.
@@ -215,7 +233,11 @@ impl<R: RuleSet + Drop, S: Alter> Engine<R, S> {
         ensures same { result ≡ self.records }
         ensures holds { (c : _) → Holds (state S.Store self.records) c → Holds (state S.Store result) c }
     {
-        let Engine { book: _, store } = self;
+        let Engine {
+            book: _,
+            store,
+            scratch: _,
+        } = self;
         store.into_connection()
     }
 }

@@ -1,13 +1,10 @@
 -- How many parts a batch has.
-use Rattle.std.proofs.Common.{◌≡◌, ℕ, ◌<◌, ◌≤◌, ◌&&◌, Bool, true, false, List, length, nat_lt, nat_le, Option, Some, None, option_and_then, if◌then◌else◌, refl, ap, ◌∙◌, arith}
+use Rattle.std.proofs.Common.{◌≡◌, ℕ, ◌<◌, ◌≤◌, ◌&&◌, Bool, true, false, List, length, nat_lt, nat_le, Option, Some, None, option_and_then, if◌then◌else◌, refl, ap, arith}
 use Rattle.std.proofs.lemmas.Bool.{lt-leb, lt-ltb, le-leb}
 use Rattle.serde_json.specs.Data as json
 use Rattle.serde_json.specs.Find.{as_array}
-use Rattle.serde_json.specs.View.{items_view}
-use Rattle.serde_json.specs.declared.value.Value.{Value}
 use Rattle.fv_datum.specs.Members.{listed, each_some}
 use Rattle.fv_datum.proofs.Lists.{length_read}
-use Rattle.fv_model_types.proofs.Seen.{length-items}
 use Rattle.fv_engine_command.specs.Commands.{Part, part_of, some_parts, parts_in}
 
 neither : (a b : Bool) → b ≡ false → (a && b) ≡ false
@@ -32,11 +29,8 @@ few n (Some parts) sizes some under =
     let below : nat_le (length parts) 64 ≡ true = le-leb (length parts) 64 (omega arith) in
     ap (λ (b : Bool). if b then Some parts else None) (both (nat_lt 0 (length parts)) (nat_le (length parts) 64) above below)
 
-as_many : (vs : List Value) (parts : List Part) → each_some part_of (listed (items_view vs)) ≡ Some parts → length parts ≡ length vs
-as_many vs parts is = length_read part_of (listed (items_view vs)) parts is ∙ length-items vs
+pub too_many : (j : json.Data) (vs : json.Items) → as_array j ≡ Some vs → 64 < length (listed vs) → parts_in j ≡ None
+too_many j vs is more = rw is (many (length (listed vs)) (each_some part_of (listed vs)) (length_read part_of (listed vs)) more)
 
-pub too_many : (j : json.Data) (vs : List Value) → as_array j ≡ Some (items_view vs) → 64 < length vs → parts_in j ≡ None
-too_many j vs is more = rw is (many (length vs) (each_some part_of (listed (items_view vs))) (as_many vs) more)
-
-pub not_too_many : (j : json.Data) (vs : List Value) → as_array j ≡ Some (items_view vs) → 0 < length vs → length vs ≤ 64 → parts_in j ≡ each_some part_of (listed (items_view vs))
-not_too_many j vs is some under = rw is (few (length vs) (each_some part_of (listed (items_view vs))) (as_many vs) some under)
+pub not_too_many : (j : json.Data) (vs : json.Items) → as_array j ≡ Some vs → 0 < length (listed vs) → length (listed vs) ≤ 64 → parts_in j ≡ each_some part_of (listed vs)
+not_too_many j vs is some under = rw is (few (length (listed vs)) (each_some part_of (listed vs)) (length_read part_of (listed vs)) some under)

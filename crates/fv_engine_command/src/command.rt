@@ -1,15 +1,13 @@
 //! What a line asks for.
 ghost use Rattle.std.specs.Prelude.{◌≡◌, IfOk, codes, map, option_map};
 ghost use Rattle.fv_datum.specs.Forms.{maybe, optional};
-ghost use Rattle.serde_json.specs.View.{view as json_view};
+ghost use Rattle.fv_json.specs.Documents.{view as json_view};
 ghost use Rattle.fv_engine_command.specs.CommandView.{command_view, part_view};
 ghost use Rattle.fv_engine_command.specs.Commands.{alone, batch_of, get_of, groups_at, check_of, check_field_of, check_value_of, id_in, limit_in, list_of, done_by, command_of};
 
 use crate::ids::{id_in, id_of};
-use crate::members::text_at;
 use crate::part::{Part, parts_in, put_of, remove_of, set_of};
-use fv_datum::{has_only, names_of};
-use serde_json::Value;
+use fv_json::{Json, has_only, names_of, text_at};
 use std::alloc::{AllocError, Global};
 
 /// The most groups that a check names, repeats included.
@@ -20,12 +18,12 @@ const MOST_IDS: u64 = 1000;
 
 /// A command, its parts borrowed from the line's JSON.
 #[derive(Drop)]
-pub enum Command<'a> {
+pub enum Command<'j, 'a> {
     /// A put, a set or a remove by itself.
-    Alone(Part<'a>),
+    Alone(Part<'j, 'a>),
     /// All of these in order, or none; 1 to 64.
     Batch {
-        parts: Vec<Part<'a>>,
+        parts: Vec<Part<'j, 'a>>,
     },
     Get {
         id: &'a str,
@@ -43,7 +41,7 @@ pub enum Command<'a> {
     CheckValue {
         type_name: &'a str,
         field: &'a str,
-        value: &'a Value,
+        value: Json<'j, 'a>,
         groups: Vec<&'a str>,
     },
     /// The ids of a form above one, at most so many.
@@ -54,7 +52,7 @@ pub enum Command<'a> {
     },
 }
 
-fn get_of<'a>(value: &'a Value) -> Option<Command<'a>>
+fn get_of<'j, 'a>(value: &Json<'j, 'a>) -> Option<Command<'j, 'a>>
     ensures { option_map command_view result ≡ get_of (json_view value.now) }
 {
     if !has_only(value, &["do", "id"]) {
@@ -65,7 +63,7 @@ fn get_of<'a>(value: &'a Value) -> Option<Command<'a>>
 }
 
 /// The names at the member `groups`: an array of at most 32 texts, and none where it is missing.
-fn groups_of<'a>(alloc: Global, value: &'a Value) -> Result<Option<Vec<&'a str>>, AllocError>
+fn groups_of<'a>(alloc: Global, value: &Json<'_, 'a>) -> Result<Option<Vec<&'a str>>, AllocError>
     ensures { IfOk result (λ o. option_map (λ v. map (λ n. n.now) v.items) o ≡ groups_at (json_view value.now)) }
 {
     match names_of(alloc, value.get("groups"))? {
@@ -74,7 +72,10 @@ fn groups_of<'a>(alloc: Global, value: &'a Value) -> Result<Option<Vec<&'a str>>
     }
 }
 
-fn check_of<'a>(alloc: Global, value: &'a Value) -> Result<Option<Command<'a>>, AllocError>
+fn check_of<'j, 'a>(
+    alloc: Global,
+    value: &Json<'j, 'a>,
+) -> Result<Option<Command<'j, 'a>>, AllocError>
     ensures { IfOk result (λ o. option_map command_view o ≡ check_of (json_view value.now)) }
 {
     if !has_only(value, &["do", "id", "groups"]) {
@@ -89,7 +90,10 @@ fn check_of<'a>(alloc: Global, value: &'a Value) -> Result<Option<Command<'a>>, 
     }
 }
 
-fn check_field_of<'a>(alloc: Global, value: &'a Value) -> Result<Option<Command<'a>>, AllocError>
+fn check_field_of<'j, 'a>(
+    alloc: Global,
+    value: &Json<'j, 'a>,
+) -> Result<Option<Command<'j, 'a>>, AllocError>
     ensures { IfOk result (λ o. option_map command_view o ≡ check_field_of (json_view value.now)) }
 {
     if !has_only(value, &["do", "id", "object", "field", "groups"]) {
@@ -115,7 +119,10 @@ fn check_field_of<'a>(alloc: Global, value: &'a Value) -> Result<Option<Command<
     }
 }
 
-fn check_value_of<'a>(alloc: Global, value: &'a Value) -> Result<Option<Command<'a>>, AllocError>
+fn check_value_of<'j, 'a>(
+    alloc: Global,
+    value: &Json<'j, 'a>,
+) -> Result<Option<Command<'j, 'a>>, AllocError>
     ensures { IfOk result (λ o. option_map command_view o ≡ check_value_of (json_view value.now)) }
 {
     if !has_only(value, &["do", "type", "field", "value", "groups"]) {
@@ -142,17 +149,17 @@ fn check_value_of<'a>(alloc: Global, value: &'a Value) -> Result<Option<Command<
 }
 
 /// The id at the member `after`, which may be missing.
-fn after_of<'a>(value: &'a Value) -> Option<Option<&'a str>>
+fn after_of<'a>(value: &Json<'_, 'a>) -> Option<Option<&'a str>>
     ensures { option_map (λ o. option_map (λ s. s.now) o) result ≡ maybe id_in (codes "after") (json_view value.now) }
 {
     match value.get("after") {
         None => Some(None),
-        Some(after) => Some(Some(id_in(after)?)),
+        Some(after) => Some(Some(id_in(&after)?)),
     }
 }
 
 /// The limit that a JSON value is: a whole number from 1 to 1,000.
-fn limit_in(value: &Value) -> Option<u32>
+fn limit_in(value: &Json) -> Option<u32>
     ensures { result ≡ limit_in (json_view value.now) }
 {
     let limit = value.as_u64()?;
@@ -166,16 +173,16 @@ fn limit_in(value: &Value) -> Option<u32>
 }
 
 /// The limit at the member `limit`; 100 where it is missing.
-fn limit_of(value: &Value) -> Option<u32>
+fn limit_of(value: &Json) -> Option<u32>
     ensures { result ≡ optional 100 limit_in (codes "limit") (json_view value.now) }
 {
     match value.get("limit") {
         None => Some(100),
-        Some(limit) => limit_in(limit),
+        Some(limit) => limit_in(&limit),
     }
 }
 
-fn list_of<'a>(value: &'a Value) -> Option<Command<'a>>
+fn list_of<'j, 'a>(value: &Json<'j, 'a>) -> Option<Command<'j, 'a>>
     ensures { option_map command_view result ≡ list_of (json_view value.now) }
 {
     if !has_only(value, &["do", "form", "after", "limit"]) {
@@ -187,7 +194,10 @@ fn list_of<'a>(value: &'a Value) -> Option<Command<'a>>
     Some(Command::List { form, after, limit })
 }
 
-fn batch_of<'a>(alloc: Global, value: &'a Value) -> Result<Option<Command<'a>>, AllocError>
+fn batch_of<'j, 'a>(
+    alloc: Global,
+    value: &Json<'j, 'a>,
+) -> Result<Option<Command<'j, 'a>>, AllocError>
     ensures { IfOk result (λ o. option_map command_view o ≡ batch_of (json_view value.now)) }
 {
     if !has_only(value, &["do", "parts"]) {
@@ -196,25 +206,25 @@ fn batch_of<'a>(alloc: Global, value: &'a Value) -> Result<Option<Command<'a>>, 
     let Some(told) = value.get("parts") else {
         return Ok(None);
     };
-    match parts_in(alloc, told)? {
+    match parts_in(alloc, &told)? {
         None => Ok(None),
         Some(parts) => Ok(Some(Command::Batch { parts })),
     }
 }
 
 /// A part by itself.
-fn alone<'a>(part: Option<Part<'a>>) -> Option<Command<'a>>
+fn alone<'j, 'a>(part: Option<Part<'j, 'a>>) -> Option<Command<'j, 'a>>
     ensures { option_map command_view result ≡ option_map alone (option_map part_view part.entry) }
 {
     Some(Command::Alone(part?))
 }
 
 /// The command of a name that a JSON value is.
-fn done_by<'a>(
+fn done_by<'j, 'a>(
     alloc: Global,
     name: &str,
-    value: &'a Value,
-) -> Result<Option<Command<'a>>, AllocError>
+    value: &Json<'j, 'a>,
+) -> Result<Option<Command<'j, 'a>>, AllocError>
     ensures { IfOk result (λ o. option_map command_view o ≡ done_by name.now (json_view value.now)) }
 {
     match name {
@@ -234,7 +244,10 @@ fn done_by<'a>(
 /// The command that a JSON value is: an object with the members of the command that `do` names, and
 /// no others. A put's bundle and the value of a set and of a checkvalue are any values here; forms,
 /// objects, fields, types and groups are any texts. So is each part of a batch.
-pub fn command_of<'a>(alloc: Global, value: &'a Value) -> Result<Option<Command<'a>>, AllocError>
+pub fn command_of<'j, 'a>(
+    alloc: Global,
+    value: &Json<'j, 'a>,
+) -> Result<Option<Command<'j, 'a>>, AllocError>
     ensures { IfOk result (λ o. option_map command_view o ≡ command_of (json_view value.now)) }
 {
     match text_at(value, "do") {

@@ -1,10 +1,10 @@
 //! Ids.
 ghost use Rattle.std.specs.Prelude.{◌≡◌, option_map};
 ghost use Rattle.std.specs.List.{list_all};
-ghost use Rattle.serde_json.specs.View.{view as json_view};
+ghost use Rattle.fv_json.specs.Documents.{view as json_view};
 ghost use Rattle.fv_engine_command.specs.Commands.{is_id_byte, is_id, id_in, id_at};
 
-use serde_json::Value;
+use fv_json::Json;
 
 /// The most bytes of an id.
 const LONGEST_ID: usize = 64;
@@ -36,7 +36,7 @@ fn is_id(text: &str) -> bool
 }
 
 /// The id that a JSON value is.
-pub(crate) fn id_in<'a>(value: &'a Value) -> Option<&'a str>
+pub(crate) fn id_in<'a>(value: &Json<'_, 'a>) -> Option<&'a str>
     ensures { option_map (λ s. s.now) result ≡ id_in (json_view value.now) }
 {
     let id = value.as_str()?;
@@ -44,8 +44,8 @@ pub(crate) fn id_in<'a>(value: &'a Value) -> Option<&'a str>
 }
 
 /// The id at the member `id`.
-pub(crate) fn id_of<'a>(value: &'a Value) -> Option<&'a str>
+pub(crate) fn id_of<'a>(value: &Json<'_, 'a>) -> Option<&'a str>
     ensures { option_map (λ s. s.now) result ≡ id_at (json_view value.now) }
 {
-    id_in(value.get("id")?)
+    id_in(&value.get("id")?)
 }

@@ -3,7 +3,6 @@
 
 mod command;
 mod ids;
-mod members;
 mod part;
 
 pub use command::{Command, command_of};

@@ -11,7 +11,7 @@ ghost use Rattle.fv_engine_machine.specs.Step.{Handles};
 ghost use Rattle.fv_registry.specs.Meanings.{Meanings};
 ghost use Rattle.fv_engine_reply.specs.AnswerView.{answer_view};
 ghost use Rattle.fv_model_types.specs.TypesView.{types_view};
-ghost use Rattle.serde_json.specs.View.{view as json_view};
+ghost use Rattle.fv_json.specs.Documents.{view as json_view};
 ghost use Rattle.sqlite.specs.Held.{state};
 
 use crate::changing::{change, done_by};
@@ -19,14 +19,14 @@ use crate::checking::check;
 use crate::fields::{check_field, check_value};
 use crate::listing::list;
 use crate::refusing::undone;
-use fv_datum::{JsonFault, read_json};
 use fv_engine_command::{Command, Part, command_of};
 use fv_engine_reply::{Answer, Done, Refusal, Reply};
+use fv_json::{Json, JsonFault, read_json};
 use fv_local::Rulebook;
 use fv_model::Types;
 use fv_registry::RuleSet;
 use fv_store::Store;
-use serde_json::Value;
+use json::Scratch;
 use sqlite::Alter;
 use std::alloc::Global;
 
@@ -35,7 +35,7 @@ fn alone<'a, R: RuleSet, S: Alter>(
     store: &mut Store<S>,
     alloc: Global,
     book: &Rulebook<R>,
-    part: Part<'a>,
+    part: Part<'_, 'a>,
     now: i64,
 ) -> Answer<'a>
     requires { IsMoment now }
@@ -52,7 +52,7 @@ fn batch<'a, R: RuleSet, S: Alter>(
     store: &mut Store<S>,
     alloc: Global,
     book: &Rulebook<R>,
-    parts: &[Part<'a>],
+    parts: &[Part<'_, 'a>],
     now: i64,
 ) -> Answer<'a>
     requires { IsMoment now }
@@ -85,7 +85,7 @@ fn answer<'a, R: RuleSet, S: Alter>(
     store: &mut Store<S>,
     alloc: Global,
     book: &Rulebook<R>,
-    value: &'a Value,
+    value: &Json<'_, 'a>,
     now: i64,
 ) -> Answer<'a>
     requires { IsMoment now }
@@ -119,7 +119,7 @@ fn answer<'a, R: RuleSet, S: Alter>(
                     groups,
                 },
             ),
-        ) => check_value(alloc, book, type_name, field, value, &groups, now),
+        ) => check_value(alloc, book, type_name, field, &value, &groups, now),
         Ok(Some(Command::List { form, after, limit })) => {
             list(store, alloc, book.schema(), form, after, limit)
         }
@@ -131,7 +131,7 @@ fn reply_to<R: RuleSet, S: Alter>(
     store: &mut Store<S>,
     alloc: Global,
     book: &Rulebook<R>,
-    value: &Value,
+    value: &Json,
     now: i64,
 ) -> Reply
     requires { IsMoment now }
@@ -143,12 +143,14 @@ fn reply_to<R: RuleSet, S: Alter>(
     Reply::of(alloc, &answer)
 }
 
-/// The reply to a line that isn't over the limit.
+/// The reply to a line that isn't over the limit. Its JSON is read with the scratch, which is kept
+/// from line to line.
 pub fn reply_to_line<R: RuleSet, S: Alter>(
     store: &mut Store<S>,
     alloc: Global,
     book: &Rulebook<R>,
     line: &[u8],
+    scratch: &mut Scratch,
     now: i64,
 ) -> Reply
     requires { IsMoment now }
@@ -156,8 +158,8 @@ pub fn reply_to_line<R: RuleSet, S: Alter>(
         (over (state S.Store) book.now store.new)
         (λ x y. Replies R.meaning now (of_json (json_of line.now)) x result y) }
 {
-    match read_json(alloc, line) {
-        Ok(value) => reply_to(store, alloc, book, &value, now),
+    match read_json(alloc, line, scratch) {
+        Ok(document) => reply_to(store, alloc, book, &document.root(), now),
         Err(JsonFault::NotJson) => Reply::refused(alloc, Refusal::NotJson),
         Err(JsonFault::Memory) => Reply::refused(alloc, Refusal::Memory),
     }

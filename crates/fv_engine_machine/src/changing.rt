@@ -113,7 +113,7 @@ pub(crate) fn change<'a, R: RuleSet, S: Alter>(
     store: &mut Store<S>,
     alloc: Global,
     book: &Rulebook<R>,
-    parts: &[Part<'a>],
+    parts: &[Part<'_, 'a>],
     done: Done,
     now: i64,
 ) -> Answer<'a>

@@ -7,15 +7,15 @@ ghost use Rattle.fv_engine_pending.specs.Steps.{set_step, left_as, set_on, remov
 ghost use Rattle.fv_engine_pending.specs.Ways.{pending_view, standing_at, left_at};
 ghost use Rattle.fv_store.specs.Stored.{stored_view};
 ghost use Rattle.fv_model_types.specs.TypesView.{types_view};
-ghost use Rattle.serde_json.specs.View.{view as json_view};
+ghost use Rattle.fv_json.specs.Documents.{view as json_view};
 ghost use Rattle.std.specs.Result.{result_map_both};
 
 use crate::fault::PartFault;
 use crate::pending::Pending;
 use crate::step::Step;
+use fv_json::Json;
 use fv_model::{Bundle, BundleFault, Types, set_field};
 use fv_store::Stored;
-use serde_json::Value;
 use std::alloc::Global;
 
 /// The fault of a part whose bundle, or the value for it, has a fault.
@@ -70,7 +70,7 @@ fn set<'a>(
     id: &'a str,
     object: &str,
     field: &str,
-    value: &Value,
+    value: &Json,
 ) -> Result<(), PartFault>
     ensures made { Gives PartFault.Memory (λ _. pending_view pending.new) result
         (set_on (types_view types.now) id.now object.now field.now (json_view value.now) (pending_view pending.old)
@@ -104,7 +104,7 @@ fn apply<'a>(
     pending: &mut Pending<'a>,
     alloc: Global,
     types: &Types,
-    step: Step<'a>,
+    step: Step<'_, 'a>,
 ) -> Result<(), PartFault>
     ensures made { Gives PartFault.Memory (λ _. pending_view pending.new) result
         (step_made (types_view types.now) (step_view step.entry) (pending_view pending.old)) }
@@ -118,7 +118,7 @@ fn apply<'a>(
             object,
             field,
             value,
-        } => set(pending, alloc, types, id, object, field, value),
+        } => set(pending, alloc, types, id, object, field, &value),
         Step::Remove { id } => remove(pending, id),
     }
 }
@@ -132,7 +132,7 @@ pub fn apply_all<'a>(
     pending: &mut Pending<'a>,
     alloc: Global,
     types: &Types,
-    steps: Vec<Step<'a>>,
+    steps: Vec<Step<'_, 'a>>,
 ) -> Result<(), (usize, PartFault)>
     ensures made { MatchResult result
         (λ _. steps_made (types_view types.now) 0 (map step_view steps.entry.items) (pending_view pending.old) ≡ Ok (pending_view pending.new))

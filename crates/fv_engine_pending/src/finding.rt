@@ -19,7 +19,7 @@ use sqlite::Alter;
 use std::alloc::Global;
 
 /// The id of a part that needs a record: of a set or a remove.
-fn needed<'a>(part: &Part<'a>) -> Option<&'a str>
+fn needed<'a>(part: &Part<'_, 'a>) -> Option<&'a str>
     ensures { option_map (λ s. s.now) result ≡ needed_id (part_view part.now) }
 {
     match part {
@@ -71,7 +71,7 @@ fn find_for<'a, S: Alter>(
     alloc: Global,
     types: &Types,
     pending: &mut Pending<'a>,
-    part: &Part<'a>,
+    part: &Part<'_, 'a>,
 ) -> Result<(), StoreFault>
     ensures frame { Frame (state S.Store store.old) (state S.Store store.new) }
     ensures found { HasCleanDisk (state S.Store store.new) → OnOk result ((c : _) → c.types ≡ types_view types.now
@@ -112,7 +112,7 @@ pub fn find_records<'a, S: Alter>(
     store: &mut Store<S>,
     alloc: Global,
     types: &Types,
-    parts: &[Part<'a>],
+    parts: &[Part<'_, 'a>],
 ) -> Result<Pending<'a>, StoreFault>
     ensures frame { Frame (state S.Store store.old) (state S.Store store.new) }
     ensures found { HasCleanDisk (state S.Store store.new) → IfOk result (λ p. (c : _) → c.types ≡ types_view types.now

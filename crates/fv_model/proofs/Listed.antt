@@ -1,21 +1,17 @@
 -- Names in order: an entry with a new name goes last.
-use Rattle.std.proofs.Common.{◌≡◌, ℕ, List, [], ◌∷◌, ◌++◌, map, Bool, true, false, cond, Option, Some, None, option_map, option_and_then, String, Global, Ordering, Less, Equal, nat_cmp, bytes_eq, refl, sym, ap, subst, ◌∙◌}
+use Rattle.std.proofs.Common.{◌≡◌, ℕ, List, [], ◌∷◌, ◌++◌, map, Bool, true, false, cond, Option, Some, None, option_map, option_and_then, Ordering, Less, Equal, nat_cmp, bytes_eq, refl, sym, ap, subst, ◌∙◌}
 use Rattle.std.specs.Cmp.Lexicographic.{slice_cmp}
-use Rattle.std.specs.List.Sorted.{IsStrictlySortedBy}
 use Rattle.std.specs.Map.{keys_of}
-use Rattle.std.specs.String.{string_cmp}
 use Rattle.std.proofs.lemmas.Cmp.{nat_list_cmp_total, tied_itself}
 use Rattle.std.proofs.lemmas.Map.Keys.{sorted_head, sorted_tail}
 use Rattle.std.proofs.lemmas.Slice.Eq.{bytes_eq-Decides}
 use Rattle.indexmap.specs.IndexMap.{insert_entry}
 use Rattle.serde_json.specs.Data as json
-use Rattle.serde_json.specs.View.{members_view}
-use Rattle.serde_json.specs.declared.value.Value.{Value}
 use Rattle.fv_datum.specs.Ascending.{IsAscending}
 use Rattle.fv_datum.proofs.Lists.{both_some}
-use Rattle.fv_model_types.proofs.Orders.{below_middle, members_ascend}
+use Rattle.fv_model_types.proofs.Orders.{below_middle}
 use Rattle.fv_datum.specs.Forms.{map2}
-use Rattle.fv_datum.specs.Members.{pairs, each_some}
+use Rattle.fv_datum.specs.Members.{each_some}
 use Rattle.fv_model.specs.Draft.{Part, part_of}
 use Rattle.fv_model.specs.Reading.{object_types, object_of}
 use Rattle.fv_model_types.specs.Types.{Declared}
@@ -61,8 +57,9 @@ parts_named (m ∷ ms) ps e =
     let found = both_some (part_of m) (each_some part_of ms) ps e in
     ap (λ (qs : List Part). keys_of (object_types qs)) (sym found.4) ∙ ap (λ n. n ∷ keys_of (object_types found.1)) (part_named m found.0 found.2) ∙ ap (λ ns. m.0 ∷ ns) (parts_named ms found.1 found.3)
 
-pub parts_ascend : (es : List (String Global × Value)) (ps : List Part) → IsStrictlySortedBy string_cmp (keys_of es) → Some ps ≡ each_some part_of (pairs (members_view es)) → IsAscending (keys_of (object_types ps))
-parts_ascend es ps ordered e = subst (λ (ns : List (List ℕ)). IsAscending ns) (sym (parts_named (pairs (members_view es)) ps (sym e))) (members_ascend es ordered)
+-- members in order give objects in order
+pub parts_ascend : (ms : List (List ℕ × json.Data)) (ps : List Part) → IsAscending (keys_of ms) → Some ps ≡ each_some part_of ms → IsAscending (keys_of (object_types ps))
+parts_ascend ms ps ordered e = subst (λ (ns : List (List ℕ)). IsAscending ns) (sym (parts_named ms ps (sym e))) ordered
 
 -- objects keep their names
 pub objects_named : (ts : Declared) (ps : List Part) → keys_of (map (object_of ts) ps) ≡ keys_of (object_types ps)

@@ -3,7 +3,7 @@ ghost use Rattle.std.specs.Prelude.{◌≡◌, All, true, false, IfOk, map, opti
 ghost use Rattle.std.specs.List.{list_any};
 ghost use Rattle.std.specs.Map.{keys_of};
 ghost use Rattle.serde_json.specs.Find.{get_member};
-ghost use Rattle.serde_json.specs.View.{view as json_view};
+ghost use Rattle.fv_json.specs.Documents.{view as json_view};
 ghost use Rattle.fv_datum.specs.Lookup.{at_name};
 ghost use Rattle.fv_datum.specs.Outcomes.{Gives};
 ghost use Rattle.fv_datum.specs.View.{view};
@@ -19,13 +19,13 @@ use crate::fault::BundleFault;
 use crate::parts::{Draft, Part};
 use crate::value::spelled_datum;
 use fv_datum::Datum;
+use fv_json::{Json, Members};
 use fv_model_types::{Fields, TypeUse, Types};
 use indexmap::IndexMap;
-use serde_json::{Map, Value};
 use std::alloc::Global;
 
-fn find_given<'a>(given: Option<&'a Map<String, Value>>, name: &str) -> Option<&'a Value>
-    ensures { option_map (λ v. json_view v.now) result ≡ get_member name.now (given_view given.entry) }
+fn find_given<'j, 'a>(given: Option<Members<'j, 'a>>, name: &str) -> Option<Json<'j, 'a>>
+    ensures { option_map json_view result ≡ get_member name.now (given_view given.entry) }
 {
     match given {
         None => None,
@@ -34,15 +34,15 @@ fn find_given<'a>(given: Option<&'a Map<String, Value>>, name: &str) -> Option<&
 }
 
 /// The datum of a field: null where the field isn't given.
-fn datum_for(alloc: Global, type_use: &TypeUse, value: Option<&Value>) -> Result<Datum, BundleFault>
+fn datum_for(alloc: Global, type_use: &TypeUse, value: Option<Json>) -> Result<Datum, BundleFault>
     ensures exact { Gives BundleFault.Memory view result (unless_wrong
-        (misfits_given (type_use_view type_use.now) (option_map (λ v. json_view v.now) value.entry))
-        (datum_at (type_use_view type_use.now) (option_map (λ v. json_view v.now) value.entry))) }
+        (misfits_given (type_use_view type_use.now) (option_map json_view value.entry))
+        (datum_at (type_use_view type_use.now) (option_map json_view value.entry))) }
     ensures written { IfOk result (λ d. IsWritten (view d)) }
 {
     match value {
         None => Ok(Datum::Null),
-        Some(value) => spelled_datum(alloc, type_use, value),
+        Some(value) => spelled_datum(alloc, type_use, &value),
     }
 }
 
@@ -50,7 +50,7 @@ fn datum_for(alloc: Global, type_use: &TypeUse, value: Option<&Value>) -> Result
 fn data_for(
     alloc: Global,
     fields: &Fields,
-    given: Option<&Map<String, Value>>,
+    given: Option<Members>,
 ) -> Result<Vec<Datum>, BundleFault>
     ensures exact { Gives BundleFault.Memory (λ v. map view v.items) result (unless_wrong
         (list_any (field_misfits (given_view given.entry)) (fields_view fields.now))

@@ -1,6 +1,6 @@
 //! The datum that is given for a field of an object, or what is wrong with it.
 ghost use Rattle.std.specs.Prelude.{◌≡◌, [], ◌∷◌, IfOk, option_map};
-ghost use Rattle.serde_json.specs.View.{view as json_view};
+ghost use Rattle.fv_json.specs.Documents.{view as json_view};
 ghost use Rattle.fv_datum.specs.Lookup.{at_name};
 ghost use Rattle.fv_datum.specs.Outcomes.{Gives, first};
 ghost use Rattle.fv_datum.specs.View.{view};
@@ -15,8 +15,8 @@ use crate::fault::BundleFault;
 use crate::naming::type_names;
 use crate::value::spelled_datum;
 use fv_datum::Datum;
+use fv_json::Json;
 use fv_model_types::{Flaws, TypeUse, Types, flaws_of, use_in};
-use serde_json::Value;
 use std::alloc::Global;
 
 /// What the field of that name of a type holds.
@@ -50,7 +50,7 @@ fn datum_in_use(
     alloc: Global,
     bundle: &Bundle,
     type_use: &TypeUse,
-    value: &Value,
+    value: &Json,
 ) -> Result<Datum, BundleFault>
     ensures exact { Gives BundleFault.Memory view result
         (datum_in_use (types_of (bundle_view bundle.now).objects) (type_use_view type_use.now) (json_view value.now)) }
@@ -71,7 +71,7 @@ pub(crate) fn given_datum(
     types: &Types,
     object: &str,
     field: &str,
-    value: &Value,
+    value: &Json,
 ) -> Result<Datum, BundleFault>
     ensures exact { Gives BundleFault.Memory view result
         (datum_given (types_view types.now) (bundle_view bundle.now) object.now field.now (json_view value.now)) }

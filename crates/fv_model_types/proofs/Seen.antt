@@ -1,14 +1,13 @@
--- A type use, level by level, and the members and items that are seen.
-use Rattle.std.proofs.Common.{◌≡◌, List, [], ◌∷◌, length, map, String, Vec, Box, Global, string_bytes, refl, ap, suc, rules}
-use Rattle.serde_json.specs.View.{members_view, items_view}
-use Rattle.serde_json.specs.declared.value.Value.{Value}
+-- A type use, a datum and a JSON value, level by level.
+use Rattle.std.proofs.Common.{◌≡◌, map, Some, String, Vec, Box, Global, string_bytes, rules}
+use Rattle.serde_json.specs.Data as json
+use Rattle.serde_json.specs.Find.{as_array, as_object}
 use Rattle.fv_datum.specs.Data as datum
 use Rattle.fv_datum.specs.Data.{entries_of}
 use Rattle.fv_datum.specs.View.{view, pair_view}
 use Rattle.fv_datum.specs.declared.datum.Datum.{Datum, the_lemmas as data_lemmas}
 use Rattle.fv_datum.specs.declared.datum.Datum.TheVariants.{Text as text_datum, List as list_datum, Map as map_datum, Optional as optional_datum}
 use Rattle.fv_model_types.specs.Spelled.{list_of}
-use Rattle.fv_datum.specs.Members.{pairs, listed}
 use Rattle.fv_model_types.specs.Types.{integers, decimals, booleans, dates, instants, lists, maps, optionals, type_use_view}
 use Rattle.fv_model_types.specs.declared.type_use.TypeUse.{TypeUse, the_lemmas}
 use Rattle.fv_model_types.specs.declared.type_use.TypeUse.TheVariants.{Integer as integer_use, Decimal as decimal_use, Boolean as boolean_use, Date as date_use, Instant as instant_use, List as list_use, Map as map_use, Optional as optional_use}
@@ -51,12 +50,12 @@ view-DataMap v = search (rules, data_lemmas)
 pub view-DataOptional : (b : Box Datum Global) → view (optional_datum b) ≡ datum.optional (view b.value)
 view-DataOptional b = search (rules, data_lemmas)
 
--- ---- members and items
+-- ---- JSON
 
-pub length-members : (es : List (String Global × Value)) → length (pairs (members_view es)) ≡ length es
-length-members [] = refl
-length-members (e ∷ es) = ap suc (length-members es)
+pub array_is : (j : json.Data) (js : json.Items) → Some js ≡ as_array j → j ≡ json.array js
+array_is (json.array js) ks e = cc
+array_is _ ks e = cc
 
-pub length-items : (vs : List Value) → length (listed (items_view vs)) ≡ length vs
-length-items [] = refl
-length-items (v ∷ vs) = ap suc (length-items vs)
+pub object_is : (j : json.Data) (ms : json.Members) → Some ms ≡ as_object j → j ≡ json.object ms
+object_is (json.object ms) ns e = cc
+object_is _ ns e = cc

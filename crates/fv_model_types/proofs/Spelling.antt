@@ -63,13 +63,6 @@ part_taken f o p x made is = ap (λ q. ok_or q WrongKind) (made ∙ ap (option_m
 pub part_none : {X Y : Type 0} (f : X → Y) (o : Option X) (p : Option Y) → p ≡ option_map f o → o ≡ None → p ≡ None
 part_none f o p made none = made ∙ ap (option_map f) none
 
--- ---- an optional's item
-
-pub several : (f : json.Data → Option Data) (vs : List Value) → 1 < length vs → only_item f (items_view vs) ≡ None
-several f [] many = absurd (omega arith)
-several f (v ∷ []) many = absurd (omega arith)
-several f (v ∷ w ∷ vs) many = refl
-
 -- ---- one after another
 
 regroup : (front : List (Data × Data)) (k : List ℕ) (d : Data) (o : Option (List (List ℕ × Data))) → option_map (λ more. front ++ more) (option_map keyed (option_map (λ es. (k, d) ∷ es) o)) ≡ option_map (λ more. (front ++ (text k, d) ∷ []) ++ more) (option_map keyed o)

@@ -1,18 +1,13 @@
 -- Data that can be written.
-use Rattle.std.proofs.Common.{◌≡◌, ℕ, List, [], ◌∷◌, ◌++◌, map, Bool, true, false, cond, Option, Some, None, option_map, option_and_then, is_some, String, refl, true≢false, sym, subst, ◌∙◌, append-nil}
+use Rattle.std.proofs.Common.{◌≡◌, ℕ, List, [], ◌∷◌, ◌++◌, map, Bool, true, false, cond, Option, Some, None, option_map, option_and_then, is_some, refl, true≢false, sym, subst, ◌∙◌, append-nil}
 use Rattle.std.specs.List.{All, AllByRecursion}
-use Rattle.std.specs.List.Sorted.{IsStrictlySortedBy}
 use Rattle.std.specs.Map.{keys_of}
-use Rattle.std.specs.String.{string_cmp}
-use Rattle.std.specs.declared.alloc.Global.{Global}
 use Rattle.std.proofs.lemmas.List.Elements.{All-head, All-tail}
 use Rattle.serde_json.specs.Data as json
-use Rattle.serde_json.specs.View.{members_view}
-use Rattle.serde_json.specs.declared.value.Value.{Value}
-use Rattle.fv_datum.specs.Members.{pairs, each_some}
+use Rattle.fv_datum.specs.Members.{each_some}
 use Rattle.fv_datum.specs.Ascending.{IsAscending}
 use Rattle.fv_model_types.specs.Spelled.{keyed, entry_read}
-use Rattle.fv_model_types.proofs.Orders.{members_ascend, keys_in_order}
+use Rattle.fv_model_types.proofs.Orders.{keys_in_order}
 use Rattle.fv_model_types.proofs.Spelling.{keys_read}
 use Rattle.fv_datum.specs.Data as datum
 use Rattle.fv_datum.specs.Data.{Data, items_of, entries_of}
@@ -50,18 +45,18 @@ pub map_writable : (es : List (Data × Data)) → keys_fit (entries_of es) ≡ t
 map_writable es fit all = rw fit (some_mapped json.object (entries_written json.no_members (entries_of es)) (entries_some json.no_members es all))
 
 -- entries that were read of members in order
-pub entries_writable : (f : json.Data → Option Data) (es left : List (String Global × Value)) (out : List (Data × Data)) → left ≡ []
-    → option_map (λ more. out ++ more) (option_map keyed (each_some (entry_read f) (pairs (members_view left)))) ≡ option_map keyed (each_some (entry_read f) (pairs (members_view es)))
-    → IsStrictlySortedBy string_cmp (keys_of es) → AllByRecursion (λ e. IsWritten e.1) out → IsWritten (datum.map (entries_of out))
-entries_writable f es left out none read ordered all = at (each_some (entry_read f) (pairs (members_view es))) refl
+pub entries_writable : (f : json.Data → Option Data) (ms left : List (List ℕ × json.Data)) (out : List (Data × Data)) → left ≡ []
+    → option_map (λ more. out ++ more) (option_map keyed (each_some (entry_read f) left)) ≡ option_map keyed (each_some (entry_read f) ms)
+    → IsAscending (keys_of ms) → AllByRecursion (λ e. IsWritten e.1) out → IsWritten (datum.map (entries_of out))
+entries_writable f ms left out none read ordered all = at (each_some (entry_read f) ms) refl
   where
-    at : (o : Option (List (List ℕ × Data))) → each_some (entry_read f) (pairs (members_view es)) ≡ o → IsWritten (datum.map (entries_of out))
+    at : (o : Option (List (List ℕ × Data))) → each_some (entry_read f) ms ≡ o → IsWritten (datum.map (entries_of out))
     at None is = let no : Some (out ++ []) ≡ None = rw (none, is) at read in cc
     at (Some xs) is =
         let whole : Some (out ++ []) ≡ Some (keyed xs) = rw (none, is) at read in
         let made : out ++ [] ≡ keyed xs = cc in
         let same : out ≡ keyed xs = sym (append-nil out) ∙ made in
-        let ascending = subst (λ (ns : List (List ℕ)). IsAscending ns) (sym (keys_read f (pairs (members_view es)) xs is)) (members_ascend es ordered) in
+        let ascending = subst (λ (ns : List (List ℕ)). IsAscending ns) (sym (keys_read f ms xs is)) ordered in
         map_writable out (rw same (keys_in_order xs ascending)) all
 
 optional_at : (b : Bool) (o : Option json.Data) → is_some o ≡ true → is_some (cond b (Some (json.array json.no_items)) (option_map (λ j. json.array (json.item j json.no_items)) o)) ≡ true

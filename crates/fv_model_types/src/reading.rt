@@ -1,7 +1,8 @@
 //! The data of type uses are read from JSON.
 ghost use Rattle.std.specs.Prelude.{◌≡◌, IfOk, IfSome, option_map, map};
 ghost use Rattle.std.specs.Option.{ok_or};
-ghost use Rattle.serde_json.specs.View.{view as json_view, items_view as json_items, members_view};
+ghost use Rattle.fv_json.specs.Documents.{view as json_view};
+ghost use Rattle.fv_json.specs.MembersView.{items_view as json_items, members_view};
 ghost use Rattle.fv_datum.specs.Data as datum;
 ghost use Rattle.fv_datum.specs.Members.{pairs, listed, each_some};
 ghost use Rattle.fv_datum.specs.Outcomes.{Gives};
@@ -12,15 +13,15 @@ ghost use Rattle.fv_model_types.specs.Types.{type_use_view, integers, lists, map
 ghost use Rattle.fv_model_types.specs.Writing.{IsWritten};
 
 use crate::type_use::TypeUse;
-use fv_datum::{Datum, DatumFault, read_datum};
-use serde_json::{Map, Value};
+use fv_datum::{Datum, DatumFault};
+use fv_json::{Items, Json, Members, read_datum};
 use std::alloc::Global;
 
 /// The datum of a type use that a JSON value spells. References aren't looked up, and nothing is too
 /// large.
 ///
 /// `WrongKind` where the value spells none; `Memory` at any place.
-pub fn read_use(alloc: Global, type_use: &TypeUse, value: &Value) -> Result<Datum, DatumFault>
+pub fn read_use(alloc: Global, type_use: &TypeUse, value: &Json) -> Result<Datum, DatumFault>
     ensures exact { Gives Memory view result
         (ok_or (datum_of (type_use_view type_use.now) (json_view value.now)) WrongKind) }
     ensures written { IfOk result (λ d. IsWritten (view d)) }
@@ -32,7 +33,7 @@ pub fn read_use(alloc: Global, type_use: &TypeUse, value: &Value) -> Result<Datu
 /// this function; each kind of container has one of its own.
 #[cycle(read)]
 #[inline(always)]
-fn read(alloc: Global, value: &Value, type_use: &TypeUse) -> Result<Datum, DatumFault>
+fn read(alloc: Global, value: &Json, type_use: &TypeUse) -> Result<Datum, DatumFault>
     ensures exact { Gives Memory view result
         (ok_or (datum_of (type_use_view type_use.now) (json_view value.now)) WrongKind) }
     ensures written { IfOk result (λ d. IsWritten (view d)) }
@@ -47,52 +48,58 @@ fn read(alloc: Global, value: &Value, type_use: &TypeUse) -> Result<Datum, Datum
 
 /// A list of what the type use holds.
 #[cycle(read)]
-fn read_list(alloc: Global, value: &Value, held: &TypeUse) -> Result<Datum, DatumFault>
+fn read_list(alloc: Global, value: &Json, held: &TypeUse) -> Result<Datum, DatumFault>
     ensures exact { Gives Memory view result
         (ok_or (datum_of (lists (type_use_view held.now)) (json_view value.now)) WrongKind) }
     ensures written { IfOk result (λ d. IsWritten (view d)) }
 {
-    match value {
-        Value::Null => Ok(Datum::Null),
-        Value::Array(items) => Ok(Datum::List(read_items(alloc, items, held)?)),
-        _ => Err(DatumFault::WrongKind),
+    if value.is_null() {
+        return Ok(Datum::Null);
+    }
+    match value.as_array() {
+        Some(items) => Ok(Datum::List(read_items(alloc, items, held)?)),
+        None => Err(DatumFault::WrongKind),
     }
 }
 
 /// A map to what the type use holds.
 #[cycle(read)]
-fn read_map(alloc: Global, value: &Value, held: &TypeUse) -> Result<Datum, DatumFault>
+fn read_map(alloc: Global, value: &Json, held: &TypeUse) -> Result<Datum, DatumFault>
     ensures exact { Gives Memory view result
         (ok_or (datum_of (maps (type_use_view held.now)) (json_view value.now)) WrongKind) }
     ensures written { IfOk result (λ d. IsWritten (view d)) }
 {
-    match value {
-        Value::Null => Ok(Datum::Null),
-        Value::Object(members) => Ok(Datum::Map(read_entries(alloc, members, held)?)),
-        _ => Err(DatumFault::WrongKind),
+    if value.is_null() {
+        return Ok(Datum::Null);
+    }
+    match value.as_object() {
+        Some(members) => Ok(Datum::Map(read_entries(alloc, members, held)?)),
+        None => Err(DatumFault::WrongKind),
     }
 }
 
 /// An optional of what the type use holds.
 #[cycle(read)]
-fn read_optional(alloc: Global, value: &Value, held: &TypeUse) -> Result<Datum, DatumFault>
+fn read_optional(alloc: Global, value: &Json, held: &TypeUse) -> Result<Datum, DatumFault>
     ensures exact { Gives Memory view result
         (ok_or (datum_of (optionals (type_use_view held.now)) (json_view value.now)) WrongKind) }
     ensures written { IfOk result (λ d. IsWritten (view d)) }
 {
-    match value {
-        Value::Null => Ok(Datum::Null),
-        Value::Array(items) => {
+    if value.is_null() {
+        return Ok(Datum::Null);
+    }
+    match value.as_array() {
+        Some(items) => {
             let content = read_content(alloc, items, held)?;
             Ok(Datum::Optional(Box::new(alloc, content)?))
         }
-        _ => Err(DatumFault::WrongKind),
+        None => Err(DatumFault::WrongKind),
     }
 }
 
 /// The datum of an integer that a JSON value spells; none where it spells none.
 #[inline(always)]
-fn integer_in(value: &Value) -> Option<Datum>
+fn integer_in(value: &Json) -> Option<Datum>
     ensures exact { option_map view result ≡ datum_of integers (json_view value.now) }
     ensures written { IfSome result (λ d. IsWritten (view d)) }
 {
@@ -103,14 +110,14 @@ fn integer_in(value: &Value) -> Option<Datum>
 }
 
 /// The items of a list of integers, which may be long: read with no call for an item.
-fn read_integers(alloc: Global, items: &Vec<Value>) -> Result<Vec<Datum>, DatumFault>
+fn read_integers(alloc: Global, items: Items) -> Result<Vec<Datum>, DatumFault>
     ensures exact { Gives Memory (λ v. map view v.items) result
-        (ok_or (each_some (datum_of integers) (listed (json_items items.now.items))) WrongKind) }
+        (ok_or (each_some (datum_of integers) (listed (json_items items.entry))) WrongKind) }
     ensures written { IfOk result (λ v. IsWritten (datum.list (items_view v.items))) }
 {
     let mut out = Vec::with_capacity(alloc, items.len())?;
-    for item in items {
-        match integer_in(item) {
+    for item in items.iter() {
+        match integer_in(&item) {
             Some(datum) => out.push(datum)?,
             None => return Err(DatumFault::WrongKind),
         }
@@ -120,17 +127,17 @@ fn read_integers(alloc: Global, items: &Vec<Value>) -> Result<Vec<Datum>, DatumF
 
 /// The items of a list.
 #[cycle(read)]
-fn read_items(alloc: Global, items: &Vec<Value>, held: &TypeUse) -> Result<Vec<Datum>, DatumFault>
+fn read_items(alloc: Global, items: Items, held: &TypeUse) -> Result<Vec<Datum>, DatumFault>
     ensures exact { Gives Memory (λ v. map view v.items) result
-        (ok_or (each_some (datum_of (type_use_view held.now)) (listed (json_items items.now.items))) WrongKind) }
+        (ok_or (each_some (datum_of (type_use_view held.now)) (listed (json_items items.entry))) WrongKind) }
     ensures written { IfOk result (λ v. IsWritten (datum.list (items_view v.items))) }
 {
     if matches!(held, TypeUse::Integer) {
         return read_integers(alloc, items);
     }
     let mut out = Vec::with_capacity(alloc, items.len())?;
-    for item in items {
-        out.push(read(alloc, item, held)?)?;
+    for item in items.iter() {
+        out.push(read(alloc, &item, held)?)?;
     }
     Ok(out)
 }
@@ -139,37 +146,37 @@ fn read_items(alloc: Global, items: &Vec<Value>, held: &TypeUse) -> Result<Vec<D
 #[cycle(read)]
 fn read_entries(
     alloc: Global,
-    members: &Map<String, Value>,
+    members: Members,
     held: &TypeUse,
 ) -> Result<Vec<(Datum, Datum)>, DatumFault>
     ensures exact { Gives Memory (λ v. map pair_view v.items) result
         (ok_or (option_map keyed (each_some (entry_read (datum_of (type_use_view held.now)))
-        (pairs (members_view members.now.entries)))) WrongKind) }
+        (pairs (members_view members.entry)))) WrongKind) }
     ensures written { IfOk result (λ v. IsWritten (datum.map (entries_view v.items))) }
 {
     let mut out = Vec::with_capacity(alloc, members.len())?;
     for (name, value) in members.iter() {
-        let datum = read(alloc, value, held)?;
-        out.push((Datum::Text(name.clone()?), datum))?;
+        let datum = read(alloc, &value, held)?;
+        out.push((Datum::Text(String::from_str(alloc, name)?), datum))?;
     }
     Ok(out)
 }
 
 /// What an optional holds: null where there is nothing in the array.
 #[cycle(read)]
-fn read_content(alloc: Global, items: &Vec<Value>, held: &TypeUse) -> Result<Datum, DatumFault>
+fn read_content(alloc: Global, items: Items, held: &TypeUse) -> Result<Datum, DatumFault>
     ensures exact { Gives Memory view result
-        (ok_or (only_item (datum_of (type_use_view held.now)) (json_items items.now.items)) WrongKind) }
+        (ok_or (only_item (datum_of (type_use_view held.now)) (json_items items.entry)) WrongKind) }
     ensures written { IfOk result (λ d. IsWritten (view d)) }
 {
-    if items.is_empty() {
-        return Ok(Datum::Null);
-    }
     if items.len() > 1 {
         return Err(DatumFault::WrongKind);
     }
-    if items[0].is_null() {
+    let Some(item) = items.iter().next() else {
+        return Ok(Datum::Null);
+    };
+    if item.is_null() {
         return Err(DatumFault::WrongKind);
     }
-    read(alloc, &items[0], held)
+    read(alloc, &item, held)
 }

@@ -1,26 +1,20 @@
 -- Where a record's text reads back, only want of memory refuses it.
 use Rattle.std.proofs.Common.{◌≡◌, ◌≢◌, Option, Some, None, Result, Ok, Err, IsErrAnd, refl, sym, ap, ◌∙◌}
 use Rattle.serde_json.specs.Data as json
-use Rattle.serde_json.specs.Errors.{IsMemory}
-use Rattle.serde_json.specs.declared.error.Error.{Error}
-use Rattle.serde_json.specs.declared.error.Code.{Code}
-use Rattle.serde_json.specs.declared.error.Code.TheVariants.{Invalid, NumberOutOfRange, OutOfMemory}
+use Rattle.fv_json.specs.declared.document.Refused.{Refused}
+use Rattle.fv_json.specs.declared.document.Refused.TheVariants as refused
 use Rattle.fv_model.specs.Bundles.{Bundled}
 use Rattle.fv_datum.specs.Outcomes.{Gives}
 use Rattle.fv_model.specs.declared.fault.BundleFault.{BundleFault}
 use Rattle.fv_model.specs.declared.fault.BundleFault.TheVariants as bundle
 use Rattle.fv_store.specs.declared.fault.StoreFault.{StoreFault}
 use Rattle.fv_store.specs.declared.fault.StoreFault.TheVariants.{Memory}
-use Rattle.fv_store.specs.Faults.{code_fault, json_fault, bundle_fault}
+use Rattle.fv_store.specs.Faults.{json_fault, bundle_fault}
 
-of_code : (c : Code) → ((c ≡ OutOfMemory → ⊥) → ⊥) → code_fault c ≡ Memory
-of_code Invalid h = absurd (h (λ e. cc))
-of_code NumberOutOfRange h = absurd (h (λ e. cc))
-of_code OutOfMemory h = refl
-
--- a text that reads as some value is no bad JSON
-pub json_memory : (e : Error) (value : Option json.Data) (d : json.Data) → (¬ IsMemory e → value ≡ None) → value ≡ Some d → json_fault e ≡ Memory
-json_memory e value d none some = of_code e.code (λ other. let never : None ≡ Some d = sym (none other) ∙ some in absurd cc)
+-- a text that reads as some value is JSON
+pub json_memory : (e : Refused) (value : Option json.Data) (d : json.Data) → (e ≡ refused.NotJson → value ≡ None) → value ≡ Some d → json_fault e ≡ Memory
+json_memory refused.NotJson value d none some = let never : None ≡ Some d = sym (none refl) ∙ some in absurd cc
+json_memory refused.Memory value d none some = refl
 
 -- a bundle that is read back is refused for memory alone
 pub bundle_memory : (e : BundleFault) (b : Bundled) → (e ≢ bundle.Memory → ◌≡◌ {A = Result Bundled BundleFault} (Ok b) (Err e)) → bundle_fault e ≡ Memory

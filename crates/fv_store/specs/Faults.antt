@@ -4,9 +4,8 @@ use Rattle.std.specs.Str.{bytes_eq}
 use Rattle.sqlite.specs.declared.error.Error.{Error}
 use Rattle.sqlite.specs.declared.error.Error.TheVariants.{SqliteFailure}
 use Rattle.sqlite.specs.declared.error.ErrorCode.TheVariants.{OutOfMemory}
-use Rattle.serde_json.specs.declared.error.Error as json
-use Rattle.serde_json.specs.declared.error.Code.{Code}
-use Rattle.serde_json.specs.declared.error.Code.TheVariants as code
+use Rattle.fv_json.specs.declared.document.Refused.{Refused}
+use Rattle.fv_json.specs.declared.document.Refused.TheVariants as json
 use Rattle.fv_datum.specs.Outcomes.{first}
 use Rattle.fv_model.specs.declared.fault.BundleFault.{BundleFault}
 use Rattle.fv_model.specs.declared.fault.BundleFault.TheVariants as bundle
@@ -20,14 +19,10 @@ abbrev pub fault_of : Error → StoreFault
 fault_of (SqliteFailure OutOfMemory) = Memory
 fault_of _ = Store
 
--- of why a text is no JSON
-abbrev pub code_fault : Code → StoreFault
-code_fault code.OutOfMemory = Memory
-code_fault _ = Store
-
--- of an error of reading JSON, by its code
-abbrev pub json_fault : json.Error → StoreFault
-json_fault e = code_fault e.code
+-- of why a text isn't read as JSON
+abbrev pub json_fault : Refused → StoreFault
+json_fault json.NotJson = Store
+json_fault json.Memory = Memory
 
 -- of JSON that spells no bundle
 abbrev pub bundle_fault : BundleFault → StoreFault

@@ -4,6 +4,7 @@ ghost use Rattle.fv_store.specs.FaultNames.{store_fault_name, open_store_fault_n
 ghost use Rattle.fv_store.specs.Faults.{fault_of, json_fault, bundle_fault, open_fault_of};
 ghost use Rattle.fv_store.specs.declared.fault.StoreFault.TheVariants.{Memory};
 
+use fv_json::Refused;
 use fv_model::BundleFault;
 use sqlite::{Error, ErrorCode};
 use std::alloc::AllocError;
@@ -42,14 +43,13 @@ impl From<Error> for StoreFault {
     }
 }
 
-impl From<serde_json::Error> for StoreFault {
+impl From<Refused> for StoreFault {
     ghost from_gives = { λ e fault. fault ≡ json_fault e };
 
-    fn from(error: serde_json::Error) -> StoreFault {
-        if error.is_memory() {
-            StoreFault::Memory
-        } else {
-            StoreFault::Store
+    fn from(refused: Refused) -> StoreFault {
+        match refused {
+            Refused::NotJson => StoreFault::Store,
+            Refused::Memory => StoreFault::Memory,
         }
     }
 }

@@ -8,9 +8,10 @@ ghost use Rattle.fv_model.specs.WellTyped.{IsWellTyped};
 ghost use Rattle.fv_store.specs.Records.{bundle_text};
 
 use crate::fault::StoreFault;
+use fv_json::Document;
 use fv_model::{Bundle, Types, read_bundle};
 use fv_model_text::write_text;
-use serde_json::Value;
+use json::Scratch;
 use std::alloc::{AllocError, Global};
 
 /// The text that a bundle is kept as.
@@ -27,6 +28,7 @@ pub(crate) fn bundle_of(alloc: Global, types: &Types, text: &str) -> Result<Bund
         → Gives StoreFault.Memory bundle_view result (Ok b) }
     ensures typed { IfOk result (λ b. IsWellTyped (types_view types.now) (bundle_view b)) }
 {
-    let value = Value::from_str(alloc, text)?;
-    Ok(read_bundle(alloc, types, None, &value)?)
+    let mut scratch = Scratch::new(alloc);
+    let document = Document::read(alloc, text, &mut scratch)?;
+    Ok(read_bundle(alloc, types, None, &document.root())?)
 }

@@ -1,13 +1,14 @@
 //! Data and objects as tests are given them, written as JSON.
 use fv_datum::Datum;
+use fv_json::{Document, Json};
 use fv_model::{Bundle, Fields, TypeUse, Types, read_bundle};
 use indexmap::IndexMap;
-use serde_json::Value;
+use json::Scratch;
 use std::alloc::Global;
 use std::test::Fail;
 
 /// The datum that a JSON value is: null, a whole number, a text or a boolean.
-fn datum_in(alloc: Global, value: &Value) -> Result<Datum, Fail> {
+fn datum_in(alloc: Global, value: &Json) -> Result<Datum, Fail> {
     if let Some(number) = value.as_i64() {
         return Ok(Datum::Integer(number));
     }
@@ -22,7 +23,9 @@ fn datum_in(alloc: Global, value: &Value) -> Result<Datum, Fail> {
 
 /// The same of its text.
 pub(crate) fn datum_of(alloc: Global, text: &str) -> Result<Datum, Fail> {
-    datum_in(alloc, &Value::from_str(alloc, text)?)
+    let mut scratch = Scratch::new(alloc);
+    let document = Document::read(alloc, text, &mut scratch)?;
+    datum_in(alloc, &document.root())
 }
 
 /// The fields of the type `Item`.
@@ -48,6 +51,7 @@ fn types(alloc: Global) -> Result<Types, Fail> {
 /// The bundle of an object `a` of these types, with its type and its fields as JSON.
 pub(crate) fn bundle_of(alloc: Global, object: &str) -> Result<Bundle, Fail> {
     let text = format!(in alloc; "{{\"objects\":{{\"a\":{object}}},\"root\":\"a\"}}")?;
-    let value = Value::from_str(alloc, text.as_str())?;
-    Ok(read_bundle(alloc, &types(alloc)?, None, &value)?)
+    let mut scratch = Scratch::new(alloc);
+    let document = Document::read(alloc, text.as_str(), &mut scratch)?;
+    Ok(read_bundle(alloc, &types(alloc)?, None, &document.root())?)
 }

@@ -1,8 +1,9 @@
 //! Objects and places that tests are given.
-use fv_datum::read_json;
 use fv_extract::Step;
+use fv_json::read_json;
 use fv_model::{Bundle, TypeUse, Types, read_bundle};
 use indexmap::IndexMap;
+use json::Scratch;
 use std::alloc::Global;
 use std::test::Fail;
 
@@ -41,8 +42,9 @@ pub(crate) fn bundle_of(alloc: Global, types: &Types, fields: &str) -> Result<Bu
     let text = format!(in alloc;
         r#"{{"root":"a","objects":{{"a":{{"type":"Item","fields":{fields}}}}}}}"#
     )?;
-    let value = read_json(alloc, text.as_bytes())?;
-    Ok(read_bundle(alloc, types, None, &value)?)
+    let mut scratch = Scratch::new(alloc);
+    let document = read_json(alloc, text.as_bytes(), &mut scratch)?;
+    Ok(read_bundle(alloc, types, None, &document.root())?)
 }
 
 /// Steps: `e` to each element, `k` to each key, `v` to each value, `c` to the content.

@@ -1,8 +1,9 @@
 //! What a store and a database answer to a line.
 use crate::texts::add;
+use fv_json::Document;
 use fv_model::{Types, read_bundle, write_bundle};
 use fv_store::{Change, Store, Stored};
-use serde_json::Value;
+use json::Scratch;
 use sqlite::{Alter, Connection, Row};
 use std::alloc::Global;
 use std::test::Fail;
@@ -16,11 +17,12 @@ fn change_of(alloc: Global, types: &Types, record: &str) -> Result<Change, Fail>
         });
     };
     let (form, bundle) = rest.split_once(' ').ok_or("a form")?;
-    let value = Value::from_str(alloc, bundle)?;
+    let mut scratch = Scratch::new(alloc);
+    let document = Document::read(alloc, bundle, &mut scratch)?;
     Ok(Change::Put {
         id: String::from_str(alloc, id)?,
         form: String::from_str(alloc, form)?,
-        bundle: read_bundle(alloc, types, None, &value)?,
+        bundle: read_bundle(alloc, types, None, &document.root())?,
     })
 }
 

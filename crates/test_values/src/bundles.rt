@@ -1,9 +1,10 @@
 //! What a bundle holds, bundles whose root may be of any type, and bundles written again.
 use crate::given::{Rows, built, check, check_rows, numbered};
 use fv_datum::Datum;
+use fv_json::Document;
 use fv_model::{Bundle, BundleFault, Object, Types, read_bundle, write_bundle};
 use fv_model_text::write_text;
-use serde_json::Value;
+use json::Scratch;
 use std::alloc::Global;
 use std::test::Fail;
 
@@ -78,8 +79,9 @@ struct AnyRoot;
 impl Rows for AnyRoot {
     fn found(alloc: Global, given: &str) -> Result<String, Fail> {
         let types = built(alloc, TYPES)?;
-        let value = Value::from_str(alloc, given)?;
-        match read_bundle(alloc, &types, None, &value) {
+        let mut scratch = Scratch::new(alloc);
+        let document = Document::read(alloc, given, &mut scratch)?;
+        match read_bundle(alloc, &types, None, &document.root()) {
             Ok(bundle) => shown(alloc, &bundle),
             Err(fault) => told(alloc, fault),
         }
@@ -106,8 +108,9 @@ pub(crate) fn bundle_of(
     root: &str,
     text: &str,
 ) -> Result<Bundle, Fail> {
-    let value = Value::from_str(alloc, text)?;
-    Ok(read_bundle(alloc, types, types.find(root), &value)?)
+    let mut scratch = Scratch::new(alloc);
+    let document = Document::read(alloc, text, &mut scratch)?;
+    Ok(read_bundle(alloc, types, types.find(root), &document.root())?)
 }
 
 /// An object `a` that refers to `b`, the root.

@@ -1,8 +1,9 @@
 //! One datum of a bundle is changed, or the change is refused and the bundle is as it was.
 use crate::bundles::{bundle_of, told};
 use crate::given::{Rows, built, check_rows};
+use fv_json::Document;
 use fv_model::{Bundle, BundleFault, set_field, write_bundle};
-use serde_json::Value;
+use json::Scratch;
 use std::alloc::Global;
 use std::test::Fail;
 
@@ -79,8 +80,9 @@ impl Rows for Changes {
         let (field, text) = rest.split_once(' ').ok_or("a field")?;
         let types = built(alloc, TYPES)?;
         let mut bundle = bundle_of(alloc, &types, "", BUNDLE)?;
-        let value = Value::from_str(alloc, text)?;
-        let changed = set_field(alloc, &mut bundle, &types, object, field, &value);
+        let mut scratch = Scratch::new(alloc);
+        let value = Document::read(alloc, text, &mut scratch)?;
+        let changed = set_field(alloc, &mut bundle, &types, object, field, &value.root());
         let text = after(alloc, &mut bundle, changed)?;
         let fields = between(text.as_str(), r#"{"objects":{"a":{"fields":"#, OTHERS);
         Ok(String::from_str(alloc, between(fields, "", r#","type":"P"}"#))?)

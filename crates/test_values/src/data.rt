@@ -4,11 +4,10 @@ ghost use Rattle.std.specs.Prelude.{◌≡◌};
 ghost use Rattle.fv_datum.specs.Kinds.{is_container};
 
 use crate::given::{Rows, attrs_of, check, check_rows, datum_of, numbered, type_use};
-use fv_datum::{
-    Attribute, Attrs, Datum, Kind, Name, is_name, is_null, read_datum, spells_datum, write_datum,
-};
+use fv_datum::{Attribute, Attrs, Datum, Kind, Name, is_name, is_null, write_datum};
 use fv_house::{luhn, one_of};
-use serde_json::Value;
+use fv_json::{Document, Json, read_datum, spells_datum};
+use json::Scratch;
 use std::alloc::Global;
 use std::test::Fail;
 
@@ -28,7 +27,7 @@ fn is_container(kind: Kind) -> bool
 }
 
 /// The datum of a plain kind that a value is read as, written again, or the name of the fault.
-fn read_again(alloc: Global, kind: Kind, value: &Value) -> Result<String, Fail> {
+fn read_again(alloc: Global, kind: Kind, value: &Json) -> Result<String, Fail> {
     if is_container(kind) {
         return Err("a plain kind".into());
     }
@@ -39,7 +38,7 @@ fn read_again(alloc: Global, kind: Kind, value: &Value) -> Result<String, Fail> 
 }
 
 /// Whether a value spells a datum of a plain kind.
-fn spells(kind: Kind, value: &Value) -> bool {
+fn spells(kind: Kind, value: &Json) -> bool {
     !is_container(kind) && spells_datum(kind, value)
 }
 
@@ -64,9 +63,10 @@ impl Rows for Spelled {
     fn found(alloc: Global, given: &str) -> Result<String, Fail> {
         let (letter, value) = given.split_once(' ').ok_or("a kind")?;
         let kind = type_use(alloc, letter)?.kind();
-        let value = Value::from_str(alloc, value)?;
-        let spells = spells(kind, &value);
-        let read = read_again(alloc, kind, &value)?;
+        let mut scratch = Scratch::new(alloc);
+        let value = Document::read(alloc, value, &mut scratch)?;
+        let spells = spells(kind, &value.root());
+        let read = read_again(alloc, kind, &value.root())?;
         Ok(format!(in alloc; "{spells} {read}")?)
     }
 }

@@ -1,7 +1,8 @@
 //! The texts of faults of data, JSON, types, bundles and declarations.
 use crate::given::check;
-use fv_datum::{DatumFault, JsonFault};
+use fv_datum::DatumFault;
 use fv_declare::DeclFault;
+use fv_json::JsonFault;
 use fv_model::{BundleFault, TypesFault};
 use std::alloc::Global;
 use std::fmt::Display;

@@ -1,8 +1,9 @@
 //! Tables of rows, and the kinds, attributes and types that rows give, written as texts.
 use fv_datum::{Attribute, Attrs, Datum, Kind};
+use fv_json::{Document, Items, Json};
 use fv_model::{Fields, TypeUse, Types, read_value};
 use indexmap::IndexMap;
-use serde_json::Value;
+use json::Scratch;
 use std::alloc::Global;
 use std::collections::BTreeMap;
 use std::process::Abort;
@@ -73,21 +74,21 @@ pub(crate) fn kinds_of(alloc: Global, letters: &str) -> Result<Vec<Kind>, Fail> 
 }
 
 /// The text that a JSON value is.
-fn text_of(alloc: Global, value: &Value) -> Result<String, Fail> {
+fn text_of(alloc: Global, value: &Json) -> Result<String, Fail> {
     Ok(String::from_str(alloc, value.as_str().ok_or("a text")?)?)
 }
 
 /// The texts that JSON values are.
-fn texts_of(alloc: Global, values: &[Value]) -> Result<Vec<String>, Fail> {
+fn texts_of(alloc: Global, values: Items) -> Result<Vec<String>, Fail> {
     let mut texts = Vec::new(alloc);
-    for value in values {
-        texts.push(text_of(alloc, value)?)?;
+    for value in values.iter() {
+        texts.push(text_of(alloc, &value)?)?;
     }
     Ok(texts)
 }
 
 /// The attribute that a JSON value is: a whole number, a boolean, a text or texts.
-fn attribute_of(alloc: Global, value: &Value) -> Result<Attribute, Fail> {
+fn attribute_of(alloc: Global, value: &Json) -> Result<Attribute, Fail> {
     if let Some(number) = value.as_i64() {
         return Ok(Attribute::Integer(number));
     }
@@ -102,10 +103,12 @@ fn attribute_of(alloc: Global, value: &Value) -> Result<Attribute, Fail> {
 
 /// The attributes of a JSON object.
 pub(crate) fn attrs_of(alloc: Global, text: &str) -> Result<Attrs, Fail> {
-    let value = Value::from_str(alloc, text)?;
+    let mut scratch = Scratch::new(alloc);
+    let value = Document::read(alloc, text, &mut scratch)?;
+    let members = value.root().as_object().ok_or("an object")?;
     let mut entries = BTreeMap::new(alloc);
-    for (name, given) in value.as_object().ok_or("an object")?.iter() {
-        entries.insert(name.clone()?, attribute_of(alloc, given)?)?;
+    for (name, given) in members.iter() {
+        entries.insert(String::from_str(alloc, name)?, attribute_of(alloc, &given)?)?;
     }
     Ok(Attrs::new(entries))
 }
@@ -129,8 +132,9 @@ pub(crate) fn type_use(alloc: Global, held: &str) -> Result<TypeUse, Fail> {
 /// The datum of a row `HELD : VALUE`, what a field holds and a JSON value.
 pub(crate) fn datum_of(alloc: Global, given: &str) -> Result<Datum, Fail> {
     let (held, text) = given.split_once(" : ").ok_or("a value")?;
-    let value = Value::from_str(alloc, text)?;
-    Ok(read_value(alloc, &type_use(alloc, held)?, &value)?)
+    let mut scratch = Scratch::new(alloc);
+    let value = Document::read(alloc, text, &mut scratch)?;
+    Ok(read_value(alloc, &type_use(alloc, held)?, &value.root())?)
 }
 
 /// Data of the kind of a letter, or behind `&` a reference to a type.

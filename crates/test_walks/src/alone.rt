@@ -6,9 +6,10 @@ use crate::judged::book_of;
 use crate::strict::Strict;
 use fv_datum::{Datum, write_datum};
 use fv_groups::GroupId;
+use fv_json::Document;
 use fv_local::{LocalFailure, Rulebook, Spot};
 use fv_model::{Fields, Object, Types, read_value, single};
-use serde_json::Value;
+use json::Scratch;
 use std::alloc::Global;
 use std::process::Abort;
 use std::test::Fail;
@@ -59,9 +60,10 @@ pub(crate) fn datum_of(
     field: &str,
     value: &str,
 ) -> Result<Datum, Fail> {
-    let value = Value::from_str(alloc, value)?;
+    let mut scratch = Scratch::new(alloc);
+    let value = Document::read(alloc, value, &mut scratch)?;
     match fields.get(field) {
-        Some(held) => Ok(read_value(alloc, held, &value)?),
+        Some(held) => Ok(read_value(alloc, held, &value.root())?),
         None => Ok(Datum::Null),
     }
 }

@@ -6,11 +6,12 @@ ghost use Rattle.fv_model.specs.WellTyped.{IsWellTyped};
 use crate::strict::Strict;
 use fv_datum::Datum;
 use fv_declare::{Schema, read_schema};
+use fv_json::Document;
 use fv_listing::list_failures;
 use fv_local::Rulebook;
 use fv_model::{Bundle, read_bundle};
 use fv_walk::{Failure, WalkFault, groups_named, visits, walk, walk_counted};
-use serde_json::Value;
+use json::Scratch;
 use std::alloc::Global;
 use std::test::Fail;
 
@@ -24,8 +25,9 @@ pub(crate) fn book_of(alloc: Global, declarations: &str) -> Result<Rulebook<Stri
 pub(crate) fn bundle_of(alloc: Global, schema: &Schema, text: &str) -> Result<Bundle, Fail>
     ensures { IfOk result (λ b. IsWellTyped schema.now.types (bundle_view b)) }
 {
-    let value = Value::from_str(alloc, text)?;
-    Ok(read_bundle(alloc, schema.types(), None, &value)?)
+    let mut scratch = Scratch::new(alloc);
+    let document = Document::read(alloc, text, &mut scratch)?;
+    Ok(read_bundle(alloc, schema.types(), None, &document.root())?)
 }
 
 /// The names in a text.

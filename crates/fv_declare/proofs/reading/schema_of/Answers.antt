@@ -1,5 +1,5 @@
 use Rattle.std.proofs.Common.{option_map, sym, ap, ◌∙◌}
-use Rattle.serde_json.specs.View.{view as json_view}
+use Rattle.fv_json.specs.Documents.{view as json_view}
 use Rattle.fv_declare_draft.specs.DraftViews.{draft_view}
 use Rattle.fv_declare.proofs.Led.{draft_led}
 use Rattle.fv_declare.proofs.reading.schema_of.Goals as goal

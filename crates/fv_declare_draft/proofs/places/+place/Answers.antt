@@ -1,7 +1,7 @@
 use Rattle.std.proofs.Common.{◌≡◌, ◌<◌, ◌∷◌, [], map, Some, None, true, false, sym, ◌∙◌, codes, rules, arith}
 use Rattle.serde_json.specs.Data.{depth}
 use Rattle.serde_json.specs.Find.{get, as_str}
-use Rattle.serde_json.specs.View.{view as json_view}
+use Rattle.fv_json.specs.Documents.{view as json_view}
 use Rattle.fv_datum.specs.Members.{has_only}
 use Rattle.fv_extract.specs.Views.{step_view}
 use Rattle.fv_declare_draft.proofs.PlaceMembers.{held_of_members, get_depth}
@@ -36,14 +36,14 @@ held_of-returns-then-has_only-4 t c =
 
 pub place_in-place_of-requires : goal.place_in-place_of-requires
 place_in-place_of-requires t c =
-    let found : get c.args.name.now (json_view c.args.value.now) ≡ Some (json_view c.in-Some.inner.now) = search rules in
-    let below : depth (json_view c.in-Some.inner.now) < depth (json_view c.args.value.now) =
-    get_depth c.args.name.now (json_view c.args.value.now) (json_view c.in-Some.inner.now) found in
+    let found : get c.args.name.now (json_view c.args.value.now) ≡ Some (json_view c.in-Some.inner) = search rules in
+    let below : depth (json_view c.in-Some.inner) < depth (json_view c.args.value.now) =
+    get_depth c.args.name.now (json_view c.args.value.now) (json_view c.in-Some.inner) found in
     (omega arith, tt)
 
 pub place_of-held_of-requires : goal.place_of-held_of-requires
 place_of-held_of-requires t c =
-    let found : get (codes "type") (json_view c.args.value.now) ≡ Some (json_view c.in-Some-get.told.now) = search rules in
-    let below : depth (json_view c.in-Some-get.told.now) < depth (json_view c.args.value.now) =
-    get_depth (codes "type") (json_view c.args.value.now) (json_view c.in-Some-get.told.now) found in
+    let found : get (codes "type") (json_view c.args.value.now) ≡ Some (json_view c.in-Some-get.told) = search rules in
+    let below : depth (json_view c.in-Some-get.told) < depth (json_view c.args.value.now) =
+    get_depth (codes "type") (json_view c.args.value.now) (json_view c.in-Some-get.told) found in
     (omega arith, tt)

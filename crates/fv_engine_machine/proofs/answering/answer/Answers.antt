@@ -2,7 +2,7 @@ use Rattle.std.proofs.Common.{◌≡◌, Option, None, inl, inr, refl, sym, subs
 use Rattle.std.proofs.lemmas.Int.{to_z-of_z}
 use mir.Syntax.{w64}
 use Rattle.sqlite.specs.Held.{state}
-use Rattle.serde_json.specs.View.{view as json_view}
+use Rattle.fv_json.specs.Documents.{view as json_view}
 use Rattle.fv_declare_schema.specs.Declarations.{Declarations}
 use Rattle.fv_engine_command.specs.Commands.{Request, command_of, or_shape}
 use Rattle.fv_engine_machine.specs.Step.{Handles}

@@ -1,7 +1,7 @@
 use Rattle.std.proofs.lemmas.Int.{to_z-of_z}
 use mir.Syntax.{w64}
 use Rattle.sqlite.specs.Held.{state}
-use Rattle.serde_json.specs.View.{view as json_view}
+use Rattle.fv_json.specs.Documents.{view as json_view}
 use Rattle.fv_engine_machine.proofs.Becoming.{weaker, told_answer, short_command}
 use Rattle.fv_engine_machine.proofs.answering.reply_to.Goals as goal
 

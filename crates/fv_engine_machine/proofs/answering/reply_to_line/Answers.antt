@@ -1,4 +1,4 @@
-use Rattle.std.proofs.Common.{Err, Option, inl, inr, refl, sym, ap, subst}
+use Rattle.std.proofs.Common.{Err, Option, Some, inl, inr, refl, sym, ap, subst, ◌∙◌}
 use Rattle.std.proofs.lemmas.Int.{to_z-of_z}
 use mir.Syntax.{w64}
 use Rattle.sqlite.specs.Held.{state}
@@ -15,7 +15,9 @@ use Rattle.fv_engine_machine.proofs.answering.reply_to_line.Goals as goal
 pub returns-in-Ok : goal.returns-in-Ok
 returns-in-Ok g c =
     subst (λ (o : Option json.Data). Becomes (state g.S.Store) (over (state g.S.Store) c.args.book.now c.args.store.now) (over (state g.S.Store) c.args.book.now c.reply_to.new.store)
-    (λ x y. Replies g.R.RuleSet.meaning c.args.now (of_json o) x c.reply_to.result y)) (sym c.in-Ok.ensures.read) (rw (to_z-of_z w64 c.args.now c.ranges.now) at c.reply_to.ensures)
+    (λ x y. Replies g.R.RuleSet.meaning c.args.now (of_json o) x c.reply_to.result y))
+    (ap (λ (j : json.Data). Some j) c.root.ensures ∙ sym c.in-Ok.ensures.read)
+    (rw (to_z-of_z w64 c.args.now c.ranges.now) at c.reply_to.ensures)
 
 pub returns-in-Err-NotJson : goal.returns-in-Err-NotJson
 returns-in-Err-NotJson g c = rests (state g.S.Store) _ _ (λ x.

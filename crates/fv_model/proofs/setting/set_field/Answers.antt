@@ -1,5 +1,5 @@
 use Rattle.std.proofs.Common.{sym, subst}
-use Rattle.serde_json.specs.View.{view as json_view}
+use Rattle.fv_json.specs.Documents.{view as json_view}
 use Rattle.fv_datum.specs.View.{view}
 use Rattle.fv_model.specs.Bundles.{Bundled}
 use Rattle.fv_model.specs.Views.{types_view, bundle_view}

@@ -1,4 +1,4 @@
-use Rattle.serde_json.specs.View.{members_view}
+use Rattle.fv_json.specs.MembersView.{members_view, members_left}
 use Rattle.fv_datum.specs.Members.{pairs}
 use Rattle.fv_model_types.specs.Flaws.{flaw_among}
 use Rattle.fv_model_types.specs.Names.{object_types_view}
@@ -8,5 +8,5 @@ use Rattle.fv_model_types.proofs.flaws.flaws_among.Given as goal
 
 abbrev pub invariant-loop-name : goal.invariant-loop-name
 invariant-loop-name l =
-    Telling l.flaws (object_types_view l.types) (λ flaw. flaw_among flaw (fields_view l.fields) (pairs (members_view l.name-iterator)))
-    (λ flaw. flaw_among flaw (fields_view l.fields) (pairs (members_view l.given.entries)))
+    Telling l.flaws (object_types_view l.types) (λ flaw. flaw_among flaw (fields_view l.fields) (members_left l.name-iterator))
+    (λ flaw. flaw_among flaw (fields_view l.fields) (pairs (members_view l.fn.given)))

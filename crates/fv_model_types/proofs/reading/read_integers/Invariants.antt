@@ -1,6 +1,6 @@
-use Rattle.std.proofs.Common.{◌≡◌, map, drop}
+use Rattle.std.proofs.Common.{◌≡◌, map}
 use Rattle.std.specs.List.{All}
-use Rattle.serde_json.specs.View.{items_view as json_items}
+use Rattle.fv_json.specs.MembersView.{items_view as json_items, items_left}
 use Rattle.fv_datum.specs.Members.{listed, each_some}
 use Rattle.fv_datum.specs.View.{view}
 use Rattle.fv_model_types.specs.Spelled.{datum_of}
@@ -11,6 +11,6 @@ use Rattle.fv_model_types.proofs.reading.read_integers.Given as goal
 
 abbrev pub invariant-loop-item : goal.invariant-loop-item
 invariant-loop-item l = record {
-  read : with_front (map view l.out.items) (each_some (datum_of integers) (listed (json_items (drop l.item-index l.item-items)))) ≡ each_some (datum_of integers) (listed (json_items l.item-items));
+  read : with_front (map view l.out.items) (each_some (datum_of integers) (items_left l.item-iterator)) ≡ each_some (datum_of integers) (listed (json_items l.fn.items));
   written : All (λ d. IsWritten (view d)) l.out.items;
 }
