@@ -26,9 +26,10 @@ rows:
 planted:
 	tests/planted.sh $(NAME)
 
-# Runs the program that `make` leaves: the manual's examples, files that it can't serve, pages of ids, a hundred kills.
+# Runs the program that `make` leaves: the manual's examples, files that it can't serve, pages of ids, hostile patterns, a hundred kills.
 served:
 	tests/manual.py
 	tests/statuses.py
 	tests/pages.py
+	tests/matchers.py
 	tests/kills.py
