@@ -32,5 +32,6 @@ few n (Some parts) sizes some under =
 pub too_many : (j : json.Data) (vs : json.Items) → as_array j ≡ Some vs → 64 < length (listed vs) → parts_in j ≡ None
 too_many j vs is more = rw is (many (length (listed vs)) (each_some part_of (listed vs)) (length_read part_of (listed vs)) more)
 
-pub not_too_many : (j : json.Data) (vs : json.Items) → as_array j ≡ Some vs → 0 < length (listed vs) → length (listed vs) ≤ 64 → parts_in j ≡ each_some part_of (listed vs)
+pub not_too_many : (j : json.Data) (vs : json.Items) → as_array j ≡ Some vs → 0 < length (listed vs) → length (listed vs) ≤ 64
+    → parts_in j ≡ each_some part_of (listed vs)
 not_too_many j vs is some under = rw is (few (length (listed vs)) (each_some part_of (listed vs)) (length_read part_of (listed vs)) some under)

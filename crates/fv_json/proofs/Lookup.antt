@@ -7,7 +7,8 @@ use Rattle.std.specs.Ordering.{ordering_reverse}
 use Rattle.std.proofs.lemmas.Cmp.{nat_list_cmp_total, nat_list_eq_equiv}
 use Rattle.std.proofs.lemmas.Map.Text.{is_eq-slice_cmp}
 use Rattle.serde_json.specs.Find.{get_member}
-use Rattle.fv_json.specs.Order.{IsOrdered, IsAscending, AreValuesOrdered}
+use Rattle.fv_datum.specs.Ascending.{IsAscending}
+use Rattle.fv_json.specs.Order.{IsOrdered, AreValuesOrdered}
 use Rattle.fv_json.specs.View.{tree_view, tree_members, name_of}
 use Rattle.fv_json.proofs.Ascending.{below_all}
 use Rattle.fv_json.proofs.Puts.{Entry}

@@ -9,7 +9,8 @@ use Rattle.json.specs.Json as json
 use Rattle.json.specs.Lex.{tokens}
 use Rattle.serde_json.specs.Data.{Num, Data, number, array, object, item, Members, no_members, member, put}
 use Rattle.serde_json.specs.Read.{number_of, of_json, of_items, of_members, max_depth, read}
-use Rattle.fv_json.specs.Order.{IsOrdered, AreOrdered, AreItemsOrdered, AreValuesOrdered, IsAscending}
+use Rattle.fv_datum.specs.Ascending.{IsAscending}
+use Rattle.fv_json.specs.Order.{IsOrdered, AreOrdered, AreItemsOrdered, AreValuesOrdered}
 use Rattle.fv_datum.specs.Members.{pairs}
 use Rattle.fv_json.proofs.Ascending.{below_all}
 

@@ -7,7 +7,7 @@ use Rattle.std.specs.List.Sorted.{IsStrictlySortedBy}
 use Rattle.std.specs.Ordering.{match_ordering, ordering_reverse}
 use Rattle.std.proofs.lemmas.Cmp.{nat_list_cmp_total}
 use Rattle.serde_json.specs.Data.{Data, Members, no_members, member, put}
-use Rattle.fv_json.specs.Order.{IsAscending}
+use Rattle.fv_datum.specs.Ascending.{IsAscending}
 use Rattle.fv_json.specs.Puts.{puts}
 use Rattle.fv_json.specs.View.{tree_view, tree_members, member_pair, name_of}
 use Rattle.fv_json.specs.declared.tree.Tree.{Tree}

@@ -1,14 +1,8 @@
--- Names that ascend, and data in which they do.
-use Rattle.std.specs.Prelude.{ℕ, List, map}
-use Rattle.std.specs.Cmp.Lexicographic.{slice_cmp}
-use Rattle.std.specs.List.Sorted.{IsStrictlySortedBy}
-use Rattle.std.specs.Ordering.{nat_cmp}
+-- Data in which the names of members ascend.
+use Rattle.std.specs.Prelude.{map}
 use Rattle.serde_json.specs.Data.{Data, null, boolean, number, string, array, object, Items, no_items, item, Members, no_members, member}
+use Rattle.fv_datum.specs.Ascending.{IsAscending}
 use Rattle.fv_datum.specs.Members.{pairs}
-
--- names that ascend by their bytes: each is below those after it
-abbrev pub IsAscending : List (List ℕ) → Type 0
-IsAscending = IsStrictlySortedBy (slice_cmp nat_cmp)
 
 -- the members of each object in it ascend by their names
 abbrev mutual

@@ -22,6 +22,7 @@ use std::alloc::Global;
 ///
 /// What `write_datum` gave for a datum of the kind is read as that datum. `WrongKind` where the
 /// value spells no datum of the kind; `Memory` at any place.
+#[inline]
 pub fn read_datum(alloc: Global, kind: Kind, value: &Json) -> Result<Datum, DatumFault>
     requires { is_container kind ≡ false }
     ensures exact { Gives DatumFault.Memory view result (datum_read kind (json_view value.now)) }
@@ -33,6 +34,7 @@ pub fn read_datum(alloc: Global, kind: Kind, value: &Json) -> Result<Datum, Datu
 }
 
 /// The same, by the definition alone.
+#[inline]
 fn spelled_datum(alloc: Global, kind: Kind, value: &Json) -> Result<Datum, DatumFault>
     ensures { Gives DatumFault.Memory view result (datum_read kind (json_view value.now)) }
 {
@@ -43,6 +45,7 @@ fn spelled_datum(alloc: Global, kind: Kind, value: &Json) -> Result<Datum, Datum
 }
 
 /// The same of a value other than null.
+#[inline]
 fn plain_datum(alloc: Global, kind: Kind, value: &Json) -> Result<Datum, DatumFault>
     ensures { Gives DatumFault.Memory view result (ok_or (plain kind (json_view value.now)) WrongKind) }
 {

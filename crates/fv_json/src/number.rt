@@ -7,6 +7,7 @@ use fast_float::Numeral;
 use serde_json::Number;
 
 /// The finite float that is nearest to a numeral, if one is.
+#[inline(always)]
 fn nearest(negative: bool, numeral: &Numeral) -> Option<Number>
     ensures { option_map number_view result ≡ float_of negative numeral.now }
 {
@@ -14,6 +15,7 @@ fn nearest(negative: bool, numeral: &Numeral) -> Option<Number>
 }
 
 /// The number that a numeral without a sign spells.
+#[inline(always)]
 fn unsigned(numeral: &Numeral) -> Option<Number>
     ensures { option_map number_view result ≡ number_from false numeral.now }
 {
@@ -24,6 +26,7 @@ fn unsigned(numeral: &Numeral) -> Option<Number>
 }
 
 /// The number that a numeral behind a minus spells; that of `-0` is a float.
+#[inline(always)]
 fn negative(numeral: &Numeral) -> Option<Number>
     ensures { option_map number_view result ≡ number_from true numeral.now }
 {
@@ -34,6 +37,7 @@ fn negative(numeral: &Numeral) -> Option<Number>
 }
 
 /// Whether a text begins with a minus.
+#[inline(always)]
 fn has_minus(bytes: &[u8]) -> bool
     ensures minus { result ≡ (slice_index bytes.now 0 == 45) }
     ensures some { IsTrue result → 0 < length bytes.now }
@@ -43,6 +47,7 @@ fn has_minus(bytes: &[u8]) -> bool
 
 /// The number that a token's text spells: an integer of 64 bits where it is one, else a float where that is
 /// finite.
+#[inline(always)]
 #[tactic(auto, unfolding(serde_json::specs::Read::number_of))]
 pub(crate) fn number_of(text: &str) -> Option<Number>
     ensures { option_map number_view result ≡ number_of text.now }

@@ -1,7 +1,7 @@
 //! The members of an object in order, the last of each name.
 ghost use Rattle.std.specs.Prelude.{◌≡◌, IfOk, IsTrue, map};
 ghost use Rattle.serde_json.specs.Data.{no_members};
-ghost use Rattle.fv_json.specs.Order.{IsAscending};
+ghost use Rattle.fv_datum.specs.Ascending.{IsAscending};
 ghost use Rattle.fv_json.specs.View.{member_pair, name_of, tree_members};
 ghost use Rattle.fv_json.specs.Puts.{puts};
 

@@ -68,6 +68,7 @@ fn read<'a>(alloc: Global, reader: &mut Reader<'a>, depth: usize) -> Result<Tree
 
 /// The items of an array, behind its bracket.
 #[cycle(read)]
+#[inline(never)]
 fn read_items<'a>(
     alloc: Global,
     reader: &mut Reader<'a>,
@@ -99,6 +100,7 @@ fn next_name<'a>(reader: &mut Reader<'a>) -> Result<Option<&'a str>, Refused>
 
 /// The members of an object, behind its brace.
 #[cycle(read)]
+#[inline(never)]
 fn read_members<'a>(
     alloc: Global,
     reader: &mut Reader<'a>,

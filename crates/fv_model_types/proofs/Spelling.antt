@@ -1,49 +1,30 @@
 -- How data are read, part by part.
-use Rattle.std.proofs.Common.{◌≡◌, ◌≢◌, ◌<◌, ℕ, length, List, [], ◌∷◌, ◌++◌, Option, Some, None, option_map, Result, Ok, Err, IsErrAnd, refl, sym, ap, ◌∙◌, append_assoc, arith}
+use Rattle.std.proofs.Common.{◌≡◌, ◌≢◌, ℕ, List, [], ◌∷◌, ◌++◌, Option, Some, None, option_map, Result, Ok, Err, IsErrAnd, refl, sym, ap, ◌∙◌, append_assoc}
 use Rattle.std.specs.Map.{keys_of}
 use Rattle.std.specs.Option.{ok_or}
 use Rattle.std.proofs.lemmas.Result.{err_from_is_err_and}
 use Rattle.serde_json.specs.Data as json
-use Rattle.serde_json.specs.View.{items_view}
-use Rattle.serde_json.specs.declared.value.Value.{Value}
-use Rattle.fv_datum.specs.Data as datum
-use Rattle.fv_datum.specs.Data.{Data, text, optional, entries_of}
-use Rattle.fv_datum.specs.Members.{pairs, listed, each_some}
+use Rattle.fv_datum.specs.Data.{Data, text, optional}
+use Rattle.fv_datum.specs.Members.{each_some}
 use Rattle.fv_datum.specs.Outcomes.{Gives}
 use Rattle.fv_datum.specs.declared.fault.DatumFault.{DatumFault}
 use Rattle.fv_datum.specs.declared.fault.DatumFault.TheVariants.{WrongKind, Memory}
-use Rattle.fv_model_types.specs.Spelled.{list_of, keyed, entry_read, only_item, datum_of}
+use Rattle.fv_model_types.specs.Spelled.{keyed, entry_read, only_item, datum_of}
 use Rattle.fv_datum.proofs.Lists.{both_some}
-use Rattle.fv_model_types.specs.Types.{TypeUse, lists, maps, optionals}
+use Rattle.fv_model_types.specs.Types.{TypeUse, optionals}
 
--- ---- what a container's JSON is read as
-
-pub list_spelled : (u : TypeUse) (j : json.Data) (js : json.Items) → j ≡ json.array js → datum_of (lists u) j ≡ option_map list_of (each_some (datum_of u) (listed js))
-list_spelled u j js is_array = rw is_array refl
-
-twice : {X Y Z : Type 0} (f : Y → Z) (g : X → Y) (o : Option X) → option_map (λ x. f (g x)) o ≡ option_map f (option_map g o)
-twice f g None = refl
-twice f g (Some x) = refl
-
--- a map of these entries
-abbrev pub map_with : List (Data × Data) → Data
-map_with es = datum.map (entries_of es)
-
-pub map_spelled : (u : TypeUse) (j : json.Data) (ms : json.Members) → j ≡ json.object ms → datum_of (maps u) j ≡ option_map map_with (option_map keyed (each_some (entry_read (datum_of u)) (pairs ms)))
-map_spelled u j ms is_object = rw is_object (twice map_with keyed (each_some (entry_read (datum_of u)) (pairs ms)))
-
+-- what an optional's JSON is read as
 pub optional_spelled : (u : TypeUse) (j : json.Data) (js : json.Items) → j ≡ json.array js → datum_of (optionals u) j ≡ option_map optional (only_item (datum_of u) js)
 optional_spelled u j js is_array = rw is_array refl
 
--- ---- what a call answers that is made of another's answer
+-- what is read of a value that is there
+pub some_of : {X : Type 0} (o : Option X) (x : X) → ok_or o WrongKind ≡ Ok x → o ≡ Some x
+some_of (Some y) x is = cc
+some_of None x is = cc
 
 none_of : {X : Type 0} (o : Option X) (e : DatumFault) → ok_or o WrongKind ≡ Err e → (o ≡ None) × (e ≡ WrongKind)
 none_of (Some x) e is = cc
 none_of None e is = (refl, cc)
-
-pub some_of : {X : Type 0} (o : Option X) (x : X) → ok_or o WrongKind ≡ Ok x → o ≡ Some x
-some_of (Some y) x is = cc
-some_of None x is = cc
 
 refused : {X Y : Type 0} (o : Option X) (p : Option Y) (e f : DatumFault) → f ≡ e → (o ≡ None → p ≡ None) → ok_or o WrongKind ≡ Err e → ok_or p WrongKind ≡ Err f
 refused o p e f same none is =
@@ -59,9 +40,6 @@ part_refused r view e o p is_err told none =
 -- what is made of a part that is there
 pub part_taken : {X Y : Type 0} (f : X → Y) (o : Option X) (p : Option Y) (x : X) → p ≡ option_map f o → ok_or o WrongKind ≡ Ok x → ok_or p WrongKind ≡ Ok (f x)
 part_taken f o p x made is = ap (λ q. ok_or q WrongKind) (made ∙ ap (option_map f) (some_of o x is))
-
-pub part_none : {X Y : Type 0} (f : X → Y) (o : Option X) (p : Option Y) → p ≡ option_map f o → o ≡ None → p ≡ None
-part_none f o p made none = made ∙ ap (option_map f) none
 
 -- ---- one after another
 

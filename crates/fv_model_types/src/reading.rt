@@ -1,19 +1,21 @@
 //! The data of type uses are read from JSON.
-ghost use Rattle.std.specs.Prelude.{◌≡◌, IfOk, IfSome, option_map, map};
+ghost use Rattle.std.specs.Prelude.{◌≡◌, false, IfOk, option_map, map};
 ghost use Rattle.std.specs.Option.{ok_or};
 ghost use Rattle.fv_json.specs.Documents.{view as json_view};
 ghost use Rattle.fv_json.specs.MembersView.{items_view as json_items, members_view};
 ghost use Rattle.fv_datum.specs.Data as datum;
+ghost use Rattle.fv_datum.specs.Json.{spelled};
+ghost use Rattle.fv_datum.specs.Kinds.{is_container};
 ghost use Rattle.fv_datum.specs.Members.{pairs, listed, each_some};
 ghost use Rattle.fv_datum.specs.Outcomes.{Gives};
 ghost use Rattle.fv_datum.specs.View.{view, pair_view, items_view, entries_view};
 ghost use Rattle.fv_datum.specs.declared.fault.DatumFault.TheVariants.{WrongKind, Memory};
 ghost use Rattle.fv_model_types.specs.Spelled.{datum_of, entry_read, keyed, only_item};
-ghost use Rattle.fv_model_types.specs.Types.{type_use_view, integers, lists, maps, optionals};
+ghost use Rattle.fv_model_types.specs.Types.{type_use_view, lists, maps, optionals};
 ghost use Rattle.fv_model_types.specs.Writing.{IsWritten};
 
 use crate::type_use::TypeUse;
-use fv_datum::{Datum, DatumFault};
+use fv_datum::{Datum, DatumFault, Kind};
 use fv_json::{Items, Json, Members, read_datum};
 use std::alloc::Global;
 
@@ -97,30 +99,28 @@ fn read_optional(alloc: Global, value: &Json, held: &TypeUse) -> Result<Datum, D
     }
 }
 
-/// The datum of an integer that a JSON value spells; none where it spells none.
+/// The datum of a plain kind that a JSON value spells.
 #[inline(always)]
-fn integer_in(value: &Json) -> Option<Datum>
-    ensures exact { option_map view result ≡ datum_of integers (json_view value.now) }
-    ensures written { IfSome result (λ d. IsWritten (view d)) }
+fn plain_in(alloc: Global, kind: Kind, value: &Json) -> Result<Datum, DatumFault>
+    requires { is_container kind ≡ false }
+    ensures exact { Gives Memory view result (ok_or (spelled kind (json_view value.now)) WrongKind) }
+    ensures written { IfOk result (λ d. IsWritten (view d)) }
 {
-    if value.is_null() {
-        return Some(Datum::Null);
-    }
-    Some(Datum::Integer(value.as_i64()?))
+    read_datum(alloc, kind, value)
 }
 
-/// The items of a list of integers, which may be long: read with no call for an item.
-fn read_integers(alloc: Global, items: Items) -> Result<Vec<Datum>, DatumFault>
+/// The items of a list of a plain kind. Written into each of its calls, which name the kind, so that a long
+/// list is read with no look at the kind, and no call, for an item.
+#[inline(always)]
+fn read_plain(alloc: Global, items: Items, kind: Kind) -> Result<Vec<Datum>, DatumFault>
+    requires { is_container kind ≡ false }
     ensures exact { Gives Memory (λ v. map view v.items) result
-        (ok_or (each_some (datum_of integers) (listed (json_items items.entry))) WrongKind) }
+        (ok_or (each_some (spelled kind) (listed (json_items items.entry))) WrongKind) }
     ensures written { IfOk result (λ v. IsWritten (datum.list (items_view v.items))) }
 {
     let mut out = Vec::with_capacity(alloc, items.len())?;
     for item in items.iter() {
-        match integer_in(&item) {
-            Some(datum) => out.push(datum)?,
-            None => return Err(DatumFault::WrongKind),
-        }
+        out.push(plain_in(alloc, kind, &item)?)?;
     }
     Ok(out)
 }
@@ -132,9 +132,25 @@ fn read_items(alloc: Global, items: Items, held: &TypeUse) -> Result<Vec<Datum>,
         (ok_or (each_some (datum_of (type_use_view held.now)) (listed (json_items items.entry))) WrongKind) }
     ensures written { IfOk result (λ v. IsWritten (datum.list (items_view v.items))) }
 {
-    if matches!(held, TypeUse::Integer) {
-        return read_integers(alloc, items);
+    match held {
+        TypeUse::Text => read_plain(alloc, items, Kind::Text),
+        TypeUse::Integer => read_plain(alloc, items, Kind::Integer),
+        TypeUse::Decimal => read_plain(alloc, items, Kind::Decimal),
+        TypeUse::Boolean => read_plain(alloc, items, Kind::Boolean),
+        TypeUse::Date => read_plain(alloc, items, Kind::Date),
+        TypeUse::Instant => read_plain(alloc, items, Kind::Instant),
+        TypeUse::Ref(_) => read_plain(alloc, items, Kind::Ref),
+        _ => read_each(alloc, items, held),
     }
+}
+
+/// The items of a list of containers.
+#[cycle(read)]
+fn read_each(alloc: Global, items: Items, held: &TypeUse) -> Result<Vec<Datum>, DatumFault>
+    ensures exact { Gives Memory (λ v. map view v.items) result
+        (ok_or (each_some (datum_of (type_use_view held.now)) (listed (json_items items.entry))) WrongKind) }
+    ensures written { IfOk result (λ v. IsWritten (datum.list (items_view v.items))) }
+{
     let mut out = Vec::with_capacity(alloc, items.len())?;
     for item in items.iter() {
         out.push(read(alloc, &item, held)?)?;

@@ -16,5 +16,6 @@ loop-value-preserved c =
     let left = items_left c.next.new.self in
     let taken : items_left l.value-iterator ≡ json_view c.in-Some.value ∷ left = c.in-Some.ensures.steps in
     let moved = front_more part_of front (json_view c.in-Some.value) left (part_view part) (sym c.in-Some-part_of.ensures) in
-    let pushed : map part_view c.push.new.self.items ≡ front ++ part_view part ∷ [] = ap (map part_view) c.in_ok-push-in-Some-part_of.ensures.items ∙ map-append part_view l.parts.items (part ∷ []) in
+    let pushed : map part_view c.push.new.self.items ≡ front ++ part_view part ∷ [] =
+    ap (map part_view) c.in_ok-push-in-Some-part_of.ensures.items ∙ map-append part_view l.parts.items (part ∷ []) in
     ap (λ ps. with_front ps (each_some part_of left)) pushed ∙ sym moved ∙ ap (λ js. with_front front (each_some part_of js)) (sym taken) ∙ l.invariant

@@ -7,4 +7,6 @@ use Rattle.fv_engine_command.specs.Commands.{part_of}
 use Rattle.fv_engine_command.proofs.part.each_part.Given as goal
 
 abbrev pub invariant-loop-value : goal.invariant-loop-value
-invariant-loop-value l = with_front (map part_view l.parts.items) (each_some part_of (items_left l.value-iterator)) ≡ each_some part_of (listed (items_view l.fn.values))
+invariant-loop-value l =
+    with_front (map part_view l.parts.items) (each_some part_of (items_left l.value-iterator))
+    ≡ each_some part_of (listed (items_view l.fn.values))

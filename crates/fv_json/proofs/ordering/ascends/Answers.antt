@@ -1,5 +1,5 @@
 use Rattle.std.proofs.Common.{◌≡◌, suc, ◌+◌, ◌-◌, map, take, get_or, sym, ap, subst, ◌∙◌, arith, take_all}
-use Rattle.fv_json.specs.Order.{IsAscending}
+use Rattle.fv_datum.specs.Ascending.{IsAscending}
 use Rattle.fv_json.specs.View.{name_of}
 use Rattle.fv_json.proofs.Ascending.{one_more, first_alone, below, same_within}
 use Rattle.fv_json.proofs.ordering.ascends.Goals as goal

@@ -1,5 +1,5 @@
 use Rattle.std.proofs.Common.{map, subst}
-use Rattle.fv_json.specs.Order.{IsAscending}
+use Rattle.fv_datum.specs.Ascending.{IsAscending}
 use Rattle.fv_json.specs.View.{name_of}
 use Rattle.fv_json.proofs.Puts.{Entry, in_order}
 use Rattle.fv_json.proofs.ordering.ordered.Goals as goal

@@ -28,8 +28,8 @@ read_optional-returns-in_ok-new-in-Some-clause-exact t c =
     part_taken optional (only_item (datum_of u) js) _ (view c.in_ok-content-in-Some.content) read c.in_ok-content-in-Some.ensures.exact
     ∙ ap (λ x. Ok (optional (view x))) (sym c.in_ok-new-in-Some.ensures.ok) ∙ ap (λ d. Ok d) (sym (view-DataOptional c.in_ok-new-in-Some.field-0))
 
-pub read_items-returns-clause-written : goal.read_items-returns-clause-written
-read_items-returns-clause-written t c = list_writable (map view c.loop-item.out.items) (all_seen IsWritten view c.loop-item.out.items c.loop-item.invariant.written)
+pub read_each-returns-clause-written : goal.read_each-returns-clause-written
+read_each-returns-clause-written t c = list_writable (map view c.loop-item.out.items) (all_seen IsWritten view c.loop-item.out.items c.loop-item.invariant.written)
 
 pub read_entries-loop-name-preserved : goal.read_entries-loop-name-preserved
 read_entries-loop-name-preserved t c =

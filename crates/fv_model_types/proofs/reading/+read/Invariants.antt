@@ -9,8 +9,8 @@ use Rattle.fv_model_types.specs.Writing.{IsWritten}
 use Rattle.fv_datum.proofs.Fronts.{with_front}
 use Rattle.fv_model_types.proofs.reading.+read.Given as goal
 
-abbrev pub invariant-read_items-loop-item : goal.invariant-read_items-loop-item
-invariant-read_items-loop-item l = record {
+abbrev pub invariant-read_each-loop-item : goal.invariant-read_each-loop-item
+invariant-read_each-loop-item l = record {
   read : with_front (map view l.out.items) (each_some (datum_of (type_use_view l.held)) (items_left l.item-iterator)) ≡ each_some (datum_of (type_use_view l.held)) (listed (json_items l.fn.items));
   written : All (λ d. IsWritten (view d)) l.out.items;
 }

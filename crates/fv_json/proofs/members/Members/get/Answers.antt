@@ -2,7 +2,8 @@ use Rattle.std.proofs.Common.{◌≡◌, true, false, Some, is_eq, map, nat_cmp,
 use Rattle.std.proofs.lemmas.List.Sorted.{IsPartitionPoint-from_clause}
 use Rattle.std.specs.Cmp.Lexicographic.{slice_cmp}
 use Rattle.fv_json.specs.Documents.{view}
-use Rattle.fv_json.specs.Order.{IsOrdered, IsAscending}
+use Rattle.fv_datum.specs.Ascending.{IsAscending}
+use Rattle.fv_json.specs.Order.{IsOrdered}
 use Rattle.fv_json.specs.View.{tree_view, name_of}
 use Rattle.fv_json.proofs.Lists.{names_kept}
 use Rattle.fv_json.proofs.Lookup.{ties, value_at, is_below, parted, found, missing}

@@ -1,16 +1,15 @@
 use Rattle.std.proofs.Common.{◌≡◌, map}
 use Rattle.std.specs.List.{All}
 use Rattle.fv_json.specs.MembersView.{items_view as json_items, items_left}
+use Rattle.fv_datum.specs.Json.{spelled}
 use Rattle.fv_datum.specs.Members.{listed, each_some}
 use Rattle.fv_datum.specs.View.{view}
-use Rattle.fv_model_types.specs.Spelled.{datum_of}
-use Rattle.fv_model_types.specs.Types.{integers}
 use Rattle.fv_model_types.specs.Writing.{IsWritten}
 use Rattle.fv_datum.proofs.Fronts.{with_front}
-use Rattle.fv_model_types.proofs.reading.read_integers.Given as goal
+use Rattle.fv_model_types.proofs.reading.read_plain.Given as goal
 
 abbrev pub invariant-loop-item : goal.invariant-loop-item
 invariant-loop-item l = record {
-  read : with_front (map view l.out.items) (each_some (datum_of integers) (items_left l.item-iterator)) ≡ each_some (datum_of integers) (listed (json_items l.fn.items));
+  read : with_front (map view l.out.items) (each_some (spelled l.kind) (items_left l.item-iterator)) ≡ each_some (spelled l.kind) (listed (json_items l.fn.items));
   written : All (λ d. IsWritten (view d)) l.out.items;
 }
