@@ -25,7 +25,7 @@ use Rattle.fv_declare_draft.specs.AllCascades.{cascades_in}
 use Rattle.fv_declare_draft.specs.AllUses.{Use, uses_in}
 use Rattle.fv_declare.specs.Used.{used}
 use Rattle.fv_declare_schema.specs.Declarations.{Placed, Declarations, count_nodes, AreNumbered}
-use Rattle.fv_declare.specs.Declares.{form_declared, form_grouped, IsPlacedAs}
+use Rattle.fv_declare.specs.Schemas.{form_declared, form_grouped, IsPlacedAs}
 use Rattle.fv_declare.specs.Types.{field_declared, type_declared}
 use Rattle.fv_declare.specs.Naming.{is_bad_type, is_bad_definition, is_bad_group, bad_name}
 use Rattle.fv_declare_schema.specs.Fits.{placed_fits}
@@ -116,7 +116,7 @@ types_named ts good =
     all_mapped_by (λ t. is_bad_type t ≡ false) (λ t. AllByRecursion (λ f. names f.0 ≡ true) t.1) type_declared ts
     (λ t k. fields_named t.fields (or_right (not (names t.name) || bytes_eq t.name (codes "Default")) _ k)) (none_each is_bad_type ts good)
 
-all_named : (d : spec.Drafted) → bad_name d ≡ false → AllByRecursion (λ t. AllByRecursion (λ f. names f.0 ≡ true) t.1) (map type_declared d.types)
+pub all_named : (d : spec.Drafted) → bad_name d ≡ false → AllByRecursion (λ t. AllByRecursion (λ f. names f.0 ≡ true) t.1) (map type_declared d.types)
 unfolding bad_name
 all_named d good = types_named d.types (or_left (list_any is_bad_type d.types) _ (or_left _ (list_any is_bad_definition d.definitions) (or_left _ (list_any (is_bad_group d.types) d.groups) good)))
 

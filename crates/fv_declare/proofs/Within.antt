@@ -15,7 +15,7 @@ use Rattle.fv_constraint_tree.specs.Nodes.{Node}
 use Rattle.fv_constraint_tree.specs.Trees.{Tree, size}
 use Rattle.fv_declare_draft.specs.AllCascades.{Cascade}
 use Rattle.fv_declare_draft.specs.AllUses.{Use}
-use Rattle.fv_declare.specs.Declares.{form_grouped}
+use Rattle.fv_declare.specs.Schemas.{form_grouped}
 use Rattle.fv_declare.specs.Judging.{placed_from}
 use Rattle.fv_declare_schema.specs.Ordered.{AreGroups, AreConversions}
 use Rattle.fv_declare.proofs.Alls.{all_append}

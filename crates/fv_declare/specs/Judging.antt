@@ -1,8 +1,11 @@
 -- What is found on the way to a schema; for private clauses.
-use Rattle.std.specs.Prelude.{◌≡◌, ℕ, ◌+◌, ◌<◌, List, [], ◌∷◌, length, Bool, true, false, Option, Some, None, option_map, if◌then◌else◌}
+use Rattle.std.specs.Prelude.{◌≡◌, ℕ, ◌+◌, ◌<◌, List, [], ◌∷◌, length, drop, Bool, true, false, Option, Some, None, option_map, if◌then◌else◌, Result}
 use Rattle.std.specs.List.{AllByRecursion, list_any}
+use Rattle.serde_json.specs.Data as json
 use Rattle.fv_datum.specs.Outcomes.{first}
-use Rattle.fv_declare.specs.Declares.{unknown_root, name_conditions}
+use Rattle.fv_datum.specs.Parsing.{json_of}
+use Rattle.fv_declare.specs.Conditions.{unknown_root, unknown_name}
+use Rattle.fv_declare.specs.Declares.{draft_in, faults, IsAnswer, Declares}
 use Rattle.fv_declare.specs.Naming.{bad_name}
 use Rattle.fv_declare.specs.Types.{types_declared}
 use Rattle.fv_declare_draft.specs.AllCascades.{Cascade, cascades_in}
@@ -11,7 +14,7 @@ use Rattle.fv_declare_draft.specs.Places.{PlacedCascade}
 use Rattle.fv_model_types.specs.Types.{Declared, kind_of, too_many}
 use Rattle.fv_constraint_tree.specs.Nodes.{Node}
 use Rattle.fv_constraint_tree.specs.Trees.{Tree, size}
-use Rattle.fv_declare_schema.specs.Declarations.{Placed}
+use Rattle.fv_declare_schema.specs.Declarations.{Placed, Declarations}
 use Rattle.fv_declare_schema.specs.Ordered.{held_inside}
 use Rattle.fv_declare_groups.specs.Grouping.{groups_in, is_misplaced, IsGrouping}
 use Rattle.fv_declare_groups.specs.Numbered.{groups_named}
@@ -20,6 +23,38 @@ use Rattle.fv_message.specs.Table.{Messages, all_messages}
 use Rattle.fv_message.specs.declared.fault.MessageFault.{MessageFault}
 use Rattle.fv_message.specs.declared.fault.MessageFault.TheVariants as message
 use Rattle.fv_declare_draft.specs.AllUses.{Use, uses_in}
+use Rattle.fv_registry.specs.Rules.{Known}
+use Rattle.fv_declare.specs.declared.fault.DeclFault.{DeclFault}
+use Rattle.fv_declare.specs.declared.fault.DeclFault.TheVariants.{BadName, UnknownName}
+
+-- the answer by these faults to each text of which a draft is read
+unfoldable pub IsAnswerTo : Known → Drafted → List DeclFault → Result Declarations DeclFault → Type 0
+IsAnswerTo k d rest answer = (bytes : List ℕ) → draft_in bytes ≡ Some d → IsAnswer k bytes rest answer
+
+-- the answer to each text that is a JSON value
+unfoldable pub DeclaredBy : Known → json.Data → Result Declarations DeclFault → Type 0
+DeclaredBy k j answer = (bytes : List ℕ) → json_of bytes ≡ Some j → Declares k bytes answer
+
+-- the faults that a draft can have: all but those of a text that is none
+abbrev pub draft_faults : List DeclFault
+draft_faults = drop 2 faults
+
+-- those that are looked for where names and groups stand as they may
+abbrev pub composition_faults : List DeclFault
+composition_faults = drop 11 faults
+
+-- those that are looked for where no constraint is composed of itself either
+abbrev pub tree_faults : List DeclFault
+tree_faults = drop 12 faults
+
+-- what can be wrong with names, in the order in which it is answered
+abbrev pub name_conditions : Drafted → List (Bool × DeclFault)
+name_conditions d = (bad_name d, BadName) ∷ (unknown_name d, UnknownName) ∷ []
+
+-- a limit on messages is passed
+abbrev pub is_wordy : Option MessageFault → Bool
+is_wordy (Some message.TooLarge) = true
+is_wordy _ = false
 
 -- types, unless there are too many of them or of the fields of one, or too many containers stand one in another
 abbrev pub unless_many : Declared → Option Declared

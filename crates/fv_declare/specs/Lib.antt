@@ -1,7 +1,9 @@
+pub mod Conditions
 pub mod Declares
 pub mod FaultNames
 pub mod Judging
 pub mod Naming
+pub mod Schemas
 pub mod Templates
 pub mod Types
 pub mod Used

@@ -3,8 +3,9 @@ use Rattle.std.specs.Prelude.{ℕ, List, ◌++◌, Bool, not}
 use Rattle.std.specs.List.{cons_option, filter_map, flat_map, list_any}
 use Rattle.fv_declare_definition.specs.Definitions.{Definition, Definitions}
 use Rattle.fv_declare_draft.specs.Drafts.{Drafted}
+use Rattle.fv_graph.specs.Graph.{IsIn}
 use Rattle.fv_message.specs.Judged.{fits}
-use Rattle.fv_message.specs.Template.{is_template}
+use Rattle.fv_message.specs.Template.{IsTemplate}
 use Rattle.fv_declare_draft.specs.AllUses.{Use, uses_in}
 
 -- the templates that uses give
@@ -28,5 +29,5 @@ abbrev pub has_long : List (List ℕ) → Bool
 has_long ts = list_any (λ t. not (fits t)) ts
 
 -- one of some texts is no template
-abbrev pub has_misspelt : List (List ℕ) → Bool
-has_misspelt ts = list_any (λ t. not (is_template t)) ts
+abbrev pub HasMisspelt : List (List ℕ) → Type 0
+HasMisspelt ts = (t : List ℕ) × IsIn ts t × (IsTemplate t → ⊥)

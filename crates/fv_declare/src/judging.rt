@@ -13,9 +13,9 @@ ghost use Rattle.fv_message.specs.Table.{all_messages};
 ghost use Rattle.fv_model_types.specs.TypesView.{types_view};
 ghost use Rattle.fv_constraint_tree.specs.Trees.{Tree};
 ghost use Rattle.fv_declare_schema.specs.Declarations.{count_nodes};
-ghost use Rattle.fv_declare.specs.Declares.{has_many, is_wordy, IsFlattened, IsComposed};
+ghost use Rattle.fv_declare.specs.Conditions.{has_many};
 ghost use Rattle.fv_declare_schema.specs.Fits.{fits};
-ghost use Rattle.fv_declare.specs.Judging.{IsChecked, lacks_memory};
+ghost use Rattle.fv_declare.specs.Judging.{IsAnswerTo, composition_faults, tree_faults, IsChecked, is_wordy, lacks_memory};
 ghost use Rattle.fv_declare.specs.Used.{used};
 ghost use Rattle.fv_declare_draft.specs.UseViews.{use_view, cascade_view};
 ghost use Rattle.fv_declare.specs.Wording.{IsFirstFault};
@@ -109,9 +109,10 @@ fn flattened<'a, R: RuleSet>(
     requires composed { composition.now ≡ (draft_view draft.now).definitions }
     requires wording { IsFirstFault (draft_view draft.now) (result_err wording) }
     requires messages { IfOk wording (λ m. m ≡ all_messages (draft_view draft.now).messages) }
-    ensures taken { IfOk result (λ s. IsFlattened (R.known rules.now) (draft_view draft.now) (Ok s)) }
+    ensures taken { IfOk result (λ s. IsAnswerTo (R.known rules.now) (draft_view draft.now) tree_faults (Ok s)) }
     ensures fits { IfOk result (λ s. fits (R.known rules.now) s ≡ true) }
-    ensures refused { IfErr result (λ f. f ≢ DeclFault.Memory → IsFlattened (R.known rules.now) (draft_view draft.now) (Err f)) }
+    ensures refused { IfErr result (λ f. f ≢ DeclFault.Memory
+        → IsAnswerTo (R.known rules.now) (draft_view draft.now) tree_faults (Err f)) }
 {
     trees_are_unique();
     let nodes = count_nodes(composition, uses);
@@ -148,9 +149,10 @@ pub(crate) fn composed<'a, R: RuleSet>(
 ) -> Result<Schema, DeclFault>
     requires { IsChecked (draft_view draft.now) (option_map types_view types) (map use_view uses.now)
         groups.graph (map cascade_view groups.cascades.items) }
-    ensures taken { IfOk result (λ s. IsComposed (R.known rules.now) (draft_view draft.now) (Ok s)) }
+    ensures taken { IfOk result (λ s. IsAnswerTo (R.known rules.now) (draft_view draft.now) composition_faults (Ok s)) }
     ensures fits { IfOk result (λ s. fits (R.known rules.now) s ≡ true) }
-    ensures refused { IfErr result (λ f. f ≢ DeclFault.Memory → IsComposed (R.known rules.now) (draft_view draft.now) (Err f)) }
+    ensures refused { IfErr result (λ f. f ≢ DeclFault.Memory
+        → IsAnswerTo (R.known rules.now) (draft_view draft.now) composition_faults (Err f)) }
 {
     let Some(composition) = Composition::new(alloc, &draft.definitions)? else {
         return Err(DeclFault::CyclicComposition);

@@ -8,9 +8,9 @@ ghost use Rattle.fv_datum.specs.Outcomes.{Gives, first, unless_fault};
 ghost use Rattle.fv_declare_draft.specs.DraftViews.{form_view, draft_view};
 ghost use Rattle.fv_model_types.specs.Types.{declared_view};
 ghost use Rattle.fv_model_types.specs.TypesView.{types_view};
-ghost use Rattle.fv_declare.specs.Declares.{unknown_root, name_conditions};
+ghost use Rattle.fv_declare.specs.Conditions.{unknown_root};
 ghost use Rattle.fv_declare.specs.Types.{types_declared};
-ghost use Rattle.fv_declare.specs.Judging.{unless_many};
+ghost use Rattle.fv_declare.specs.Judging.{name_conditions, unless_many};
 ghost use Rattle.fv_declare_draft.specs.AllUses.{uses_in};
 ghost use Rattle.fv_declare_draft.specs.UseViews.{use_view};
 
@@ -61,7 +61,7 @@ fn has_unknown_root(declared: &IndexMap<String, Fields>, forms: &[FormDraft]) ->
 
 /// The types, unless a declared name is bad or a name is unknown; `None` where there are more than
 /// 256 of them, a type has more than 256 fields, or more than four containers stand one in another.
-#[tactic(auto, unfolding(crate::specs::Declares::unknown_name))]
+#[tactic(auto, unfolding(crate::specs::Conditions::unknown_name))]
 pub(crate) fn known_types(
     alloc: Global,
     draft: &Draft,

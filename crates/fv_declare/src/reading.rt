@@ -1,13 +1,13 @@
-ghost use Rattle.std.specs.Prelude.{◌≡◌, ◌≢◌, true, Some, Ok, Err, IfOk, IfErr};
+ghost use Rattle.std.specs.Prelude.{◌≡◌, ◌≢◌, true, Ok, Err, IfOk, IfErr};
 ghost use Rattle.std.specs.Option.{ok_or};
 ghost use Rattle.fv_json.specs.Documents.{view as json_view, document_view};
 ghost use Rattle.fv_datum.specs.Outcomes.{Gives};
 ghost use Rattle.fv_datum.specs.Parsing.{json_of};
-ghost use Rattle.fv_declare.specs.Declares.{Declares, Judged};
-ghost use Rattle.fv_declare_draft.specs.Drafts.{draft_of as spec_draft};
+ghost use Rattle.fv_declare.specs.Declares.{Declares};
 ghost use Rattle.fv_declare_draft.specs.DraftViews.{draft_view};
 ghost use Rattle.fv_declare_schema.specs.Fits.{fits};
-ghost use Rattle.fv_declare.specs.Judging.{AreLed};
+ghost use Rattle.fv_declare_schema.specs.Ordered.{AreOrdered};
+ghost use Rattle.fv_declare.specs.Judging.{DeclaredBy, IsAnswerTo, draft_faults, AreLed};
 
 use crate::fault::DeclFault;
 use crate::judging::composed;
@@ -38,10 +38,10 @@ fn document_of<'a>(
 /// The schema that a draft declares.
 fn schema_of_draft<R: RuleSet>(alloc: Global, rules: &R, draft: &Draft) -> Result<Schema, DeclFault>
     requires { AreLed (draft_view draft.now) }
-    ensures taken { IfOk result (λ s. Judged (R.known rules.now) (Some (draft_view draft.now)) (Ok s)) }
+    ensures taken { IfOk result (λ s. IsAnswerTo (R.known rules.now) (draft_view draft.now) draft_faults (Ok s)) }
     ensures fits { IfOk result (λ s. fits (R.known rules.now) s ≡ true) }
     ensures refused { IfErr result (λ f. f ≢ DeclFault.Memory
-        → Judged (R.known rules.now) (Some (draft_view draft.now)) (Err f)) }
+        → IsAnswerTo (R.known rules.now) (draft_view draft.now) draft_faults (Err f)) }
 {
     let uses = uses_in(alloc, &draft.types)?;
     let types = known_types(alloc, draft, &uses)?;
@@ -51,10 +51,9 @@ fn schema_of_draft<R: RuleSet>(alloc: Global, rules: &R, draft: &Draft) -> Resul
 
 /// The schema that a JSON value declares.
 fn schema_of<R: RuleSet>(alloc: Global, rules: &R, value: &Json) -> Result<Schema, DeclFault>
-    ensures taken { IfOk result (λ s. Judged (R.known rules.now) (spec_draft (json_view value.now)) (Ok s)) }
+    ensures taken { IfOk result (λ s. DeclaredBy (R.known rules.now) (json_view value.now) (Ok s)) }
     ensures fits { IfOk result (λ s. fits (R.known rules.now) s ≡ true) }
-    ensures refused { IfErr result (λ f. f ≢ DeclFault.Memory
-        → Judged (R.known rules.now) (spec_draft (json_view value.now)) (Err f)) }
+    ensures refused { IfErr result (λ f. f ≢ DeclFault.Memory → DeclaredBy (R.known rules.now) (json_view value.now) (Err f)) }
 {
     match draft_of(alloc, value)? {
         None => Err(DeclFault::Shape),
@@ -71,6 +70,7 @@ fn schema_of<R: RuleSet>(alloc: Global, rules: &R, value: &Json) -> Result<Schem
 /// condition holds; by `Memory` at any place.
 pub fn read_schema<R: RuleSet>(alloc: Global, rules: &R, bytes: &[u8]) -> Result<Schema, DeclFault>
     ensures taken { IfOk result (λ s. Declares (R.known rules.now) bytes.now (Ok s)) }
+    ensures ordered { IfOk result (λ s. AreOrdered s) }
     ensures fits { IfOk result (λ s. fits (R.known rules.now) s ≡ true) }
     ensures refused { IfErr result (λ f. f ≢ DeclFault.Memory → Declares (R.known rules.now) bytes.now (Err f)) }
 {

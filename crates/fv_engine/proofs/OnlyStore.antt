@@ -1,32 +1,29 @@
 -- The text of C11 tells that the store failed, and no other answer's text does.
-use Rattle.std.proofs.Common.{codes, slice_index_or, ◌==◌, ◌≡◌, ℕ, List, Bool, true, false, refl, sym, ap, ◌∙◌}
+use Rattle.std.proofs.Common.{codes, slice_index_or, ◌==◌, ◌≡◌, ℕ, List, Bool, true, false, Option, None, Some, refl, sym, ap, ◌∙◌}
 use Rattle.json.specs.Print.{escape_byte}
 use Rattle.serde_json.specs.Data as json
 use Rattle.serde_json.specs.Written.{compact_text}
-use Rattle.fv_model.specs.Writing.{bundle_json}
-use Rattle.fv_validate.specs.Violations.{Reported}
-use Rattle.fv_model.specs.FaultNames.{bundle_fault_code}
 use Rattle.fv_engine_reply.specs.Answers.{Answer, done, shown, violated, checked, field_checked, value_checked, ids, refused, part_refused}
-use Rattle.fv_engine_reply.specs.Texts.{refusal_json, texts_json, violations_listed_json, bundle_refused_json, violations_json, records_json, part_refused_json, done_text, refusal_text, answer_text}
-use Rattle.fv_engine_reply.specs.declared.answer.Done.{Done}
-use Rattle.fv_engine_reply.specs.declared.answer.Done.TheVariants.{Put, Set, Remove, Batch}
+use Rattle.fv_engine_reply.specs.Texts.{refused_json, answer_json, answer_text}
 use Rattle.fv_engine_reply.specs.declared.answer.Refusal.{Refusal}
 use Rattle.fv_engine_reply.specs.declared.answer.Refusal.TheVariants.{LineTooLong, NotJson, Shape, UnknownForm, Bundle, NoRecord, UnknownGroup, NoSuchField, TooManyVisits, Store, Memory}
 
--- the text has the byte at that place that C11's has
-abbrev agrees_at : ℕ → List ℕ → Bool
-agrees_at n text = slice_index_or text n 0 == slice_index_or (refusal_text Store) n 0
+-- the text of C11
+abbrev store_text : List ℕ
+store_text = codes "{\"error\":\"C11\",\"name\":\"Store\"}"
 
-differs : (n : ℕ) (text : List ℕ) → agrees_at n (refusal_text Store) ≡ true → agrees_at n text ≡ false → text ≡ refusal_text Store → ⊥
-differs n text same other is = let never : false ≡ true = sym other ∙ ap (agrees_at n) is ∙ same in cc
+told : answer_text (refused Store) ≡ store_text
+unfolding escape_byte
+told = refl
+
+-- a text has another byte at that place
+abbrev agrees_at : ℕ → List ℕ → Bool
+agrees_at n text = slice_index_or text n 0 == slice_index_or store_text n 0
+
+differs : (n : ℕ) (text : List ℕ) → agrees_at n store_text ≡ true → agrees_at n text ≡ false → text ≡ answer_text (refused Store) → ⊥
+differs n text same other is = let never : false ≡ true = sym other ∙ ap (agrees_at n) (is ∙ told) ∙ same in cc
 
 -- ---- the first name isn't `error`
-
-done_differs : (what : Done) → agrees_at 2 (done_text what) ≡ false
-done_differs Put = refl
-done_differs Set = refl
-done_differs Remove = refl
-done_differs Batch = refl
 
 bundle_differs : (d : json.Data) (ms : json.Members) → agrees_at 2 (compact_text (json.object (json.member (codes "bundle") d ms))) ≡ false
 unfolding escape_byte
@@ -36,61 +33,55 @@ ok_differs : (d : json.Data) (ms : json.Members) → agrees_at 2 (compact_text (
 unfolding escape_byte
 ok_differs d ms = refl
 
-listing_differs : (name : List ℕ) (vs : List Reported) → agrees_at 2 (compact_text (violations_listed_json name vs)) ≡ false
-listing_differs name vs = ok_differs (json.string name) (json.member (codes "violations") (json.array (violations_json vs)) json.no_members)
-
 ids_differ : (d : json.Data) (ms : json.Members) → agrees_at 2 (compact_text (json.object (json.member (codes "ids") d ms))) ≡ false
 unfolding escape_byte
 ids_differ d ms = refl
 
+bundle_other : (j d : json.Data) (ms : json.Members) → j ≡ json.object (json.member (codes "bundle") d ms) → compact_text j ≡ answer_text (refused Store) → ⊥
+bundle_other j d ms is e = differs 2 (compact_text j) refl (ap (λ (k : json.Data). agrees_at 2 (compact_text k)) is ∙ bundle_differs d ms) e
+
+ok_other : (j d : json.Data) (ms : json.Members) → j ≡ json.object (json.member (codes "ok") d ms) → compact_text j ≡ answer_text (refused Store) → ⊥
+ok_other j d ms is e = differs 2 (compact_text j) refl (ap (λ (k : json.Data). agrees_at 2 (compact_text k)) is ∙ ok_differs d ms) e
+
+ids_other : (j d : json.Data) (ms : json.Members) → j ≡ json.object (json.member (codes "ids") d ms) → compact_text j ≡ answer_text (refused Store) → ⊥
+ids_other j d ms is e = differs 2 (compact_text j) refl (ap (λ (k : json.Data). agrees_at 2 (compact_text k)) is ∙ ids_differ d ms) e
+
 -- ---- another code, or a part's number behind the name
 
-violations_differ : (records : json.Data) → agrees_at 12 (compact_text (refusal_json records)) ≡ false
+violations_differ : (ms : json.Members) → agrees_at 12 (compact_text (json.object (json.member (codes "error") (json.string (codes "C10")) ms))) ≡ false
 unfolding escape_byte
-violations_differ records = refl
+violations_differ ms = refl
 
-fault_differs : (d : json.Data) (ms : json.Members) → agrees_at 11 (compact_text (json.object (json.member (codes "error") (json.string (codes "C5")) (json.member (codes "fault") d ms)))) ≡ false
+violations_other : (j : json.Data) (ms : json.Members) → j ≡ json.object (json.member (codes "error") (json.string (codes "C10")) ms)
+    → compact_text j ≡ answer_text (refused Store) → ⊥
+violations_other j ms is e = differs 12 (compact_text j) refl (ap (λ (k : json.Data). agrees_at 12 (compact_text k)) is ∙ violations_differ ms) e
+
+part_differs : (n : ℕ) → agrees_at 29 (compact_text (refused_json (Some n) Store)) ≡ false
 unfolding escape_byte
-fault_differs d ms = refl
+part_differs n = refl
 
-part_differs : (n : ℕ) (why : Refusal) → compact_text (part_refused_json n why) ≡ refusal_text Store → ⊥
+refusal_is : (part : Option ℕ) (why : Refusal) → compact_text (refused_json part why) ≡ answer_text (refused Store) → (part ≡ None) × (why ≡ Store)
 unfolding escape_byte
-part_differs n LineTooLong = differs 12 (compact_text (part_refused_json n LineTooLong)) refl refl
-part_differs n NotJson = differs 11 (compact_text (part_refused_json n NotJson)) refl refl
-part_differs n Shape = differs 11 (compact_text (part_refused_json n Shape)) refl refl
-part_differs n UnknownForm = differs 11 (compact_text (part_refused_json n UnknownForm)) refl refl
-part_differs n (Bundle fault) = differs 11 (compact_text (part_refused_json n (Bundle fault))) refl
-    (fault_differs (json.string (bundle_fault_code fault)) (json.member (codes "name") (json.string (codes "Bundle")) (json.member (codes "part") (json.number (json.unsigned n)) json.no_members)))
-part_differs n NoRecord = differs 11 (compact_text (part_refused_json n NoRecord)) refl refl
-part_differs n UnknownGroup = differs 11 (compact_text (part_refused_json n UnknownGroup)) refl refl
-part_differs n NoSuchField = differs 11 (compact_text (part_refused_json n NoSuchField)) refl refl
-part_differs n TooManyVisits = differs 11 (compact_text (part_refused_json n TooManyVisits)) refl refl
-part_differs n Store = differs 29 (compact_text (part_refused_json n Store)) refl refl
-part_differs n Memory = differs 12 (compact_text (part_refused_json n Memory)) refl refl
-
-refusal_is : (why : Refusal) → refusal_text why ≡ refusal_text Store → why ≡ Store
-refusal_is LineTooLong e = absurd (differs 12 (refusal_text LineTooLong) refl refl e)
-refusal_is NotJson e = absurd (differs 11 (refusal_text NotJson) refl refl e)
-refusal_is Shape e = absurd (differs 11 (refusal_text Shape) refl refl e)
-refusal_is UnknownForm e = absurd (differs 11 (refusal_text UnknownForm) refl refl e)
-refusal_is (Bundle fault) e = absurd (differs 11 (compact_text (bundle_refused_json fault)) refl
-    (fault_differs (json.string (bundle_fault_code fault)) (json.member (codes "name") (json.string (codes "Bundle")) json.no_members)) e)
-refusal_is NoRecord e = absurd (differs 11 (refusal_text NoRecord) refl refl e)
-refusal_is UnknownGroup e = absurd (differs 11 (refusal_text UnknownGroup) refl refl e)
-refusal_is NoSuchField e = absurd (differs 11 (refusal_text NoSuchField) refl refl e)
-refusal_is TooManyVisits e = absurd (differs 11 (refusal_text TooManyVisits) refl refl e)
-refusal_is Store e = refl
-refusal_is Memory e = absurd (differs 12 (refusal_text Memory) refl refl e)
+refusal_is part LineTooLong e = absurd (differs 12 (compact_text (refused_json part LineTooLong)) refl refl e)
+refusal_is part NotJson e = absurd (differs 11 (compact_text (refused_json part NotJson)) refl refl e)
+refusal_is part Shape e = absurd (differs 11 (compact_text (refused_json part Shape)) refl refl e)
+refusal_is part UnknownForm e = absurd (differs 11 (compact_text (refused_json part UnknownForm)) refl refl e)
+refusal_is part (Bundle fault) e = absurd (differs 11 (compact_text (refused_json part (Bundle fault))) refl refl e)
+refusal_is part NoRecord e = absurd (differs 11 (compact_text (refused_json part NoRecord)) refl refl e)
+refusal_is part UnknownGroup e = absurd (differs 11 (compact_text (refused_json part UnknownGroup)) refl refl e)
+refusal_is part NoSuchField e = absurd (differs 11 (compact_text (refused_json part NoSuchField)) refl refl e)
+refusal_is part TooManyVisits e = absurd (differs 11 (compact_text (refused_json part TooManyVisits)) refl refl e)
+refusal_is None Store e = (refl, refl)
+refusal_is (Some n) Store e = absurd (differs 29 (compact_text (refused_json (Some n) Store)) refl (part_differs n) e)
+refusal_is part Memory e = absurd (differs 12 (compact_text (refused_json part Memory)) refl refl e)
 
 pub only_store : (a : Answer) → answer_text a ≡ answer_text (refused Store) → a ≡ refused Store
-only_store (done what) e = absurd (differs 2 (done_text what) refl (done_differs what) e)
-only_store (shown id form b) e = absurd (differs 2 (answer_text (shown id form b)) refl
-    (bundle_differs (bundle_json b) (json.member (codes "form") (json.string form) (json.member (codes "id") (json.string id) (json.member (codes "ok") (json.string (codes "get")) json.no_members)))) e)
-only_store (violated rs) e = absurd (differs 12 (answer_text (violated rs)) refl (violations_differ (json.array (records_json rs))) e)
-only_store (checked vs) e = absurd (differs 2 (answer_text (checked vs)) refl (listing_differs (codes "check") vs) e)
-only_store (field_checked vs) e = absurd (differs 2 (answer_text (field_checked vs)) refl (listing_differs (codes "checkfield") vs) e)
-only_store (value_checked vs) e = absurd (differs 2 (answer_text (value_checked vs)) refl (listing_differs (codes "checkvalue") vs) e)
-only_store (ids ts) e = absurd (differs 2 (answer_text (ids ts)) refl
-    (ids_differ (json.array (texts_json ts)) (json.member (codes "ok") (json.string (codes "list")) json.no_members)) e)
-only_store (refused why) e = ap refused (refusal_is why e)
-only_store (part_refused n why) e = absurd (part_differs n why e)
+only_store (done what) e = absurd (ok_other (answer_json (done what)) _ _ refl e)
+only_store (shown id form b) e = absurd (bundle_other (answer_json (shown id form b)) _ _ refl e)
+only_store (violated rs) e = absurd (violations_other (answer_json (violated rs)) _ refl e)
+only_store (checked vs) e = absurd (ok_other (answer_json (checked vs)) _ _ refl e)
+only_store (field_checked vs) e = absurd (ok_other (answer_json (field_checked vs)) _ _ refl e)
+only_store (value_checked vs) e = absurd (ok_other (answer_json (value_checked vs)) _ _ refl e)
+only_store (ids ts) e = absurd (ids_other (answer_json (ids ts)) _ _ refl e)
+only_store (refused why) e = ap refused (refusal_is None why e).1
+only_store (part_refused n why) e = let never : Some n ≡ None = (refusal_is (Some n) why e).0 in cc

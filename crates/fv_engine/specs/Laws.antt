@@ -1,13 +1,14 @@
 -- Laws of a call, in a user's words: they are told of its reply, and follow from the step.
-use Rattle.std.specs.Prelude.{◌≡◌, ◌≢◌, ◌⊎◌, ℕ, ℤ, IsTrue, false, List, [], ◌∷◌, Some, Ok}
+use Rattle.std.specs.Prelude.{◌≡◌, ◌≢◌, ◌⊎◌, ℕ, ℤ, IsTrue, false, List, [], Some, Ok}
 use Rattle.std.specs.List.{AllByRecursion}
 use Rattle.serde_json.specs.Data as json
 use Rattle.sqlite.specs.Disk.{MoreFaults}
 use Rattle.fv_declare_schema.specs.Declarations.{Declarations}
-use Rattle.fv_engine_machine.specs.Failures.{HasRoomFor, WouldBeTaken}
+use Rattle.fv_engine_machine.specs.Causes.{HasRoomFor}
 use Rattle.fv_engine_machine.specs.Machines.{Machine}
-use Rattle.fv_engine_command.specs.Commands.{Part, put, Request, alone, batch, get, check, check_field, asked}
-use Rattle.fv_engine_machine.specs.Step.{Told}
+use Rattle.fv_engine_command.specs.Commands.{put, Request, alone, get, check, check_field, asked}
+use Rattle.fv_engine_machine.specs.Refusals.{parts_of}
+use Rattle.fv_engine_machine.specs.Step.{IsTaken, Told}
 use Rattle.fv_groups.specs.Groups.{numbers_of}
 use Rattle.fv_groups.specs.Judged.{unknown_in}
 use Rattle.fv_model.specs.Bundles.{Bundled}
@@ -32,15 +33,15 @@ abbrev pub IsFailure : List ℕ → Type 0
 IsFailure reply = (reply ≡ answer_text (refused Store)) ⊎ (reply ≡ answer_text (refused Memory))
 
 -- What a taken put stored is what a get of its id on the next line shows, unless that get fails.
-abbrev pub ShowsWhatWasPut : Meanings → List ℕ → List ℕ → Machine Records → Machine Records → Type 0
-ShowsWhatWasPut means line reply old new = (id form : List ℕ) (bundle : json.Data) → asked line ≡ alone (put id form bundle) → IsDone Put reply
-    → (b : Bundled) × (bundle_under old.declared.types old.declared.forms form bundle ≡ Ok b)
-    × ((next : List ℕ) (later : ℤ) (shows : List ℕ) (last : Machine Records) → asked next ≡ get id → Told means new next later shows last
+abbrev pub ShowsWhatWasPut : Meanings → Declarations → List ℕ → List ℕ → Records → Type 0
+ShowsWhatWasPut means ds line reply new = (id form : List ℕ) (bundle : json.Data) → asked line ≡ alone (put id form bundle) → IsDone Put reply
+    → (b : Bundled) × (bundle_under ds.types ds.forms form bundle ≡ Ok b)
+    × ((next : List ℕ) (later : ℤ) (shows : List ℕ) (last : Records) → asked next ≡ get id → Told means ds new next later shows last
     → (shows ≡ answer_text (shown id form b)) ⊎ IsFailure shows)
 
 -- A refusal changes no get, as it changes no record; nor does any other reply but that a command that changes records was taken.
-abbrev pub ChangesNoGet : List ℕ → Machine Records → Machine Records → Type 0
-ChangesNoGet reply old new = ((what : Done) → IsDone what reply → ⊥) → new.records ≡ old.records
+abbrev pub ChangesNoGet : List ℕ → Records → Records → Type 0
+ChangesNoGet reply old new = ((what : Done) → IsDone what reply → ⊥) → new ≡ old
 
 -- no refusal for violations without one, nor of a record that has none
 abbrev pub HasSome : Answer → Type 0
@@ -51,12 +52,12 @@ HasSome _ = Unit {0}
 abbrev pub ListsSome : List ℕ → Type 0
 ListsSome reply = (answer : Answer) × (reply ≡ answer_text answer) × HasSome answer
 
--- Two taken puts of different ids may change places: each is taken at its moment, and they leave the same machine.
-abbrev pub MayChangePlaces : Meanings → List ℕ → ℤ → List ℕ → Machine Records → Machine Records → Type 0
-MayChangePlaces means line now reply old new = (id form : List ℕ) (bundle : json.Data) → asked line ≡ alone (put id form bundle) → IsDone Put reply
+-- Two taken puts of different ids may change places: each is taken at its moment, and they leave the same map.
+abbrev pub MayChangePlaces : Meanings → Declarations → List ℕ → ℤ → List ℕ → Records → Records → Type 0
+MayChangePlaces means ds line now reply old new = (id form : List ℕ) (bundle : json.Data) → asked line ≡ alone (put id form bundle) → IsDone Put reply
     → (next : List ℕ) (later : ℤ) (other form_there : List ℕ) (there : json.Data) → asked next ≡ alone (put other form_there there) → other ≢ id
-    → (last : Machine Records) → Told means new next later reply last
-    → (mid : Machine Records) × Told means old next later reply mid × Told means mid line now reply last
+    → (last : Records) → Told means ds new next later reply last
+    → (mid : Records) × Told means ds old next later reply mid × Told means ds mid line now reply last
 
 -- a request that looks for the record of this id
 abbrev pub LooksFor : Request → List ℕ → Type 0
@@ -71,15 +72,10 @@ LooksFor _ id = ⊥
 abbrev pub FailsWhereShut : List ℕ → List ℕ → Machine Records → Type 0
 FailsWhereShut line reply old = (id : List ℕ) → LooksFor (asked line) id → old.is_open ≡ false → IsFailure reply
 
--- the parts of a command that changes records; none of another request
-abbrev pub parts_of : Request → List Part
-parts_of (alone p) = p ∷ []
-parts_of (batch ps) = ps
-parts_of _ = []
-
 -- a command that changes records would be taken, but the database has no room for what it leaves
 abbrev pub LacksRoom : Meanings → List ℕ → ℤ → Machine Records → Type 0
-LacksRoom means line now old = (m : Records) × WouldBeTaken means now (parts_of (asked line)) m old × (HasRoomFor (parts_of (asked line)) m old → ⊥)
+LacksRoom means line now old =
+    (m : Records) × IsTaken means old.declared now (asked line) old.records m × (HasRoomFor (parts_of (asked line)) m old → ⊥)
 
 -- Over an open connection whose disk doesn't fail, the store fails a line for want of room alone.
 abbrev pub FailsForRoomAlone : Meanings → List ℕ → ℤ → List ℕ → Machine Records → Machine Records → Type 0
@@ -92,9 +88,9 @@ AreNamesOf ds form names = (unknown_in ds.groups names ≡ false) × (asked_grou
 
 -- A taken command leaves nothing to list: a check of a record that it put or set for the groups of its form, on the next line and at the same
 -- moment, finds no violation, unless that check fails.
-abbrev pub LeavesNothingToList : Meanings → List ℕ → ℤ → List ℕ → Machine Records → Machine Records → Type 0
-LeavesNothingToList means line now reply old new = (what : Done) → IsDone what reply
-    → (id : List ℕ) (kept : Kept) → IsTouched (parts_of (asked line)) new.records id kept
-    → (next : List ℕ) (names : List (List ℕ)) (lists : List ℕ) (last : Machine Records) → asked next ≡ check id names
-    → AreNamesOf old.declared kept.form names → Told means new next now lists last
+abbrev pub LeavesNothingToList : Meanings → Declarations → List ℕ → ℤ → List ℕ → Records → Type 0
+LeavesNothingToList means ds line now reply new = (what : Done) → IsDone what reply
+    → (id : List ℕ) (kept : Kept) → IsTouched (parts_of (asked line)) new id kept
+    → (next : List ℕ) (names : List (List ℕ)) (lists : List ℕ) (last : Records) → asked next ≡ check id names
+    → AreNamesOf ds kept.form names → Told means ds new next now lists last
     → (lists ≡ answer_text (checked [])) ⊎ IsFailure lists

@@ -8,9 +8,11 @@ ghost use Rattle.fv_store.specs.Stands.{Frame, Holds, HasTables, IsBlank, IsLive
 ghost use Rattle.fv_declare.specs.Declares.{Declares};
 ghost use Rattle.fv_engine.specs.Laws.{ShowsWhatWasPut, ChangesNoGet, ListsSome, MayChangePlaces, LeavesNothingToList, FailsWhereShut, FailsForRoomAlone};
 ghost use Rattle.fv_engine_machine.specs.Machines.{contents, StandsFor, Becomes};
+ghost use Rattle.fv_engine_machine.specs.Causes.{Caused};
 ghost use Rattle.fv_engine_machine.specs.Step.{Told};
 ghost use Rattle.fv_engine.specs.FaultNames.{open_fault_name};
-ghost use Rattle.fv_engine_reply.specs.Texts.{refusal_text};
+ghost use Rattle.fv_engine_reply.specs.Answers.{refused};
+ghost use Rattle.fv_engine_reply.specs.Texts.{answer_text};
 
 use fv_declare::{DeclFault, read_schema};
 use fv_engine_lines::{LIMIT, Responder};
@@ -189,17 +191,23 @@ impl<R: RuleSet, S: Alter> Engine<R, S> {
     /// the record machine.
     pub fn run(&mut self, alloc: Global, line: &[u8], now: i64) -> Reply
         requires { IsMoment now }
-        ensures step { Becomes (state S.Store) self.old self.new (λ x y. Told R.meaning x line.now now result y) }
+        ensures step { Becomes (state S.Store) self.old self.new
+            (λ x y. Told R.meaning x.declared x.records line.now now result y.records) }
+        // The same step, with what the connection to the database has to do with it.
+        ensures causes { Becomes (state S.Store) self.old self.new (λ x y. Caused R.meaning x line.now now result y) }
         // What a taken put stored is what a get on the next line shows.
-        ensures shows { Becomes (state S.Store) self.old self.new (ShowsWhatWasPut R.meaning line.now result) }
+        ensures shows { Becomes (state S.Store) self.old self.new
+            (λ x y. ShowsWhatWasPut R.meaning x.declared line.now result y.records) }
         // A refusal changes no record, and so no get.
-        ensures unchanged { Becomes (state S.Store) self.old self.new (ChangesNoGet result) }
+        ensures unchanged { Becomes (state S.Store) self.old self.new (λ x y. ChangesNoGet result x.records y.records) }
         // A refusal for violations lists at least one, of each of its records.
         ensures lists { Becomes (state S.Store) self.old self.new (λ x y. ListsSome result) }
         // Two taken puts of different ids may change places.
-        ensures places { Becomes (state S.Store) self.old self.new (MayChangePlaces R.meaning line.now now result) }
+        ensures places { Becomes (state S.Store) self.old self.new
+            (λ x y. MayChangePlaces R.meaning x.declared line.now now result x.records y.records) }
         // A taken command leaves nothing to list, of what it put or set.
-        ensures nothing { Becomes (state S.Store) self.old self.new (LeavesNothingToList R.meaning line.now now result) }
+        ensures nothing { Becomes (state S.Store) self.old self.new
+            (λ x y. LeavesNothingToList R.meaning x.declared line.now now result y.records) }
         // A command that looks for the record of an id fails over a connection that is shut.
         ensures shut { Becomes (state S.Store) self.old self.new (λ x y. FailsWhereShut line.now result x) }
         // Over an open connection whose disk doesn't fail, as in memory, the store fails for want of room alone.
@@ -220,7 +228,7 @@ impl<R: RuleSet, S: Alter> Engine<R, S> {
 
     /// The refusal of a line that is over the limit.
     fn refuse_long(&mut self) -> Reply
-        ensures refused { result ≡ refusal_text Refusal.LineTooLong }
+        ensures refused { result ≡ answer_text (refused Refusal.LineTooLong) }
         ensures same { self.new ≡ self.old }
     {
         Reply::line_too_long()
@@ -246,7 +254,7 @@ impl<R: RuleSet, S: Alter> Responder for Engine<R, S> {
     type Reply = Reply;
 
     ghost step = { λ old line moment text new. Becomes (state S.Store) old new
-        (λ x y. Told R.meaning x line moment text y) };
+        (λ x y. Caused R.meaning x line moment text y) };
 
     fn answer_line(&mut self, alloc: Global, line: &[u8], now: i64) -> Reply {
         self.run(alloc, line, now)

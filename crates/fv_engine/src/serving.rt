@@ -1,6 +1,7 @@
 ghost use Rattle.std.specs.Prelude.{◌≡◌, OnOk, IsErrOf};
 ghost use Rattle.sqlite.specs.Held.{state};
 ghost use Rattle.fv_engine_machine.specs.Machines.{Becomes};
+ghost use Rattle.fv_engine_machine.specs.Causes.{Caused};
 ghost use Rattle.fv_engine_machine.specs.Step.{Told};
 ghost use Rattle.fv_engine_lines.specs.Lines.{WholeLines, AllLines};
 ghost use Rattle.fv_engine_lines.specs.Reads.{ReadAtMost};
@@ -34,18 +35,31 @@ pub fn serve<R: RuleSet, S: Alter, I: Input, W: Write, C: Clock>(
     ensures reads { ReadAtMost I.reads 4294967296 reader.old reader.new }
     // All lines of the input were answered, each reply written with its end.
     ensures ok { OnOk result (Becomes (state S.Store) engine.old engine.new
-        (λ m n. Served (Told R.meaning) C.ticks (AllLines (I.remaining reader.old) (I.remaining reader.new))
-        (m, clock.old, W.contents writer.old) (n, clock.new, W.contents writer.new))) }
+        (λ x y. Served (Told R.meaning x.declared) C.ticks (AllLines (I.remaining reader.old) (I.remaining reader.new))
+        (x.records, clock.old, W.contents writer.old) (y.records, clock.new, W.contents writer.new))) }
     // The same for the whole lines that were read.
     ensures read { IsErrOf result ServeFault.Read
-        → Becomes (state S.Store) engine.old engine.new (λ m n. Served (Told R.meaning) C.ticks
-        (WholeLines (I.remaining reader.old) (I.remaining reader.new)) (m, clock.old, W.contents writer.old)
-        (n, clock.new, W.contents writer.new)) }
+        → Becomes (state S.Store) engine.old engine.new (λ x y. Served (Told R.meaning x.declared) C.ticks
+        (WholeLines (I.remaining reader.old) (I.remaining reader.new)) (x.records, clock.old, W.contents writer.old)
+        (y.records, clock.new, W.contents writer.new)) }
     // The same for some lines of these, the last reply whole, in part or missing.
     ensures write { IsErrOf result ServeFault.Write
-        → Becomes (state S.Store) engine.old engine.new (λ m n. Stopped (Told R.meaning) C.ticks
-        (I.remaining reader.old) (I.remaining reader.new) (m, clock.old, W.contents writer.old)
-        (n, clock.new, W.contents writer.new)) }
+        → Becomes (state S.Store) engine.old engine.new (λ x y. Stopped (Told R.meaning x.declared) C.ticks
+        (I.remaining reader.old) (I.remaining reader.new) (x.records, clock.old, W.contents writer.old)
+        (y.records, clock.new, W.contents writer.new)) }
+    // The same runs, however they ended: each step of the map with what the connection to the database has to
+    // do with it.
+    ensures causes { OnOk result (Becomes (state S.Store) engine.old engine.new
+        (λ x y. Served (Caused R.meaning) C.ticks (AllLines (I.remaining reader.old) (I.remaining reader.new))
+        (x, clock.old, W.contents writer.old) (y, clock.new, W.contents writer.new))) }
+    ensures read_causes { IsErrOf result ServeFault.Read
+        → Becomes (state S.Store) engine.old engine.new (λ x y. Served (Caused R.meaning) C.ticks
+        (WholeLines (I.remaining reader.old) (I.remaining reader.new)) (x, clock.old, W.contents writer.old)
+        (y, clock.new, W.contents writer.new)) }
+    ensures write_causes { IsErrOf result ServeFault.Write
+        → Becomes (state S.Store) engine.old engine.new (λ x y. Stopped (Caused R.meaning) C.ticks
+        (I.remaining reader.old) (I.remaining reader.new) (x, clock.old, W.contents writer.old)
+        (y, clock.new, W.contents writer.new)) }
     // Nothing was read.
     ensures memory { IsErrOf result ServeFault.Memory → (reader.new ≡ reader.old) × (writer.new ≡ writer.old)
         × (engine.new ≡ engine.old) × (clock.new ≡ clock.old) }

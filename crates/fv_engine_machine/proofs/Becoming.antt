@@ -1,5 +1,5 @@
 -- What a call makes of the machine.
-use Rattle.std.proofs.Common.{codes, bytes_eq, ◌≡◌, ◌≢◌, ◌⊎◌, ℕ, ℤ, ◌≤◌, ◌<◌, length, map, not, nat_lt, IsTrue, if◌then◌else◌, List, [], ◌∷◌, Bool, true, false, Option, Some, None, is_some, option_map, option_and_then, Result, Ok, Err, inl, inr, refl, sym, ap, subst, ◌∙◌, arith}
+use Rattle.std.proofs.Common.{codes, bytes_eq, ◌≡◌, ◌≢◌, ◌⊎◌, ℕ, ℤ, ◌≤◌, ◌<◌, length, map, not, nat_lt, IsTrue, if◌then◌else◌, List, [], ◌∷◌, Bool, true, false, Option, Some, None, is_some, option_map, option_and_then, inl, inr, refl, sym, ap, subst, ◌∙◌, arith}
 use Rattle.std.specs.List.{AllByRecursion}
 use Rattle.std.proofs.lemmas.Bool.{lt-ltb, le-ltb}
 use Rattle.sqlite.specs.State.{State, HasCleanDisk}
@@ -10,22 +10,21 @@ use Rattle.fv_datum.specs.Members.{has_only}
 use Rattle.fv_datum.specs.Lookup.{at_name}
 use Rattle.fv_datum.specs.Parsing.{json_of}
 use Rattle.fv_declare_schema.specs.Declarations.{Declarations}
-use Rattle.fv_engine_machine.specs.Keeping.{Replies, Fails, Checks, unjudged}
+use Rattle.fv_engine_machine.specs.Causes.{StoreHasFailed, HasCause, GivesOut, Causes, Handles, Caused}
+use Rattle.fv_engine_machine.specs.Keeping.{Unchanged, Replies, Fails, Checks, unjudged}
 use Rattle.fv_engine_machine.specs.Machines.{Machine, over, with_map, contents, room_in, Becomes}
-use Rattle.fv_engine_machine.specs.Refusals.{done_by, when, first_of, is_too_long, refusal}
+use Rattle.fv_engine_machine.specs.Refusals.{when, first_of, is_too_long, parts_of, refusal}
 use Rattle.fv_engine_command.specs.Commands as command
 use Rattle.fv_engine_command.specs.Commands.{Part, Request, too_long, not_json, shape, alone, batch, get, check, check_field, check_value, list, id_in, id_at, put_of, set_of, remove_of, parts_in, alone_of, batch_of, get_of, groups_at, check_of, check_field_of, check_value_of, limit_in, list_of, forms, or_shape, command_of, of_json, asked}
-use Rattle.fv_engine_machine.specs.Failures.{StoreHasFailed, MayFail}
-use Rattle.fv_engine_machine.specs.Step.{Unchanged, Decided, Settled, Does, Handles, Told}
+use Rattle.fv_engine_machine.specs.Step.{done_by, Changes, Checked, Serves, Answers, IsTaken, looks_up, LooksUp, Step}
 use Rattle.fv_groups.specs.Groups.{numbers_of}
 use Rattle.fv_groups.specs.Judged.{unknown_in}
 use Rattle.fv_model.specs.Bundles.{Bundled}
 use Rattle.fv_model.specs.declared.fault.BundleFault.{BundleFault}
 use Rattle.fv_model.specs.declared.fault.BundleFault.TheVariants as fault
 use Rattle.fv_registry.specs.Meanings.{Meanings}
-use Rattle.fv_engine_machine.specs.Judging.{with_some}
-use Rattle.fv_engine_reply.specs.Answers.{Answer, Judged, done, shown, ids, refused}
-use Rattle.fv_engine_reply.specs.Texts.{refusal_text, TakesMemory, Tells}
+use Rattle.fv_engine_reply.specs.Answers.{Answer, done, shown, violated, checked, field_checked, value_checked, ids, refused, part_refused}
+use Rattle.fv_engine_reply.specs.Texts.{answer_text, TakesMemory, Tells}
 use Rattle.fv_engine_reply.specs.declared.answer.Done.{Done}
 use Rattle.fv_engine_reply.specs.declared.answer.Done.TheVariants.{Batch}
 use Rattle.fv_engine_reply.specs.declared.answer.Refusal.{Refusal}
@@ -35,11 +34,9 @@ use Rattle.fv_store.specs.Records.{Kept, Records}
 use Rattle.fv_store.specs.declared.fault.StoreFault.{StoreFault}
 use Rattle.fv_store.specs.declared.fault.StoreFault.TheVariants as store
 use Rattle.fv_store.specs.Stands.{Frame, Holds, Stays}
-use Rattle.fv_validate.specs.Violations.{Reported}
 use Rattle.fv_validate.specs.declared.fault.ValidateFault.{ValidateFault}
 use Rattle.fv_validate.specs.declared.fault.ValidateFault.TheVariants as validate
 use Rattle.fv_walk.specs.Visits.{HasTooManyVisits}
-use Rattle.fv_engine_machine.specs.Asked.{Verdict, too_many_visits, listed}
 
 -- a relation between machines
 abbrev Relation : Type 1
@@ -118,6 +115,73 @@ fails_by P Cause UnknownGroup f memory store = absurd f
 fails_by P Cause NoSuchField f memory store = absurd f
 fails_by P Cause TooManyVisits f memory store = absurd f
 
+-- ---- requests by which nothing changes
+
+-- an answer that tells neither that a command was taken nor that the store failed
+abbrev pub IsOther : Answer → Type 0
+IsOther (done what) = ⊥
+IsOther (refused Store) = ⊥
+IsOther _ = Unit {0}
+
+-- where no command is taken, no rowid is given out
+gives_none : (answer : Answer) (count : ℕ) (x y : Machine Records) → ((what : Done) → answer ≡ done what → ⊥) → (IsTrue y.is_open → y.room ≡ x.room) → GivesOut answer count x y
+gives_none (done what) count x y other room = absurd (other what refl)
+gives_none (shown id form b) count x y other room = room
+gives_none (violated ls) count x y other room = room
+gives_none (checked vs) count x y other room = room
+gives_none (field_checked vs) count x y other room = room
+gives_none (value_checked vs) count x y other room = room
+gives_none (ids found) count x y other room = room
+gives_none (refused why) count x y other room = room
+gives_none (part_refused n why) count x y other room = room
+
+-- and back
+none_given : (answer : Answer) (count : ℕ) (x y : Machine Records) → ((what : Done) → answer ≡ done what → ⊥) → GivesOut answer count x y → IsTrue y.is_open → y.room ≡ x.room
+none_given (done what) count x y other gives = absurd (other what refl)
+none_given (shown id form b) count x y other gives = gives
+none_given (violated ls) count x y other gives = gives
+none_given (checked vs) count x y other gives = gives
+none_given (field_checked vs) count x y other gives = gives
+none_given (value_checked vs) count x y other gives = gives
+none_given (ids found) count x y other gives = gives
+none_given (refused why) count x y other gives = gives
+none_given (part_refused n why) count x y other gives = gives
+
+module _ (means : Meanings) (now : ℤ) (r : Request) (x y : Machine Records) (stay : Unchanged x y) where
+  caused : (answer : Answer) → ((what : Done) → answer ≡ done what → ⊥) → (LooksUp x.declared r → IsTrue x.is_open ⊎ ((answer ≡ refused Store) ⊎ (answer ≡ refused Memory)))
+      → (answer ≡ refused Store → HasCause means now r x y) → Causes means now r answer x y
+  caused answer other finds cause = record {
+    declared = stay.declared;
+    counts = stay.counts;
+    was_open = stay.was_open;
+    closes = stay.closes;
+    gives = gives_none answer (length (parts_of r)) x y other stay.room;
+    finds = finds;
+    cause = cause;
+  }
+
+  pub still : (answer : Answer) → IsOther answer → Answers means x.declared now r x.records answer y.records → (LooksUp x.declared r → IsTrue x.is_open) → Handles means now r x answer y
+  still answer other answers live = (
+    inl answers,
+    caused answer (λ what e. subst IsOther e other) (λ looks. inl (live looks)) (λ e. absurd (subst IsOther e other)),
+  )
+
+  pub out_of_memory : is_too_long r ≡ false → Handles means now r x (refused Memory) y
+  out_of_memory short = (inr (inl (refl, short, stay.records)), caused (refused Memory) (λ what e. cc) (λ looks. inr (inr refl)) (λ e. cc))
+
+  pub unstored : LooksUp x.declared r ⊎ ((m : Records) × IsTaken means x.declared now r x.records m) → HasCause means now r x y → Handles means now r x (refused Store) y
+  unstored may cause = (inr (inr (refl, may, stay.records)), caused (refused Store) (λ what e. cc) (λ looks. inr (inl refl)) (λ e. cause))
+
+  -- it isn't found out what it looks up
+  pub not_found : is_too_long r ≡ false → LooksUp x.declared r → (why : Refusal) → Fails why (StoreHasFailed x y) → Handles means now r x (refused why) y
+  not_found short looks why f = fails_by (λ (w : Refusal). Handles means now r x (refused w) y) _ why f (out_of_memory short) (λ cause. unstored (inl looks) (inl cause))
+
+-- a request that looks nothing up is refused
+pub refused_at_once : (means : Meanings) (now : ℤ) (r : Request) (x : Machine Records) (why : Refusal) → looks_up r ≡ false → IsOther (refused why) → refusal x.declared x.records r ≡ Some (refused why)
+    → Handles means now r x (refused why) x
+refused_at_once means now r x why not other is = still means now r x x (stays_itself x) (refused why) other (inl (is, refl))
+    (λ looks. let never : false ≡ true = sym not ∙ looks.0 in absurd cc)
+
 -- ---- faults of bundles
 
 pub is_memory : (f : BundleFault) → (f ≡ fault.Memory) ⊎ (f ≢ fault.Memory)
@@ -143,17 +207,12 @@ fails_so store.Memory why Cause as_store as_memory cause = subst (λ (r : Refusa
 
 module _ (means : Meanings) (now : ℤ) (id : List ℕ) (x y : Machine Records) (stay : Unchanged x y) where
   pub got_none : IsTrue x.is_open → x.records id ≡ None → Handles means now (get id) x (refused NoRecord) y
-  got_none live none = inl (subst (λ (o : Option Answer). Does o means now (get id) x (refused NoRecord) y) (sym (ap (λ (o : Option Kept). first_of (when (not (is_some o)) NoRecord ∷ None ∷ None ∷ [])) none)) (refl, stay), live)
+  got_none live none = still means now (get id) x y stay (refused NoRecord) tt
+      (inl (ap (λ (o : Option Kept). first_of (when (not (is_some o)) NoRecord ∷ None ∷ None ∷ [])) none, stay.records)) (λ looks. live)
 
   pub got_some : IsTrue x.is_open → (kept : Kept) → x.records id ≡ Some kept → Handles means now (get id) x (shown id kept.form kept.bundle) y
-  got_some live kept some = inl (
-    subst (λ (o : Option Answer). Does o means now (get id) x (shown id kept.form kept.bundle) y)
-        (sym (ap (λ (o : Option Kept). first_of (when (not (is_some o)) NoRecord ∷ None ∷ None ∷ [])) some)) (kept, some, refl, stay),
-    live,
-  )
-
-  pub got_not : (why : Refusal) → Fails why (StoreHasFailed x y) → Handles means now (get id) x (refused why) y
-  got_not why f = inr (why, fails_by (λ (r : Refusal). MayFail r means now (get id) x y) _ why f refl (λ cause. cause), refl, stay)
+  got_some live kept some = still means now (get id) x y stay (shown id kept.form kept.bundle) tt
+      (inr (ap (λ (o : Option Kept). first_of (when (not (is_some o)) NoRecord ∷ None ∷ None ∷ [])) some, (kept, some, refl, stay.records))) (λ looks. live)
 
 -- ---- checks
 
@@ -166,62 +225,77 @@ pub not_checked : (means : Meanings) (ds : Declarations) (now : ℤ) (b : Bundle
     → (fault ≡ validate.TooManyVisits → HasTooManyVisits ds b (numbers_of ds.groups names)) → Checks means ds now b names (refused (unjudged fault))
 not_checked means ds now b names validate.UnknownGroup known named other many = absurd (named refl)
 not_checked means ds now b names validate.NoSuchField known named other many = absurd (other refl)
-not_checked means ds now b names validate.TooManyVisits known named other many = inr (inl (known, (too_many_visits, many refl, refl)))
+not_checked means ds now b names validate.TooManyVisits known named other many = inr (inl (known, inl (many refl, refl)))
 not_checked means ds now b names validate.Memory known named other many = inr (inr refl)
+
+-- the answer of a check is another than that a command was taken or that the store failed
+pub checked_other : (means : Meanings) (ds : Declarations) (now : ℤ) (b : Bundled) (groups : List ℕ) (answer : Answer) → Checked means ds now b groups answer → IsOther answer
+checked_other means ds now b groups answer (inl many) = subst IsOther (sym many.1) tt
+checked_other means ds now b groups answer (inr told) = subst IsOther (sym told.3) tt
 
 module _ (means : Meanings) (now : ℤ) (id : List ℕ) (names : List (List ℕ)) (x y : Machine Records) (stay : Unchanged x y) where
   pub checked_none : IsTrue x.is_open → x.records id ≡ None → Handles means now (check id names) x (refused NoRecord) y
   unfolding check_refusal
-  checked_none live none = inl (
-    subst (λ (o : Option Answer). Does o means now (check id names) x (refused NoRecord) y) (sym (ap (λ (o : Option Kept). check_refusal o (unknown_in x.declared.groups names)) none)) (refl, stay),
-    live,
-  )
+  checked_none live none = still means now (check id names) x y stay (refused NoRecord) tt
+      (inl (ap (λ (o : Option Kept). check_refusal o (unknown_in x.declared.groups names)) none, stay.records)) (λ looks. live)
 
   -- the refusals of a check of a record that is there
-  there : (kept : Kept) (unknown : Bool) → x.records id ≡ Some kept → unknown_in x.declared.groups names ≡ unknown → refusal x (check id names) ≡ when unknown UnknownGroup
+  there : (kept : Kept) (unknown : Bool) → x.records id ≡ Some kept → unknown_in x.declared.groups names ≡ unknown
+      → refusal x.declared x.records (check id names) ≡ when unknown UnknownGroup
   unfolding check_refusal
   there kept true some is = ap (λ (o : Option Kept). check_refusal o (unknown_in x.declared.groups names)) some ∙ ap (check_refusal (Some kept)) is
   there kept false some is = ap (λ (o : Option Kept). check_refusal o (unknown_in x.declared.groups names)) some ∙ ap (check_refusal (Some kept)) is
 
   pub checked_some : IsTrue x.is_open → (kept : Kept) → x.records id ≡ Some kept → (answer : Answer) → Checks means x.declared now kept.bundle names answer → Handles means now (check id names) x answer y
-  checked_some live kept some answer (inl (unknown, is)) = inl (subst (λ (o : Option Answer). Does o means now (check id names) x answer y) (sym (there kept true some unknown)) (is, stay), live)
-  checked_some live kept some answer (inr (inl (known, told))) = inl (subst (λ (o : Option Answer). Does o means now (check id names) x answer y) (sym (there kept false some known)) (kept, some, told, stay), live)
-  checked_some live kept some answer (inr (inr is)) = inr (Memory, refl, is, stay)
+  checked_some live kept some answer (inl (unknown, is)) = subst (λ (a : Answer). Handles means now (check id names) x a y) (sym is)
+      (still means now (check id names) x y stay (refused UnknownGroup) tt (inl (there kept true some unknown, stay.records)) (λ looks. live))
+  checked_some live kept some answer (inr (inl (known, told))) = still means now (check id names) x y stay answer
+      (checked_other means x.declared now kept.bundle (numbers_of x.declared.groups names) answer told)
+      (inr (there kept false some known, (kept, some, told, stay.records))) (λ looks. live)
+  checked_some live kept some answer (inr (inr is)) = subst (λ (a : Answer). Handles means now (check id names) x a y) (sym is) (out_of_memory means now (check id names) x y stay refl)
 
-  pub checked_not : (why : Refusal) → Fails why (StoreHasFailed x y) → Handles means now (check id names) x (refused why) y
-  checked_not why f = inr (why, fails_by (λ (r : Refusal). MayFail r means now (check id names) x y) _ why f refl (λ cause. cause), refl, stay)
+-- ---- where no command is taken, all stays
 
--- ---- the text of an answer
+module _ (means : Meanings) (ds : Declarations) (now : ℤ) (m n : Records) (answer : Answer) (other : (what : Done) → answer ≡ done what → ⊥) where
+  changes_stay : (parts : List Part) (what : Done) → Changes means ds now parts what m answer n → n ≡ m
+  changes_stay parts what (copy, is, inl over) = over.2
+  changes_stay parts what (copy, is, inr (inl taken)) = absurd (other what taken.1)
+  changes_stay parts what (copy, is, inr (inr told)) = told.4
+
+  served_stays : (r : Request) → Serves means ds now r m answer n → n ≡ m
+  served_stays too_long s = absurd s
+  served_stays not_json s = absurd s
+  served_stays shape s = absurd s
+  served_stays (alone p) s = changes_stay (p ∷ []) (done_by p) s
+  served_stays (batch ps) s = changes_stay ps Batch s
+  served_stays (get id) s = s.3
+  served_stays (check id names) s = s.3
+  served_stays (check_field id object field names) s = s.3
+  served_stays (check_value type field value names) s = s.3
+  served_stays (list form after limit) s = s.3
+
+  pub step_stays : (r : Request) → Step means ds m r now answer n → n ≡ m
+  step_stays r (inl (inl refuses)) = refuses.1
+  step_stays r (inl (inr serves)) = served_stays r serves.1
+  step_stays r (inr (inl memory)) = memory.2
+  step_stays r (inr (inr store)) = store.2
 
 module _ (means : Meanings) (now : ℤ) where
-  -- parts that are settled
-  settled_stays : (parts : List Part) (what : Done) (m : Records) (x y : Machine Records) (answer : Answer) → ((w : Done) → answer ≡ done w → ⊥) → Settled means now parts what m x answer y → Unchanged x y
-  settled_stays parts what m x y answer other (inl over) = over.2
-  settled_stays parts what m x y answer other (inr decides) = decided (with_some decides.0) decides.2
-    where
-      decided : (ls : List Judged) → Decided what (length parts) ls m x answer y → Unchanged x y
-      decided [] d = absurd (other what d.0)
-      decided (l ∷ ls) d = d.1
-
-  -- where no command is taken, all stays
-  pub not_done_stays : (o : Option Answer) (r : Request) (x y : Machine Records) (answer : Answer) → ((what : Done) → answer ≡ done what → ⊥) → Does o means now r x answer y → Unchanged x y
-  not_done_stays (Some refusal) r x y answer other does = does.1
-  not_done_stays None too_long x y answer other does = absurd does
-  not_done_stays None not_json x y answer other does = absurd does
-  not_done_stays None shape x y answer other does = absurd does
-  not_done_stays None (alone p) x y answer other does = settled_stays (p ∷ []) (done_by p) does.0 x y answer other does.2
-  not_done_stays None (batch ps) x y answer other does = settled_stays ps Batch does.0 x y answer other does.2
-  not_done_stays None (get id) x y answer other does = does.3
-  not_done_stays None (check id names) x y answer other does = does.3
-  not_done_stays None (check_field id object field names) x y answer other does = does.3
-  not_done_stays None (check_value type field value names) x y answer other does = does.3
-  not_done_stays None (list form after limit) x y answer other does = does.3
+  not_done_stays : (r : Request) (x y : Machine Records) (answer : Answer) → ((what : Done) → answer ≡ done what → ⊥) → Handles means now r x answer y → Unchanged x y
+  not_done_stays r x y answer other (step, causes) = record {
+    declared = causes.declared;
+    records = step_stays means x.declared now x.records y.records answer other r step;
+    was_open = causes.was_open;
+    counts = causes.counts;
+    closes = causes.closes;
+    room = none_given answer (length (parts_of r)) x y other causes.gives;
+  }
 
   -- a text that tells an answer is a reply, also where memory was refused for it
   pub told_answer : (r : Request) → is_too_long r ≡ false → (x y : Machine Records) (answer : Answer) (text : List ℕ) → Tells text answer → Handles means now r x answer y → Replies means now r x text y
   told_answer r short x y answer text (inl is) answers = (answer, is, answers)
-  told_answer r short x y answer text (inr made) (inl does) = (refused Memory, made.1, inr (Memory, short, refl, not_done_stays (refusal x r) r x y answer (λ what e. subst TakesMemory e made.0) does.0))
-  told_answer r short x y answer text (inr made) (inr failed) = (refused Memory, made.1, inr (Memory, short, refl, failed.3))
+  told_answer r short x y answer text (inr made) answers =
+      (refused Memory, made.1, out_of_memory means now r x y (not_done_stays r x y answer (λ what e. subst TakesMemory e made.0) answers) short)
 
 -- ---- requests
 
@@ -335,12 +409,16 @@ unfolding asked
 asked_long line long = ap (λ (b : Bool). if b then too_long else of_json (json_of line)) (above (length line) 1048576 long)
 
 -- a line that is over the limit is told so
-pub long_told : (means : Meanings) (line : List ℕ) (moment : ℤ) (text : List ℕ) → 1048576 < length line → text ≡ refusal_text LineTooLong → (x : Machine Records) → Told means x line moment text x
-long_told means line moment text long is x = (refused LineTooLong, is, subst (λ (r : Request). Handles means moment r x (refused LineTooLong) x) (sym (asked_long line long)) (inl ((refl, stays_itself x), tt)))
+pub long_caused : (means : Meanings) (line : List ℕ) (moment : ℤ) (text : List ℕ) → 1048576 < length line → text ≡ answer_text (refused LineTooLong) → (x : Machine Records) → Caused means x line moment text x
+long_caused means line moment text long is x = (
+  refused LineTooLong,
+  is,
+  subst (λ (r : Request). Handles means moment r x (refused LineTooLong) x) (sym (asked_long line long)) (refused_at_once means moment too_long x LineTooLong refl tt refl),
+)
 
 -- one that isn't, by its JSON
-pub short_told : (means : Meanings) (line : List ℕ) (moment : ℤ) (text : List ℕ) → length line ≤ 1048576 → (x y : Machine Records) → Replies means moment (of_json (json_of line)) x text y → Told means x line moment text y
-short_told means line moment text short x y told = (told.0, told.1, subst (λ (r : Request). Handles means moment r x told.0 y) (sym (asked_short line short)) told.2)
+pub short_caused : (means : Meanings) (line : List ℕ) (moment : ℤ) (text : List ℕ) → length line ≤ 1048576 → (x y : Machine Records) → Replies means moment (of_json (json_of line)) x text y → Caused means x line moment text y
+short_caused means line moment text short x y told = (told.0, told.1, subst (λ (r : Request). Handles means moment r x told.0 y) (sym (asked_short line short)) told.2)
 
 -- ---- lists that are empty or not
 
@@ -355,27 +433,20 @@ some_items f (x ∷ xs) some none = cc
 -- ---- lists
 
 module _ (means : Meanings) (now : ℤ) (form : List ℕ) (after : Option (List ℕ)) (limit : ℕ) (x y : Machine Records) where
+  -- the refusals of a list by what its form is declared as
+  list_refusal : Option (List ℕ) → Option Answer
+  list_refusal o = first_of (when (not (is_some o)) UnknownForm ∷ None ∷ None ∷ None ∷ None ∷ None ∷ [])
+
   -- the form isn't declared
   pub unlisted : at_name form x.declared.forms ≡ None → Unchanged x y → Handles means now (list form after limit) x (refused UnknownForm) y
-  unlisted none stay = inl (
-    subst (λ (o : Option (List ℕ)). Does (first_of (when (not (is_some o)) UnknownForm ∷ None ∷ None ∷ None ∷ None ∷ None ∷ [])) means now (list form after limit) x (refused UnknownForm) y)
-        (sym none) (refl, stay),
-    λ there. let never : true ≡ false = sym (ap (λ (o : Option (List ℕ)). not (is_some o)) none) ∙ there in absurd cc,
-  )
+  unfolding list_refusal
+  unlisted none stay = still means now (list form after limit) x y stay (refused UnknownForm) tt (inl (ap list_refusal none, stay.records))
+      (λ looks. let never : true ≡ false = sym (ap (λ (o : Option (List ℕ)). not (is_some o)) none) ∙ looks.2 in absurd cc)
 
   module _ (type : List ℕ) (some : at_name form x.declared.forms ≡ Some type) (stay : Unchanged x y) where
     pub listed_ids : IsTrue x.is_open → (found : List (List ℕ)) → Lists x.records form (beginning after) limit found → Handles means now (list form after limit) x (ids found) y
-    listed_ids live found lists = inl (
-      subst (λ (o : Option (List ℕ)). Does (first_of (when (not (is_some o)) UnknownForm ∷ None ∷ None ∷ None ∷ None ∷ None ∷ [])) means now (list form after limit) x (ids found) y)
-          (sym some) (found, lists, refl, stay),
-      λ there. live,
-    )
+    unfolding list_refusal
+    listed_ids live found lists = still means now (list form after limit) x y stay (ids found) tt (inr (ap list_refusal some, (found, lists, refl, stay.records))) (λ looks. live)
 
     pub listed_not : (why : Refusal) → Fails why (StoreHasFailed x y) → Handles means now (list form after limit) x (refused why) y
-    listed_not why f = inr (
-      why,
-      fails_by (λ (r : Refusal). MayFail r means now (list form after limit) x y) _ why f refl
-          (λ cause. (ap (λ (o : Option (List ℕ)). not (is_some o)) some, cause)),
-      refl,
-      stay,
-    )
+    listed_not = not_found means now (list form after limit) x y stay refl (refl, refl, ap (λ (o : Option (List ℕ)). not (is_some o)) some)

@@ -1,21 +1,20 @@
 -- What a command that changes records makes of the machine.
-use Rattle.std.proofs.Common.{◌≡◌, ◌≢◌, ◌≤◌, ◌⊎◌, ℕ, ℤ, IsTrue, length, if◌then◌else◌, List, [], ◌∷◌, Bool, true, false, Option, Some, None, Result, Ok, Err, inl, inr, refl, sym, ap, subst, ◌∙◌, arith}
+use Rattle.std.proofs.Common.{◌≡◌, ◌≢◌, ◌+◌, ◌≤◌, ◌⊎◌, ℕ, ℤ, IsTrue, length, List, [], ◌∷◌, Bool, true, false, Option, Some, None, Result, Ok, Err, inl, inr, refl, sym, ap, subst, ◌∙◌, arith}
 use Rattle.std.specs.List.{list_any}
 use Rattle.std.specs.Map.{keys_of}
-use Rattle.sqlite.specs.Disk.{MoreFaults}
 use Rattle.sqlite.specs.State.{State, HasCleanDisk}
-use Rattle.fv_engine_command.specs.Commands.{Part, alone, batch}
+use Rattle.fv_engine_command.specs.Commands.{Part, put, set, remove, Request, alone, batch}
 use Rattle.fv_datum.specs.Lookup.{at_name}
 use Rattle.fv_declare_schema.specs.Declarations.{Declarations}
-use Rattle.fv_engine_machine.specs.Judging.{IsOfJudging, AreListings, with_some}
-use Rattle.fv_engine_machine.specs.Records.{AreJudged, OneIsOver}
+use Rattle.fv_engine_machine.specs.Judging.{OneIsOverVisited, AreListings}
+use Rattle.fv_engine_machine.specs.Records.{AreJudged, IsOfJudging, OneIsOver, with_some}
 use Rattle.fv_engine_machine.proofs.Listings.{listings, one_over}
-use Rattle.fv_engine_machine.specs.Failures.{StoreHasFailed, HasRoomFor, WouldBeTaken, ChangeFails, PartsFindOut, MayFail}
-use Rattle.fv_engine_machine.specs.Keeping.{Fails, Moves, FitsWhereHeld, HasRoomOn, Keeps, Settles, change_refusal, ChangeDoes, ChangesSo, unjudged}
+use Rattle.fv_engine_machine.specs.Causes.{StoreHasFailed, HasRoomFor, Handles}
+use Rattle.fv_engine_machine.specs.Keeping.{Unchanged, Takes, TakesOrTells, Fails, Moves, FitsWhereHeld, HasRoomOn, Keeps, Settles, told_part, IsCommand, ChangesSo, unjudged}
 use Rattle.fv_engine_machine.specs.Machines.{Machine, over, with_map, contents, room_in}
-use Rattle.fv_engine_machine.specs.Refusals.{done_by, first_of, made, part_refusal, refusal, told_fault, told_part, when}
-use Rattle.fv_engine_machine.specs.Step.{Unchanged, Takes, Decided, Settled, Changes, Does, Handles}
-use Rattle.fv_engine_machine.proofs.Becoming.{fails_by, stays_itself}
+use Rattle.fv_engine_machine.specs.Refusals.{first_of, made, part_refusal, refusal, told_fault, when}
+use Rattle.fv_engine_machine.specs.Step.{done_by, Answers, IsTaken, LooksUp}
+use Rattle.fv_engine_machine.proofs.Becoming.{fails_by, stays_itself, IsOther, still, out_of_memory, unstored}
 use Rattle.fv_engine_machine.proofs.Rooms.{room_left}
 use Rattle.fv_engine_pending.specs.Fits.{AreFitting}
 use Rattle.fv_engine_pending.specs.Parts.{are_misshapen}
@@ -24,11 +23,11 @@ use Rattle.fv_engine_pending.specs.Ways.{Way, overlay, standing}
 use Rattle.fv_engine_pending.specs.declared.fault.PartFault.{PartFault}
 use Rattle.fv_engine_pending.specs.declared.fault.PartFault.TheVariants as part
 use Rattle.fv_registry.specs.Meanings.{Meanings}
-use Rattle.fv_engine_reply.specs.Answers.{Answer, Judged, done, violated, refused}
+use Rattle.fv_engine_reply.specs.Answers.{Answer, Judged, done, violated, refused, part_refused}
 use Rattle.fv_engine_reply.specs.declared.answer.Done.{Done}
 use Rattle.fv_engine_reply.specs.declared.answer.Done.TheVariants as what
 use Rattle.fv_engine_reply.specs.declared.answer.Refusal.{Refusal}
-use Rattle.fv_engine_reply.specs.declared.answer.Refusal.TheVariants.{Shape, TooManyVisits, Store, Memory}
+use Rattle.fv_engine_reply.specs.declared.answer.Refusal.TheVariants.{Shape, TooManyVisits, Memory}
 use Rattle.fv_store.specs.Causes.{LeavesRoom}
 use Rattle.fv_store.specs.Changes.{after_all, changed, ChangesFit}
 use Rattle.fv_store.specs.Records.{Contents, Kept, Records}
@@ -115,7 +114,7 @@ module _ {H : Type 0} (held : H → State) (ds : Declarations) (bytes : List ℕ
 module _ (means : Meanings) (now : ℤ) (way : Way) (what : Done) (x y : Machine Records) where
   -- nothing of what stands on the way has a violation
   pub settled_none : (answer : Answer) (ls : List Judged) → AreJudged means x.declared now (standing way) ls → with_some ls ≡ [] → Keeps way what x answer y → Settles means now way what x answer y
-  settled_none answer ls judged none (inl took) = inr (inl (ls, judged, subst (λ (rs : List Judged). Decided what (length way) rs (overlay way x.records) x answer y) (sym none) took))
+  settled_none answer ls judged none (inl took) = inr (inl (ls, judged, subst (λ (rs : List Judged). TakesOrTells what (length way) rs (overlay way x.records) x answer y) (sym none) took))
   settled_none answer ls judged none (inr failed) = inr (inr (
     failed.0,
     fails_by (λ (why : Refusal). Fails why ((ls : List Judged) × AreJudged means x.declared now (standing way) ls × (with_some ls ≡ []) × (HasRoomOn way x → StoreHasFailed x y)))
@@ -128,7 +127,7 @@ module _ (means : Meanings) (now : ℤ) (way : Way) (what : Done) (x y : Machine
   pub settled_some : (ls rs : List Judged) → AreJudged means x.declared now (standing way) ls → rs ≡ with_some ls → (rs ≡ [] → ⊥) → Unchanged x y → Settles means now way what x (violated rs) y
   settled_some ls rs judged are some stay = inr (inl (ls, judged, decided (with_some ls) are))
     where
-      decided : (ws : List Judged) → rs ≡ ws → Decided what (length way) ws (overlay way x.records) x (violated rs) y
+      decided : (ws : List Judged) → rs ≡ ws → TakesOrTells what (length way) ws (overlay way x.records) x (violated rs) y
       decided [] e = absurd (some e)
       decided (w ∷ ws) e = (ap violated e, stay)
 
@@ -153,72 +152,123 @@ last_of : (o : Option Answer) → first_of (o ∷ []) ≡ o
 last_of None = refl
 last_of (Some a) = refl
 
+-- how a part that can't be done is told
+part_other : (f : PartFault) → IsOther (refused (part_refusal f))
+part_other part.UnknownForm = tt
+part_other (part.Bundle fault) = tt
+part_other part.NoRecord = tt
+part_other part.Memory = tt
+
+told_other : (what : Done) (n : ℕ) (f : PartFault) → IsOther (told_part what n (part_refusal f))
+told_other what.Put n f = part_other f
+told_other what.Set n f = part_other f
+told_other what.Remove n f = part_other f
+told_other what.Batch n f = tt
+
+-- what refuses a command whose parts have the form of parts: the first of them that can't be done
+pub refusal_of : (ds : Declarations) (m : Records) (parts : List Part) (what : Done) → are_misshapen ds.types ds.forms parts ≡ false → (r : Request) → IsCommand r parts what
+    → (made_so : Result Records (ℕ × PartFault)) → made ds parts m ≡ made_so → refusal ds m r ≡ told_fault (told_part what) made_so
+refusal_of ds m parts what shaped r command made_so is =
+    command.refusal_is ds m
+    ∙ ap (λ (b : Bool). first_of (when b Shape ∷ told_fault (told_part what) (made ds parts m) ∷ [])) shaped
+    ∙ ap (λ (s : Result Records (ℕ × PartFault)). first_of (told_fault (told_part what) s ∷ [])) is ∙ last_of (told_fault (told_part what) made_so)
+
 module _ (means : Meanings) (now : ℤ) (parts : List Part) (what : Done) (x : Machine Records) where
+  pub change_memory : (y : Machine Records) → Unchanged x y → ChangesSo means now parts what x (refused Memory) y
+  change_memory y stay = λ r command. out_of_memory means now r x y stay command.short
+
   -- one of the puts has a bundle that is none
   pub change_misshapen : are_misshapen x.declared.types x.declared.forms parts ≡ true → ChangesSo means now parts what x (refused Shape) x
-  change_misshapen is = inl (
-    subst (λ (b : Bool). ChangeDoes (first_of (when b Shape ∷ told_fault what (made x parts) ∷ [])) means now parts what x (refused Shape) x) (sym is) (refl, stays_itself x),
-    λ not needs. let never : true ≡ false = sym is ∙ not in absurd cc,
-  )
+  change_misshapen is = λ r command. still means now r x x (stays_itself x) (refused Shape) tt
+      (inl (command.refusal_is x.declared x.records ∙ ap (λ (b : Bool). first_of (when b Shape ∷ told_fault (told_part what) (made x.declared parts x.records) ∷ [])) is, refl))
+      (λ looks. let never : true ≡ false = sym is ∙ (command.needs x.declared looks).0 in absurd cc)
 
   module _ (shaped : are_misshapen x.declared.types x.declared.forms parts ≡ false) where
-    pub refusal_is : (r : Result Records (ℕ × PartFault)) → made x parts ≡ r → change_refusal x parts what ≡ told_fault what r
-    refusal_is r is =
-        ap (λ (b : Bool). first_of (when b Shape ∷ told_fault what (made x parts) ∷ [])) shaped
-        ∙ ap (λ (s : Result Records (ℕ × PartFault)). first_of (told_fault what s ∷ [])) is ∙ last_of (told_fault what r)
-
     -- one of the parts can't be done
-    pub change_unmade : (e : ℕ × PartFault) → made x parts ≡ Err e → (y : Machine Records) → Unchanged x y → (IsTrue (list_any needs_record parts) → IsTrue x.is_open)
+    pub change_unmade : (e : ℕ × PartFault) → made x.declared parts x.records ≡ Err e → (y : Machine Records) → Unchanged x y → (IsTrue (list_any needs_record parts) → IsTrue x.is_open)
         → ChangesSo means now parts what x (told_part what e.0 (part_refusal e.1)) y
-    change_unmade e is y stay live = inl (
-      subst (λ (o : Option Answer). ChangeDoes o means now parts what x (told_part what e.0 (part_refusal e.1)) y) (sym (refusal_is (Err e) is)) (refl, stay),
-      λ not. live,
-    )
+    change_unmade e is y stay live = λ r command. still means now r x y stay (told_part what e.0 (part_refusal e.1)) (told_other what e.0 e.1)
+        (inl (refusal_of x.declared x.records parts what shaped r command (Err e) is, stay.records)) (λ looks. live (command.needs x.declared looks).1)
 
     -- the records that they need aren't found
     pub change_unfound : (why : Refusal) (y : Machine Records) → Unchanged x y → Fails why (IsTrue (list_any needs_record parts) × StoreHasFailed x y) → ChangesSo means now parts what x (refused why) y
-    change_unfound why y stay f = inr (why, fails_by (λ (r : Refusal). Fails r (ChangeFails means now parts x y)) _ why f tt (λ cause. (shaped, inl cause)), refl, stay)
+    change_unfound why y stay f = λ r command. fails_by (λ (w : Refusal). Handles means now r x (refused w) y) _ why f (out_of_memory means now r x y stay command.short)
+        (λ cause. unstored means now r x y stay (inl (command.looks x.declared shaped cause.0)) (inl cause.1))
 
     -- all are made: what they leave stands on the way, over a machine that is as it was
-    module _ (way : Way) (mid y : Machine Records) (is : made x parts ≡ Ok (overlay way x.records)) (stay : Unchanged x mid)
+    module _ (way : Way) (mid y : Machine Records) (is : made x.declared parts x.records ≡ Ok (overlay way x.records)) (stay : Unchanged x mid)
         (room : mid.room ≡ x.room) (live : IsTrue (list_any needs_record parts) → IsTrue x.is_open)
         (few : length way ≤ length parts) (ascending : IsAscending (keys_of way))
         (stands : (id : List ℕ) (k : Kept) → IsTouched parts (overlay way x.records) id k → at_name id way ≡ Some (Some k))
         (touched : (id : List ℕ) (k : Kept) → at_name id way ≡ Some (Some k) → IsTouched parts (overlay way x.records) id k) where
-      does : (answer : Answer) → Settled means now parts what (overlay way x.records) x answer y → ChangesSo means now parts what x answer y
-      does answer settled = inl (
-        subst (λ (o : Option Answer). ChangeDoes o means now parts what x answer y) (sym (refusal_is (Ok (overlay way x.records)) is)) (overlay way x.records, is, settled),
-        λ not. live,
-      )
-
       same_records : overlay way mid.records ≡ overlay way x.records
       same_records = ap (overlay way) stay.records
 
-      are_listed : (ls : List Judged) → AreJudged means mid.declared now (standing way) ls → AreListings means x.declared now parts (overlay way x.records) ls
+      are_listed : (ls : List Judged) → AreJudged means mid.declared now (standing way) ls → AreListings means x.declared now parts (overlay way x.records) (with_some ls)
       are_listed ls judged = listings x.declared parts (overlay way x.records) way means now ls
           (subst (λ (ds : Declarations). AreJudged means ds now (standing way) ls) stay.declared judged) ascending stands touched
-
-      decided : (ls : List Judged) (answer : Answer) → Decided what (length way) ls (overlay way mid.records) mid answer y → Decided what (length parts) ls (overlay way x.records) x answer y
-      decided [] answer d = (d.0, then_takes (overlay way x.records) (length way) (length parts) x mid y few stay (subst (λ (m : Records). Takes m (length way) mid y) same_records d.1))
-      decided (l ∷ ls) answer d = (d.0, still_unchanged x mid y stay d.1)
 
       has_room : HasRoomFor parts (overlay way x.records) x → HasRoomOn way mid
       has_room r = (omega (arith, few, room, r.0), λ id k is. r.1 id k (touched id k is))
 
+      module _ (r : Request) (command : IsCommand r parts what) where
+        -- no part refuses the command
+        serves : (answer : Answer) (n : Records) → (OneIsOverVisited x.declared parts (overlay way x.records) × (answer ≡ refused TooManyVisits) × (n ≡ x.records))
+            ⊎ ((AreListings means x.declared now parts (overlay way x.records) [] × (answer ≡ done what) × (n ≡ overlay way x.records))
+            ⊎ ((ls : List Judged) × AreListings means x.declared now parts (overlay way x.records) ls × (ls ≢ []) × (answer ≡ violated ls) × (n ≡ x.records)))
+            → Answers means x.declared now r x.records answer n
+        serves answer n judged = inr (refusal_of x.declared x.records parts what shaped r command (Ok (overlay way x.records)) is, command.serves means x.declared now x.records answer n (overlay way x.records, is, judged))
+
+        looks_live : LooksUp x.declared r → IsTrue x.is_open
+        looks_live looks = live (command.needs x.declared looks).1
+
+        taken_so : AreListings means x.declared now parts (overlay way x.records) [] → IsTaken means x.declared now r x.records (overlay way x.records)
+        taken_so none = (what, serves (done what) (overlay way x.records) (inr (inl (none, refl, refl))))
+
+        taken : AreListings means x.declared now parts (overlay way x.records) [] → Takes (overlay way x.records) (length parts) x y → Handles means now r x (done what) y
+        taken none takes = (
+          inl (serves (done what) y.records (inr (inl (none, refl, takes.records)))),
+          record {
+            declared = takes.declared;
+            counts = takes.counts;
+            was_open = λ after. takes.was_open;
+            closes = λ before. inl takes.is_open;
+            gives = (takes.was_open, takes.is_open, subst (λ (ps : List Part). x.room ≤ y.room + length ps) (sym command.parts_are) takes.room);
+            finds = λ looks. inl takes.was_open;
+            cause = λ e. cc;
+          },
+        )
+
+        decided : (ls : List Judged) → AreListings means x.declared now parts (overlay way x.records) ls → (answer : Answer) → TakesOrTells what (length way) ls (overlay way mid.records) mid answer y
+            → Handles means now r x answer y
+        decided [] none answer d = subst (λ (a : Answer). Handles means now r x a y) (sym d.0)
+            (taken none (then_takes (overlay way x.records) (length way) (length parts) x mid y few stay (subst (λ (m : Records). Takes m (length way) mid y) same_records d.1)))
+        decided (l ∷ ls) are answer d =
+            let stays = still_unchanged x mid y stay d.1 in
+            subst (λ (a : Answer). Handles means now r x a y) (sym d.0)
+            (still means now r x y stays (violated (l ∷ ls)) tt (serves (violated (l ∷ ls)) y.records (inr (inr (l ∷ ls, are, λ e. cc, refl, stays.records)))) looks_live)
+
+        settled : (answer : Answer) → Settles means now way what mid answer y → Handles means now r x answer y
+        settled answer (inl over) =
+            let stays = still_unchanged x mid y stay over.2 in
+            let one = one_over x.declared parts (overlay way x.records) way (subst (λ (ds : Declarations). OneIsOver ds (standing way)) stay.declared over.0) ascending touched in
+            subst (λ (a : Answer). Handles means now r x a y) (sym over.1)
+            (still means now r x y stays (refused TooManyVisits) tt (serves (refused TooManyVisits) y.records (inl (one, refl, stays.records))) looks_live)
+        settled answer (inr (inl judged)) = decided (with_some judged.0) (are_listed judged.0 judged.1) answer judged.2
+        settled answer (inr (inr failed)) =
+            let stays = still_unchanged x mid y stay failed.3 in
+            subst (λ (a : Answer). Handles means now r x a y) (sym failed.2)
+            (fails_by (λ (w : Refusal). Handles means now r x (refused w) y) _ failed.0 failed.1 (out_of_memory means now r x y stays command.short) (λ cause.
+            let takes = taken_so (subst (λ (ls : List Judged). AreListings means x.declared now parts (overlay way x.records) ls) cause.2 (are_listed cause.0 cause.1)) in
+            unstored means now r x y stays (inr (overlay way x.records, takes)) (inr (
+              overlay way x.records,
+              takes,
+              λ has. failed_since x mid y stay failed.3.counts
+                  (cause.3 (has_room (subst (λ (ps : List Part). HasRoomFor ps (overlay way x.records) x) command.parts_are has))),
+            ))))
+
       pub change_settled : (answer : Answer) → Settles means now way what mid answer y → ChangesSo means now parts what x answer y
-      change_settled answer (inl over) = does answer (inl (
-        one_over x.declared parts (overlay way x.records) way (subst (λ (ds : Declarations). OneIsOver ds (standing way)) stay.declared over.0) ascending touched,
-        over.1,
-        still_unchanged x mid y stay over.2,
-      ))
-      change_settled answer (inr (inl settled)) = does answer (inr (settled.0, are_listed settled.0 settled.1, decided (with_some settled.0) answer settled.2))
-      change_settled answer (inr (inr failed)) = inr (
-        failed.0,
-        fails_by (λ (r : Refusal). Fails r (ChangeFails means now parts x y)) _ failed.0 failed.1 tt (λ cause.
-            (shaped, inr (overlay way x.records, (is, cause.0, are_listed cause.0 cause.1, cause.2), λ r. failed_since x mid y stay failed.3.counts (cause.3 (has_room r))))),
-        failed.2,
-        still_unchanged x mid y stay failed.3,
-      )
+      change_settled answer settles = λ r command. settled r command answer settles
 
 -- ---- a part by itself, and a batch
 
@@ -227,29 +277,29 @@ first_both (Some a) b = refl
 first_both None (Some b) = refl
 first_both None None = refl
 
-module _ (means : Meanings) (now : ℤ) (x y : Machine Records) (answer : Answer) where
-  pub alone_handled : (p : Part) → ChangesSo means now (p ∷ []) (done_by p) x answer y → Handles means now (alone p) x answer y
-  alone_handled p (inl does) = inl (
-    subst (λ (o : Option Answer). Does o means now (alone p) x answer y)
-        (sym (first_both (when (are_misshapen x.declared.types x.declared.forms (p ∷ [])) Shape) (told_fault (done_by p) (made x (p ∷ [])))))
-        (by_refusal (change_refusal x (p ∷ []) (done_by p)) does.0),
-    does.1,
-  )
-    where
-      by_refusal : (o : Option Answer) → ChangeDoes o means now (p ∷ []) (done_by p) x answer y → Does o means now (alone p) x answer y
-      by_refusal (Some a) d = d
-      by_refusal None d = d
-  alone_handled p (inr failed) = inr (failed.0, fails_by (λ (r : Refusal). MayFail r means now (alone p) x y) _ failed.0 failed.1 refl (λ cause. cause), failed.2, failed.3)
+-- a part by itself is told without a number
+told_alone : (p : Part) (r : Result Records (ℕ × PartFault)) → told_fault (λ n why. refused why) r ≡ told_fault (told_part (done_by p)) r
+told_alone (put id form j) r = refl
+told_alone (set id object field j) r = refl
+told_alone (remove id) r = refl
 
-  pub batch_handled : (ps : List Part) → ChangesSo means now ps what.Batch x answer y → Handles means now (batch ps) x answer y
-  batch_handled ps (inl does) = inl (
-    subst (λ (o : Option Answer). Does o means now (batch ps) x answer y)
-        (sym (first_both (when (are_misshapen x.declared.types x.declared.forms ps) Shape) (told_fault what.Batch (made x ps))))
-        (by_refusal (change_refusal x ps what.Batch) does.0),
-    does.1,
-  )
-    where
-      by_refusal : (o : Option Answer) → ChangeDoes o means now ps what.Batch x answer y → Does o means now (batch ps) x answer y
-      by_refusal (Some a) d = d
-      by_refusal None d = d
-  batch_handled ps (inr failed) = inr (failed.0, fails_by (λ (r : Refusal). MayFail r means now (batch ps) x y) _ failed.0 failed.1 refl (λ cause. cause), failed.2, failed.3)
+pub by_itself : (p : Part) → IsCommand (alone p) (p ∷ []) (done_by p)
+by_itself p = record {
+  short = refl;
+  parts_are = refl;
+  refusal_is = λ ds m. first_both (when (are_misshapen ds.types ds.forms (p ∷ [])) Shape) (told_fault (λ n why. refused why) (made ds (p ∷ []) m))
+      ∙ ap (λ (o : Option Answer). first_of (when (are_misshapen ds.types ds.forms (p ∷ [])) Shape ∷ o ∷ [])) (told_alone p (made ds (p ∷ []) m));
+  serves = λ means ds now old answer new changes. changes;
+  needs = λ ds looks. (looks.1, looks.0);
+  looks = λ ds shaped needs. (needs, shaped, refl);
+}
+
+pub in_batch : (ps : List Part) → IsCommand (batch ps) ps what.Batch
+in_batch ps = record {
+  short = refl;
+  parts_are = refl;
+  refusal_is = λ ds m. first_both (when (are_misshapen ds.types ds.forms ps) Shape) (told_fault part_refused (made ds ps m));
+  serves = λ means ds now old answer new changes. changes;
+  needs = λ ds looks. (looks.1, looks.0);
+  looks = λ ds shaped needs. (needs, shaped, refl);
+}

@@ -7,8 +7,8 @@ use Rattle.std.specs.Map.{keys_of}
 use Rattle.std.proofs.lemmas.List.{append-nil}
 use Rattle.sqlite_rules.specs.Lists.{Has}
 use Rattle.fv_declare_schema.specs.Declarations.{Declarations}
-use Rattle.fv_engine_machine.specs.Judging.{groups_of, IsOfJudging, IsOverVisited, IsListingOf, some_of, with_some}
-use Rattle.fv_engine_machine.specs.Records.{AreJudged, OneIsOver}
+use Rattle.fv_engine_machine.specs.Judging.{groups_of, IsListingOf}
+use Rattle.fv_engine_machine.specs.Records.{AreJudged, IsOfJudging, IsOverVisited, OneIsOver, some_of, with_some}
 use Rattle.fv_model.specs.WellTyped.{IsWellTyped}
 use Rattle.fv_engine_pending.specs.Fits.{AreTyped}
 use Rattle.fv_engine_pending.specs.Ways.{Way, way_entry, standing}

@@ -1,5 +1,5 @@
 -- The records that stand on the way are those that parts touch, so what they are judged as is what those are.
-use Rattle.std.proofs.Common.{◌≡◌, inl, inr, ℕ, ℤ, List, [], ◌∷◌, ◌++◌, Bool, true, false, cond, Option, Some, None, Less, bytes_eq, nat_cmp, refl, sym, ap, subst, ◌∙◌, true≢false}
+use Rattle.std.proofs.Common.{◌≡◌, ◌≢◌, ◌⊎◌, inl, inr, ℕ, ℤ, List, [], ◌∷◌, ◌++◌, Bool, true, false, cond, Option, Some, None, Less, bytes_eq, nat_cmp, refl, sym, ap, subst, ◌∙◌, true≢false}
 use Rattle.std.specs.Cmp.Lexicographic.{slice_cmp}
 use Rattle.std.specs.List.{AllByRecursion}
 use Rattle.std.specs.List.Sorted.{IsStrictlySortedBy}
@@ -13,7 +13,7 @@ use Rattle.fv_engine_command.specs.Commands.{Part}
 use Rattle.fv_datum.specs.Lookup.{at_name}
 use Rattle.fv_declare_schema.specs.Declarations.{Declarations}
 use Rattle.fv_engine_machine.specs.Judging.{IsListingOf, OneIsOverVisited, AreListings}
-use Rattle.fv_engine_machine.specs.Records.{AreJudged, OneIsOver}
+use Rattle.fv_engine_machine.specs.Records.{AreJudged, OneIsOver, some_of, with_some}
 use Rattle.fv_engine_pending.specs.Touched.{IsTouched}
 use Rattle.fv_engine_pending.specs.Ways.{Way, standing_entry, standing}
 use Rattle.fv_registry.specs.Meanings.{Meanings}
@@ -99,6 +99,51 @@ standing_ascends [] all = tt
 standing_ascends (e ∷ es) all =
     entry_ascends e.0 e.1 (standing es) (below_standing e.0 es (sorted_head (slice_cmp nat_cmp) e.0 (keys_of es) all)) (standing_ascends es (sorted_tail (slice_cmp nat_cmp) e.0 (keys_of es) all))
 
+-- ---- those of them that have violations
+
+below_some : (low id : List ℕ) (vs : List Reported) (ls : List Judged) → slice_cmp nat_cmp low id ≡ Less → AllByRecursion (λ y. slice_cmp nat_cmp low y ≡ Less) (keys_of ls) → AllByRecursion (λ y. slice_cmp nat_cmp low y ≡ Less) (keys_of (some_of id vs ++ ls))
+below_some low id [] ls here all = all
+below_some low id (v ∷ vs) ls here all = (here, all)
+
+below_those : (low : List ℕ) (ls : List Judged) → AllByRecursion (λ y. slice_cmp nat_cmp low y ≡ Less) (keys_of ls) → AllByRecursion (λ y. slice_cmp nat_cmp low y ≡ Less) (keys_of (with_some ls))
+below_those low [] all = tt
+below_those low (l ∷ ls) all = below_some low l.0 l.1 (with_some ls) all.0 (below_those low ls all.1)
+
+some_ascend : (id : List ℕ) (vs : List Reported) (ls : List Judged) → AllByRecursion (λ y. slice_cmp nat_cmp id y ≡ Less) (keys_of ls) → IsAscending (keys_of ls) → IsAscending (keys_of (some_of id vs ++ ls))
+unfolding IsStrictlySortedBy
+some_ascend id [] ls below all = all
+some_ascend id (v ∷ vs) ls below all = (below, all)
+
+those_ascend : (ls : List Judged) → IsAscending (keys_of ls) → IsAscending (keys_of (with_some ls))
+unfolding IsStrictlySortedBy
+those_ascend [] all = tt
+those_ascend (l ∷ ls) all =
+    some_ascend l.0 l.1 (with_some ls) (below_those l.0 ls (sorted_head (slice_cmp nat_cmp) l.0 (keys_of ls) all)) (those_ascend ls (sorted_tail (slice_cmp nat_cmp) l.0 (keys_of ls) all))
+
+-- each is one of all, and has some
+one_of_all : (ls : List Judged) (l : Judged) → Has (with_some ls) l → Has ls l × (l.1 ≢ [])
+one_of_all [] l has = absurd has
+one_of_all (k ∷ ls) l has = at k.1 refl has (one_of_all ls l)
+  where
+    at : (vs : List Reported) → k.1 ≡ vs → Has (some_of k.0 vs ++ with_some ls) l → (Has (with_some ls) l → Has ls l × (l.1 ≢ [])) → Has (k ∷ ls) l × (l.1 ≢ [])
+    at [] is later ih = let found = ih later in (inr found.0, found.1)
+    at (v ∷ vs) is (inl here) ih = (
+      inl (here ∙ ap (λ (ws : List Reported). (k.0, ws)) (sym is)),
+      λ none. let never : v ∷ vs ≡ [] = sym (ap (λ (x : Judged). x.1) here) ∙ none in cc,
+    )
+    at (v ∷ vs) is (inr later) ih = let found = ih later in (inr found.0, found.1)
+
+-- and one of all that has some is among them
+among_those : (ls : List Judged) (id : List ℕ) (v : Reported) (vs : List Reported) → Has ls (id, v ∷ vs) → Has (with_some ls) (id, v ∷ vs)
+among_those [] id v vs has = absurd has
+among_those (k ∷ ls) id v vs (inl here) =
+    subst (λ (x : Judged). Has (some_of x.0 x.1 ++ with_some ls) (id, v ∷ vs)) here (inl refl)
+among_those (k ∷ ls) id v vs (inr later) = at k.1 (among_those ls id v vs later)
+  where
+    at : (ws : List Reported) → Has (with_some ls) (id, v ∷ vs) → Has (some_of k.0 ws ++ with_some ls) (id, v ∷ vs)
+    at [] found = found
+    at (w ∷ ws) found = inr found
+
 -- ---- what they are judged as
 
 module _ (means : Meanings) (ds : Declarations) (now : ℤ) where
@@ -118,27 +163,36 @@ module _ (means : Meanings) (ds : Declarations) (now : ℤ) where
       )
       at (inr later) ih = let found = ih later in (found.0, inr found.1, found.2)
 
-  judged_complete : (ks : List (List ℕ × Kept)) (ls : List Judged) (k : List ℕ × Kept) → AreJudged means ds now ks ls → Has ks k → (vs : List Reported) × Has ls (k.0, vs)
+  judged_complete : (ks : List (List ℕ × Kept)) (ls : List Judged) (k : List ℕ × Kept) → AreJudged means ds now ks ls → Has ks k → (vs : List Reported) × Has ls (k.0, vs) × IsListingOf means ds now k.1 vs
   judged_complete [] ls k is has = absurd has
   judged_complete (j ∷ ks) ls k (vs, rest, is, listing, more) has = at has (judged_complete ks rest k more)
     where
-      at : Has (j ∷ ks) k → (Has ks k → (ws : List Reported) × Has rest (k.0, ws)) → (ws : List Reported) × Has ls (k.0, ws)
-      at (inl here) ih = (vs, subst (λ (xs : List Judged). Has xs (k.0, vs)) (sym is) (inl (ap (λ (x : List ℕ × Kept). (x.0, vs)) here)))
-      at (inr later) ih = let found = ih later in (found.0, subst (λ (xs : List Judged). Has xs (k.0, found.0)) (sym is) (inr found.1))
+      at : Has (j ∷ ks) k → (Has ks k → (ws : List Reported) × Has rest (k.0, ws) × IsListingOf means ds now k.1 ws) → (ws : List Reported) × Has ls (k.0, ws) × IsListingOf means ds now k.1 ws
+      at (inl here) ih = (
+        vs,
+        subst (λ (xs : List Judged). Has xs (k.0, vs)) (sym is) (inl (ap (λ (x : List ℕ × Kept). (x.0, vs)) here)),
+        subst (λ (x : List ℕ × Kept). IsListingOf means ds now x.1 vs) (sym here) listing,
+      )
+      at (inr later) ih = let found = ih later in (found.0, subst (λ (xs : List Judged). Has xs (k.0, found.0)) (sym is) (inr found.1), found.2)
 
 -- ---- the records that parts touch
 
 module _ (ds : Declarations) (parts : List Part) (m : Records) (new : Way) where
-  -- the records on the way, judged in order, are the records that parts touch, listed
+  -- of the records on the way, judged in order, those that have violations are the ones of the records that parts touch
   pub listings : (means : Meanings) (now : ℤ) (ls : List Judged) → AreJudged means ds now (standing new) ls → IsAscending (keys_of new) → ((id : List ℕ) (k : Kept) → IsTouched parts m id k → at_name id new ≡ Some (Some k))
-      → ((id : List ℕ) (k : Kept) → at_name id new ≡ Some (Some k) → IsTouched parts m id k) → AreListings means ds now parts m ls
+      → ((id : List ℕ) (k : Kept) → at_name id new ≡ Some (Some k) → IsTouched parts m id k) → AreListings means ds now parts m (with_some ls)
   listings means now ls judged ascending stands touched = record {
-    ascending = subst IsAscending (sym (judged_ids means ds now (standing new) ls judged)) (standing_ascends new ascending);
+    ascending = those_ascend ls (subst IsAscending (sym (judged_ids means ds now (standing new) ls judged)) (standing_ascends new ascending));
     sound = λ l has.
-        let found = judged_sound means ds now (standing new) ls l judged has in
-        (found.0, touched l.0 found.0 (found_there new (l.0, found.0) ascending found.1), found.2);
-    complete = λ id k is. judged_complete means ds now (standing new) ls (id, k) judged (stands_there new id k (stands id k is));
+        let one = one_of_all ls l has in
+        let found = judged_sound means ds now (standing new) ls l judged one.0 in
+        (one.1, found.0, touched l.0 found.0 (found_there new (l.0, found.0) ascending found.1), found.2);
+    complete = λ id k is. let found = judged_complete means ds now (standing new) ls (id, k) judged (stands_there new id k (stands id k is)) in at id k found.0 found.1 found.2;
   }
+    where
+      at : (id : List ℕ) (k : Kept) (vs : List Reported) → Has ls (id, vs) → IsListingOf means ds now k vs → IsListingOf means ds now k [] ⊎ ((ws : List Reported) × Has (with_some ls) (id, ws))
+      at id k [] has listing = inl listing
+      at id k (v ∷ vs) has listing = inr (v ∷ vs, among_those ls id v vs has)
 
   -- one on the way that has too many visits is one that parts touch
   pub one_over : OneIsOver ds (standing new) → IsAscending (keys_of new) → ((id : List ℕ) (k : Kept) → at_name id new ≡ Some (Some k) → IsTouched parts m id k) → OneIsOverVisited ds parts m

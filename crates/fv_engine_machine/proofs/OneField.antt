@@ -8,14 +8,14 @@ use Rattle.fv_datum.specs.Data.{Data}
 use Rattle.fv_datum.specs.Lookup.{at_name}
 use Rattle.std.specs.Borrow.{Bor}
 use Rattle.std.specs.Option.{option_copied}
+use Rattle.std.specs.Result.{result_err}
 use Rattle.fv_declare_schema.specs.Declarations.{Declarations}
-use Rattle.fv_engine_machine.specs.Asked.{too_many_visits, listed}
-use Rattle.fv_engine_machine.specs.Failures.{StoreHasFailed, MayFail}
-use Rattle.fv_engine_machine.specs.Keeping.{Fails, IsValueOf, ChecksField, FieldAnswers, IsReadAt, IsMisreadAt, valued_by, misread, unjudged}
+use Rattle.fv_engine_machine.specs.Causes.{Handles}
+use Rattle.fv_engine_machine.specs.Keeping.{Unchanged, field_in, IsValueOf, ChecksField, FieldAnswers, IsReadAt, IsMisreadAt, valued_by, misread, unjudged}
 use Rattle.fv_engine_machine.specs.Machines.{Machine}
-use Rattle.fv_engine_machine.specs.Refusals.{field_in, fault_of, when, first_of, refusal}
-use Rattle.fv_engine_machine.specs.Step.{Unchanged, Does, Handles}
-use Rattle.fv_engine_machine.proofs.Becoming.{fails_by, is_memory, stays_itself}
+use Rattle.fv_engine_machine.specs.Refusals.{when, first_of, refusal}
+use Rattle.fv_engine_machine.specs.Step.{FieldChecked, Answers}
+use Rattle.fv_engine_machine.proofs.Becoming.{is_memory, stays_itself, IsOther, still, out_of_memory}
 use Rattle.fv_groups.specs.Groups.{numbers_of}
 use Rattle.fv_groups.specs.Judged.{unknown_in}
 use Rattle.fv_model.specs.Bundles.{Thing, Bundled}
@@ -32,7 +32,7 @@ use Rattle.fv_walk.specs.Properties.{field_number}
 use Rattle.fv_walk.specs.FieldVisits.{HasTooManyVisitsAt, HasFewVisitsAt}
 use Rattle.fv_model_types.specs.Fits.{Fits}
 use Rattle.fv_model_types.specs.Types.{TypeUse, DeclaredFields, Declared}
-use Rattle.fv_validate.specs.Values.{FitsField, field_use}
+use Rattle.fv_validate.specs.Values.{FitsField, field_use, valued}
 use Rattle.fv_validate.specs.Violations.{Reported, IsListingOfField}
 use Rattle.fv_validate.specs.declared.fault.ValidateFault.{ValidateFault}
 use Rattle.fv_validate.specs.declared.fault.ValidateFault.TheVariants as validate
@@ -57,17 +57,23 @@ module _ (means : Meanings) (ds : Declarations) (now : ℤ) (o : Thing) (field :
       → ChecksField means ds now (Some o) field names lists (refused (unjudged f))
   field_told validate.UnknownGroup named absent many = absurd (named refl)
   field_told validate.NoSuchField named absent many = inr (inl (known, inl (absent refl, refl)))
-  field_told validate.TooManyVisits named absent many = let m = many refl in inr (inl (known, inr (m.0, (too_many_visits, m.1, refl))))
+  field_told validate.TooManyVisits named absent many = let m = many refl in inr (inl (known, inr (m.0, inl (m.1, refl))))
   field_told validate.Memory named absent many = inr (inr refl)
 
   pub field_listed : (vs : List Reported) → is_some (field_number ds.types o.type_name field) ≡ true → HasFewVisitsAt ds o (numbers_of ds.groups names)
       → IsListingOfField means ds now o field (numbers_of ds.groups names) vs → ChecksField means ds now (Some o) field names lists (lists vs)
-  field_listed vs there few listing = inr (inl (known, inr (there, (listed vs, (few, listing), refl))))
+  field_listed vs there few listing = inr (inl (known, inr (there, inr (vs, few, listing, refl))))
 
 -- data that are lent are the data
 pub lent : {X Y : Type 0} (f : X → Y) (o : Option (Bor X)) (p : Option X) → option_copied o ≡ p → option_map (λ b. f b.now) o ≡ option_map f p
 lent f None p e = ap (option_map f) e
 lent f (Some b) p e = ap (option_map f) e
+
+-- the answer of a check of a field is another than that a command was taken or that the store failed, as one that tells violations is
+pub field_other : (means : Meanings) (ds : Declarations) (now : ℤ) (o : Thing) (field : List ℕ) (groups : List ℕ) (lists : List Reported → Answer) (answer : Answer)
+    → ((vs : List Reported) → IsOther (lists vs)) → FieldChecked means ds now o field groups lists answer → IsOther answer
+field_other means ds now o field groups lists answer each (inl many) = subst IsOther (sym many.1) tt
+field_other means ds now o field groups lists answer each (inr told) = subst IsOther (sym told.3) (each told.0)
 
 module _ (means : Meanings) (now : ℤ) (id object field : List ℕ) (names : List (List ℕ)) (x y : Machine Records) (stay : Unchanged x y) where
   -- the object's field, where there is the record
@@ -78,18 +84,18 @@ module _ (means : Meanings) (now : ℤ) (id object field : List ℕ) (names : Li
   field_refusal : Option Kept → Bool → Bool → Option Answer
   field_refusal o unknown there = first_of (when (not (is_some o)) NoRecord ∷ when unknown UnknownGroup ∷ when (not there) NoSuchField ∷ [])
 
-  does : (why : Option Answer) (answer : Answer) → refusal x (check_field id object field names) ≡ why → IsTrue x.is_open → Does why means now (check_field id object field names) x answer y
+  field_refused : IsTrue x.is_open → (why : Refusal) (answer : Answer) → answer ≡ refused why → IsOther (refused why) → refusal x.declared x.records (check_field id object field names) ≡ Some (refused why)
       → Handles means now (check_field id object field names) x answer y
-  does why answer is live done = inl (subst (λ (o : Option Answer). Does o means now (check_field id object field names) x answer y) (sym is) done, live)
+  field_refused live why answer is other refusing = subst (λ (a : Answer). Handles means now (check_field id object field names) x a y) (sym is)
+      (still means now (check_field id object field names) x y stay (refused why) other (inl (refusing, stay.records)) (λ looks. live))
 
   pub field_none : IsTrue x.is_open → x.records id ≡ None → Handles means now (check_field id object field names) x (refused NoRecord) y
   unfolding field_refusal
-  field_none live none = does (Some (refused NoRecord)) (refused NoRecord)
-      (ap (λ (o : Option Kept). field_refusal o (unknown_in x.declared.groups names) (field_there o)) none) live (refl, stay)
+  field_none live none = field_refused live NoRecord (refused NoRecord) refl tt (ap (λ (o : Option Kept). field_refusal o (unknown_in x.declared.groups names) (field_there o)) none)
 
   -- the refusals where the record is there
   there : (kept : Kept) (unknown : Bool) → x.records id ≡ Some kept → unknown_in x.declared.groups names ≡ unknown
-      → refusal x (check_field id object field names) ≡ field_refusal (Some kept) unknown (field_there (Some kept))
+      → refusal x.declared x.records (check_field id object field names) ≡ field_refusal (Some kept) unknown (field_there (Some kept))
   unfolding field_refusal
   there kept unknown some is =
       ap (λ (o : Option Kept). field_refusal o (unknown_in x.declared.groups names) (field_there o)) some ∙ ap (λ (u : Bool). field_refusal (Some kept) u (field_there (Some kept))) is
@@ -97,11 +103,13 @@ module _ (means : Meanings) (now : ℤ) (id object field : List ℕ) (names : Li
   pub field_some : IsTrue x.is_open → (kept : Kept) → x.records id ≡ Some kept → (answer : Answer)
       → ChecksField means x.declared now (at_name object kept.bundle.objects) field names field_checked answer → Handles means now (check_field id object field names) x answer y
   unfolding field_refusal
-  field_some live kept some answer (inl (unknown, is)) = does (Some (refused UnknownGroup)) answer (there kept true some unknown) live (is, stay)
-  field_some live kept some answer (inr (inr is)) = inr (Memory, refl, is, stay)
+  field_some live kept some answer (inl (unknown, is)) = field_refused live UnknownGroup answer is tt (there kept true some unknown)
+  field_some live kept some answer (inr (inr is)) = subst (λ (a : Answer). Handles means now (check_field id object field names) x a y) (sym is)
+      (out_of_memory means now (check_field id object field names) x y stay refl)
   field_some live kept some answer (inr (inl (known, answers))) = by_object (at_name object kept.bundle.objects) refl answers
     where
-      of_object : (o : Option Thing) → at_name object kept.bundle.objects ≡ o → refusal x (check_field id object field names) ≡ when (not (is_some (option_and_then (field_in x.declared.types field) o))) NoSuchField
+      of_object : (o : Option Thing) → at_name object kept.bundle.objects ≡ o
+          → refusal x.declared x.records (check_field id object field names) ≡ when (not (is_some (option_and_then (field_in x.declared.types field) o))) NoSuchField
       of_object o is = there kept false some known ∙ none_but (is_some (option_and_then (field_in x.declared.types field) (at_name object kept.bundle.objects)))
           ∙ ap (λ (p : Option Thing). when (not (is_some (option_and_then (field_in x.declared.types field) p))) NoSuchField) is
         where
@@ -110,14 +118,11 @@ module _ (means : Meanings) (now : ℤ) (id object field : List ℕ) (names : Li
           none_but false = refl
 
       by_object : (o : Option Thing) → at_name object kept.bundle.objects ≡ o → FieldAnswers means x.declared now o field names field_checked answer → Handles means now (check_field id object field names) x answer y
-      by_object None is answers = does (Some (refused NoSuchField)) answer (of_object None is) live (answers, stay)
-      by_object (Some t) is (inl (lacks, told)) = does (Some (refused NoSuchField)) answer
-          (of_object (Some t) is ∙ ap (λ (u : Option ℕ). when (not (is_some u)) NoSuchField) lacks) live (told, stay)
-      by_object (Some t) is (inr (has, told)) = does None answer
-          (of_object (Some t) is ∙ ap (λ (b : Bool). when (not b) NoSuchField) has) live (kept, some, (t, is, told), stay)
-
-  pub field_not : (why : Refusal) → Fails why (StoreHasFailed x y) → Handles means now (check_field id object field names) x (refused why) y
-  field_not why f = inr (why, fails_by (λ (r : Refusal). MayFail r means now (check_field id object field names) x y) _ why f refl (λ cause. cause), refl, stay)
+      by_object None is answers = field_refused live NoSuchField answer answers tt (of_object None is)
+      by_object (Some t) is (inl (lacks, told)) = field_refused live NoSuchField answer told tt (of_object (Some t) is ∙ ap (λ (u : Option ℕ). when (not (is_some u)) NoSuchField) lacks)
+      by_object (Some t) is (inr (has, told)) = still means now (check_field id object field names) x y stay answer
+          (field_other means x.declared now t field (numbers_of x.declared.groups names) field_checked answer (λ vs. tt) told)
+          (inr (of_object (Some t) is ∙ ap (λ (b : Bool). when (not b) NoSuchField) has, (kept, some, (t, is, told), stay.records))) (λ looks. live)
 
 -- ---- values that aren't stored
 
@@ -159,45 +164,59 @@ misread_is fault.NoObject n = refl
 misread_is fault.Memory n = absurd (n refl)
 
 module _ (means : Meanings) (now : ℤ) (type field : List ℕ) (value : json.Data) (names : List (List ℕ)) (x : Machine Records) where
+  -- the refusal by a value's fault
+  abbrev fault_of : Result Data BundleFault → Option Answer
+  fault_of found = option_map (λ (f : BundleFault). refused (Bundle f)) (result_err found)
+
   -- the refusals of a checkvalue by what its field holds, and whether it names a group that isn't declared
   value_refusal : Option TypeUse → Bool → Option Answer
   value_refusal o unknown =
       first_of (option_and_then (λ (u : TypeUse). fault_of (value_read u value)) o ∷ None ∷ None ∷ when unknown UnknownGroup ∷ when (not (is_some o)) NoSuchField ∷ [])
 
   refusal_is : (o : Option TypeUse) (unknown : Bool) → field_use x.declared.types type field ≡ o → unknown_in x.declared.groups names ≡ unknown
-      → refusal x (check_value type field value names) ≡ value_refusal o unknown
+      → refusal x.declared x.records (check_value type field value names) ≡ value_refusal o unknown
   unfolding value_refusal
   refusal_is o unknown holds is =
       ap (λ (p : Option TypeUse). value_refusal p (unknown_in x.declared.groups names)) holds ∙ ap (value_refusal o) is
 
-  answers : (why : Option Answer) (answer : Answer) → refusal x (check_value type field value names) ≡ why → Does why means now (check_value type field value names) x answer x
+  -- it needs no store
+  answered : (answer : Answer) → IsOther answer → Answers means x.declared now (check_value type field value names) x.records answer x.records → Handles means now (check_value type field value names) x answer x
+  answered answer other answers = still means now (check_value type field value names) x x (stays_itself x) answer other answers
+      (λ looks. let never : false ≡ true = looks.0 in absurd cc)
+
+  value_refused : (why : Refusal) (answer : Answer) → answer ≡ refused why → IsOther (refused why) → refusal x.declared x.records (check_value type field value names) ≡ Some (refused why)
       → Handles means now (check_value type field value names) x answer x
-  answers why answer is done = inl (subst (λ (o : Option Answer). Does o means now (check_value type field value names) x answer x) (sym is) done, tt)
+  value_refused why answer is other refusing = subst (λ (a : Answer). Handles means now (check_value type field value names) x a x) (sym is) (answered (refused why) other (inl (refusing, refl)))
+
+  forgets : (answer : Answer) → answer ≡ refused Memory → Handles means now (check_value type field value names) x answer x
+  forgets answer is = subst (λ (a : Answer). Handles means now (check_value type field value names) x a x) (sym is)
+      (out_of_memory means now (check_value type field value names) x x (stays_itself x) refl)
 
   -- the refusals where the value is read or has a fault
   read_refusal : Result Data BundleFault → Bool → Option Answer
   read_refusal found unknown = first_of (fault_of found ∷ None ∷ None ∷ when unknown UnknownGroup ∷ None ∷ [])
 
   refusal_by : (held : TypeUse) (found : Result Data BundleFault) (unknown : Bool) → field_use x.declared.types type field ≡ Some held → value_read held value ≡ found
-      → unknown_in x.declared.groups names ≡ unknown → refusal x (check_value type field value names) ≡ read_refusal found unknown
+      → unknown_in x.declared.groups names ≡ unknown → refusal x.declared x.records (check_value type field value names) ≡ read_refusal found unknown
   unfolding value_refusal read_refusal
   refusal_by held found unknown holds read is = refusal_is (Some held) unknown holds is ∙ ap (λ (r : Result Data BundleFault). read_refusal r unknown) read
 
   pub value_misread : (why : BundleFault) → IsMisreadAt x.declared.types type field value why → Handles means now (check_value type field value names) x (refused (misread why)) x
   unfolding read_refusal
   value_misread why at = elim (is_memory why) [
-    | inl e ↦ subst (λ (g : BundleFault). Handles means now (check_value type field value names) x (refused (misread g)) x) (sym e) (inr (Memory, refl, refl, stays_itself x))
-    | inr n ↦ subst (λ (r : Refusal). Handles means now (check_value type field value names) x (refused r) x) (sym (misread_is why n))
-        (answers (Some (refused (Bundle why))) (refused (Bundle why)) (refusal_by at.0 (Err why) (unknown_in x.declared.groups names) at.1 (at.2 n) refl) (refl, stays_itself x))
+    | inl e ↦ subst (λ (g : BundleFault). Handles means now (check_value type field value names) x (refused (misread g)) x) (sym e) (forgets (refused Memory) refl)
+    | inr n ↦ value_refused (Bundle why) (refused (misread why)) (ap refused (misread_is why n)) tt (refusal_by at.0 (Err why) (unknown_in x.declared.groups names) at.1 (at.2 n) refl)
   ]
 
   pub value_done : (o : Option Data) → IsReadAt x.declared.types type field value o → (answer : Answer)
       → ChecksField means x.declared now (valued_by x.declared.types type field o) field names value_checked answer → Handles means now (check_value type field value names) x answer x
   unfolding value_refusal read_refusal
-  value_done None at answer (inl (unknown, is)) = answers (Some (refused UnknownGroup)) answer (refusal_is None true at unknown) (is, stays_itself x)
-  value_done None at answer (inr (inl (known, is))) = answers (Some (refused NoSuchField)) answer (refusal_is None false at known) (is, stays_itself x)
-  value_done None at answer (inr (inr is)) = inr (Memory, refl, is, stays_itself x)
-  value_done (Some d) at answer (inl (unknown, is)) = answers (Some (refused UnknownGroup)) answer (refusal_by at.0 (Ok d) true at.1 at.2 unknown) (is, stays_itself x)
+  value_done None at answer (inl (unknown, is)) = value_refused UnknownGroup answer is tt (refusal_is None true at unknown)
+  value_done None at answer (inr (inl (known, is))) = value_refused NoSuchField answer is tt (refusal_is None false at known)
+  value_done None at answer (inr (inr is)) = forgets answer is
+  value_done (Some d) at answer (inl (unknown, is)) = value_refused UnknownGroup answer is tt (refusal_by at.0 (Ok d) true at.1 at.2 unknown)
   value_done (Some d) at answer (inr (inl (known, inl (lacks, is)))) = absurd (numbered field x.declared.types type at.0 at.1 lacks)
-  value_done (Some d) at answer (inr (inl (known, inr (has, told)))) = answers None answer (refusal_by at.0 (Ok d) false at.1 at.2 known) (at.0, at.1, (d, at.2, told), stays_itself x)
-  value_done (Some d) at answer (inr (inr is)) = inr (Memory, refl, is, stays_itself x)
+  value_done (Some d) at answer (inr (inl (known, inr (has, told)))) = answered answer
+      (field_other means x.declared now (valued x.declared.types type field d) field (numbers_of x.declared.groups names) value_checked answer (λ vs. tt) told)
+      (inr (refusal_by at.0 (Ok d) false at.1 at.2 known, (at.0, at.1, (d, at.2, told), refl)))
+  value_done (Some d) at answer (inr (inr is)) = forgets answer is

@@ -1,5 +1,5 @@
 -- The records that a command changes are judged where all its parts are made.
-use Rattle.std.specs.Prelude.{◌≢◌, ℕ, ℤ, List, [], ◌∷◌, ◌++◌, unwrap_or}
+use Rattle.std.specs.Prelude.{◌≢◌, ◌⊎◌, ℕ, ℤ, List, [], unwrap_or}
 use Rattle.std.specs.Map.{keys_of}
 use Rattle.sqlite_rules.specs.Lists.{Has}
 use Rattle.fv_engine_command.specs.Commands.{Part}
@@ -11,42 +11,22 @@ use Rattle.fv_engine_reply.specs.Answers.{Judged}
 use Rattle.fv_store.specs.Records.{Kept, Records}
 use Rattle.fv_datum.specs.Ascending.{IsAscending}
 use Rattle.fv_validate.specs.Violations.{Reported, IsListing}
-use Rattle.fv_validate.specs.declared.fault.ValidateFault.{ValidateFault}
-use Rattle.fv_validate.specs.declared.fault.ValidateFault.TheVariants.{UnknownGroup, NoSuchField}
 use Rattle.fv_walk.specs.Visits.{HasTooManyVisits, HasFewVisits}
 
 -- the numbers of a form's groups; none where it isn't declared
 abbrev pub groups_of : Declarations → List ℕ → List ℕ
 groups_of ds form = unwrap_or (at_name form ds.form_groups) []
 
--- a fault that judging a record may have: neither of a name of a group nor of a field
-abbrev pub IsOfJudging : ValidateFault → Type 0
-IsOfJudging fault = (fault ≢ UnknownGroup) × (fault ≢ NoSuchField)
-
--- a record has more than 4,096 visits for the groups of its form
-abbrev pub IsOverVisited : Declarations → Kept → Type 0
-IsOverVisited ds k = HasTooManyVisits ds k.bundle (groups_of ds k.form)
-
--- it has no more, and these are its violations for the groups of its form at a moment
+-- a record has no more than 4,096 visits for the groups of its form, and these are its violations for them at a moment
 abbrev pub IsListingOf : Meanings → Declarations → ℤ → Kept → List Reported → Type 0
 IsListingOf means ds now k vs = HasFewVisits ds k.bundle (groups_of ds k.form) × IsListing means ds now k.bundle (groups_of ds k.form) vs
 
--- one of the records that parts put or set, and that stand after all of them, has too many visits
+-- one of the records that parts put or set, and that stand after all of them, has more visits
 abbrev pub OneIsOverVisited : Declarations → List Part → Records → Type 0
-OneIsOverVisited ds parts m = (id : List ℕ) × (k : Kept) × IsTouched parts m id k × IsOverVisited ds k
+OneIsOverVisited ds parts m = (id : List ℕ) × (k : Kept) × IsTouched parts m id k × HasTooManyVisits ds k.bundle (groups_of ds k.form)
 
--- none has, and each of them is listed by its id, with its violations, ascending by the bytes of the ids
+-- none has, and those that have violations are listed by their ids, each with all of its own, ascending by the bytes of the ids
 pub record AreListings (means : Meanings) (ds : Declarations) (now : ℤ) (parts : List Part) (m : Records) (ls : List Judged) : Type 0 where
   pub ascending : IsAscending (keys_of ls)
-  pub sound : (l : Judged) → Has ls l → (k : Kept) × IsTouched parts m l.0 k × IsListingOf means ds now k l.1
-  pub complete : (id : List ℕ) (k : Kept) → IsTouched parts m id k → (vs : List Reported) × Has ls (id, vs)
-
--- a record with its violations, if it has some
-abbrev pub some_of : List ℕ → List Reported → List Judged
-some_of id [] = []
-some_of id (v ∷ vs) = (id, v ∷ vs) ∷ []
-
--- the records that have violations
-abbrev pub with_some : List Judged → List Judged
-with_some [] = []
-with_some (l ∷ ls) = some_of l.0 l.1 ++ with_some ls
+  pub sound : (l : Judged) → Has ls l → (l.1 ≢ []) × (k : Kept) × IsTouched parts m l.0 k × IsListingOf means ds now k l.1
+  pub complete : (id : List ℕ) (k : Kept) → IsTouched parts m id k → IsListingOf means ds now k [] ⊎ ((vs : List Reported) × Has ls (id, vs))

@@ -1,18 +1,21 @@
 -- For private clauses: what a request is replied, and what a command that changes records and a check do on their way.
-use Rattle.std.specs.Prelude.{◌≡◌, ◌≢◌, ◌<◌, ◌⊎◌, ℕ, ℤ, IsTrue, List, [], ◌∷◌, length, true, false, Option, Some, None, IsSome, option_map, Ok, Err}
+use Rattle.std.specs.Prelude.{◌≡◌, ◌≢◌, ◌<◌, ◌+◌, ◌≤◌, ◌⊎◌, ℕ, ℤ, IsTrue, List, [], ◌∷◌, length, true, false, Option, Some, None, IsSome, option_map, Ok, Err}
+use Rattle.std.specs.List.{list_any}
+use Rattle.sqlite.specs.Disk.{MoreFaults}
 use Rattle.serde_json.specs.Data as json
 use Rattle.fv_datum.specs.Data.{Data}
 use Rattle.fv_declare_schema.specs.Declarations.{Declarations}
-use Rattle.fv_engine_machine.specs.Failures.{StoreHasFailed, ChangeFails, PartsFindOut}
+use Rattle.fv_engine_machine.specs.Causes.{StoreHasFailed, Handles}
 use Rattle.fv_engine_machine.specs.Machines.{Machine, contents, over, with_map}
 use Rattle.fv_engine_command.specs.Commands.{Part, Request}
-use Rattle.fv_engine_machine.specs.Refusals.{field_in, first_of, made, told_fault, when}
-use Rattle.fv_engine_machine.specs.Step.{Unchanged, Takes, Decided, Changes, Checked, FieldChecked, Handles}
-use Rattle.fv_engine_machine.specs.Judging.{with_some}
-use Rattle.fv_engine_machine.specs.Records.{AreJudged, OneIsOver}
+use Rattle.fv_engine_machine.specs.Refusals.{first_of, is_too_long, made, parts_of, refusal, told_fault, when}
+use Rattle.fv_engine_machine.specs.Step.{Changes, Checked, FieldChecked, LooksUp, Serves}
+use Rattle.fv_engine_machine.specs.Records.{AreJudged, OneIsOver, with_some}
 use Rattle.fv_engine_pending.specs.Fits.{AreFitting, AreShort}
 use Rattle.fv_engine_pending.specs.Parts.{are_misshapen}
+use Rattle.fv_engine_pending.specs.Touched.{needs_record}
 use Rattle.fv_engine_pending.specs.Ways.{Way, overlay, standing}
+use Rattle.fv_groups.specs.Groups.{numbers_of}
 use Rattle.fv_groups.specs.Judged.{unknown_in}
 use Rattle.fv_model.specs.Bundles.{Thing, Bundled}
 use Rattle.fv_model.specs.Reading.{value_read}
@@ -23,17 +26,37 @@ use Rattle.fv_validate.specs.Values.{field_use, valued}
 use Rattle.fv_model.specs.declared.fault.BundleFault.{BundleFault}
 use Rattle.fv_model.specs.declared.fault.BundleFault.TheVariants as fault
 use Rattle.fv_registry.specs.Meanings.{Meanings}
-use Rattle.fv_engine_reply.specs.Answers.{Answer, Judged, done, refused}
+use Rattle.fv_engine_reply.specs.Answers.{Answer, Judged, done, violated, refused, part_refused}
 use Rattle.fv_engine_reply.specs.Texts.{answer_text}
 use Rattle.fv_engine_reply.specs.declared.answer.Done.{Done}
+use Rattle.fv_engine_reply.specs.declared.answer.Done.TheVariants as what
 use Rattle.fv_engine_reply.specs.declared.answer.Refusal.{Refusal}
 use Rattle.fv_engine_reply.specs.declared.answer.Refusal.TheVariants.{Shape, Bundle, UnknownGroup, NoSuchField, TooManyVisits, Store, Memory}
 use Rattle.fv_validate.specs.Violations.{Reported}
+use Rattle.fv_walk.specs.Properties.{field_number}
 use Rattle.fv_store.specs.Records.{Contents, Records}
 use Rattle.fv_store.specs.Stands.{Holds}
 use Rattle.sqlite.specs.State.{State, HasCleanDisk}
 use Rattle.fv_validate.specs.declared.fault.ValidateFault.{ValidateFault}
 use Rattle.fv_validate.specs.declared.fault.ValidateFault.TheVariants as validate
+
+-- Nothing has changed, but that a failure may have shut the connection; else as much room is left. No fault is forgotten.
+pub record Unchanged (old new : Machine Records) : Type 0 where
+  pub declared : new.declared ≡ old.declared
+  pub records : new.records ≡ old.records
+  pub was_open : IsTrue new.is_open → IsTrue old.is_open
+  pub counts : old.faults ≤ new.faults
+  pub closes : IsTrue old.is_open → IsTrue new.is_open ⊎ MoreFaults old.faults new.faults
+  pub room : IsTrue new.is_open → new.room ≡ old.room
+
+-- These are the records now, and what is declared is as before; the connection was open and still is. So many rowids were given out, at most.
+pub record Takes (m : Records) (given : ℕ) (old new : Machine Records) : Type 0 where
+  pub declared : new.declared ≡ old.declared
+  pub records : new.records ≡ m
+  pub was_open : IsTrue old.is_open
+  pub is_open : IsTrue new.is_open
+  pub counts : old.faults ≤ new.faults
+  pub room : old.room ≤ new.room + given
 
 -- what a request does, told by the text of its answer
 abbrev pub Replies : Meanings → ℤ → Request → Machine Records → List ℕ → Machine Records → Type 0
@@ -65,30 +88,41 @@ Keeps way what old answer new =
     ((answer ≡ done what) × Takes (overlay way old.records) (length way) old new)
     ⊎ ((why : Refusal) × Fails why (HasRoomOn way old → StoreHasFailed old new) × (answer ≡ refused why) × Unchanged old new)
 
+-- where no record has a violation, so many parts are taken and these are the records, and else all that have some are told
+abbrev pub TakesOrTells : Done → ℕ → List Judged → Records → Machine Records → Answer → Machine Records → Type 0
+TakesOrTells what count [] m old answer new = (answer ≡ done what) × Takes m count old new
+TakesOrTells what count (l ∷ ls) m old answer new = (answer ≡ violated (l ∷ ls)) × Unchanged old new
+
 -- what stands on the way is judged, and stored where nothing of it has a violation
 abbrev pub Settles : Meanings → ℤ → Way → Done → Machine Records → Answer → Machine Records → Type 0
 Settles means now way what old answer new =
     (OneIsOver old.declared (standing way) × (answer ≡ refused TooManyVisits) × Unchanged old new)
     ⊎ (((ls : List Judged) × AreJudged means old.declared now (standing way) ls
-    × Decided what (length way) (with_some ls) (overlay way old.records) old answer new)
+    × TakesOrTells what (length way) (with_some ls) (overlay way old.records) old answer new)
     ⊎ ((why : Refusal) × Fails why ((ls : List Judged) × AreJudged means old.declared now (standing way) ls
     × (with_some ls ≡ []) × (HasRoomOn way old → StoreHasFailed old new))
     × (answer ≡ refused why) × Unchanged old new))
 
--- the first refusal of parts that needs no judging
-abbrev pub change_refusal : Machine Records → List Part → Done → Option Answer
-change_refusal machine parts what =
-    first_of (when (are_misshapen machine.declared.types machine.declared.forms parts) Shape ∷ told_fault what (made machine parts) ∷ [])
+-- how the refusal of a part is told: in a batch with its number
+abbrev pub told_part : Done → ℕ → Refusal → Answer
+told_part what.Batch n why = part_refused n why
+told_part _ n why = refused why
 
-abbrev pub ChangeDoes : Option Answer → Meanings → ℤ → List Part → Done → Machine Records → Answer → Machine Records → Type 0
-ChangeDoes (Some refusal) means now parts what old answer new = (answer ≡ refusal) × Unchanged old new
-ChangeDoes None means now parts what old answer new = Changes means now parts what old answer new
+-- A request is a command of these parts, told so: it is refused where one of them is misshapen or can't be done, and else they are made; it
+-- looks something up where one of them needs a record.
+pub record IsCommand (r : Request) (parts : List Part) (what : Done) : Type 0 where
+  pub short : is_too_long r ≡ false
+  pub parts_are : parts_of r ≡ parts
+  pub refusal_is : (ds : Declarations) (m : Records) → refusal ds m r
+      ≡ first_of (when (are_misshapen ds.types ds.forms parts) Shape ∷ told_fault (told_part what) (made ds parts m) ∷ [])
+  pub serves : (means : Meanings) (ds : Declarations) (now : ℤ) (old : Records) (answer : Answer) (new : Records)
+      → Changes means ds now parts what old answer new → Serves means ds now r old answer new
+  pub needs : (ds : Declarations) → LooksUp ds r → (are_misshapen ds.types ds.forms parts ≡ false) × IsTrue (list_any needs_record parts)
+  pub looks : (ds : Declarations) → are_misshapen ds.types ds.forms parts ≡ false → IsTrue (list_any needs_record parts) → LooksUp ds r
 
--- parts are made, judged and stored, or refused, or memory or the store fails
+-- a command of these parts is handled so
 abbrev pub ChangesSo : Meanings → ℤ → List Part → Done → Machine Records → Answer → Machine Records → Type 0
-ChangesSo means now parts what old answer new =
-    (ChangeDoes (change_refusal old parts what) means now parts what old answer new × PartsFindOut parts old)
-    ⊎ ((why : Refusal) × Fails why (ChangeFails means now parts old new) × (answer ≡ refused why) × Unchanged old new)
+ChangesSo means now parts what old answer new = (r : Request) → IsCommand r parts what → Handles means now r old answer new
 
 -- the refusal of a value that has a fault
 abbrev pub misread : BundleFault → Refusal
@@ -106,14 +140,18 @@ unjudged validate.Memory = Memory
 abbrev pub Checks : Meanings → Declarations → ℤ → Bundled → List (List ℕ) → Answer → Type 0
 Checks means ds now b names answer =
     ((unknown_in ds.groups names ≡ true) × (answer ≡ refused UnknownGroup))
-    ⊎ (((unknown_in ds.groups names ≡ false) × Checked means ds now b names answer) ⊎ (answer ≡ refused Memory))
+    ⊎ (((unknown_in ds.groups names ≡ false) × Checked means ds now b (numbers_of ds.groups names) answer) ⊎ (answer ≡ refused Memory))
+
+-- the number of the field of that name in an object's type; none where the type has no such field
+abbrev pub field_in : Declared → List ℕ → Thing → Option ℕ
+field_in ts field object = field_number ts object.type_name field
 
 -- the field of that name of an object is checked, or the type has no such field or there is no such object
 abbrev pub FieldAnswers : Meanings → Declarations → ℤ → Option Thing → List ℕ → List (List ℕ) → (List Reported → Answer) → Answer → Type 0
 FieldAnswers means ds now None field names lists answer = answer ≡ refused NoSuchField
 FieldAnswers means ds now (Some o) field names lists answer =
     ((field_in ds.types field o ≡ None) × (answer ≡ refused NoSuchField))
-    ⊎ (IsSome (field_in ds.types field o) × FieldChecked means ds now o field names lists answer)
+    ⊎ (IsSome (field_in ds.types field o) × FieldChecked means ds now o field (numbers_of ds.groups names) lists answer)
 
 -- the field of that name of an object is checked for the groups of these names, and its violations are told so, unless a name is no group's, or
 -- then there is no such object or field, or memory is refused

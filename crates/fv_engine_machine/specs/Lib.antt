@@ -1,5 +1,4 @@
-pub mod Asked
-pub mod Failures
+pub mod Causes
 pub mod Judging
 pub mod Keeping
 pub mod Machines

@@ -9,9 +9,8 @@ use Rattle.fv_declare_schema.specs.Declarations.{Declarations}
 use Rattle.fv_store.specs.Records.{Records, Contents}
 use Rattle.fv_store.specs.Stands.{Holds}
 
--- What is declared and the records, as a map or as the connection to the database that keeps them; whether the connection is open, as a
--- failure of the disk may shut it; how often the disk has failed; how many rowids there are from the
--- highest that is taken on, that one included.
+-- What is declared and the records, as a map or as the connection to the database that keeps them; whether the connection is open, which a
+-- failure of the disk may shut; how often the disk has failed; how many rowids there are from the highest that is taken on, itself included.
 pub record Machine (R : Type 0) : Type 0 where
   pub declared : Declarations
   pub records : R

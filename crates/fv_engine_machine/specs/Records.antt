@@ -1,12 +1,23 @@
 -- For private clauses: records by their ids, judged one after another.
-use Rattle.std.specs.Prelude.{◌≡◌, ℕ, ℤ, List, [], ◌∷◌}
+use Rattle.std.specs.Prelude.{◌≡◌, ◌≢◌, ℕ, ℤ, List, [], ◌∷◌, ◌++◌}
 use Rattle.sqlite_rules.specs.Lists.{Has}
 use Rattle.fv_declare_schema.specs.Declarations.{Declarations}
-use Rattle.fv_engine_machine.specs.Judging.{IsOverVisited, IsListingOf}
+use Rattle.fv_engine_machine.specs.Judging.{groups_of, IsListingOf}
 use Rattle.fv_registry.specs.Meanings.{Meanings}
 use Rattle.fv_engine_reply.specs.Answers.{Judged}
 use Rattle.fv_store.specs.Records.{Kept}
 use Rattle.fv_validate.specs.Violations.{Reported}
+use Rattle.fv_validate.specs.declared.fault.ValidateFault.{ValidateFault}
+use Rattle.fv_walk.specs.Visits.{HasTooManyVisits}
+use Rattle.fv_validate.specs.declared.fault.ValidateFault.TheVariants.{UnknownGroup, NoSuchField}
+
+-- a fault that judging a record may have: neither of a name of a group nor of a field
+abbrev pub IsOfJudging : ValidateFault → Type 0
+IsOfJudging fault = (fault ≢ UnknownGroup) × (fault ≢ NoSuchField)
+
+-- a record has more than 4,096 visits for the groups of its form
+abbrev pub IsOverVisited : Declarations → Kept → Type 0
+IsOverVisited ds k = HasTooManyVisits ds k.bundle (groups_of ds k.form)
 
 -- each record with its violations, in order
 abbrev pub AreJudged : Meanings → Declarations → ℤ → List (List ℕ × Kept) → List Judged → Type 0
@@ -17,3 +28,13 @@ AreJudged means ds now (k ∷ ks) ls = (vs : List Reported) × (rest : List Judg
 -- one of the records has too many visits
 abbrev pub OneIsOver : Declarations → List (List ℕ × Kept) → Type 0
 OneIsOver ds ks = (k : List ℕ × Kept) × Has ks k × IsOverVisited ds k.1
+
+-- a record with its violations, if it has some
+abbrev pub some_of : List ℕ → List Reported → List Judged
+some_of id [] = []
+some_of id (v ∷ vs) = (id, v ∷ vs) ∷ []
+
+-- the records that have violations
+abbrev pub with_some : List Judged → List Judged
+with_some [] = []
+with_some (l ∷ ls) = some_of l.0 l.1 ++ with_some ls

@@ -7,7 +7,7 @@ ghost use Rattle.fv_engine_machine.specs.Keeping.{Replies};
 ghost use Rattle.fv_engine_machine.specs.Machines.{over, Becomes};
 ghost use Rattle.fv_engine_command.specs.CommandView.{part_view};
 ghost use Rattle.fv_engine_command.specs.Commands.{alone, batch, get, command_of, or_shape, of_json};
-ghost use Rattle.fv_engine_machine.specs.Step.{Handles};
+ghost use Rattle.fv_engine_machine.specs.Causes.{Handles};
 ghost use Rattle.fv_registry.specs.Meanings.{Meanings};
 ghost use Rattle.fv_engine_reply.specs.AnswerView.{answer_view};
 ghost use Rattle.fv_model_types.specs.TypesView.{types_view};

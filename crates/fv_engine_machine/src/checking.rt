@@ -5,7 +5,7 @@ ghost use Rattle.fv_datum.specs.Moments.{IsMoment};
 ghost use Rattle.fv_engine_command.specs.Commands.{check};
 ghost use Rattle.fv_engine_machine.specs.Keeping.{Checks};
 ghost use Rattle.fv_engine_machine.specs.Machines.{over, Becomes};
-ghost use Rattle.fv_engine_machine.specs.Step.{Handles};
+ghost use Rattle.fv_engine_machine.specs.Causes.{Handles};
 ghost use Rattle.fv_groups.specs.Groups.{number_of};
 ghost use Rattle.fv_groups.specs.Tables.{indices};
 ghost use Rattle.fv_model.specs.Views.{bundle_view};

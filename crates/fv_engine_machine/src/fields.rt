@@ -6,7 +6,7 @@ ghost use Rattle.fv_datum.specs.Moments.{IsMoment};
 ghost use Rattle.fv_datum.specs.View.{view};
 ghost use Rattle.fv_engine_machine.specs.Keeping.{ChecksField, IsValueOf, IsReadAt, IsMisreadAt, valued_by};
 ghost use Rattle.fv_engine_machine.specs.Machines.{Machine, over, Becomes};
-ghost use Rattle.fv_engine_machine.specs.Step.{Handles};
+ghost use Rattle.fv_engine_machine.specs.Causes.{Handles};
 ghost use Rattle.fv_model.specs.Views.{object_view};
 ghost use Rattle.fv_model.specs.WellTyped.{IsOfType};
 ghost use Rattle.fv_model_types.specs.TypesView.{types_view};

@@ -3,8 +3,8 @@ ghost use Rattle.std.specs.Prelude.{◌++◌, ◌<◌, ◌≡◌, All, MatchResu
 ghost use Rattle.std.specs.Map.{keys_of};
 ghost use Rattle.fv_datum.specs.Moments.{IsMoment};
 ghost use Rattle.fv_groups.specs.Tables.{indices};
-ghost use Rattle.fv_engine_machine.specs.Judging.{groups_of, IsOfJudging, IsOverVisited, IsListingOf, some_of, with_some};
-ghost use Rattle.fv_engine_machine.specs.Records.{AreJudged, OneIsOver};
+ghost use Rattle.fv_engine_machine.specs.Judging.{groups_of, IsListingOf};
+ghost use Rattle.fv_engine_machine.specs.Records.{AreJudged, IsOfJudging, IsOverVisited, OneIsOver, some_of, with_some};
 ghost use Rattle.fv_model.specs.WellTyped.{IsWellTyped};
 ghost use Rattle.fv_engine_pending.specs.Fits.{AreTyped};
 ghost use Rattle.fv_engine_pending.specs.Ways.{pending_view, standing};

@@ -2,7 +2,7 @@
 ghost use Rattle.std.specs.Prelude.{◌≡◌, option_map};
 ghost use Rattle.fv_engine_command.specs.Commands.{list};
 ghost use Rattle.fv_engine_machine.specs.Machines.{over, Becomes};
-ghost use Rattle.fv_engine_machine.specs.Step.{Handles};
+ghost use Rattle.fv_engine_machine.specs.Causes.{Handles};
 ghost use Rattle.fv_registry.specs.Meanings.{Meanings};
 ghost use Rattle.fv_engine_reply.specs.AnswerView.{answer_view};
 ghost use Rattle.sqlite.specs.Held.{state};

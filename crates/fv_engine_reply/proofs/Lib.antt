@@ -2,3 +2,4 @@ pub mod Apart
 pub mod Ends
 pub mod NoFloats
 pub mod Shown
+pub mod Told

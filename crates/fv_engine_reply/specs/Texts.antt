@@ -1,18 +1,20 @@
--- The texts of answers: one line of JSON each, compact, its members ascending.
-use Rattle.std.specs.Prelude.{◌≡◌, ◌⊎◌, ℕ, List, [], ◌∷◌, codes}
+-- The texts of answers: each the compact text of one JSON object, its members ascending.
+use Rattle.std.specs.Prelude.{◌≡◌, ◌⊎◌, ℕ, List, Option, Some, None, codes, map}
 use Rattle.serde_json.specs.Data as json
+use Rattle.serde_json.specs.View.{items_of}
 use Rattle.serde_json.specs.Written.{compact_text}
 use Rattle.fv_model.specs.Bundles.{Bundled}
 use Rattle.fv_model.specs.FaultNames.{bundle_fault_code}
 use Rattle.fv_model_types.specs.Writing.{datum_json}
 use Rattle.fv_model.specs.Writing.{bundle_json}
-use Rattle.fv_model.specs.declared.fault.BundleFault.{BundleFault}
 use Rattle.fv_validate.specs.Violations.{Reported}
 use Rattle.fv_engine_reply.specs.Answers.{Answer, Judged, done, shown, violated, checked, field_checked, value_checked, ids, refused, part_refused}
 use Rattle.fv_engine_reply.specs.declared.answer.Done.{Done}
 use Rattle.fv_engine_reply.specs.declared.answer.Done.TheVariants as what
 use Rattle.fv_engine_reply.specs.declared.answer.Refusal.{Refusal}
 use Rattle.fv_engine_reply.specs.declared.answer.Refusal.TheVariants.{LineTooLong, NotJson, Shape, UnknownForm, Bundle, NoRecord, UnknownGroup, NoSuchField, TooManyVisits, Store, Memory}
+
+-- ---- violations
 
 -- a violation's JSON
 abbrev pub violation_json : Reported → json.Data
@@ -23,46 +25,73 @@ violation_json v = json.object
     (json.member (codes "path") (json.string v.path)
     (json.member (codes "value") (datum_json v.value) json.no_members)))))
 
--- the violations' JSON, in their order
-abbrev pub violations_json : List Reported → json.Items
-violations_json [] = json.no_items
-violations_json (v ∷ vs) = json.item (violation_json v) (violations_json vs)
+-- the JSON of violations, in their order
+abbrev pub violations_json : List Reported → json.Data
+violations_json vs = json.array (items_of (map violation_json vs))
 
 -- a record's id with its violations
-abbrev pub judged_json : List ℕ → json.Data → json.Data
-judged_json id violations = json.object
-    (json.member (codes "id") (json.string id)
-    (json.member (codes "violations") violations json.no_members))
+abbrev pub judged_json : Judged → json.Data
+judged_json r = json.object
+    (json.member (codes "id") (json.string r.0)
+    (json.member (codes "violations") (violations_json r.1) json.no_members))
 
--- the same, of a record
-abbrev pub record_judged_json : Judged → json.Data
-record_judged_json r = judged_json r.0 (json.array (violations_json r.1))
-
--- the records' JSON, in their order
-abbrev pub records_json : List Judged → json.Items
-records_json [] = json.no_items
-records_json (r ∷ rs) = json.item (record_judged_json r) (records_json rs)
-
--- the JSON of a refusal for violations, with the records that have some
-abbrev pub refusal_json : json.Data → json.Data
-refusal_json records = json.object
+-- the refusal for violations, with the records that have some
+abbrev pub violated_json : List Judged → json.Data
+violated_json rs = json.object
     (json.member (codes "error") (json.string (codes "C10"))
     (json.member (codes "name") (json.string (codes "Violations"))
-    (json.member (codes "records") records json.no_members)))
+    (json.member (codes "records") (json.array (items_of (map judged_json rs))) json.no_members)))
 
--- the JSON of the refusal for the violations of these records
-abbrev pub violations_refused_json : List Judged → json.Data
-violations_refused_json rs = refusal_json (json.array (records_json rs))
+-- ---- other refusals
 
--- the JSON of the answer to a check of that name, with these violations
-abbrev pub listing_json : List ℕ → json.Data → json.Data
-listing_json name violations = json.object
-    (json.member (codes "ok") (json.string name)
-    (json.member (codes "violations") violations json.no_members))
+-- a refusal's code and name
+abbrev pub refusal_told : Refusal → List ℕ × List ℕ
+refusal_told LineTooLong = (codes "C1", codes "LineTooLong")
+refusal_told NotJson = (codes "C2", codes "NotJson")
+refusal_told Shape = (codes "C3", codes "Shape")
+refusal_told UnknownForm = (codes "C4", codes "UnknownForm")
+refusal_told (Bundle fault) = (codes "C5", codes "Bundle")
+refusal_told NoRecord = (codes "C6", codes "NoRecord")
+refusal_told UnknownGroup = (codes "C7", codes "UnknownGroup")
+refusal_told NoSuchField = (codes "C8", codes "NoSuchField")
+refusal_told TooManyVisits = (codes "C9", codes "TooManyVisits")
+refusal_told Store = (codes "C11", codes "Store")
+refusal_told Memory = (codes "C12", codes "Memory")
+
+-- members with the code of a bundle's fault in front, where a bundle is refused
+abbrev pub with_fault : Refusal → json.Members → json.Members
+with_fault (Bundle fault) ms = json.member (codes "fault") (json.string (bundle_fault_code fault)) ms
+with_fault why ms = ms
+
+-- the number of the part that is refused, in a batch
+abbrev pub part_member : Option ℕ → json.Members
+part_member None = json.no_members
+part_member (Some n) = json.member (codes "part") (json.number (json.unsigned n)) json.no_members
+
+-- the JSON of a refusal, in a batch with the number of the part
+abbrev pub refused_json : Option ℕ → Refusal → json.Data
+refused_json part why = json.object
+    (json.member (codes "error") (json.string (refusal_told why).0)
+    (with_fault why
+    (json.member (codes "name") (json.string (refusal_told why).1)
+    (part_member part))))
+
+-- ---- answers
+
+-- the name of what was done
+abbrev pub done_name : Done → List ℕ
+done_name what.Put = codes "put"
+done_name what.Set = codes "set"
+done_name what.Remove = codes "remove"
+done_name what.Batch = codes "batch"
+
+-- the JSON of an answer to the command of that name, with more members behind it
+abbrev pub ok_json : List ℕ → json.Members → json.Data
+ok_json name more = json.object (json.member (codes "ok") (json.string name) more)
 
 -- the JSON of the violations that a check of that name lists
-abbrev pub violations_listed_json : List ℕ → List Reported → json.Data
-violations_listed_json name vs = listing_json name (json.array (violations_json vs))
+abbrev pub listing_json : List ℕ → List Reported → json.Data
+listing_json name vs = ok_json name (json.member (codes "violations") (violations_json vs) json.no_members)
 
 -- the JSON of a record as it is shown, with its id and its form
 abbrev pub record_json : List ℕ → List ℕ → Bundled → json.Data
@@ -72,110 +101,31 @@ record_json id form b = json.object
     (json.member (codes "id") (json.string id)
     (json.member (codes "ok") (json.string (codes "get")) json.no_members))))
 
--- the JSON of the refusal of a bundle
-abbrev pub bundle_refused_json : BundleFault → json.Data
-bundle_refused_json fault = json.object
-    (json.member (codes "error") (json.string (codes "C5"))
-    (json.member (codes "fault") (json.string (bundle_fault_code fault))
-    (json.member (codes "name") (json.string (codes "Bundle")) json.no_members)))
-
--- texts as the items of an array
-abbrev pub texts_json : List (List ℕ) → json.Items
-texts_json [] = json.no_items
-texts_json (t ∷ ts) = json.item (json.string t) (texts_json ts)
-
--- the JSON of an answer to a list
-abbrev pub listed_json : json.Data → json.Data
-listed_json listed = json.object
-    (json.member (codes "ids") listed
+-- the JSON of ids that are listed
+abbrev pub ids_json : List (List ℕ) → json.Data
+ids_json ts = json.object
+    (json.member (codes "ids") (json.array (items_of (map (λ t. json.string t) ts)))
     (json.member (codes "ok") (json.string (codes "list")) json.no_members))
 
--- the same, of these ids
-abbrev pub ids_json : List (List ℕ) → json.Data
-ids_json ts = listed_json (json.array (texts_json ts))
+-- an answer's JSON
+abbrev pub answer_json : Answer → json.Data
+answer_json (done what) = ok_json (done_name what) json.no_members
+answer_json (shown id form b) = record_json id form b
+answer_json (violated rs) = violated_json rs
+answer_json (checked vs) = listing_json (codes "check") vs
+answer_json (field_checked vs) = listing_json (codes "checkfield") vs
+answer_json (value_checked vs) = listing_json (codes "checkvalue") vs
+answer_json (ids ts) = ids_json ts
+answer_json (refused why) = refused_json None why
+answer_json (part_refused n why) = refused_json (Some n) why
 
--- a refusal's code
-abbrev pub refusal_code : Refusal → List ℕ
-refusal_code LineTooLong = codes "C1"
-refusal_code NotJson = codes "C2"
-refusal_code Shape = codes "C3"
-refusal_code UnknownForm = codes "C4"
-refusal_code (Bundle fault) = codes "C5"
-refusal_code NoRecord = codes "C6"
-refusal_code UnknownGroup = codes "C7"
-refusal_code NoSuchField = codes "C8"
-refusal_code TooManyVisits = codes "C9"
-refusal_code Store = codes "C11"
-refusal_code Memory = codes "C12"
-
--- its name
-abbrev pub refusal_name : Refusal → List ℕ
-refusal_name LineTooLong = codes "LineTooLong"
-refusal_name NotJson = codes "NotJson"
-refusal_name Shape = codes "Shape"
-refusal_name UnknownForm = codes "UnknownForm"
-refusal_name (Bundle fault) = codes "Bundle"
-refusal_name NoRecord = codes "NoRecord"
-refusal_name UnknownGroup = codes "UnknownGroup"
-refusal_name NoSuchField = codes "NoSuchField"
-refusal_name TooManyVisits = codes "TooManyVisits"
-refusal_name Store = codes "Store"
-refusal_name Memory = codes "Memory"
-
--- the JSON of the refusal of a part of a batch for a fault of a bundle
-abbrev pub part_bundle_json : ℕ → List ℕ → json.Data
-part_bundle_json n code = json.object
-    (json.member (codes "error") (json.string (codes "C5"))
-    (json.member (codes "fault") (json.string code)
-    (json.member (codes "name") (json.string (codes "Bundle"))
-    (json.member (codes "part") (json.number (json.unsigned n)) json.no_members))))
-
--- the same for another cause, by its code and its name
-abbrev pub part_json : ℕ → List ℕ → List ℕ → json.Data
-part_json n code name = json.object
-    (json.member (codes "error") (json.string code)
-    (json.member (codes "name") (json.string name)
-    (json.member (codes "part") (json.number (json.unsigned n)) json.no_members)))
-
--- the JSON of the refusal of a part of a batch
-abbrev pub part_refused_json : ℕ → Refusal → json.Data
-part_refused_json n (Bundle fault) = part_bundle_json n (bundle_fault_code fault)
-part_refused_json n why = part_json n (refusal_code why) (refusal_name why)
-
--- the text that tells what was done
-abbrev pub done_text : Done → List ℕ
-done_text what.Put = codes "{\"ok\":\"put\"}"
-done_text what.Set = codes "{\"ok\":\"set\"}"
-done_text what.Remove = codes "{\"ok\":\"remove\"}"
-done_text what.Batch = codes "{\"ok\":\"batch\"}"
-
--- a refusal's text: its code and its name
-abbrev pub refusal_text : Refusal → List ℕ
-refusal_text LineTooLong = codes "{\"error\":\"C1\",\"name\":\"LineTooLong\"}"
-refusal_text NotJson = codes "{\"error\":\"C2\",\"name\":\"NotJson\"}"
-refusal_text Shape = codes "{\"error\":\"C3\",\"name\":\"Shape\"}"
-refusal_text UnknownForm = codes "{\"error\":\"C4\",\"name\":\"UnknownForm\"}"
-refusal_text (Bundle fault) = compact_text (bundle_refused_json fault)
-refusal_text NoRecord = codes "{\"error\":\"C6\",\"name\":\"NoRecord\"}"
-refusal_text UnknownGroup = codes "{\"error\":\"C7\",\"name\":\"UnknownGroup\"}"
-refusal_text NoSuchField = codes "{\"error\":\"C8\",\"name\":\"NoSuchField\"}"
-refusal_text TooManyVisits = codes "{\"error\":\"C9\",\"name\":\"TooManyVisits\"}"
-refusal_text Store = codes "{\"error\":\"C11\",\"name\":\"Store\"}"
-refusal_text Memory = codes "{\"error\":\"C12\",\"name\":\"Memory\"}"
-
--- an answer's text
+-- its text
 abbrev pub answer_text : Answer → List ℕ
-answer_text (done what) = done_text what
-answer_text (shown id form b) = compact_text (record_json id form b)
-answer_text (violated rs) = compact_text (violations_refused_json rs)
-answer_text (checked vs) = compact_text (violations_listed_json (codes "check") vs)
-answer_text (field_checked vs) = compact_text (violations_listed_json (codes "checkfield") vs)
-answer_text (value_checked vs) = compact_text (violations_listed_json (codes "checkvalue") vs)
-answer_text (ids ts) = compact_text (ids_json ts)
-answer_text (refused why) = refusal_text why
-answer_text (part_refused n why) = compact_text (part_refused_json n why)
+answer_text a = compact_text (answer_json a)
 
--- its text takes memory
+-- ---- what may be told instead
+
+-- an answer whose text takes memory
 abbrev pub TakesMemory : Answer → Type 0
 TakesMemory (done what) = ⊥
 TakesMemory (refused (Bundle fault)) = Unit {0}

@@ -1,5 +1,5 @@
 ghost use Rattle.std.specs.Prelude.{◌≡◌};
-ghost use Rattle.fv_engine_reply.specs.Texts.{refusal_code, refusal_name};
+ghost use Rattle.fv_engine_reply.specs.Texts.{refusal_told};
 
 use fv_model::{Bundle, BundleFault};
 use fv_validate::Violation;
@@ -91,7 +91,7 @@ pub enum Refusal {
 impl Refusal {
     /// The refusal's code.
     pub fn code(self) -> &'static str
-        ensures { result.now ≡ refusal_code self }
+        ensures { result.now ≡ (refusal_told self).0 }
     {
         match self {
             Refusal::LineTooLong => "C1",
@@ -110,7 +110,7 @@ impl Refusal {
 
     /// The refusal's name.
     pub fn name(self) -> &'static str
-        ensures { result.now ≡ refusal_name self }
+        ensures { result.now ≡ (refusal_told self).1 }
     {
         match self {
             Refusal::LineTooLong => "LineTooLong",

@@ -1,14 +1,12 @@
 ghost use Rattle.std.specs.Prelude.{◌≡◌, IfOk, MatchResult, string_bytes};
 ghost use Rattle.fv_engine_lines.specs.Lines.{ended};
-ghost use Rattle.fv_engine_reply.specs.Answers.{refused};
+ghost use Rattle.fv_engine_reply.specs.Answers.{done, refused};
 ghost use Rattle.fv_engine_reply.specs.AnswerView.{answer_view};
 ghost use Rattle.fv_engine_reply.specs.Content.{front, content_line};
-ghost use Rattle.fv_engine_reply.specs.Texts.{done_text, refusal_text, Tells};
+ghost use Rattle.fv_engine_reply.specs.Texts.{answer_text, Tells};
 
 use crate::answer::{Answer, Done, Refusal};
-use crate::texts::{
-    bundle_refused, ids_listed, part_refused, record_shown, violations_listed, violations_refused,
-};
+use crate::texts::{bundle_refused, ids_listed, listing, part_refused, record_shown, violated};
 use fv_engine_lines::Text;
 use std::alloc::{AllocError, Global};
 use std::marker::Model;
@@ -88,8 +86,9 @@ impl Reply {
     }
 
     /// A reply that was made, or the refusal for want of memory.
+    #[tactic(auto, unfolding(json::specs::Print::escape_byte))]
     fn or_memory(reply: Result<Reply, AllocError>) -> Reply
-        ensures { MatchResult reply (λ r. result ≡ r) (λ _. result ≡ refusal_text Refusal.Memory) }
+        ensures { MatchResult reply (λ r. result ≡ r) (λ _. result ≡ answer_text (refused Refusal.Memory)) }
     {
         match reply {
             Ok(reply) => reply,
@@ -107,15 +106,15 @@ impl Reply {
             Answer::Shown { id, form, bundle } => {
                 Reply::or_memory(record_shown(alloc, id, form.as_str(), bundle))
             }
-            Answer::Violated { records } => Reply::or_memory(violations_refused(alloc, records)),
+            Answer::Violated { records } => Reply::or_memory(violated(alloc, records)),
             Answer::Checked { violations } => {
-                Reply::or_memory(violations_listed(alloc, "check", violations))
+                Reply::or_memory(listing(alloc, "check", violations))
             }
             Answer::FieldChecked { violations } => {
-                Reply::or_memory(violations_listed(alloc, "checkfield", violations))
+                Reply::or_memory(listing(alloc, "checkfield", violations))
             }
             Answer::ValueChecked { violations } => {
-                Reply::or_memory(violations_listed(alloc, "checkvalue", violations))
+                Reply::or_memory(listing(alloc, "checkvalue", violations))
             }
             Answer::Ids { ids } => Reply::or_memory(ids_listed(alloc, ids)),
             Answer::Refused(why) => Reply::refused(alloc, *why),
@@ -126,8 +125,9 @@ impl Reply {
     }
 
     /// The reply that tells what was done. It takes no memory.
+    #[tactic(auto, unfolding(json::specs::Print::escape_byte))]
     pub fn done(what: Done) -> Reply
-        ensures { result ≡ done_text what }
+        ensures { result ≡ answer_text (done what) }
     {
         match what {
             Done::Put => Reply::fixed(PUT),
@@ -138,6 +138,7 @@ impl Reply {
     }
 
     /// The reply that tells a refusal; only that of a bundle takes memory.
+    #[tactic(auto, unfolding(json::specs::Print::escape_byte))]
     pub fn refused(alloc: Global, why: Refusal) -> Reply
         ensures { Tells result (refused why) }
     {
@@ -157,8 +158,9 @@ impl Reply {
     }
 
     /// The refusal of a line that is over the limit. It takes no memory.
+    #[tactic(auto, unfolding(json::specs::Print::escape_byte))]
     pub fn line_too_long() -> Reply
-        ensures { result ≡ refusal_text Refusal.LineTooLong }
+        ensures { result ≡ answer_text (refused Refusal.LineTooLong) }
     {
         Reply::fixed(LINE_TOO_LONG)
     }

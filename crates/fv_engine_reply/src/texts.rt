@@ -1,14 +1,14 @@
 //! The replies whose texts are made.
-ghost use Rattle.std.specs.Prelude.{◌≡◌, false, IfOk, map, string_bytes};
+ghost use Rattle.std.specs.Prelude.{◌≡◌, false, None, Some, IfOk, map, string_bytes, codes};
 ghost use Rattle.fv_datum.specs.View.{view};
 ghost use Rattle.fv_model.specs.Views.{bundle_view};
 ghost use Rattle.fv_model_types.specs.Writing.{datum_json};
 ghost use Rattle.fv_engine_reply.specs.AnswerView.{judged_view};
-ghost use Rattle.fv_engine_reply.specs.Texts.{bundle_refused_json, violation_json, judged_json, record_judged_json, refusal_json, violations_refused_json, listing_json, violations_listed_json, listed_json, ids_json, part_bundle_json, part_json, part_refused_json, record_json};
+ghost use Rattle.fv_engine_reply.specs.Texts.{violation_json, judged_json, violated_json, listing_json, ids_json, refused_json, record_json};
 ghost use Rattle.fv_validate.specs.ViolationView.{violation_view};
 ghost use Rattle.json.specs.Print.{quoted};
 ghost use Rattle.serde_json.specs.Data as json;
-ghost use Rattle.serde_json.specs.View.{view as json_view};
+ghost use Rattle.serde_json.specs.View.{items_of, view as json_view};
 ghost use Rattle.serde_json.specs.Written.{compact_text, has_float};
 
 use crate::answer::{Judged, Refusal};
@@ -28,8 +28,15 @@ fn text_of(alloc: Global, value: &Value) -> Result<Reply, AllocError>
     Reply::made(value.to_string(alloc)?)
 }
 
+/// The JSON array of values.
+fn array_of(values: Vec<Value>) -> Value
+    ensures { json_view result ≡ json.array (items_of (map json_view values.items)) }
+{
+    Value::Array(values)
+}
+
 fn bundle_refused_value(alloc: Global, fault: BundleFault) -> Result<Value, AllocError>
-    ensures { IfOk result (λ v. json_view v ≡ bundle_refused_json fault) }
+    ensures { IfOk result (λ v. json_view v ≡ refused_json None (Refusal.Bundle fault)) }
 {
     let code = fault.code();
     json!(in alloc; {"error": "C5", "fault": code, "name": "Bundle"})
@@ -37,7 +44,7 @@ fn bundle_refused_value(alloc: Global, fault: BundleFault) -> Result<Value, Allo
 
 /// `{"error":"C5","fault":..,"name":"Bundle"}`.
 pub(crate) fn bundle_refused(alloc: Global, fault: BundleFault) -> Result<Reply, AllocError>
-    ensures { IfOk result (λ r. r ≡ compact_text (bundle_refused_json fault)) }
+    ensures { IfOk result (λ r. r ≡ compact_text (refused_json None (Refusal.Bundle fault))) }
 {
     let value = bundle_refused_value(alloc, fault)?;
     text_of(alloc, &value)
@@ -82,22 +89,17 @@ fn violation_values(alloc: Global, violations: &[Violation]) -> Result<Vec<Value
     Ok(values)
 }
 
-fn judged_value_of(alloc: Global, id: &str, violations: Value) -> Result<Value, AllocError>
-    ensures { IfOk result (λ v. json_view v ≡ judged_json id.now (json_view violations)) }
+/// `{"id":..,"violations":[..]}`.
+fn judged_value(alloc: Global, judged: &Judged) -> Result<Value, AllocError>
+    ensures { IfOk result (λ v. json_view v ≡ judged_json (judged_view judged.now)) }
 {
+    let id = judged.id;
+    let violations = array_of(violation_values(alloc, &judged.violations)?);
     json!(in alloc; {"id": id, "violations": violations})
 }
 
-/// `{"id":..,"violations":[..]}`.
-fn judged_value(alloc: Global, judged: &Judged) -> Result<Value, AllocError>
-    ensures { IfOk result (λ v. json_view v ≡ record_judged_json (judged_view judged.now)) }
-{
-    let values = Value::Array(violation_values(alloc, &judged.violations)?);
-    judged_value_of(alloc, judged.id, values)
-}
-
 fn judged_values(alloc: Global, records: &[Judged]) -> Result<Vec<Value>, AllocError>
-    ensures { IfOk result (λ v. map json_view v.items ≡ map record_judged_json (map judged_view records.now)) }
+    ensures { IfOk result (λ v. map json_view v.items ≡ map judged_json (map judged_view records.now)) }
 {
     let mut values = Vec::with_capacity(alloc, records.len())?;
     for judged in records {
@@ -106,55 +108,37 @@ fn judged_values(alloc: Global, records: &[Judged]) -> Result<Vec<Value>, AllocE
     Ok(values)
 }
 
-fn refusal_value(alloc: Global, records: Value) -> Result<Value, AllocError>
-    ensures { IfOk result (λ v. json_view v ≡ refusal_json (json_view records)) }
+fn violated_value(alloc: Global, records: &[Judged]) -> Result<Value, AllocError>
+    ensures { IfOk result (λ v. json_view v ≡ violated_json (map judged_view records.now)) }
 {
+    let records = array_of(judged_values(alloc, records)?);
     json!(in alloc; {"error": "C10", "name": "Violations", "records": records})
 }
 
-fn violations_refused_value(alloc: Global, records: &[Judged]) -> Result<Value, AllocError>
-    ensures { IfOk result (λ v. json_view v ≡ violations_refused_json (map judged_view records.now)) }
-{
-    refusal_value(alloc, Value::Array(judged_values(alloc, records)?))
-}
-
 /// `{"error":"C10","name":"Violations","records":[..]}`, with the records that have violations.
-pub(crate) fn violations_refused(alloc: Global, records: &[Judged]) -> Result<Reply, AllocError>
-    ensures { IfOk result (λ r. r ≡ compact_text (violations_refused_json (map judged_view records.now))) }
+pub(crate) fn violated(alloc: Global, records: &[Judged]) -> Result<Reply, AllocError>
+    ensures { IfOk result (λ r. r ≡ compact_text (violated_json (map judged_view records.now))) }
 {
-    let value = violations_refused_value(alloc, records)?;
+    let value = violated_value(alloc, records)?;
     text_of(alloc, &value)
 }
 
-fn listing_value(alloc: Global, name: &str, violations: Value) -> Result<Value, AllocError>
-    ensures { IfOk result (λ v. json_view v ≡ listing_json name.now (json_view violations)) }
+fn listing_value(alloc: Global, name: &str, violations: &[Violation]) -> Result<Value, AllocError>
+    ensures { IfOk result (λ v. json_view v ≡ listing_json name.now (map violation_view violations.now)) }
 {
+    let violations = array_of(violation_values(alloc, violations)?);
     json!(in alloc; {"ok": name, "violations": violations})
 }
 
-fn violations_listed_value(
-    alloc: Global,
-    name: &str,
-    violations: &[Violation],
-) -> Result<Value, AllocError>
-    ensures { IfOk result (λ v. json_view v ≡ violations_listed_json name.now (map violation_view violations.now)) }
-{
-    listing_value(
-        alloc,
-        name,
-        Value::Array(violation_values(alloc, violations)?),
-    )
-}
-
 /// `{"ok":NAME,"violations":[..]}`, for the check of that name.
-pub(crate) fn violations_listed(
+pub(crate) fn listing(
     alloc: Global,
     name: &str,
     violations: &[Violation],
 ) -> Result<Reply, AllocError>
-    ensures { IfOk result (λ r. r ≡ compact_text (violations_listed_json name.now (map violation_view violations.now))) }
+    ensures { IfOk result (λ r. r ≡ compact_text (listing_json name.now (map violation_view violations.now))) }
 {
-    let value = violations_listed_value(alloc, name, violations)?;
+    let value = listing_value(alloc, name, violations)?;
     text_of(alloc, &value)
 }
 
@@ -171,16 +155,11 @@ fn text_values(alloc: Global, texts: &[String]) -> Result<Vec<Value>, AllocError
     Ok(values)
 }
 
-fn ids_value_of(alloc: Global, ids: Value) -> Result<Value, AllocError>
-    ensures { IfOk result (λ v. json_view v ≡ listed_json (json_view ids)) }
-{
-    json!(in alloc; {"ids": ids, "ok": "list"})
-}
-
 fn ids_value(alloc: Global, ids: &[String]) -> Result<Value, AllocError>
     ensures { IfOk result (λ v. json_view v ≡ ids_json (map string_bytes ids.now)) }
 {
-    ids_value_of(alloc, Value::Array(text_values(alloc, ids)?))
+    let ids = array_of(text_values(alloc, ids)?);
+    json!(in alloc; {"ids": ids, "ok": "list"})
 }
 
 /// `{"ids":[..],"ok":"list"}`.
@@ -191,30 +170,23 @@ pub(crate) fn ids_listed(alloc: Global, ids: &[String]) -> Result<Reply, AllocEr
     text_of(alloc, &value)
 }
 
-fn part_bundle_value(alloc: Global, part: usize, code: &str) -> Result<Value, AllocError>
-    ensures { IfOk result (λ v. json_view v ≡ part_bundle_json part code.now) }
-{
-    json!(in alloc; {"error": "C5", "fault": code, "name": "Bundle", "part": part})
-}
-
-fn part_value(alloc: Global, part: usize, code: &str, name: &str) -> Result<Value, AllocError>
-    ensures { IfOk result (λ v. json_view v ≡ part_json part code.now name.now) }
-{
-    json!(in alloc; {"error": code, "name": name, "part": part})
-}
-
 fn part_refused_value(alloc: Global, part: usize, why: Refusal) -> Result<Value, AllocError>
-    ensures { IfOk result (λ v. json_view v ≡ part_refused_json part why) }
+    ensures { IfOk result (λ v. json_view v ≡ refused_json (Some part) why) }
 {
+    let code = why.code();
+    let name = why.name();
     match why {
-        Refusal::Bundle(fault) => part_bundle_value(alloc, part, fault.code()),
-        _ => part_value(alloc, part, why.code(), why.name()),
+        Refusal::Bundle(fault) => {
+            let fault = fault.code();
+            json!(in alloc; {"error": code, "fault": fault, "name": name, "part": part})
+        }
+        _ => json!(in alloc; {"error": code, "name": name, "part": part}),
     }
 }
 
 /// `{"error":..,"name":..,"part":..}`, with `fault` for a bundle.
 pub(crate) fn part_refused(alloc: Global, part: usize, why: Refusal) -> Result<Reply, AllocError>
-    ensures { IfOk result (λ r. r ≡ compact_text (part_refused_json part why)) }
+    ensures { IfOk result (λ r. r ≡ compact_text (refused_json (Some part) why)) }
 {
     let value = part_refused_value(alloc, part, why)?;
     text_of(alloc, &value)

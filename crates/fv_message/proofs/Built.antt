@@ -1,5 +1,5 @@
 -- The built-in messages behind the user's.
-use Rattle.std.proofs.Common.{◌≡◌, ◌<◌, ◌≤◌, ◌+◌, ℕ, List, [], ◌∷◌, ◌++◌, map, drop, fold, length, get_or, Bor, Bool, true, false, String, string_bytes, refl, sym, ap, ◌∙◌, zero, suc, cond, not, ◌||◌, Option, Some, None, option_map, is_some, bytes_eq, if◌then◌else◌}
+use Rattle.std.proofs.Common.{◌≡◌, ◌<◌, ◌≤◌, ◌+◌, ℕ, List, [], ◌∷◌, ◌++◌, map, drop, fold, length, get_or, Bor, Bool, true, false, String, string_bytes, refl, sym, ap, ◌∙◌, zero, suc, cond, not, ◌||◌, Option, Some, None, is_some, bytes_eq, if◌then◌else◌}
 use Rattle.std.proofs.lemmas.List.{drop_more, drop_all, map-append}
 use Rattle.std.specs.HashMap.{HashMap}
 use Rattle.std.specs.List.{list_all}
@@ -13,9 +13,12 @@ use Rattle.std.specs.declared.hash.BuildHasherDefault.{BuildHasherDefault}
 use Rattle.indexmap.specs.IndexMap.{insert_entry}
 use Rattle.indexmap.proofs.CallerLemmas.{insert_entry-new}
 use Rattle.fv_message.specs.BuiltIn.{built_in_key, built_in_texts, built_in_messages}
-use Rattle.fv_message.specs.Judged.{is_misspelt}
-use Rattle.fv_message.specs.Table.{Messages, number_of, is_key, with_message, all_messages, AreReadable}
-use Rattle.fv_message.specs.Template.{is_template, is_parameter_name}
+use Rattle.fv_message.specs.Judging.{is_misspelt}
+use Rattle.fv_message.specs.Table.{Messages, with_message, all_messages}
+use Rattle.fv_datum.specs.Lookup.{at_name}
+use Rattle.fv_message.specs.Numbers.{AreReadable}
+use Rattle.fv_message.specs.Reading.{is_template}
+use Rattle.fv_message.specs.Template.{is_parameter_name}
 use Rattle.fv_message.specs.Views.{message_view, messages_view, row_view}
 
 -- a row of the table as a message
@@ -42,16 +45,19 @@ rows_all rows ms user i more are e =
 
 -- ---- one message more
 
+-- a name has a text
+abbrev has_text : Messages → List ℕ → Bool
+has_text ms name = is_some (at_name name ms)
+
 -- whether a map has a key
-pub key_is : (name : List ℕ) (es : List (String Global × String Global)) → is_some (lookup (λ k. bytes_eq name (string_bytes k)) es) ≡ is_key (map message_view es) name
+pub key_is : (name : List ℕ) (es : List (String Global × String Global)) → is_some (lookup (λ k. bytes_eq name (string_bytes k)) es) ≡ has_text (map message_view es) name
 key_is name [] = refl
-key_is name (e ∷ es) = go (bytes_eq name (string_bytes e.0)) (number_of (map message_view es) name) (key_is name es)
+key_is name (e ∷ es) = go (bytes_eq name (string_bytes e.0)) (key_is name es)
   where
-    go : (b : Bool) (o : Option ℕ) → is_some (lookup (λ k. bytes_eq name (string_bytes k)) es) ≡ is_some o
-        → is_some (cond b (Some e.1) (lookup (λ k. bytes_eq name (string_bytes k)) es)) ≡ is_some (cond b (Some 0) (option_map suc o))
-    go true o h = refl
-    go false None h = h
-    go false (Some i) h = h
+    go : (b : Bool) → is_some (lookup (λ k. bytes_eq name (string_bytes k)) es) ≡ has_text (map message_view es) name
+        → is_some (cond b (Some e.1) (lookup (λ k. bytes_eq name (string_bytes k)) es)) ≡ is_some (cond b (Some (string_bytes e.1)) (at_name name (map message_view es)))
+    go true h = refl
+    go false h = h
 
 no_value : (o : Option (String Global)) → is_some o ≡ false → o ≡ None
 no_value None e = refl
@@ -59,21 +65,21 @@ no_value (Some v) e = absurd (cc)
 
 -- what a map answers for a key
 pub contains_is : (m : HashMap (String Global) (String Global) (BuildHasherDefault FoldHasher)) (name key : List ℕ) (r : Bool) → r ≡ is_some (lookup (λ k. bytes_eq name (string_bytes k)) m.entries)
-    → name ≡ key → is_key (messages_view m) key ≡ r
-contains_is m name key r e same = ap (is_key (messages_view m)) (sym same) ∙ sym (key_is name m.entries) ∙ sym e
+    → name ≡ key → has_text (messages_view m) key ≡ r
+contains_is m name key r e same = ap (has_text (messages_view m)) (sym same) ∙ sym (key_is name m.entries) ∙ sym e
 
 -- a message whose key has no text
 pub message_added : (m n : HashMap (String Global) (String Global) (BuildHasherDefault FoldHasher)) (k v : String Global) (key text : List ℕ) → string_bytes k ≡ key → string_bytes v ≡ text
-    → is_key (messages_view m) key ≡ false → n.entries ≡ insert_entry string_eq m.entries k v → messages_view n ≡ with_message (messages_view m) (key, text)
+    → has_text (messages_view m) key ≡ false → n.entries ≡ insert_entry string_eq m.entries k v → messages_view n ≡ with_message (messages_view m) (key, text)
 message_added m n k v key text k_is v_is absent e =
-    let none : lookup (string_eq k) m.entries ≡ None = no_value (lookup (string_eq k) m.entries) (key_is (string_bytes k) m.entries ∙ ap (is_key (messages_view m)) k_is ∙ absent) in
+    let none : lookup (string_eq k) m.entries ≡ None = no_value (lookup (string_eq k) m.entries) (key_is (string_bytes k) m.entries ∙ ap (has_text (messages_view m)) k_is ∙ absent) in
     rw absent
     (ap (λ (es : List (String Global × String Global)). map message_view es) (e ∙ insert_entry-new string_eq m k v none)
     ∙ map-append message_view m.entries ((k, v) ∷ [])
     ∙ (λ j. messages_view m ++ (k_is j, v_is j) ∷ []))
 
 -- a message whose key has a text
-pub message_there : (ms : Messages) (key text : List ℕ) → is_key ms key ≡ true → ms ≡ with_message ms (key, text)
+pub message_there : (ms : Messages) (key text : List ℕ) → has_text ms key ≡ true → ms ≡ with_message ms (key, text)
 message_there ms key text there = rw there refl
 
 -- ---- texts that are templates
@@ -87,7 +93,7 @@ unfolding built_in_texts
 built_in_templates = refl
 
 with_passing : (test : List ℕ × List ℕ → Bool) (ms : Messages) (m : List ℕ × List ℕ) → list_all test ms ≡ true → test m ≡ true → list_all test (with_message ms m) ≡ true
-with_passing test ms m e f = go (is_key ms m.0)
+with_passing test ms m e f = go (has_text ms m.0)
   where
     go : (b : Bool) → list_all test (if b then ms else ms ++ m ∷ []) ≡ true
     go true = e

@@ -7,7 +7,8 @@ use Rattle.std.proofs.lemmas.Bool.Decides.{nat_tests}
 use Rattle.std.proofs.lemmas.List.{take-append-drop, length-take-le, length-drop}
 use Rattle.std.proofs.lemmas.List.Sums.{prefix_len-le-length, prefix_len_stops}
 use Rattle.std.proofs.lemmas.Str.{IsCharBoundary-end, IsCharBoundary-before_ascii, IsCharBoundary-after_ascii}
-use Rattle.fv_message.specs.Template.{is_special, begins, stands_plain, begins_plain, pieces_of}
+use Rattle.fv_message.specs.Template.{is_special, begins, stands_plain}
+use Rattle.fv_message.specs.Reading.{begins_plain, pieces_of}
 use Rattle.fv_message.specs.Parts.{BeginsWith}
 use Rattle.fv_message.specs.declared.template.Part.TheVariants.{Plain}
 use Rattle.fv_message.proofs.Pieces.{escape_read, plain_run_read}

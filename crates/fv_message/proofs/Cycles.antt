@@ -5,15 +5,24 @@ use Rattle.std.proofs.lemmas.Bool.{cases_lt}
 use Rattle.fv_graph.specs.Graph.{IsIn, LeadsIn, Leads, IsCyclic, MeetsCycle, AreWithin, IsOrder, IsRestOrder, next_of}
 use Rattle.fv_graph.proofs.Endings.{left_out, none_out}
 use Rattle.fv_graph.proofs.Moves.{is_below}
-use Rattle.fv_message.specs.Template.{Piece, pieces_of, pieces, is_template}
-use Rattle.fv_message.specs.Table.{Messages, text_at, next_keys, AreReadable, keys_in}
-use Rattle.fv_message.specs.Judged.{MeetsUnreadable, IsFull}
+use Rattle.fv_message.specs.Template.{Piece}
+use Rattle.fv_message.specs.Reading.{pieces_of, pieces, is_template}
+use Rattle.fv_message.specs.Table.{Messages}
+use Rattle.fv_message.specs.Numbers.{text_at, next_keys, AreReadable, keys_in}
 use Rattle.fv_message.specs.Measured.{edges_at, AreEdgesOf}
 use Rattle.fv_message.proofs.Keys.{next_below, none_behind}
 
+-- a key's text is no template, or leads through keys to one that isn't
+abbrev pub MeetsUnreadable : Messages → ℕ → Type 0
+MeetsUnreadable ms i = (j : ℕ) × ((i ≡ j) ⊎ Leads (next_keys ms) i j) × (is_template (text_at ms j) ≡ false)
+
+-- a key whose text becomes a text: it meets no cycle and no text that is no template
+abbrev pub IsFull : Messages → ℕ → Type 0
+IsFull ms i = (MeetsCycle (next_keys ms) i → ⊥) × (MeetsUnreadable ms i → ⊥)
+
 -- ---- one edge
 
-unread_pieces : (t : List ℕ) → is_template t ≡ false → pieces t ≡ []
+pub unread_pieces : (t : List ℕ) → is_template t ≡ false → pieces t ≡ []
 unread_pieces t e = go (pieces_of t) e
   where
     go : (o : Option (List Piece)) → is_some o ≡ false → unwrap_or o [] ≡ []

@@ -6,8 +6,10 @@ use Rattle.std.proofs.lemmas.List.{append-nil, take_all}
 use Rattle.fv_datum.specs.Attributes.{Attributes}
 use Rattle.fv_graph.specs.Graph.{IsIn}
 use Rattle.fv_message.specs.Expanded.{slot_text, expansion_text, GrowsBy, IsExpansion, AreExpanded}
-use Rattle.fv_message.specs.Full.{shown, key_text, full_pieces}
-use Rattle.fv_message.specs.Table.{Messages, number_of, keys_in}
+use Rattle.fv_message.specs.Full.{shown}
+use Rattle.fv_message.specs.Evaluated.{key_text, full_pieces}
+use Rattle.fv_message.specs.Table.{Messages}
+use Rattle.fv_message.specs.Numbers.{number_of, keys_in}
 use Rattle.fv_message.specs.Template.{Piece, parameter}
 use Rattle.fv_message.specs.declared.expansion.Slot.{Slot}
 use Rattle.fv_message.specs.declared.expansion.Expansion.{Expansion}

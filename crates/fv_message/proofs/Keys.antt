@@ -6,9 +6,12 @@ use Rattle.fv_datum.specs.Attributes.{Attributes}
 use Rattle.fv_graph.specs.Graph.{IsIn, IsBelow, MeetsCycle}
 use Rattle.fv_graph.proofs.Lists.{in_left, in_right}
 use Rattle.fv_graph.proofs.Unfolding.{unfolds_at}
-use Rattle.fv_message.specs.Template.{Piece, plain, parameter, pieces_of, pieces, is_template}
-use Rattle.fv_message.specs.Table.{Messages, number_of, text_at, keys_in, next_keys}
-use Rattle.fv_message.specs.Full.{shown, first_of, joined, key_joined, key_text, full_pieces}
+use Rattle.fv_message.specs.Template.{Piece, plain, parameter}
+use Rattle.fv_message.specs.Reading.{pieces_of, pieces, is_template}
+use Rattle.fv_message.specs.Table.{Messages}
+use Rattle.fv_message.specs.Numbers.{number_of, text_at, keys_in, next_keys}
+use Rattle.fv_message.specs.Full.{shown}
+use Rattle.fv_message.specs.Evaluated.{first_of, joined, key_joined, key_text, full_pieces}
 use Rattle.fv_message.specs.Parts.{part_pieces, BeginsWith}
 use Rattle.fv_message.specs.declared.template.Part.{Part}
 use Rattle.fv_message.proofs.Plain.{keys-append}

@@ -1,4 +1,6 @@
+pub mod Becoming
 pub mod Built
+pub mod Circles
 pub mod Cuts
 pub mod Cycles
 pub mod Expansions

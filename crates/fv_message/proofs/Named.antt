@@ -7,10 +7,13 @@ use Rattle.std.proofs.lemmas.List.{append-nil}
 use Rattle.std.proofs.lemmas.Slice.Eq.{bytes_eq-Decides}
 use Rattle.fv_datum.specs.Attributes.{Attributes}
 use Rattle.fv_message.specs.BuiltIn.{built_in_texts, built_in_messages}
-use Rattle.fv_message.specs.Full.{shown, key_text, piece_text, full_pieces, full_text}
-use Rattle.fv_message.specs.Judged.{is_misspelt}
-use Rattle.fv_message.specs.Table.{Messages, number_of, all_messages, AreNamed}
-use Rattle.fv_message.specs.Template.{Piece, parameter, is_template, is_parameter_name, pieces_of}
+use Rattle.fv_message.specs.Full.{shown}
+use Rattle.fv_message.specs.Evaluated.{key_text, piece_text, full_pieces, full_text}
+use Rattle.fv_message.specs.Judging.{is_misspelt}
+use Rattle.fv_message.specs.Table.{Messages, all_messages}
+use Rattle.fv_message.specs.Numbers.{number_of, AreNamed}
+use Rattle.fv_message.specs.Template.{Piece, parameter, is_parameter_name}
+use Rattle.fv_message.specs.Reading.{is_template, pieces_of}
 use Rattle.fv_message.proofs.Built.{all_passing}
 use Rattle.fv_message.proofs.Pieces.{parameter_read}
 

@@ -2,7 +2,7 @@
 use Rattle.std.proofs.Common.{◌≡◌, ℕ, suc, List, [], ◌∷◌, map, cond, Some, option_map, position, String, string_bytes, bytes_eq, refl, ap, ◌∙◌}
 use Rattle.std.specs.Map.{keys_of}
 use Rattle.std.specs.declared.alloc.Global.{Global}
-use Rattle.fv_message.specs.Table.{number_of}
+use Rattle.fv_message.specs.Numbers.{number_of}
 use Rattle.fv_message.specs.Views.{message_view}
 use Rattle.fv_graph.proofs.Positions.{position_cons}
 

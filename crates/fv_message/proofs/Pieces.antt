@@ -3,7 +3,8 @@ use Rattle.std.proofs.Common.{◌≡◌, ◌<◌, ℕ, suc, ◌&&◌, ◌||◌, 
 use Rattle.std.specs.List.{list_all}
 use Rattle.std.proofs.lemmas.Bool.{or_parts, and_parts, not-true, eqb-true, ne_eqb}
 use Rattle.std.proofs.lemmas.List.{append-nil}
-use Rattle.fv_message.specs.Template.{Piece, plain, parameter, is_brace, is_special, in_name, is_parameter_name, begins, stands_plain, naming, put, read_from, pieces_of, escaped}
+use Rattle.fv_message.specs.Template.{Piece, plain, parameter, is_brace, is_special, in_name, is_parameter_name, begins, stands_plain, escaped}
+use Rattle.fv_message.specs.Reading.{naming, put, read_from, pieces_of}
 
 -- ---- plain bytes
 

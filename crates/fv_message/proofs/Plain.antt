@@ -3,8 +3,9 @@ use Rattle.std.proofs.Common.{◌≡◌, ◌+◌, ℕ, List, [], ◌∷◌, ◌+
 use Rattle.std.specs.List.{cons_option}
 use Rattle.fv_datum.specs.Attributes.{Attributes}
 use Rattle.fv_message.specs.Template.{Piece, plain, parameter}
-use Rattle.fv_message.specs.Table.{Messages, number_of, keys_in}
-use Rattle.fv_message.specs.Full.{full_pieces}
+use Rattle.fv_message.specs.Table.{Messages}
+use Rattle.fv_message.specs.Numbers.{number_of, keys_in}
+use Rattle.fv_message.specs.Evaluated.{full_pieces}
 use Rattle.fv_message.specs.Measured.{own_bytes}
 
 pub full_plain : (ms : Messages) (attributes : Attributes) (s : List ℕ) → full_pieces ms attributes (map plain s) ≡ s

@@ -2,7 +2,8 @@
 use Rattle.std.proofs.Common.{◌≡◌, ◌<◌, ◌==◌, ℕ, suc, List, [], ◌∷◌, ◌++◌, length, true, Option, Some, None, option_map, is_some, unwrap_or, refl, sym, ap, ◌∙◌, arith, append_assoc}
 use Rattle.std.proofs.lemmas.Bool.{false≢true, ne_eqb}
 use Rattle.std.proofs.lemmas.List.{append-nil}
-use Rattle.fv_message.specs.Template.{Piece, pieces_of, pieces, is_template}
+use Rattle.fv_message.specs.Template.{Piece}
+use Rattle.fv_message.specs.Reading.{pieces_of, pieces, is_template}
 use Rattle.fv_message.specs.Parts.{part_pieces, BeginsWith}
 use Rattle.fv_message.specs.declared.template.Part.{Part}
 

@@ -6,9 +6,12 @@ use Rattle.std.proofs.lemmas.List.Concat.{flat_map-append}
 use Rattle.std.proofs.lemmas.List.{append-nil}
 use Rattle.fv_datum.specs.Attributes.{Attributes}
 use Rattle.fv_graph.specs.Recursion.{value, value_in}
-use Rattle.fv_message.specs.Template.{Piece, plain, parameter, pieces}
-use Rattle.fv_message.specs.Table.{Messages, number_of, is_key, text_at, next_keys}
-use Rattle.fv_message.specs.Full.{shown, first_of, joined, key_joined, key_text, piece_text, full_pieces, full_text}
+use Rattle.fv_message.specs.Template.{Piece, plain, parameter}
+use Rattle.fv_message.specs.Reading.{pieces}
+use Rattle.fv_message.specs.Table.{Messages}
+use Rattle.fv_message.specs.Numbers.{number_of, is_key, text_at, next_keys}
+use Rattle.fv_message.specs.Full.{shown}
+use Rattle.fv_message.specs.Evaluated.{first_of, joined, key_joined, key_text, piece_text, full_pieces, full_text}
 use Rattle.fv_message.specs.Expanded.{shown_piece, shown_pieces}
 
 abbrev first_pieces : List (List Piece) → List Piece

@@ -1,7 +1,8 @@
 -- What is read of a text is what the text spells.
 use Rattle.std.proofs.Common.{◌≡◌, ◌↔◌, ℕ, ◌&&◌, ◌||◌, List, [], ◌∷◌, ◌++◌, Bool, true, false, Option, Some, None, eqb, inl, inr, refl, sym, ap, subst, ◌∙◌, append_assoc}
 use Rattle.std.proofs.lemmas.Bool.{or_parts, and_parts, eqb-true}
-use Rattle.fv_message.specs.Template.{Piece, plain, parameter, is_brace, is_special, in_name, is_parameter_name, begins, stands_plain, Spells, Standing, outside, escaping, naming, put, read_from, pieces_of}
+use Rattle.fv_message.specs.Template.{Piece, plain, parameter, is_brace, is_special, in_name, is_parameter_name, begins, stands_plain, Spells}
+use Rattle.fv_message.specs.Reading.{Standing, outside, escaping, naming, put, read_from, pieces_of}
 use Rattle.fv_message.proofs.Pieces.{escape_read, plain_read, parameter_read}
 
 -- ---- from what is spelled to what is read

@@ -8,17 +8,19 @@ use Rattle.fv_graph.specs.Recursion.{value_in}
 use Rattle.fv_graph.specs.Weight.{weighed, weight, own_of}
 use Rattle.fv_graph.proofs.Lists.{in_cases}
 use Rattle.fv_graph.proofs.Unfolding.{map_same}
-use Rattle.fv_message.specs.Template.{Piece, plain, parameter, pieces, is_template}
-use Rattle.fv_message.specs.Table.{Messages, number_of, text_at, keys_in, next_keys}
-use Rattle.fv_message.specs.Full.{shown, first_of, joined, key_joined, key_text}
-use Rattle.fv_message.specs.Judged.{MeetsUnreadable, HasLongKey}
+use Rattle.fv_message.specs.Template.{Piece, plain, parameter}
+use Rattle.fv_message.specs.Reading.{pieces, is_template}
+use Rattle.fv_message.specs.Table.{Messages}
+use Rattle.fv_message.specs.Numbers.{number_of, text_at, keys_in, next_keys}
+use Rattle.fv_message.specs.Full.{shown}
+use Rattle.fv_message.specs.Evaluated.{first_of, joined, key_joined, key_text}
 use Rattle.fv_message.specs.Measured.{AreEdgesOf, own_bytes, own_len}
 use Rattle.fv_message.proofs.Keys.{next_below}
-use Rattle.fv_message.proofs.Cycles.{edges_all, unread_on, meets_either, full_of}
+use Rattle.fv_message.proofs.Cycles.{MeetsUnreadable, IsFull, edges_all, unread_on, meets_either, full_of}
 
 -- ---- pieces put together
 
-sum_cons : (n : ℕ) (ns : List ℕ) → sum (n ∷ ns) ≡ n + sum ns
+pub sum_cons : (n : ℕ) (ns : List ℕ) → sum (n ∷ ns) ≡ n + sum ns
 sum_cons n ns = let e : sum ((n ∷ []) ++ ns) ≡ sum (n ∷ []) + sum ns = sum_by-append (λ x. x) (n ∷ []) ns in omega (arith, e)
 
 shown_len : (name : List ℕ) → length (shown [] name) ≡ length name + 2
@@ -55,6 +57,10 @@ map_lengths g (x ∷ xs) = ap (λ (l : List ℕ). length (g x) ∷ l) (map_lengt
 
 -- ---- keys
 
+-- the text of the key of some number becomes too long
+abbrev pub HasLongNumber : Messages → Type 0
+HasLongNumber ms = (i : ℕ) × (i < length ms) × IsFull ms i × (65536 < length (key_text ms [] i))
+
 -- how many bytes of what each key's text becomes are none of another key's, where the text is a template
 abbrev pub AreOwnLens : Messages → List ℕ → Type 0
 AreOwnLens ms lens = (length lens ≡ length ms) × ((i : ℕ) → i < length ms → is_template (text_at ms i) ≡ true → slice_index lens i ≡ own_len ms i)
@@ -88,20 +94,20 @@ module _ (ms : Messages) (edges : List (Vec ℕ Global)) (are : AreEdgesOf ms ed
   -- a weight above the limit is a key whose text becomes too long
   pub long_is : (order table : List ℕ) (r : Bool) → IsRestOrder (next_of edges) (length edges) order
       → ((i : ℕ) → IsIn order i → slice_index table i ≡ min 65537 (weight (own_of lens) (next_of edges) (length edges) i))
-      → (IsTrue r ↔ ((i : ℕ) × IsIn order i × (65536 < slice_index table i))) → IsTrue r ↔ HasLongKey ms
+      → (IsTrue r ↔ ((i : ℕ) × IsIn order i × (65536 < slice_index table i))) → IsTrue r ↔ HasLongNumber ms
   long_is order table r o weights found = (
     λ e. there (found.0 e),
     λ h. (let at = back h in found.1 (h.0, at, above h.0 (weights h.0 at) (key_len h.0 h.1 h.2.1) h.3)),
   )
     where
-      there : ((i : ℕ) × IsIn order i × (65536 < slice_index table i)) → HasLongKey ms
+      there : ((i : ℕ) × IsIn order i × (65536 < slice_index table i)) → HasLongNumber ms
       there (i, at, above) =
           let part = o.part.0 i at in
           let less : i < length ms = omega (arith, part.0, are.0) in
           let full = full_of ms (next_of edges) (edges_all ms edges are) i part.1 in
           (i, less, full, omega (arith, above, weights i at, key_len i less full.1))
 
-      back : (h : HasLongKey ms) → IsIn order h.0
+      back : (h : HasLongNumber ms) → IsIn order h.0
       back h = elim (o.others h.0 (omega (arith, h.1, are.0))) [
         | inl at ↦ at
         | inr m ↦ absurd (elim (meets_either ms (next_of edges) (edges_all ms edges are) h.0 m) [ inl c ↦ h.2.0 c | inr u ↦ h.2.1 u ])

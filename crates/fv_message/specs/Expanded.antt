@@ -5,7 +5,8 @@ use Rattle.fv_datum.specs.Attributes.{Attributes}
 use Rattle.fv_graph.specs.Graph.{IsIn}
 use Rattle.fv_message.specs.Template.{Piece, plain, parameter}
 use Rattle.fv_message.specs.Table.{Messages}
-use Rattle.fv_message.specs.Full.{shown, key_text}
+use Rattle.fv_message.specs.Full.{shown}
+use Rattle.fv_message.specs.Evaluated.{key_text}
 use Rattle.fv_message.specs.declared.expansion.Slot.{Slot}
 use Rattle.fv_message.specs.declared.expansion.Expansion.{Expansion}
 

@@ -1,14 +1,14 @@
 -- The text that a template becomes: each parameter that is a key is replaced by what that key's text becomes, and each other by the
 -- text of the attribute of its name.
-use Rattle.std.specs.Prelude.{ℕ, List, [], ◌∷◌, ◌++◌, length, drop, codes, if◌then◌else◌}
+use Rattle.std.specs.Prelude.{◌≡◌, ℕ, List, [], ◌∷◌, ◌++◌, Some, None, codes, if◌then◌else◌}
 use Rattle.std.specs.Fmt.{signed_decimal}
-use Rattle.std.specs.List.{flat_map, join_by}
+use Rattle.std.specs.List.{join_by}
 use Rattle.std.specs.Option.{option_map_or}
+use mathlib.Core.Logic.{◌⊎◌}
 use Rattle.fv_datum.specs.Attributes.{AttributeValue, integer, text, boolean, texts, Attributes}
 use Rattle.fv_datum.specs.Lookup.{at_name}
-use Rattle.fv_graph.specs.Recursion.{value}
-use Rattle.fv_message.specs.Template.{Piece, plain, parameter, pieces}
-use Rattle.fv_message.specs.Table.{Messages, number_of, is_key, text_at, next_keys}
+use Rattle.fv_message.specs.Template.{Piece, plain, parameter, Spells, IsTemplate}
+use Rattle.fv_message.specs.Table.{Messages}
 
 -- the text of an attribute's value: an integer in decimal, a text as it is, `true` or `false`, texts as `[a, b]`
 abbrev pub attribute_text : AttributeValue → List ℕ
@@ -21,37 +21,21 @@ attribute_text (texts ts) = codes "[" ++ (join_by (λ t. t) (codes ", ") ts ++ c
 abbrev pub shown : Attributes → List ℕ → List ℕ
 shown attributes name = option_map_or attribute_text (at_name name attributes) (codes "{" ++ (name ++ codes "}"))
 
--- the first of some texts; empty where there is none
-abbrev pub first_of : List (List ℕ) → List ℕ
-first_of [] = []
-first_of (t ∷ ts) = t
+-- pieces become a text: a plain byte stays, a parameter that is a key becomes what the pieces that the key's text spells become, and
+-- another parameter becomes what stands for it
+pub data Become (ms : Messages) (attributes : Attributes) : List Piece → List ℕ → Type 0 where
+  nothing : Become ms attributes [] []
+  byte : {b : ℕ} {ps : List Piece} {rest : List ℕ} → Become ms attributes ps rest → Become ms attributes (plain b ∷ ps) (b ∷ rest)
+  key : {name template full rest : List ℕ} {qs ps : List Piece} → at_name name ms ≡ Some template → Spells qs template → Become ms attributes qs full
+      → Become ms attributes ps rest → Become ms attributes (parameter name ∷ ps) (full ++ rest)
+  other : {name rest : List ℕ} {ps : List Piece} → at_name name ms ≡ None → Become ms attributes ps rest
+      → Become ms attributes (parameter name ∷ ps) (shown attributes name ++ rest)
 
--- pieces put together, with the texts of the parameters that are keys, in order
-abbrev pub joined : Messages → Attributes → List Piece → List (List ℕ) → List ℕ
-joined ms attributes [] made = []
-joined ms attributes (plain b ∷ ps) made = b ∷ joined ms attributes ps made
-joined ms attributes (parameter name ∷ ps) made =
-    if is_key ms name
-    then first_of made ++ joined ms attributes ps (drop 1 made)
-    else shown attributes name ++ joined ms attributes ps made
+-- a template's full text
+abbrev pub IsFullText : Messages → Attributes → List ℕ → List ℕ → Type 0
+IsFullText ms attributes template full = (ps : List Piece) × Spells ps template × Become ms attributes ps full
 
--- what a key's text becomes, put together from what the keys become that it leads to
-abbrev pub key_joined : Messages → Attributes → ℕ → List (List ℕ) → List ℕ
-key_joined ms attributes i made = joined ms attributes (pieces (text_at ms i)) made
-
--- what a key's text becomes, where it meets no cycle of keys
-abbrev pub key_text : Messages → Attributes → ℕ → List ℕ
-key_text ms attributes i = value (key_joined ms attributes) (next_keys ms) (length ms) i
-
--- what a piece becomes
-abbrev pub piece_text : Messages → Attributes → Piece → List ℕ
-piece_text ms attributes (plain b) = b ∷ []
-piece_text ms attributes (parameter name) = option_map_or (key_text ms attributes) (number_of ms name) (shown attributes name)
-
--- what pieces become
-abbrev pub full_pieces : Messages → Attributes → List Piece → List ℕ
-full_pieces ms attributes ps = flat_map (piece_text ms attributes) ps
-
--- what a template becomes
-abbrev pub full_text : Messages → Attributes → List ℕ → List ℕ
-full_text ms attributes template = full_pieces ms attributes (pieces template)
+-- what a text becomes: the full text of a template, and nothing where it is none
+abbrev pub IsTextOf : Messages → Attributes → List ℕ → List ℕ → Type 0
+IsTextOf ms attributes template full =
+    IsFullText ms attributes template full ⊎ ((IsTemplate template → ⊥) × (full ≡ []))

@@ -1,10 +1,14 @@
 pub mod BuiltIn
+pub mod Evaluated
 pub mod Expanded
 pub mod FaultNames
 pub mod Full
 pub mod Judged
+pub mod Judging
 pub mod Measured
+pub mod Numbers
 pub mod Parts
+pub mod Reading
 pub mod Table
 pub mod Template
 pub mod Views

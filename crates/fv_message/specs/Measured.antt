@@ -2,8 +2,10 @@
 use Rattle.std.specs.Prelude.{◌≡◌, ◌<◌, ◌+◌, ℕ, List, [], ◌∷◌, length, if◌then◌else◌, Vec}
 use Rattle.std.specs.declared.alloc.Global.{Global}
 use Rattle.fv_graph.specs.Graph.{next_of}
-use Rattle.fv_message.specs.Template.{Piece, plain, parameter, pieces, is_template}
-use Rattle.fv_message.specs.Table.{Messages, is_key, text_at, next_keys}
+use Rattle.fv_message.specs.Template.{Piece, plain, parameter}
+use Rattle.fv_message.specs.Reading.{pieces, is_template}
+use Rattle.fv_message.specs.Table.{Messages}
+use Rattle.fv_message.specs.Numbers.{is_key, text_at, next_keys}
 
 -- the keys that a key's text leads to; the key itself where its text is no template, so that it meets a cycle
 abbrev pub edges_at : Messages → ℕ → List ℕ

@@ -1,7 +1,8 @@
 -- What a template begins with.
 use Rattle.std.specs.Prelude.{◌≡◌, ◌<◌, ◌≤◌, ◌+◌, ℕ, List, [], ◌∷◌, ◌++◌, map, length, option_map, Option, None, MatchOption}
 use Rattle.std.specs.Borrow.{Bor}
-use Rattle.fv_message.specs.Template.{Piece, plain, parameter, pieces_of}
+use Rattle.fv_message.specs.Template.{Piece, plain, parameter}
+use Rattle.fv_message.specs.Reading.{pieces_of}
 use Rattle.fv_message.specs.declared.template.Part.{Part}
 use Rattle.fv_message.specs.declared.template.Part.TheVariants.{Plain, Parameter}
 

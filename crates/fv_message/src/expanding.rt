@@ -3,10 +3,10 @@
 ghost use Rattle.std.specs.Prelude.{◌≡◌, ◌<◌, true, length, slice_index_or, IfOk, OnOk};
 ghost use Rattle.fv_datum.specs.Attributes.{Attributes};
 ghost use Rattle.fv_message.specs.Expanded.{AreExpanded, expansion_text, GrowsBy};
-ghost use Rattle.fv_message.specs.Full.{full_pieces, full_text};
+ghost use Rattle.fv_message.specs.Evaluated.{full_pieces, full_text};
 ghost use Rattle.fv_message.specs.Parts.{part_pieces};
-ghost use Rattle.fv_message.specs.Table.{AreReadable, keys_in};
-ghost use Rattle.fv_message.specs.Template.{is_template, pieces};
+ghost use Rattle.fv_message.specs.Numbers.{AreReadable, keys_in};
+ghost use Rattle.fv_message.specs.Reading.{is_template, pieces};
 
 use crate::expansion::Expansion;
 use crate::table::Table;
@@ -25,7 +25,7 @@ impl Combine for Expanding<'_> {
     type Value = Expansion;
 
     ghost use Rattle.fv_message.specs.Expanded.{IsExpansion};
-    ghost use Rattle.fv_message.specs.Table.{next_keys};
+    ghost use Rattle.fv_message.specs.Numbers.{next_keys};
 
     ghost next = { λ s. next_keys s.messages.now };
 

@@ -16,7 +16,8 @@ mod template;
 
 pub use fault::MessageFault;
 pub use laws::{
-    attributes_are_not_read, key_becomes_its_text, pieces_are_spelled, plain_text_stays,
+    attributes_are_not_read, full_text_is_made, key_becomes_its_text, pieces_are_spelled,
+    plain_text_stays,
 };
 pub use messages::Messages;
 pub use template::{check_template, template_fits};

@@ -2,11 +2,14 @@
 ghost use Rattle.std.specs.Prelude.{◌≡◌, ◌<◌, ◌++◌, true, false, length, IfOk, IfSome, OnOk, MatchResult, string_bytes};
 ghost use Rattle.fv_datum.specs.Attributes.{Attributes};
 ghost use Rattle.fv_message.specs.Expanded.{AreExpansions};
-ghost use Rattle.fv_message.specs.Full.{full_pieces, full_text, key_text};
-ghost use Rattle.fv_message.specs.Judged.{AreSound, AreWhole, IsFault, IsFaultOf};
+ghost use Rattle.fv_message.specs.Evaluated.{full_pieces, full_text, key_text};
+ghost use Rattle.fv_message.specs.Full.{IsTextOf};
+ghost use Rattle.fv_message.specs.Judged.{AreSound, IsFault};
+ghost use Rattle.fv_message.specs.Judging.{AreWhole, IsFaultOf};
 ghost use Rattle.fv_message.specs.Parts.{part_pieces};
-ghost use Rattle.fv_message.specs.Table.{all_messages, AreReadable};
-ghost use Rattle.fv_message.specs.Template.{is_template};
+ghost use Rattle.fv_message.specs.Table.{all_messages};
+ghost use Rattle.fv_message.specs.Numbers.{AreReadable};
+ghost use Rattle.fv_message.specs.Reading.{is_template};
 ghost use Rattle.fv_message.specs.Views.{messages_view};
 
 use crate::expanding::{Expanding, at};
@@ -34,13 +37,14 @@ pub struct Messages {
 impl Model for Messages {
     ghost use Rattle.fv_message.specs.Table as spec;
     ghost use Rattle.fv_message.specs.Expanded.{AreExpansions};
-    ghost use Rattle.fv_message.specs.Table.{AreNamed};
+    ghost use Rattle.fv_message.specs.Judged.{IsCircular};
+    ghost use Rattle.fv_message.specs.Numbers.{AreNamed, AreReadable};
 
     ghost Value = { spec.Messages };
 
     ghost view = { λ m. m.keys };
 
-    ghost invariant = { λ m. AreExpansions m.keys m.expansions.items × AreNamed m.keys };
+    ghost invariant = { λ m. AreExpansions m.keys m.expansions.items × AreNamed m.keys × AreReadable m.keys × (IsCircular m.keys → ⊥) };
 }
 
 /// The expansions of the keys of a table. Refused by `TooLarge` where a key's text becomes too long,
@@ -103,7 +107,7 @@ impl Messages {
         template: &str,
         attributes: &Attrs,
     ) -> Result<String, AllocError>
-        ensures { IfOk result (λ s. string_bytes s ≡ full_text self.now attributes.now template.now) }
+        ensures { IfOk result (λ s. IsTextOf self.now attributes.now template.now (string_bytes s)) }
     {
         let mut text = String::with_capacity(alloc, template.len())?;
         if let Some(key) = self.key_alone(template) {

@@ -1,6 +1,7 @@
 //! The judgement of a user's messages by themselves.
 ghost use Rattle.std.specs.Prelude.{◌≡◌, ◌||◌, nat_lt, length};
-ghost use Rattle.fv_message.specs.Judged.{has_long, is_misspelt, most_messages};
+ghost use Rattle.fv_message.specs.Judged.{has_long, most_messages};
+ghost use Rattle.fv_message.specs.Judging.{is_misspelt};
 ghost use Rattle.fv_message.specs.Views.{messages_view};
 
 use crate::template::{check_template, is_parameter_name, template_fits};

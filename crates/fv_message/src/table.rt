@@ -3,8 +3,9 @@ ghost use Rattle.std.specs.Prelude.{◌≡◌, ◌<◌, ◌≤◌, ◌++◌, tru
 ghost use Rattle.fv_message.specs.BuiltIn.{built_in_key};
 ghost use Rattle.fv_message.specs.Measured.{edges_at, AreEdgesOf, own_bytes, own_len};
 ghost use Rattle.fv_message.specs.Parts.{part_pieces, part_len};
-ghost use Rattle.fv_message.specs.Table.{all_messages, keys_in, number_of, text_at, with_message};
-ghost use Rattle.fv_message.specs.Template.{is_template};
+ghost use Rattle.fv_message.specs.Table.{all_messages, with_message};
+ghost use Rattle.fv_message.specs.Numbers.{keys_in, number_of, text_at};
+ghost use Rattle.fv_message.specs.Reading.{is_template};
 ghost use Rattle.fv_message.specs.Views.{messages_view};
 
 use crate::built_in::{built_in_key, built_in_texts};

@@ -1,9 +1,10 @@
 //! Templates, read part by part.
-ghost use Rattle.std.specs.Prelude.{◌≡◌, ◌∷◌, true, not};
+ghost use Rattle.std.specs.Prelude.{◌≡◌, ◌↔◌, ◌∷◌, true, not, IsTrue};
 ghost use Rattle.std.specs.List.{prefix_len, list_all};
 ghost use Rattle.fv_message.specs.Judged.{fits};
 ghost use Rattle.fv_message.specs.Parts.{BeginsWith, FirstPart};
-ghost use Rattle.fv_message.specs.Template.{begins, begins_plain, in_name, is_special, is_parameter_name, is_template, opening, stands_plain};
+ghost use Rattle.fv_message.specs.Template.{begins, in_name, is_special, is_parameter_name, opening, stands_plain, IsTemplate};
+ghost use Rattle.fv_message.specs.Reading.{begins_plain};
 ghost use Rattle.fv_message.specs.declared.template.Part.TheVariants.{Plain};
 
 /// The most bytes of a template, as it is written.
@@ -114,7 +115,7 @@ pub(crate) fn split_part(template: &str) -> Option<(Part<'_>, &str)>
 /// backslash is itself plain. A text with a brace that is neither escaped nor part of a parameter, or
 /// with a `$` that isn't escaped in front of an opening brace, is none.
 pub fn check_template(template: &str) -> bool
-    ensures { result ≡ is_template template.now }
+    ensures { IsTrue result ↔ IsTemplate template.now }
 {
     let mut rest = template;
     while let Some((_, behind)) = split_part(rest) {

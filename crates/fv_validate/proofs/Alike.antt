@@ -8,7 +8,8 @@ use Rattle.fv_declare_schema.specs.Declarations.{Placed}
 use Rattle.fv_graph.specs.Graph.{IsIn}
 use Rattle.fv_message.specs.Table.{Messages}
 use Rattle.fv_walk_traces.specs.Violations.{Violation}
-use Rattle.fv_validate.specs.Violations.{Reported, Precedes, IsAscending, AreListed}
+use Rattle.fv_validate.specs.Violations.{Reported, Precedes, IsReportOf, IsAscending, AreListed}
+use Rattle.fv_validate.proofs.Reports.{one_report}
 
 -- ---- no two precede each other
 
@@ -63,7 +64,10 @@ same_list (v ∷ vs) (w ∷ ws) up rise to from =
 
 module _ (us : List Placed) (ms : Messages) (IsOne : Violation → Type 0) where
   within : (vs ws : List Reported) → AreListed us ms IsOne vs → AreListed us ms IsOne ws → Within vs ws
-  within vs ws one other = λ x is_in. other.complete x (each _ vs x one.sound is_in)
+  within vs ws one other = λ x is_in.
+      let v = each (IsReportOf us ms IsOne) vs x one.sound is_in in
+      let r = other.complete v.0 v.1 in
+      subst (λ (y : Reported). IsIn ws y) (one_report us ms v.0 r.0 x r.2 v.2) r.1
 
   pub one_listing : (vs ws : List Reported) → AreListed us ms IsOne vs → AreListed us ms IsOne ws → vs ≡ ws
   one_listing vs ws one other = same_list vs ws one.ascending other.ascending (within vs ws one other) (within ws vs other one)

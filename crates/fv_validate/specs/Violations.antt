@@ -1,5 +1,5 @@
 -- The violations of a bundle's declared constraints, as they are reported.
-use Rattle.std.specs.Prelude.{◌≡◌, ◌⊎◌, ◌<◌, ℕ, ℤ, List, [], ◌∷◌, slice_get, true}
+use Rattle.std.specs.Prelude.{◌≡◌, ◌⊎◌, ◌<◌, ℕ, ℤ, List, [], ◌∷◌, Option, Some, None, slice_get, true}
 use Rattle.std.specs.List.{AllByRecursion, flat_map}
 use Rattle.std.specs.Option.{option_map_or}
 use Rattle.std.specs.Ordering.{nat_cmp, is_lt}
@@ -7,7 +7,7 @@ use Rattle.std.specs.Cmp.Lexicographic.{slice_cmp}
 use Rattle.fv_datum.specs.Data.{Data}
 use Rattle.fv_declare_schema.specs.Declarations.{Placed, Declarations}
 use Rattle.fv_graph.specs.Graph.{IsIn}
-use Rattle.fv_message.specs.Full.{full_text}
+use Rattle.fv_message.specs.Full.{IsTextOf}
 use Rattle.fv_message.specs.Table.{Messages}
 use Rattle.fv_model.specs.Bundles.{Thing, Bundled}
 use Rattle.fv_constraint_tree.specs.Nodes.{Node}
@@ -30,25 +30,22 @@ pub record Reported : Type 0 where
 abbrev pub nodes_in : List Placed → List Node
 nodes_in us = flat_map (λ u. nodes u.tree) us
 
--- what a constraint's message becomes, by the messages and the constraint's attributes ("Message interpolation")
-abbrev pub message_of : Messages → Node → List ℕ
-message_of ms n = full_text ms n.attributes n.message
+-- what a constraint's message becomes, by the messages and the constraint's attributes ("Message interpolation"); nothing without a constraint
+abbrev pub IsMessageOf : Messages → Option Node → List ℕ → Type 0
+IsMessageOf ms None message = message ≡ []
+IsMessageOf ms (Some n) message = IsTextOf ms n.attributes n.message message
 
--- a violation as it is reported: with the text of its path, and the name and the message of the constraint of its number ("ConstraintViolation")
-abbrev pub reported_by : List Placed → Messages → Violation → Reported
-reported_by us ms v =
-    let node = slice_get (nodes_in us) v.node in
-    record {
-      path = text_of v.path;
-      constraint = option_map_or (λ n. n.constraint) node [];
-      occurrence = v.node;
-      message = option_map_or (message_of ms) node [];
-      value = v.value;
-    }
+-- a violation is reported so: with the text of its path, and the name and the message of the constraint of its number ("ConstraintViolation")
+pub record IsReport (us : List Placed) (ms : Messages) (v : Violation) (r : Reported) : Type 0 where
+  pub path : r.path ≡ text_of v.path
+  pub constraint : r.constraint ≡ option_map_or (λ n. n.constraint) (slice_get (nodes_in us) v.node) []
+  pub occurrence : r.occurrence ≡ v.node
+  pub message : IsMessageOf ms (slice_get (nodes_in us) v.node) r.message
+  pub value : r.value ≡ v.value
 
 -- it reports one of some violations
 abbrev pub IsReportOf : List Placed → Messages → (Violation → Type 0) → Reported → Type 0
-IsReportOf us ms IsOne r = (v : Violation) × IsOne v × (r ≡ reported_by us ms v)
+IsReportOf us ms IsOne r = (v : Violation) × IsOne v × IsReport us ms v r
 
 -- by the bytes of the path, then by the number of the constraint
 abbrev pub Precedes : Reported → Reported → Type 0
@@ -62,7 +59,7 @@ IsAscending (v ∷ vs) = AllByRecursion (Precedes v) vs × IsAscending vs
 -- all of some violations, each once, in order
 pub record AreListed (us : List Placed) (ms : Messages) (IsOne : Violation → Type 0) (vs : List Reported) : Type 0 where
   pub sound : AllByRecursion (IsReportOf us ms IsOne) vs
-  pub complete : (r : Reported) → IsReportOf us ms IsOne r → IsIn vs r
+  pub complete : (v : Violation) → IsOne v → (r : Reported) × IsIn vs r × IsReport us ms v r
   pub ascending : IsAscending vs
 
 -- the violations of the request that judges a bundle for these groups at a moment

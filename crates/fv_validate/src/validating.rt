@@ -1,5 +1,5 @@
 //! The violations of a bundle.
-ghost use Rattle.std.specs.Prelude.{◌≡◌, ◌≢◌, ◌<◌, All, [], map, length, string_bytes, IfOk, IfErr, OnOk};
+ghost use Rattle.std.specs.Prelude.{◌≡◌, ◌≢◌, ◌<◌, All, [], map, option_map, length, string_bytes, IfOk, IfErr, OnOk};
 ghost use Rattle.std.specs.List.{AllByRecursion};
 ghost use Rattle.std.specs.Option.{option_map_or};
 ghost use Rattle.fv_datum.specs.Moments.{IsMoment};
@@ -7,13 +7,14 @@ ghost use Rattle.fv_declare_schema.specs.Declarations.{AreNumbered};
 ghost use Rattle.fv_declare_schema.specs.PlacedView.{placed_view};
 ghost use Rattle.fv_graph.specs.Graph.{IsIn};
 ghost use Rattle.fv_groups.specs.Tables.{indices};
-ghost use Rattle.fv_message.specs.Full.{full_text};
+ghost use Rattle.fv_message.specs.Evaluated.{full_text};
 ghost use Rattle.fv_model.specs.Views.{bundle_view};
 ghost use Rattle.fv_model.specs.WellTyped.{IsWellTyped};
 ghost use Rattle.fv_constraint_tree.specs.Views.{node_view};
 ghost use Rattle.fv_path.specs.Paths.{IsPath};
 ghost use Rattle.fv_validate.specs.ViolationView.{violation_view};
-ghost use Rattle.fv_validate.specs.Violations.{reported_by, AreListed, IsListing};
+ghost use Rattle.fv_validate.specs.Listing.{made_by, IsMade};
+ghost use Rattle.fv_validate.specs.Violations.{AreListed, IsListing, IsMessageOf};
 ghost use Rattle.fv_walk.specs.Apart.{AreApart};
 ghost use Rattle.fv_walk.specs.FailureView.{failure_view};
 ghost use Rattle.fv_walk.specs.Visits.{HasTooManyVisits, HasFewVisits};
@@ -35,7 +36,8 @@ use std::alloc::{AllocError, Global};
 
 /// What the message of a constraint becomes; empty where there is no constraint.
 fn message_of(alloc: Global, messages: &Messages, node: Option<&Node>) -> Result<String, AllocError>
-    ensures { IfOk result (λ s. string_bytes s ≡ option_map_or (λ n. full_text messages.now (node_view n.now).attributes (node_view n.now).message) node.entry []) }
+    ensures made { IfOk result (λ s. string_bytes s ≡ option_map_or (λ n. full_text messages.now (node_view n.now).attributes (node_view n.now).message) node.entry []) }
+    ensures message { IfOk result (λ s. IsMessageOf messages.now (option_map (λ n. node_view n.now) node.entry) (string_bytes s)) }
 {
     match node {
         Some(node) => messages.text(alloc, node.message(), &node.attributes),
@@ -44,6 +46,7 @@ fn message_of(alloc: Global, messages: &Messages, node: Option<&Node>) -> Result
 }
 
 /// A failure, as it is reported.
+#[tactic(auto, using(crate::proofs::Reports::is_made))]
 fn violation_of(
     alloc: Global,
     occurrences: &[Placed],
@@ -51,8 +54,9 @@ fn violation_of(
     failure: Failure,
 ) -> Result<Violation, AllocError>
     requires { AreNumbered 0 (map placed_view occurrences.now) }
-    ensures report { IfOk result (λ v. violation_view v
-        ≡ reported_by (map placed_view occurrences.now) messages.now (failure_view failure)) }
+    ensures made { IfOk result (λ v. violation_view v
+        ≡ made_by (map placed_view occurrences.now) messages.now (failure_view failure)) }
+    ensures report { IfOk result (λ _. IsMade (map placed_view occurrences.now) messages.now (failure_view failure)) }
     ensures path { IsPath failure.path }
 {
     let node = node_of(occurrences, failure.number);
@@ -74,7 +78,8 @@ fn violations_of(
 ) -> Result<Vec<Violation>, AllocError>
     requires { AreNumbered 0 (map placed_view occurrences.now) }
     ensures reports { IfOk result (λ v. map violation_view v.items
-        ≡ map (reported_by (map placed_view occurrences.now) messages.now) (map failure_view failures.items)) }
+        ≡ map (made_by (map placed_view occurrences.now) messages.now) (map failure_view failures.items)) }
+    ensures made { IfOk result (λ _. AllByRecursion (IsMade (map placed_view occurrences.now) messages.now) (map failure_view failures.items)) }
     ensures paths { IfOk result (λ _. AllByRecursion (λ v. IsPath v.path) (map failure_view failures.items)) }
 {
     let mut violations = Vec::with_capacity(alloc, failures.len())?;

@@ -10,15 +10,16 @@ use Rattle.fv_constraint_tree.specs.TargetFits.{tree_fits}
 use Rattle.fv_constraint.specs.Flattening as flat
 use Rattle.fv_constraint.specs.UseViews.{use_view as flat_use_view}
 use Rattle.fv_model_types.specs.TypesView.{types_view}
-use Rattle.fv_declare.specs.Declares.{used_in, IsFlattened}
+use Rattle.fv_declare.specs.Conditions.{used_in}
 use Rattle.fv_declare.specs.Types.{types_declared}
 use Rattle.fv_declare.specs.FaultNames.{flatten_fault}
+use Rattle.fv_declare.specs.Judging.{IsAnswerTo, tree_faults}
 use Rattle.fv_declare_draft.specs.AllUses.{Use, uses_in}
 use Rattle.fv_declare.specs.Used.{used}
 use Rattle.fv_declare_draft.specs.UseViews.{use_view}
 use Rattle.fv_declare.specs.declared.fault.DeclFault.{DeclFault}
 use Rattle.fv_declare.proofs.Found.{any_map, names_good, roots_known, used_known}
-use Rattle.fv_declare.proofs.Judged.{counted, moved, many, few_types, types_large, others_large, refused, each, few_nodes, taken, ill}
+use Rattle.fv_declare.proofs.Judged.{counted, moved, many, few_types, empty, types_large, others_large, refused, each, few_nodes, taken, misworded}
 use Rattle.fv_declare.proofs.Valid.{none_misplaced}
 use Rattle.fv_declare.proofs.judging.flattened.Goals as goal
 
@@ -29,18 +30,23 @@ count_nodes-nodes-requires g c =
     subst (λ (ds : Definitions). list_any (λ (u : Use). not (is_some (meant_by ds u.constraint))) (map use_view c.args.uses.now) ≡ false) (sym c.requires.composed)
     (subst (λ (us : List Use). list_any (λ (u : Use). not (is_some (meant_by d.definitions u.constraint))) us ≡ false) (sym c.requires.checked.uses) known)
 
+pub returns-then-has_empty-clause-refused : goal.returns-then-has_empty-clause-refused
+returns-then-has_empty-clause-refused g c =
+    let d = draft_view c.args.draft.now in
+    λ other. empty (g.R.RuleSet.known c.args.rules.now) d (result_err c.args.wording) c.requires.wording c.trees_are_unique.ensures (sym c.if-has_empty.ensures)
+
 pub returns-in_default-clause-refused : goal.returns-in_default-clause-refused
 returns-in_default-clause-refused g c =
     let d = draft_view c.args.draft.now in
     λ other.
-    types_large (g.R.RuleSet.known c.args.rules.now) d (result_err c.args.wording) c.requires.wording (sym c.if-has_empty.ensures) c.count_nodes-nodes.result (counted d _ _ _ c.requires.composed c.requires.checked.uses c.count_nodes-nodes.ensures)
+    types_large (g.R.RuleSet.known c.args.rules.now) d (result_err c.args.wording) c.requires.wording c.trees_are_unique.ensures (sym c.if-has_empty.ensures) c.count_nodes-nodes.result (counted d _ _ _ c.requires.composed c.requires.checked.uses c.count_nodes-nodes.ensures)
     (many (types_declared d) (sym c.requires.checked.types ∙ ap (option_map types_view) c.in_default.is))
 
 pub returns-then-is_large-clause-refused : goal.returns-then-is_large-clause-refused
 returns-then-is_large-clause-refused g c =
     let d = draft_view c.args.draft.now in
     λ other.
-    others_large (g.R.RuleSet.known c.args.rules.now) d (result_err c.args.wording) c.requires.wording (sym c.if-has_empty.ensures) c.count_nodes-nodes.result (counted d _ _ _ c.requires.composed c.requires.checked.uses c.count_nodes-nodes.ensures) (sym c.if-is_large.ensures)
+    others_large (g.R.RuleSet.known c.args.rules.now) d (result_err c.args.wording) c.requires.wording c.trees_are_unique.ensures (sym c.if-has_empty.ensures) c.count_nodes-nodes.result (counted d _ _ _ c.requires.composed c.requires.checked.uses c.count_nodes-nodes.ensures) (sym c.if-is_large.ensures)
 
 pub flatten_all-requires : goal.flatten_all-requires
 flatten_all-requires g c =
@@ -59,8 +65,8 @@ returns-in_err-trees-clause-refused g c =
     let f = c.in_err-trees.field-0.0 in
     let p = err_from_is_err_and c.from_residual-in_err-trees.result c.from_residual-in_err-trees.ensures.1 in
     rw p.1 (λ other.
-    subst (λ (e : DeclFault). IsFlattened k d (Err e)) (sym p.2)
-    (refused k d (result_err c.args.wording) c.requires.wording (sym c.if-has_empty.ensures) types.0 c.count_nodes-nodes.result (counted d _ _ _ c.requires.composed c.requires.checked.uses c.count_nodes-nodes.ensures) (sym c.if-is_large.ensures) c.trees_are_unique.ensures f
+    subst (λ (e : DeclFault). IsAnswerTo k d tree_faults (Err e)) (sym p.2)
+    (refused k d (result_err c.args.wording) c.requires.wording c.trees_are_unique.ensures (sym c.if-has_empty.ensures) c.count_nodes-nodes.result (counted d _ _ _ c.requires.composed c.requires.checked.uses c.count_nodes-nodes.ensures) types.0 (sym c.if-is_large.ensures) f
     (moved k d _ _ (Err f) c.requires.composed seen (c.in_err-trees.ensures.refused (λ is. other (p.2 ∙ ap flatten_fault is))))))
 
 pub returns-in_err-messages-clause-refused : goal.returns-in_err-messages-clause-refused
@@ -72,8 +78,8 @@ returns-in_err-messages-clause-refused g c =
     let f = c.in_err-messages.field-0.0 in
     let p = err_from_is_err_and c.from_residual-in_err-messages.result c.from_residual-in_err-messages.ensures.1 in
     rw p.1 (λ other.
-    subst (λ (e : DeclFault). IsFlattened k d (Err e)) (sym p.2)
-    (ill k d (result_err c.args.wording) c.requires.wording (sym c.if-has_empty.ensures) types.0 c.count_nodes-nodes.result (counted d _ _ _ c.requires.composed c.requires.checked.uses c.count_nodes-nodes.ensures) (sym c.if-is_large.ensures) c.trees_are_unique.ensures
+    subst (λ (e : DeclFault). IsAnswerTo k d tree_faults (Err e)) (sym p.2)
+    (misworded k d (result_err c.args.wording) c.requires.wording c.trees_are_unique.ensures (sym c.if-has_empty.ensures) c.count_nodes-nodes.result (counted d _ _ _ c.requires.composed c.requires.checked.uses c.count_nodes-nodes.ensures) types.0 (sym c.if-is_large.ensures)
     c.in_ok-trees.trees.items (moved k d _ _ (Ok c.in_ok-trees.trees.items) c.requires.composed seen c.in_ok-trees.ensures.taken) f (ap result_err c.in_err-messages.was)))
 
 pub build-requires-clause-each : goal.build-requires-clause-each
@@ -82,7 +88,7 @@ build-requires-clause-each g c =
     let d = draft_view c.args.draft.now in
     let seen : map flat_use_view c.deref.result.now ≡ used_in d = ap (map flat_use_view) c.deref.ensures.value ∙ c.in_ok-used.ensures ∙ ap (map used) c.requires.checked.uses in
     let types = few_types (types_declared d) (types_view c.in-Some.types) (sym c.requires.checked.types ∙ ap (option_map types_view) c.in-Some.is) in
-    each k d (result_err c.args.wording) c.requires.wording (sym c.if-has_empty.ensures) types.0 c.count_nodes-nodes.result (counted d _ _ _ c.requires.composed c.requires.checked.uses c.count_nodes-nodes.ensures) (sym c.if-is_large.ensures) c.trees_are_unique.ensures
+    each k d (result_err c.args.wording) c.requires.wording c.trees_are_unique.ensures (sym c.if-has_empty.ensures) c.count_nodes-nodes.result (counted d _ _ _ c.requires.composed c.requires.checked.uses c.count_nodes-nodes.ensures) types.0 (sym c.if-is_large.ensures)
     c.in_ok-trees.trees.items (moved k d _ _ (Ok c.in_ok-trees.trees.items) c.requires.composed seen c.in_ok-trees.ensures.taken) (map use_view c.args.uses.now) c.requires.checked.uses
     ∙ length-map c.args.uses.now use_view
 
@@ -92,7 +98,7 @@ build-requires-clause-few g c =
     let d = draft_view c.args.draft.now in
     let seen : map flat_use_view c.deref.result.now ≡ used_in d = ap (map flat_use_view) c.deref.ensures.value ∙ c.in_ok-used.ensures ∙ ap (map used) c.requires.checked.uses in
     let types = few_types (types_declared d) (types_view c.in-Some.types) (sym c.requires.checked.types ∙ ap (option_map types_view) c.in-Some.is) in
-    few_nodes k d (result_err c.args.wording) c.requires.wording (sym c.if-has_empty.ensures) types.0 c.count_nodes-nodes.result (counted d _ _ _ c.requires.composed c.requires.checked.uses c.count_nodes-nodes.ensures) (sym c.if-is_large.ensures) c.trees_are_unique.ensures
+    few_nodes k d (result_err c.args.wording) c.requires.wording c.trees_are_unique.ensures (sym c.if-has_empty.ensures) c.count_nodes-nodes.result (counted d _ _ _ c.requires.composed c.requires.checked.uses c.count_nodes-nodes.ensures) types.0 (sym c.if-is_large.ensures)
     c.in_ok-trees.trees.items (moved k d _ _ (Ok c.in_ok-trees.trees.items) c.requires.composed seen c.in_ok-trees.ensures.taken)
 
 pub returns-clause-taken : goal.returns-clause-taken
@@ -102,7 +108,7 @@ returns-clause-taken g c =
     let seen : map flat_use_view c.deref.result.now ≡ used_in d = ap (map flat_use_view) c.deref.ensures.value ∙ c.in_ok-used.ensures ∙ ap (map used) c.requires.checked.uses in
     let types = few_types (types_declared d) (types_view c.in-Some.types) (sym c.requires.checked.types ∙ ap (option_map types_view) c.in-Some.is) in
     IfOk-weaker c.build.result _ _ (λ s h.
-    taken k d (result_err c.args.wording) c.requires.wording (sym c.if-has_empty.ensures) types.0 c.count_nodes-nodes.result (counted d _ _ _ c.requires.composed c.requires.checked.uses c.count_nodes-nodes.ensures) (sym c.if-is_large.ensures) c.trees_are_unique.ensures
+    taken k d (result_err c.args.wording) c.requires.wording c.trees_are_unique.ensures (sym c.if-has_empty.ensures) c.count_nodes-nodes.result (counted d _ _ _ c.requires.composed c.requires.checked.uses c.count_nodes-nodes.ensures) types.0 (sym c.if-is_large.ensures)
     c.in_ok-trees.trees.items (moved k d _ _ (Ok c.in_ok-trees.trees.items) c.requires.composed seen c.in_ok-trees.ensures.taken) s (ap result_err c.in_ok-messages.was) h) c.build.ensures.taken
 
 pub returns-clause-fits : goal.returns-clause-fits

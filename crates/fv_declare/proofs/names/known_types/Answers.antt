@@ -6,10 +6,10 @@ use Rattle.fv_declare_draft.specs.DraftViews.{type_view, form_view, draft_view}
 use Rattle.fv_declare_draft.specs.Drafts.{Drafted}
 use Rattle.fv_model_types.specs.Types.{declared_view, types_fault}
 use Rattle.fv_model_types.specs.declared.fault.TypesFault.TheVariants.{UnknownType, TooLarge}
-use Rattle.fv_declare.specs.Declares.{unknown_constraint, unknown_name, unknown_root, name_conditions}
+use Rattle.fv_declare.specs.Conditions.{unknown_constraint, unknown_name, unknown_root}
 use Rattle.fv_declare.specs.Types.{type_declared, types_declared}
 use Rattle.fv_declare.specs.Naming.{bad_name}
-use Rattle.fv_declare.specs.Judging.{unless_many}
+use Rattle.fv_declare.specs.Judging.{name_conditions, unless_many}
 use Rattle.fv_declare.proofs.names.known_types.Goals as goal
 
 large : (unknown many : Bool) → first ((unknown, UnknownType) ∷ (many, TooLarge) ∷ []) ≡ Some TooLarge → (unknown ≡ false) × (many ≡ true)

@@ -1,15 +1,36 @@
-use Rattle.std.proofs.Common.{◌≡◌, Some, sym, ap, ◌∙◌}
+use Rattle.std.proofs.Common.{◌≡◌, Some, Ok, Err, sym, ap, subst, ◌∙◌}
+use Rattle.std.proofs.lemmas.Result.{IfOk-weaker, IfErr-weaker, err_from_is_err_and}
 use Rattle.fv_datum.specs.Parsing.{json_of}
 use Rattle.fv_json.specs.Documents.{document_view, view as json_view}
+use Rattle.fv_declare.specs.Declares.{Declares}
+use Rattle.fv_declare.specs.declared.fault.DeclFault.{DeclFault}
+use Rattle.fv_declare.proofs.InOrder.{declared_ordered}
 use Rattle.fv_declare.proofs.Steps.{ok_found}
+use Rattle.fv_declare.proofs.Turns.{unread, declared_by}
 use Rattle.fv_declare.proofs.reading.read_schema.Goals as goal
+
+pub returns-in_err-document-clause-refused : goal.returns-in_err-document-clause-refused
+returns-in_err-document-clause-refused g c =
+    let k = g.R.RuleSet.known c.args.rules.now in
+    let p = err_from_is_err_and c.from_residual.result c.from_residual.ensures.1 in
+    rw p.1 (λ other.
+    subst (λ (e : DeclFault). Declares k c.args.bytes.now (Err e)) (sym p.2)
+    (unread k c.args.bytes.now c.in_err-document.field-0.0 (c.in_err-document.ensures (λ is. other (p.2 ∙ is)))))
 
 pub returns-clause-refused : goal.returns-clause-refused
 returns-clause-refused g c =
+    let k = g.R.RuleSet.known c.args.rules.now in
     let read : json_of c.args.bytes.now ≡ Some (json_view c.root.result) = ok_found (json_of c.args.bytes.now) (document_view c.in_ok-document.document) c.in_ok-document.ensures ∙ ap (λ j. Some j) (sym c.root.ensures) in
-    rw read c.schema_of.ensures.refused
+    IfErr-weaker c.schema_of.result _ _ (λ f h other. declared_by k c.args.bytes.now (json_view c.root.result) read (Err f) (h other)) c.schema_of.ensures.refused
+
+pub returns-clause-ordered : goal.returns-clause-ordered
+returns-clause-ordered g c =
+    let k = g.R.RuleSet.known c.args.rules.now in
+    let read : json_of c.args.bytes.now ≡ Some (json_view c.root.result) = ok_found (json_of c.args.bytes.now) (document_view c.in_ok-document.document) c.in_ok-document.ensures ∙ ap (λ j. Some j) (sym c.root.ensures) in
+    IfOk-weaker c.schema_of.result _ _ (λ s h. declared_ordered k c.args.bytes.now s (declared_by k c.args.bytes.now (json_view c.root.result) read (Ok s) h)) c.schema_of.ensures.taken
 
 pub returns-clause-taken : goal.returns-clause-taken
 returns-clause-taken g c =
+    let k = g.R.RuleSet.known c.args.rules.now in
     let read : json_of c.args.bytes.now ≡ Some (json_view c.root.result) = ok_found (json_of c.args.bytes.now) (document_view c.in_ok-document.document) c.in_ok-document.ensures ∙ ap (λ j. Some j) (sym c.root.ensures) in
-    rw read c.schema_of.ensures.taken
+    IfOk-weaker c.schema_of.result _ _ (λ s. declared_by k c.args.bytes.now (json_view c.root.result) read (Ok s)) c.schema_of.ensures.taken

@@ -3,10 +3,11 @@ use Rattle.std.proofs.lemmas.Int.{to_z-of_z}
 use mir.Syntax.{w64}
 use Rattle.sqlite.specs.Held.{state}
 use Rattle.fv_engine_command.specs.CommandView.{part_view}
+use Rattle.fv_engine_command.specs.Commands.{batch}
 use Rattle.fv_engine_machine.proofs.Becoming.{weaker}
-use Rattle.fv_engine_machine.proofs.Changes.{batch_handled}
+use Rattle.fv_engine_machine.proofs.Changes.{in_batch}
 use Rattle.fv_engine_machine.proofs.answering.batch.Goals as goal
 
 pub returns : goal.returns
-returns g c = weaker (state g.S.Store) _ _ _ _ (λ x y changed. batch_handled g.R.RuleSet.meaning c.args.now x y _ (map part_view c.args.parts.now) changed)
+returns g c = weaker (state g.S.Store) _ _ _ _ (λ x y changed. changed (batch (map part_view c.args.parts.now)) (in_batch (map part_view c.args.parts.now)))
     (rw (to_z-of_z w64 c.args.now c.ranges.now) at c.change.ensures)

@@ -1,8 +1,9 @@
-use Rattle.std.proofs.Common.{sym}
+use Rattle.std.proofs.Common.{refl, sym}
 use Rattle.sqlite.specs.Held.{state}
 use Rattle.fv_store.specs.Stored.{stored_view}
+use Rattle.fv_engine_command.specs.Commands.{get}
 use Rattle.fv_engine_machine.specs.Machines.{contents}
-use Rattle.fv_engine_machine.proofs.Becoming.{unchanged, got_none, got_some, got_not, fails_so}
+use Rattle.fv_engine_machine.proofs.Becoming.{unchanged, got_none, got_some, not_found, fails_so}
 use Rattle.fv_engine_machine.proofs.answering.get.Goals as goal
 
 pub returns-in-Ok-None : goal.returns-in-Ok-None
@@ -21,6 +22,6 @@ returns-in-Ok-Some g c = λ ds means now same.
 
 pub returns-in-Err : goal.returns-in-Err
 returns-in-Err g c = λ ds means now same.
-    unchanged (state g.S.Store) ds _ _ c.in-Err.ensures.frame (λ bytes m holds. c.in-Err.ensures.untouched (contents bytes ds m) holds) _ (λ clean bytes m holds stay. got_not means now c.args.id.now _ _ stay c.undone.result
+    unchanged (state g.S.Store) ds _ _ c.in-Err.ensures.frame (λ bytes m holds. c.in-Err.ensures.untouched (contents bytes ds m) holds) _ (λ clean bytes m holds stay. not_found means now (get c.args.id.now) _ _ stay refl (refl, refl, refl) c.undone.result
     (fails_so c.in-Err.fault c.undone.result _ c.undone.ensures.store c.undone.ensures.memory (λ is. c.in-Err.ensures.cause clean is (contents bytes ds m) same holds)))
     (λ bytes m holds. c.in-Err.ensures.stays (contents bytes ds m) holds)

@@ -1,33 +1,27 @@
-use Rattle.std.proofs.Common.{◌≡◌, ◌≢◌, ◌⊎◌, ℕ, IsTrue, true, List, length, map, [], Ok, Err, inl, inr, refl, sym, ap, subst, ◌∙◌}
-use Rattle.std.specs.List.{AllByRecursion, list_any}
+use Rattle.std.proofs.Common.{◌≡◌, map, Ok, Err, inl, inr, refl, sym, ap, subst, ◌∙◌}
 use Rattle.std.proofs.lemmas.Int.{to_z-of_z}
 use mir.Syntax.{w64}
-use Rattle.sqlite.specs.Effect.{Database}
 use Rattle.sqlite.specs.Held.{state}
 use Rattle.fv_engine_command.specs.CommandView.{part_view}
 use Rattle.fv_declare_schema.specs.Declarations.{Declarations}
-use Rattle.fv_engine_machine.specs.Keeping.{ChangesSo, FitsWhereHeld}
+use Rattle.fv_engine_machine.specs.Keeping.{Unchanged, ChangesSo, FitsWhereHeld}
 use Rattle.fv_engine_machine.specs.Machines.{contents, with_map, over, room_in}
-use Rattle.fv_engine_machine.specs.Step.{Unchanged}
 use Rattle.fv_engine_machine.proofs.Becoming.{rests, unmoved, unchanged, stays_itself, fails_so}
-use Rattle.fv_engine_machine.proofs.Changes.{is_part_memory, change_misshapen, change_unfound, change_unmade, change_settled}
+use Rattle.fv_engine_machine.proofs.Changes.{is_part_memory, change_memory, change_misshapen, change_unfound, change_unmade, change_settled}
 use Rattle.fv_engine_pending.specs.Fits.{AreTyped, Keeps}
-use Rattle.fv_engine_pending.specs.Parts.{are_misshapen}
-use Rattle.fv_engine_pending.specs.Steps.{Staged, StepFits, staged, step_view, steps_made}
-use Rattle.fv_engine_pending.specs.Ways.{Way, pending_view}
-use Rattle.fv_engine_pending.specs.declared.fault.PartFault.{PartFault}
+use Rattle.fv_engine_pending.specs.Steps.{staged, step_view, steps_made}
+use Rattle.fv_engine_pending.specs.Ways.{pending_view}
 use Rattle.fv_engine_pending.proofs.Fitting.{agreeing_fit}
 use Rattle.fv_engine_pending.proofs.Made.{made, unmade}
 use Rattle.fv_engine_pending.proofs.Touching.{touched_stands, standing_touched, counted}
 use Rattle.fv_engine_reply.specs.Answers.{Answer}
 use Rattle.fv_engine_reply.specs.AnswerView.{answer_view}
-use Rattle.fv_engine_reply.specs.declared.answer.Refusal.TheVariants.{Memory}
 use Rattle.fv_store.specs.Records.{Records}
 use Rattle.fv_model_types.specs.TypesView.{types_view}
 use Rattle.fv_engine_machine.proofs.changing.change.Goals as goal
 
 pub returns-in-Err : goal.returns-in-Err
-returns-in-Err g c = rests (state g.S.Store) _ _ (λ x. inr (Memory, tt, refl, stays_itself x))
+returns-in-Err g c = rests (state g.S.Store) _ _ (λ x. change_memory g.R.RuleSet.meaning c.args.now (map part_view c.args.parts.now) c.args.done x x (stays_itself x))
 
 pub returns-in-Ok-None : goal.returns-in-Ok-None
 returns-in-Ok-None g c =
@@ -58,7 +52,7 @@ returns-in-Err-apply_all g c =
     let tells = λ (m : Records) (a : Answer). ChangesSo g.R.RuleSet.meaning c.args.now parts c.args.done (with_map (state g.S.Store) (over (state g.S.Store) ds c.args.store.now) m) a
     (with_map (state g.S.Store) (over (state g.S.Store) ds c.find_records.new.store) m) in
     unchanged (state g.S.Store) ds _ _ e.frame (λ bytes m holds. e.untouched (contents bytes ds m) holds) _ (λ clean bytes m holds stay. elim (is_part_memory c.in-Err-apply_all.fault) [
-      | inl is ↦ subst (λ (a : Answer). tells m a) (sym (c.unmade.ensures.memory is)) (inr (Memory, tt, refl, stay))
+      | inl is ↦ subst (λ (a : Answer). tells m a) (sym (c.unmade.ensures.memory is)) (change_memory g.R.RuleSet.meaning c.args.now parts c.args.done _ _ stay)
       | inr other ↦
           let stops : steps_made ds.types 0 (map (staged ds.types ds.forms) parts) start ≡ Err (c.in-Err-apply_all.part, c.in-Err-apply_all.fault) = rw (read.1, again) at (c.in-Err-apply_all.ensures.made other) in
           subst (λ (a : Answer). tells m a) (sym (c.unmade.ensures.other other))

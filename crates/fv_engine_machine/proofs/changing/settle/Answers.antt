@@ -1,9 +1,9 @@
-use Rattle.std.proofs.Common.{◌≡◌, ℕ, [], length, map, refl, sym, ◌∙◌, arith}
+use Rattle.std.proofs.Common.{◌≡◌, [], length, map, refl, sym, ◌∙◌, arith}
 use Rattle.std.proofs.lemmas.Grind.{common_steps}
 use Rattle.std.proofs.lemmas.Int.{to_z-of_z}
 use mir.Syntax.{w64}
 use Rattle.sqlite.specs.Held.{state}
-use Rattle.fv_engine_machine.specs.Judging.{with_some}
+use Rattle.fv_engine_machine.specs.Records.{with_some}
 use Rattle.fv_engine_machine.specs.Keeping.{Settles}
 use Rattle.fv_engine_pending.specs.Ways.{pending_view}
 use Rattle.fv_engine_reply.specs.Answers.{violated, refused}

@@ -10,7 +10,6 @@ use Rattle.fv_model.specs.Views.{bundle_view}
 use Rattle.fv_validate.specs.ViolationView.{violation_view}
 use Rattle.fv_validate.specs.Violations.{IsListing}
 use Rattle.fv_walk.specs.Visits.{HasTooManyVisits, HasFewVisits}
-use Rattle.fv_engine_machine.specs.Asked.{listed, IsVerdict}
 use Rattle.fv_engine_machine.proofs.Becoming.{not_checked}
 use Rattle.fv_engine_machine.proofs.Groups.{all_named, not_named}
 use Rattle.fv_engine_machine.proofs.checking.checked.Goals as goal
@@ -35,7 +34,8 @@ returns-in-Ok g c =
     let numbers : indices c.in-Ok-Some.asked.items ≡ numbers_of ds.groups names = named.1 ∙ ap (λ (gs : Groups). numbers_of gs names) same in
     let few : HasFewVisits ds b (indices c.in-Ok-Some.asked.items) = rw c.deref.ensures.value at (c.in-Ok.ensures.few c.requires.typed) in
     let listing : IsListing m ds c.args.now b (indices c.in-Ok-Some.asked.items) vs = rw (c.deref.ensures.value, to_z-of_z w64 c.args.now c.ranges.now) at (c.in-Ok.ensures.listing c.requires.typed) in
-    inr (inl (subst (λ (gs : Groups). unknown_in gs names ≡ false) same named.0, (listed vs, subst (λ (groups : List ℕ). IsVerdict m ds c.args.now b groups (listed vs)) numbers (few, listing), refl)))
+    let both = subst (λ (groups : List ℕ). HasFewVisits ds b groups × IsListing m ds c.args.now b groups vs) numbers (few, listing) in
+    inr (inl (subst (λ (gs : Groups). unknown_in gs names ≡ false) same named.0, inr (vs, both.0, both.1, refl)))
 
 pub returns : goal.returns
 returns g c =

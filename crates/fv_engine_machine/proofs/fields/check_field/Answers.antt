@@ -1,4 +1,4 @@
-use Rattle.std.proofs.Common.{◌≡◌, map, sym, subst, ap, ◌∙◌}
+use Rattle.std.proofs.Common.{◌≡◌, map, refl, sym, subst, ap, ◌∙◌}
 use Rattle.std.proofs.lemmas.Int.{to_z-of_z}
 use mir.Syntax.{w64}
 use Rattle.sqlite.specs.Held.{state}
@@ -8,9 +8,10 @@ use Rattle.fv_model.specs.WellTyped.{IsWellTyped}
 use Rattle.fv_store.specs.Stored.{stored_view}
 use Rattle.fv_model_types.specs.Types.{Declared}
 use Rattle.fv_model_types.specs.TypesView.{types_view}
+use Rattle.fv_engine_command.specs.Commands.{check_field}
 use Rattle.fv_engine_machine.specs.Machines.{contents}
-use Rattle.fv_engine_machine.proofs.Becoming.{unchanged, fails_so}
-use Rattle.fv_engine_machine.proofs.OneField.{field_none, field_some, field_not, found_typed}
+use Rattle.fv_engine_machine.proofs.Becoming.{unchanged, not_found, fails_so}
+use Rattle.fv_engine_machine.proofs.OneField.{field_none, field_some, found_typed}
 use Rattle.fv_engine_machine.proofs.fields.check_field.Goals as goal
 
 pub returns-in-Ok-None : goal.returns-in-Ok-None
@@ -41,7 +42,7 @@ returns-in-Err g c =
     let ds = c.args.book.now in
     let names = map (λ n. n.now) c.args.names.now in
     let same : ds.types ≡ types_view c.types.result.now = sym (c.types.ensures ∙ ap (λ (d : Declarations). d.types) c.schema.ensures) in
-    unchanged (state g.S.Store) ds _ _ c.in-Err.ensures.frame (λ bytes m holds. c.in-Err.ensures.untouched (contents bytes ds m) holds) _ (λ clean bytes m holds stay. field_not g.R.RuleSet.meaning c.args.now c.args.id.now c.args.object.now c.args.field.now names _ _ stay c.undone.result
+    unchanged (state g.S.Store) ds _ _ c.in-Err.ensures.frame (λ bytes m holds. c.in-Err.ensures.untouched (contents bytes ds m) holds) _ (λ clean bytes m holds stay. not_found g.R.RuleSet.meaning c.args.now (check_field c.args.id.now c.args.object.now c.args.field.now names) _ _ stay refl (refl, refl, refl) c.undone.result
     (fails_so c.in-Err.fault c.undone.result _ c.undone.ensures.store c.undone.ensures.memory (λ is. c.in-Err.ensures.cause clean is (contents bytes ds m) same holds)))
     (λ bytes m holds. c.in-Err.ensures.stays (contents bytes ds m) holds)
 

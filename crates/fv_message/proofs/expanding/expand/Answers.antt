@@ -1,7 +1,7 @@
 use Rattle.std.proofs.Common.{List, ℕ, ◌++◌, sym, ap, ◌∙◌, rules}
 use Rattle.std.specs.Str.{IsUtf8}
 use Rattle.std.proofs.lemmas.List.Concat.{flat_map-append}
-use Rattle.fv_message.specs.Full.{piece_text, full_pieces}
+use Rattle.fv_message.specs.Evaluated.{piece_text, full_pieces}
 use Rattle.fv_message.specs.Parts.{part_pieces}
 use Rattle.fv_message.proofs.Keys.{part_keys}
 use Rattle.fv_message.proofs.Seen.{seen_more}

@@ -3,7 +3,7 @@ use denote.Text.{Utf8}
 use denote.Shadow.{shadow}
 use Rattle.fv_datum.specs.Attributes.{Attributes}
 use Rattle.fv_message.specs.Expanded.{expansion_text}
-use Rattle.fv_message.specs.Full.{full_pieces}
+use Rattle.fv_message.specs.Evaluated.{full_pieces}
 use Rattle.fv_message.specs.Template.{Piece}
 use Rattle.fv_message.proofs.Seen.{Seen}
 use Rattle.fv_message.proofs.expanding.expand.Given as goal

@@ -1,6 +1,6 @@
 use Rattle.std.proofs.Common.{[], ◌∷◌, map, sym, ap, subst, ◌∙◌}
 use Rattle.fv_message.specs.Expanded.{expansion_text, IsExpansion}
-use Rattle.fv_message.specs.Full.{full_pieces}
+use Rattle.fv_message.specs.Evaluated.{full_pieces}
 use Rattle.fv_message.specs.Parts.{part_pieces}
 use Rattle.fv_message.specs.Template.{plain, parameter}
 use Rattle.fv_message.specs.declared.expansion.Expansion.{Expansion}

@@ -2,8 +2,10 @@ use Rattle.std.proofs.Common.{◌≡◌, ◌<◌, ◌↔◌, ℕ, List, min, sli
 use Rattle.fv_graph.specs.Graph.{IsIn, next_of}
 use Rattle.fv_graph.specs.Weight.{weight, own_of}
 use Rattle.fv_message.specs.Measured.{own_len}
-use Rattle.fv_message.specs.Table.{Messages, text_at}
-use Rattle.fv_message.specs.Template.{is_template}
+use Rattle.fv_message.specs.Table.{Messages}
+use Rattle.fv_message.specs.Numbers.{text_at}
+use Rattle.fv_message.specs.Reading.{is_template}
+use Rattle.fv_message.proofs.Becoming.{by_key}
 use Rattle.fv_message.proofs.Cycles.{edges_within}
 use Rattle.fv_message.proofs.Weights.{AreOwnLens, long_is}
 use Rattle.fv_message.proofs.lengths.has_long_key.Goals as goal
@@ -24,8 +26,9 @@ pub returns : goal.returns
 returns c =
     let edges = c.args.edges.now in
     let order = c.args.order.now in
-    long_is c.args.messages.now edges c.requires.edges c.loop-key.own.items
+    by_key c.args.messages.now c.has_above.result
+    (long_is c.args.messages.now edges c.requires.edges c.loop-key.own.items
     (own_lens c.args.messages.now c.loop-key.own.items c.loop-key.key (omega (arith, c.loop-key.auto.key-end, c.loop-key-test.false, c.count-key-end.ensures)) c.loop-key.invariant) order c.in_ok-lens.lens.items c.has_above.result c.requires.order
     (subst (λ (own : List ℕ). (i : ℕ) → IsIn order i → slice_index c.in_ok-lens.lens.items i ≡ min 65537 (weight (own_of own) (next_of edges) (length edges) i))
     c.deref.ensures.value c.in_ok-lens.ensures.weights)
-    (subst (λ (table : List ℕ). IsTrue c.has_above.result ↔ ((i : ℕ) × IsIn order i × (65536 < slice_index table i))) c.deref-2.ensures.value c.has_above.ensures)
+    (subst (λ (table : List ℕ). IsTrue c.has_above.result ↔ ((i : ℕ) × IsIn order i × (65536 < slice_index table i))) c.deref-2.ensures.value c.has_above.ensures))

@@ -1,7 +1,7 @@
 use Rattle.std.proofs.Common.{◌≡◌, ◌<◌, ℕ, length, true, get_or}
 use Rattle.fv_message.specs.Measured.{own_len}
-use Rattle.fv_message.specs.Table.{text_at}
-use Rattle.fv_message.specs.Template.{is_template}
+use Rattle.fv_message.specs.Numbers.{text_at}
+use Rattle.fv_message.specs.Reading.{is_template}
 use Rattle.fv_message.proofs.lengths.has_long_key.Given as goal
 
 abbrev pub invariant-loop-key : goal.invariant-loop-key

@@ -2,7 +2,8 @@ use Rattle.std.proofs.Common.{◌≡◌, ◌∙◌, List, ℕ, length, Vec, sym,
 use Rattle.std.specs.declared.alloc.Global.{Global}
 use Rattle.std.proofs.lemmas.Bool.{iff_false}
 use Rattle.fv_graph.specs.Graph.{AreWithin, IsBelow, IsCyclic, IsIn, IsOrder, IsPartOrder, IsRestOrder, next_of}
-use Rattle.fv_message.specs.Table.{next_keys}
+use Rattle.fv_message.specs.Numbers.{next_keys}
+use Rattle.fv_message.proofs.Circles.{circular_of, cyclic_of}
 use Rattle.fv_message.proofs.Cycles.{edges_within, cycle_found, none_found}
 use Rattle.fv_message.proofs.Keys.{next_below}
 use Rattle.fv_message.proofs.messages.expansions_of.Goals as goal
@@ -33,8 +34,8 @@ returns-then-len c =
     let order = c.in_ok-order.order.items in (
       iff_false c.in_ok-has_long_key.ensures c.if-branch.false,
       c.if-misspelt.false,
-      cycle_found c.args.keys.now edges order c.in_ok-edges.ensures (c.requires c.if-misspelt.false) (ordered c.deref.result.now edges order c.deref.ensures.value c.in_ok-order.ensures)
-          (omega (arith, c.len.ensures, c.len-2.ensures, c.if-len.true)),
+      circular_of c.args.keys.now (cycle_found c.args.keys.now edges order c.in_ok-edges.ensures (c.requires c.if-misspelt.false) (ordered c.deref.result.now edges order c.deref.ensures.value c.in_ok-order.ensures)
+          (omega (arith, c.len.ensures, c.len-2.ensures, c.if-len.true))),
     )
 
 pub table-requires-clause-count : goal.table-requires-clause-count
@@ -62,5 +63,5 @@ returns c =
         c.in_ok-table.ensures.len ∙ c.len-3.ensures ∙ sym c.deref.ensures.len ∙ ap length c.deref.ensures.value ∙ c.in_ok-edges.ensures.0,
         λ i d less. c.in_ok-table.ensures.right i d (subst (λ (l : List ℕ). IsIn l i) (sym c.deref-4.ensures.value) ((whole.1.1 i).1 less)),
       ),
-      record { small = iff_false c.in_ok-has_long_key.ensures c.if-branch.false; spelt = c.if-misspelt.false; no_cycle = whole.0 },
+      record { small = iff_false c.in_ok-has_long_key.ensures c.if-branch.false; spelt = c.if-misspelt.false; no_cycle = λ circular. whole.0 (cyclic_of c.args.keys.now circular) },
     )

@@ -1,7 +1,8 @@
 use Rattle.std.proofs.Common.{◌≡◌, map, not, ◌||◌}
 use Rattle.std.specs.List.{list_any}
-use Rattle.fv_message.specs.Judged.{is_misspelt}
-use Rattle.fv_message.specs.Template.{is_template, is_parameter_name}
+use Rattle.fv_message.specs.Judging.{is_misspelt}
+use Rattle.fv_message.specs.Reading.{is_template}
+use Rattle.fv_message.specs.Template.{is_parameter_name}
 use Rattle.fv_message.specs.Views.{message_view, messages_view}
 use Rattle.fv_message.proofs.reading.is_misspelt.Given as goal
 

@@ -1,6 +1,6 @@
 use Rattle.std.proofs.Common.{◌∙◌, ℕ, List, [], ◌∷◌, length, length-append, ap, lit<, arith}
 use Rattle.std.proofs.lemmas.Str.Pattern.{split_parts}
-use Rattle.fv_message.specs.Template.{pieces_of}
+use Rattle.fv_message.specs.Reading.{pieces_of}
 use Rattle.fv_message.proofs.Pieces.{parameter_read, open_read, misnamed_read}
 use Rattle.fv_message.proofs.template.split_parameter.Goals as goal
 

@@ -1,56 +1,62 @@
 use Rattle.sqlite.specs.Held.{state}
 use Rattle.std.proofs.lemmas.Int.{to_z-of_z}
 use mir.Syntax.{w64}
-use Rattle.fv_engine.proofs.Laws.{shows_what_was_put, changes_no_get, lists_some, may_change_places, fails_where_shut, fails_for_room_alone, leaves_nothing_to_list}
+use Rattle.fv_engine.proofs.Laws.{becomes_told, shows_what_was_put, changes_no_get, lists_some, may_change_places, fails_where_shut, fails_for_room_alone, leaves_nothing_to_list}
 use Rattle.fv_engine.proofs.Lifts.{long_becomes, short_becomes}
 use Rattle.fv_engine.proofs.engine.Engine.run.Goals as goal
 
-pub returns-then-line-gt-LIMIT-clause-step : goal.returns-then-line-gt-LIMIT-clause-step
-returns-then-line-gt-LIMIT-clause-step g c =
+pub returns-then-line-gt-LIMIT-clause-causes : goal.returns-then-line-gt-LIMIT-clause-causes
+returns-then-line-gt-LIMIT-clause-causes g c =
     long_becomes g.R.RuleSet.meaning (state g.S.Store) c.args.line.now _ _ c.args.self.now _ c.refuse_long.ensures.same c.if-line-gt-LIMIT.true c.refuse_long.ensures.refused
 
-pub returns-clause-step : goal.returns-clause-step
-returns-clause-step g c =
+pub returns-clause-causes : goal.returns-clause-causes
+returns-clause-causes g c =
     short_becomes g.R.RuleSet.meaning (state g.S.Store) c.args.line.now _ _ c.args.self.now _ c.self.inside.store c.reply_to_line.new.store c.self.view_is c.if-line-gt-LIMIT.false (rw (to_z-of_z w64 c.args.now c.ranges.now) at c.reply_to_line.ensures)
 
+pub returns-then-line-gt-LIMIT-clause-step : goal.returns-then-line-gt-LIMIT-clause-step
+returns-then-line-gt-LIMIT-clause-step g c = becomes_told (state g.S.Store) g.R.RuleSet.meaning c.args.line.now _ _ c.args.self.now _ (returns-then-line-gt-LIMIT-clause-causes g c)
+
+pub returns-clause-step : goal.returns-clause-step
+returns-clause-step g c = becomes_told (state g.S.Store) g.R.RuleSet.meaning c.args.line.now _ _ c.args.self.now _ (returns-clause-causes g c)
+
 pub returns-then-line-gt-LIMIT-clause-shows : goal.returns-then-line-gt-LIMIT-clause-shows
-returns-then-line-gt-LIMIT-clause-shows g c = shows_what_was_put (state g.S.Store) g.R.RuleSet.meaning c.args.line.now _ _ c.args.self.now _ (returns-then-line-gt-LIMIT-clause-step g c)
+returns-then-line-gt-LIMIT-clause-shows g c = shows_what_was_put (state g.S.Store) g.R.RuleSet.meaning c.args.line.now _ _ c.args.self.now _ (returns-then-line-gt-LIMIT-clause-causes g c)
 
 pub returns-clause-shows : goal.returns-clause-shows
-returns-clause-shows g c = shows_what_was_put (state g.S.Store) g.R.RuleSet.meaning c.args.line.now _ _ c.args.self.now _ (returns-clause-step g c)
+returns-clause-shows g c = shows_what_was_put (state g.S.Store) g.R.RuleSet.meaning c.args.line.now _ _ c.args.self.now _ (returns-clause-causes g c)
 
 pub returns-then-line-gt-LIMIT-clause-unchanged : goal.returns-then-line-gt-LIMIT-clause-unchanged
-returns-then-line-gt-LIMIT-clause-unchanged g c = changes_no_get (state g.S.Store) g.R.RuleSet.meaning c.args.line.now _ _ c.args.self.now _ (returns-then-line-gt-LIMIT-clause-step g c)
+returns-then-line-gt-LIMIT-clause-unchanged g c = changes_no_get (state g.S.Store) g.R.RuleSet.meaning c.args.line.now _ _ c.args.self.now _ (returns-then-line-gt-LIMIT-clause-causes g c)
 
 pub returns-clause-unchanged : goal.returns-clause-unchanged
-returns-clause-unchanged g c = changes_no_get (state g.S.Store) g.R.RuleSet.meaning c.args.line.now _ _ c.args.self.now _ (returns-clause-step g c)
+returns-clause-unchanged g c = changes_no_get (state g.S.Store) g.R.RuleSet.meaning c.args.line.now _ _ c.args.self.now _ (returns-clause-causes g c)
 
 pub returns-then-line-gt-LIMIT-clause-lists : goal.returns-then-line-gt-LIMIT-clause-lists
-returns-then-line-gt-LIMIT-clause-lists g c = lists_some (state g.S.Store) g.R.RuleSet.meaning c.args.line.now _ _ c.args.self.now _ (returns-then-line-gt-LIMIT-clause-step g c)
+returns-then-line-gt-LIMIT-clause-lists g c = lists_some (state g.S.Store) g.R.RuleSet.meaning c.args.line.now _ _ c.args.self.now _ (returns-then-line-gt-LIMIT-clause-causes g c)
 
 pub returns-clause-lists : goal.returns-clause-lists
-returns-clause-lists g c = lists_some (state g.S.Store) g.R.RuleSet.meaning c.args.line.now _ _ c.args.self.now _ (returns-clause-step g c)
+returns-clause-lists g c = lists_some (state g.S.Store) g.R.RuleSet.meaning c.args.line.now _ _ c.args.self.now _ (returns-clause-causes g c)
 
 pub returns-then-line-gt-LIMIT-clause-places : goal.returns-then-line-gt-LIMIT-clause-places
-returns-then-line-gt-LIMIT-clause-places g c = may_change_places (state g.S.Store) g.R.RuleSet.meaning c.args.line.now _ _ c.args.self.now _ (returns-then-line-gt-LIMIT-clause-step g c)
+returns-then-line-gt-LIMIT-clause-places g c = may_change_places (state g.S.Store) g.R.RuleSet.meaning c.args.line.now _ _ c.args.self.now _ (returns-then-line-gt-LIMIT-clause-causes g c)
 
 pub returns-clause-places : goal.returns-clause-places
-returns-clause-places g c = may_change_places (state g.S.Store) g.R.RuleSet.meaning c.args.line.now _ _ c.args.self.now _ (returns-clause-step g c)
+returns-clause-places g c = may_change_places (state g.S.Store) g.R.RuleSet.meaning c.args.line.now _ _ c.args.self.now _ (returns-clause-causes g c)
 
 pub returns-then-line-gt-LIMIT-clause-shut : goal.returns-then-line-gt-LIMIT-clause-shut
-returns-then-line-gt-LIMIT-clause-shut g c = fails_where_shut (state g.S.Store) g.R.RuleSet.meaning c.args.line.now _ _ c.args.self.now _ (returns-then-line-gt-LIMIT-clause-step g c)
+returns-then-line-gt-LIMIT-clause-shut g c = fails_where_shut (state g.S.Store) g.R.RuleSet.meaning c.args.line.now _ _ c.args.self.now _ (returns-then-line-gt-LIMIT-clause-causes g c)
 
 pub returns-clause-shut : goal.returns-clause-shut
-returns-clause-shut g c = fails_where_shut (state g.S.Store) g.R.RuleSet.meaning c.args.line.now _ _ c.args.self.now _ (returns-clause-step g c)
+returns-clause-shut g c = fails_where_shut (state g.S.Store) g.R.RuleSet.meaning c.args.line.now _ _ c.args.self.now _ (returns-clause-causes g c)
 
 pub returns-then-line-gt-LIMIT-clause-nothing : goal.returns-then-line-gt-LIMIT-clause-nothing
-returns-then-line-gt-LIMIT-clause-nothing g c = leaves_nothing_to_list (state g.S.Store) g.R.RuleSet.meaning c.args.line.now _ _ c.args.self.now _ (returns-then-line-gt-LIMIT-clause-step g c)
+returns-then-line-gt-LIMIT-clause-nothing g c = leaves_nothing_to_list (state g.S.Store) g.R.RuleSet.meaning c.args.line.now _ _ c.args.self.now _ (returns-then-line-gt-LIMIT-clause-causes g c)
 
 pub returns-clause-nothing : goal.returns-clause-nothing
-returns-clause-nothing g c = leaves_nothing_to_list (state g.S.Store) g.R.RuleSet.meaning c.args.line.now _ _ c.args.self.now _ (returns-clause-step g c)
+returns-clause-nothing g c = leaves_nothing_to_list (state g.S.Store) g.R.RuleSet.meaning c.args.line.now _ _ c.args.self.now _ (returns-clause-causes g c)
 
 pub returns-then-line-gt-LIMIT-clause-room : goal.returns-then-line-gt-LIMIT-clause-room
-returns-then-line-gt-LIMIT-clause-room g c = fails_for_room_alone (state g.S.Store) g.R.RuleSet.meaning c.args.line.now _ _ c.args.self.now _ (returns-then-line-gt-LIMIT-clause-step g c)
+returns-then-line-gt-LIMIT-clause-room g c = fails_for_room_alone (state g.S.Store) g.R.RuleSet.meaning c.args.line.now _ _ c.args.self.now _ (returns-then-line-gt-LIMIT-clause-causes g c)
 
 pub returns-clause-room : goal.returns-clause-room
-returns-clause-room g c = fails_for_room_alone (state g.S.Store) g.R.RuleSet.meaning c.args.line.now _ _ c.args.self.now _ (returns-clause-step g c)
+returns-clause-room g c = fails_for_room_alone (state g.S.Store) g.R.RuleSet.meaning c.args.line.now _ _ c.args.self.now _ (returns-clause-causes g c)

@@ -3,8 +3,9 @@ use Rattle.std.specs.declared.alloc.AllocError.{AllocError}
 use Rattle.fv_datum.specs.Attributes.{Attributes}
 use Rattle.fv_graph.specs.Graph.{MeetsCycle}
 use Rattle.fv_message.specs.Expanded.{expansion_text, IsExpansion}
-use Rattle.fv_message.specs.Full.{full_text}
-use Rattle.fv_message.specs.Table.{Messages, text_at, next_keys}
+use Rattle.fv_message.specs.Evaluated.{full_text}
+use Rattle.fv_message.specs.Table.{Messages}
+use Rattle.fv_message.specs.Numbers.{text_at, next_keys}
 use Rattle.fv_message.specs.declared.expansion.Expansion.{Expansion}
 use Rattle.fv_message.proofs.Keys.{key_unfolds}
 use Rattle.fv_message.proofs.expanding.ExpandingCombine.combine.Goals as goal

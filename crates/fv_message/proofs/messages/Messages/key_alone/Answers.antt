@@ -1,6 +1,6 @@
 use Rattle.std.proofs.Common.{◌≡◌, IfSome, subst, arith}
 use Rattle.fv_datum.specs.Attributes.{Attributes}
-use Rattle.fv_message.specs.Full.{full_text, key_text}
+use Rattle.fv_message.specs.Evaluated.{full_text, key_text}
 use Rattle.fv_message.specs.Table.{Messages}
 use Rattle.fv_message.proofs.Cuts.{brace_cut}
 use Rattle.fv_message.proofs.Named.{alone_found}

@@ -1,7 +1,7 @@
 use Rattle.std.proofs.Common.{◌≡◌, List, length, string_bytes}
 use denote.Text.{Utf8}
 use denote.Shadow.{shadow}
-use Rattle.fv_message.specs.Full.{full_pieces}
+use Rattle.fv_message.specs.Evaluated.{full_pieces}
 use Rattle.fv_message.specs.Template.{Piece}
 use Rattle.fv_message.proofs.Seen.{Seen}
 use Rattle.fv_message.proofs.messages.Messages.text.Given as goal

@@ -1,6 +1,6 @@
 use Rattle.std.proofs.Common.{List, [], ℕ, ◌++◌, sym, ap, ◌∙◌, rules}
 use Rattle.std.specs.Str.{IsUtf8}
-use Rattle.fv_message.specs.Table.{keys_in, text_at}
+use Rattle.fv_message.specs.Numbers.{keys_in, text_at}
 use Rattle.fv_message.specs.Parts.{part_pieces}
 use Rattle.fv_message.proofs.Plain.{keys-append}
 use Rattle.fv_message.proofs.Seen.{Seen, seen_none, seen_more}

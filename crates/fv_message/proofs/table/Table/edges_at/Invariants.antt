@@ -1,7 +1,7 @@
 use Rattle.std.proofs.Common.{◌≡◌, List, length}
 use denote.Text.{Utf8}
 use denote.Shadow.{shadow}
-use Rattle.fv_message.specs.Table.{keys_in, text_at}
+use Rattle.fv_message.specs.Numbers.{keys_in, text_at}
 use Rattle.fv_message.specs.Template.{Piece}
 use Rattle.fv_message.proofs.Seen.{Seen}
 use Rattle.fv_message.proofs.table.Table.edges_at.Given as goal

@@ -1,5 +1,6 @@
 use Rattle.std.proofs.Common.{◌∙◌, ap}
-use Rattle.fv_message.specs.Table.{Messages, number_of}
+use Rattle.fv_message.specs.Table.{Messages}
+use Rattle.fv_message.specs.Numbers.{number_of}
 use Rattle.fv_message.proofs.Numbers.{number_is}
 use Rattle.fv_message.proofs.table.Table.number_of.Goals as goal
 

@@ -1,6 +1,6 @@
 use Rattle.std.proofs.Common.{[], ◌++◌, rules, refl, arith}
 use Rattle.std.specs.Str.{IsUtf8}
-use Rattle.fv_message.specs.Table.{text_at}
+use Rattle.fv_message.specs.Numbers.{text_at}
 use Rattle.fv_message.specs.Parts.{part_pieces}
 use Rattle.fv_message.proofs.Plain.{own-append}
 use Rattle.fv_message.proofs.Seen.{Seen, seen_none, seen_more}

@@ -2,7 +2,7 @@ use Rattle.std.proofs.Common.{◌≡◌, ◌+◌, ◌≤◌, List, length}
 use denote.Text.{Utf8}
 use denote.Shadow.{shadow}
 use Rattle.fv_message.specs.Measured.{own_bytes}
-use Rattle.fv_message.specs.Table.{text_at}
+use Rattle.fv_message.specs.Numbers.{text_at}
 use Rattle.fv_message.specs.Template.{Piece}
 use Rattle.fv_message.proofs.Seen.{Seen}
 use Rattle.fv_message.proofs.table.Table.own_len.Given as goal

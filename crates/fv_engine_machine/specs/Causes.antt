@@ -1,0 +1,51 @@
+-- What the connection to the database, which keeps the records, has to do with a step.
+use Rattle.std.specs.Prelude.{◌≡◌, ◌+◌, ◌≤◌, ◌<◌, ◌⊎◌, ℕ, ℤ, IsTrue, false, List, length}
+use Rattle.sqlite.specs.Disk.{MoreFaults}
+use Rattle.fv_engine_machine.specs.Machines.{Machine}
+use Rattle.fv_engine_machine.specs.Refusals.{parts_of}
+use Rattle.fv_engine_machine.specs.Step.{IsTaken, LooksUp, Step}
+use Rattle.fv_engine_command.specs.Commands.{Part, Request, asked}
+use Rattle.fv_engine_pending.specs.Touched.{IsTouched}
+use Rattle.fv_registry.specs.Meanings.{Meanings}
+use Rattle.fv_engine_reply.specs.Answers.{Answer, done, refused}
+use Rattle.fv_engine_reply.specs.Texts.{answer_text}
+use Rattle.fv_engine_reply.specs.declared.answer.Refusal.TheVariants.{Store, Memory}
+use Rattle.fv_store.specs.Causes.{IsShort}
+use Rattle.fv_store.specs.Records.{Kept, Records}
+
+-- the disk has failed more often since, or the connection was shut before
+abbrev pub StoreHasFailed : Machine Records → Machine Records → Type 0
+StoreHasFailed old new = MoreFaults old.faults new.faults ⊎ (old.is_open ≡ false)
+
+-- the database has room for what parts leave: a rowid is left for each part, and no row is too long
+abbrev pub HasRoomFor : List Part → Records → Machine Records → Type 0
+HasRoomFor parts m old = (length parts < old.room) × ((id : List ℕ) (k : Kept) → IsTouched parts m id k → IsShort id k)
+
+-- why the store refuses a request: it has failed, or that is a command that would be taken, and so it has where the database has room
+abbrev pub HasCause : Meanings → ℤ → Request → Machine Records → Machine Records → Type 0
+HasCause means now r old new = StoreHasFailed old new
+    ⊎ ((m : Records) × IsTaken means old.declared now r old.records m × (HasRoomFor (parts_of r) m old → StoreHasFailed old new))
+
+-- A taken command of so many parts goes by an open connection, which stays open, and gives out so many rowids, at most. Else none is given out.
+abbrev pub GivesOut : Answer → ℕ → Machine Records → Machine Records → Type 0
+GivesOut (done what) count old new = IsTrue old.is_open × IsTrue new.is_open × (old.room ≤ new.room + count)
+GivesOut _ count old new = IsTrue new.is_open → new.room ≡ old.room
+
+-- What is declared stays and no fault is forgotten; what is shut stays shut, and only a failure of the disk shuts the connection. By one that
+-- is shut, a request that looks something up fails. The store refuses with a cause.
+pub record Causes (means : Meanings) (now : ℤ) (r : Request) (answer : Answer) (old new : Machine Records) : Type 0 where
+  pub declared : new.declared ≡ old.declared
+  pub counts : old.faults ≤ new.faults
+  pub was_open : IsTrue new.is_open → IsTrue old.is_open
+  pub closes : IsTrue old.is_open → IsTrue new.is_open ⊎ MoreFaults old.faults new.faults
+  pub gives : GivesOut answer (length (parts_of r)) old new
+  pub finds : LooksUp old.declared r → IsTrue old.is_open ⊎ ((answer ≡ refused Store) ⊎ (answer ≡ refused Memory))
+  pub cause : answer ≡ refused Store → HasCause means now r old new
+
+-- a step of the map, with its causes
+abbrev pub Handles : Meanings → ℤ → Request → Machine Records → Answer → Machine Records → Type 0
+Handles means now r old answer new = Step means old.declared old.records r now answer new.records × Causes means now r answer old new
+
+-- that of what a line asks for, told by the text of its answer
+abbrev pub Caused : Meanings → Machine Records → List ℕ → ℤ → List ℕ → Machine Records → Type 0
+Caused means old line moment text new = (answer : Answer) × (text ≡ answer_text answer) × Handles means moment (asked line) old answer new

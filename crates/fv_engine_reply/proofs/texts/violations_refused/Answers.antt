@@ -1,7 +1,0 @@
-use Rattle.std.proofs.Common.{map}
-use Rattle.fv_engine_reply.specs.AnswerView.{judged_view}
-use Rattle.fv_engine_reply.proofs.NoFloats.{refusal_whole}
-use Rattle.fv_engine_reply.proofs.texts.violations_refused.Goals as goal
-
-pub text_of-requires : goal.text_of-requires
-text_of-requires c = rw c.in_ok-value.ensures (refusal_whole (map judged_view c.args.records.now))
