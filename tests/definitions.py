@@ -3,7 +3,7 @@
 
     tests/definitions.py CRATE FUNCTION .. [--list]      as in: tests/definitions.py fv_engine serve open
 
-It begins at the names in the calls' clauses and follows each definition of the crates' specs/ to the
+It begins at the names in the calls' clauses and in the views of the crate's types, and follows each definition of the crates' specs/ to the
 definitions that it names, through names that are handed on by `pub use`; the libraries of the toolchain
 are the ground. It prints how many lines these definitions have, with the comments over them, and in how
 many files they stand; with --list first the names in each file, with --print the definitions
@@ -17,6 +17,7 @@ ROOT = os.path.join(os.path.dirname(os.path.abspath(__file__)), "..", "crates")
 IMPORT = re.compile(r"use Rattle\.([\w.]+?)(?:\.\{([^}]*)\}| as (\w+))")
 BEGINS = re.compile(r"^(?:unfoldable |abbrev )?(?:pub )?(?:(record|data|module) )?([^\s:(]+)(?= .*(?::|$)|\s*:)")
 MUTUAL = ("mutual", "abbrev mutual")
+COMMENT = re.compile(r"--.*$", re.M)
 WORD = re.compile(r"[^\s(){}\[\],;.]+(?:\.[^\s(){}\[\],;.]+)*")
 
 
@@ -91,14 +92,24 @@ def clauses_of(crate, function):
     sys.exit(f"no public function {function} in {crate}")
 
 
+def views_of(crate):
+    """What the crate's types stand for in contracts, and what their files import."""
+    folder = os.path.join(ROOT, crate, "src")
+    for file in sorted(os.listdir(folder)):
+        with open(os.path.join(folder, file), encoding="utf-8") as text:
+            source = text.read()
+        for view in re.findall(r"ghost view = \{(.*?)\};", source, re.S):
+            yield view, imports_of(source), None
+
+
 def needed(crate, functions):
     """The definitions that the contracts need: module and name of each."""
     known = modules()
-    seen, waiting = set(), [(*clauses_of(crate, function), None) for function in functions]
+    seen, waiting = set(), [(*clauses_of(crate, function), None) for function in functions] + list(views_of(crate))
     while waiting:
         text, names, module = waiting.pop()
         own = known[module][1] if module else {}
-        for word in WORD.findall(text):
+        for word in WORD.findall(COMMENT.sub("", text)):
             parts = word.split(".")
             for target in (names.get(parts[0]), (module, parts[0]) if parts[0] in own else None):
                 if not target:
