@@ -43,7 +43,7 @@ module _ (ds : Definitions) (edges : List (Vec ℕ Global)) (are : map (λ nodes
   chain_start (suc further) i j h e = let none : IsIn (next_of edges (length ds)) h.0 = subst (λ (k : ℕ). IsIn (next_of edges k) h.0) e h.1 in rw (last_is ds edges are) at none
 
   pub cyclic_in : IsCyclic ds → graph.IsCyclic (next_of edges)
-  cyclic_in h = (number_of ds h.0, (h.1.0, chain_in h.1.0 h.0 h.0 h.1.1))
+  cyclic_in h = (number_of ds h.0, (h.1, chain_in h.1 h.0 h.0 h.2))
 
   pub cyclic_out : graph.IsCyclic (next_of edges) → IsCyclic ds
   cyclic_out h =
@@ -54,7 +54,7 @@ module _ (ds : Definitions) (edges : List (Vec ℕ Global)) (are : map (λ nodes
       let out = chain_out further end.0 (number_of ds end.0) round in
       let before : number_of ds end.0 < length ds = less (number_within ds end.0) (chain_start further (number_of ds end.0) (number_of ds end.0) round) in
       let same : end.0 ≡ out.0 = number_same ds end.0 out.0 (sym out.2) before in
-      (end.0, (further, subst (λ (b : List ℕ). ComposesIn ds further end.0 b) (sym same) out.1))
+      (end.0, further, subst (λ (b : List ℕ). ComposesIn ds further end.0 b) (sym same) out.1)
     where
       less : {a b : ℕ} → a ≤ b → (a ≡ b → ⊥) → a < b
       less h ne = omega arith

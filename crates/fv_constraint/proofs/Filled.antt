@@ -6,11 +6,11 @@ use Rattle.std.specs.Cmp.Lexicographic.{slice_cmp}
 use Rattle.std.specs.List.{AllByRecursion}
 use Rattle.std.specs.List.Sorted.{IsStrictlySortedBy}
 use Rattle.std.specs.Map.{keys_of}
+use Rattle.std.specs.Option.{option_or}
 use Rattle.std.specs.Ordering.{is_eq}
 use Rattle.std.proofs.lemmas.Map.Keys.{sorted_head, sorted_tail}
 use Rattle.std.proofs.lemmas.Map.Text.{is_eq-slice_cmp}
 use Rattle.std.proofs.lemmas.Slice.Eq.{bytes_eq-Decides}
-use Rattle.fv_builtin.specs.Given.{given_or}
 use Rattle.fv_datum.proofs.Maps.{seen, at_insert}
 use Rattle.fv_builtin.proofs.PutIn.{given_alone}
 use Rattle.fv_datum.specs.Attributes.{AttributeValue, Attributes}
@@ -18,25 +18,25 @@ use Rattle.fv_datum.specs.Lookup.{at_name}
 
 -- ---- one value
 
-taken : (o : Option AttributeValue) (v : AttributeValue) → is_some o ≡ false → Some v ≡ given_or o (Some v)
+taken : (o : Option AttributeValue) (v : AttributeValue) → is_some o ≡ false → Some v ≡ option_or o (Some v)
 taken None v free = refl
 taken (Some x) v free = absurd (cc)
 
 module _ (old : Attributes) (name : List ℕ) where
   -- where nothing changes
-  pub fill_stays : (o : Option AttributeValue) → given_or (at_name name old) o ≡ at_name name old → (q : List ℕ) → at_name q old ≡ given_or (at_name q old) (cond (bytes_eq q name) o None)
+  pub fill_stays : (o : Option AttributeValue) → option_or (at_name name old) o ≡ at_name name old → (q : List ℕ) → at_name q old ≡ option_or (at_name q old) (cond (bytes_eq q name) o None)
   fill_stays o stays q = go (bytes_eq q name) refl
     where
-      go : (b : Bool) → bytes_eq q name ≡ b → at_name q old ≡ given_or (at_name q old) (cond b o None)
+      go : (b : Bool) → bytes_eq q name ≡ b → at_name q old ≡ option_or (at_name q old) (cond b o None)
       go false e = sym (given_alone (at_name q old))
       go true e = let same : q ≡ name = (bytes_eq-Decides q name).0 e in rw same (sym stays)
 
   -- where a value is put in
   pub fill_put : (v : AttributeValue) → is_some (at_name name old) ≡ false
-      → (q : List ℕ) → at_name q (insert_entry (slice_cmp nat_cmp) old name v) ≡ given_or (at_name q old) (cond (bytes_eq q name) (Some v) None)
+      → (q : List ℕ) → at_name q (insert_entry (slice_cmp nat_cmp) old name v) ≡ option_or (at_name q old) (cond (bytes_eq q name) (Some v) None)
   fill_put v free q = at_insert old name v q ∙ go (bytes_eq q name) refl
     where
-      go : (b : Bool) → bytes_eq q name ≡ b → cond b (Some v) (at_name q old) ≡ given_or (at_name q old) (cond b (Some v) None)
+      go : (b : Bool) → bytes_eq q name ≡ b → cond b (Some v) (at_name q old) ≡ option_or (at_name q old) (cond b (Some v) None)
       go false e = sym (given_alone (at_name q old))
       go true e = let same : q ≡ name = (bytes_eq-Decides q name).0 e in rw same (taken (at_name name old) v free)
 
@@ -53,30 +53,25 @@ module _ {X Y : Type 0} (view : X → Y) (f : Y → Option AttributeValue) where
   -- one entry more is filled in
   pub filled_more : (it rest : List (String Global × X)) (k : String Global) (x : X) (es new : Attributes) (whole : List ℕ → Option AttributeValue)
       → it ≡ (k, x) ∷ rest → IsStrictlySortedBy string_cmp (keys_of it)
-      → ((q : List ℕ) → given_or (at_name q es) (option_and_then f (at_name q (map (seen view) it))) ≡ whole q)
-      → ((q : List ℕ) → at_name q new ≡ given_or (at_name q es) (cond (bytes_eq q (string_bytes k)) (f (view x)) None))
-      → (q : List ℕ) → given_or (at_name q new) (option_and_then f (at_name q (map (seen view) rest))) ≡ whole q
+      → ((q : List ℕ) → option_or (at_name q es) (option_and_then f (at_name q (map (seen view) it))) ≡ whole q)
+      → ((q : List ℕ) → at_name q new ≡ option_or (at_name q es) (cond (bytes_eq q (string_bytes k)) (f (view x)) None))
+      → (q : List ℕ) → option_or (at_name q new) (option_and_then f (at_name q (map (seen view) rest))) ≡ whole q
   filled_more it rest k x es new whole steps sorted done filled q =
       let left : IsStrictlySortedBy string_cmp (k ∷ keys_of rest) = subst (λ i. IsStrictlySortedBy string_cmp (keys_of i)) steps sorted in
       let more = at_name q (map (seen view) rest) in
-      ap (λ o. given_or o (option_and_then f more)) (filled q) ∙ go (bytes_eq q (string_bytes k)) refl (sorted_head string_cmp k (keys_of rest) left)
-      ∙ ap (λ i. given_or (at_name q es) (option_and_then f (at_name q (map (seen view) i)))) (sym steps) ∙ done q
+      ap (λ o. option_or o (option_and_then f more)) (filled q) ∙ go (bytes_eq q (string_bytes k)) refl (sorted_head string_cmp k (keys_of rest) left)
+      ∙ ap (λ i. option_or (at_name q es) (option_and_then f (at_name q (map (seen view) i)))) (sym steps) ∙ done q
     where
       go : (b : Bool) → bytes_eq q (string_bytes k) ≡ b → AllByRecursion (λ y. string_cmp k y ≡ Less) (keys_of rest)
-          → given_or (given_or (at_name q es) (cond b (f (view x)) None)) (option_and_then f (at_name q (map (seen view) rest)))
-          ≡ given_or (at_name q es) (option_and_then f (cond b (Some (view x)) (at_name q (map (seen view) rest))))
+          → option_or (option_or (at_name q es) (cond b (f (view x)) None)) (option_and_then f (at_name q (map (seen view) rest)))
+          ≡ option_or (at_name q es) (option_and_then f (cond b (Some (view x)) (at_name q (map (seen view) rest))))
       go true e h =
           let none = gone k rest h q ((bytes_eq-Decides q (string_bytes k)).0 e) in
-          ap (λ o. given_or (given_or (at_name q es) (f (view x))) (option_and_then f o)) none ∙ given_alone (given_or (at_name q es) (f (view x)))
-      go false e h = ap (λ o. given_or o (option_and_then f (at_name q (map (seen view) rest)))) (given_alone (at_name q es))
+          ap (λ o. option_or (option_or (at_name q es) (f (view x))) (option_and_then f o)) none ∙ given_alone (option_or (at_name q es) (f (view x)))
+      go false e h = ap (λ o. option_or o (option_and_then f (at_name q (map (seen view) rest)))) (given_alone (at_name q es))
 
 -- the names that are left ascend
 pub left_ascend : {X : Type 0} (it rest : List (String Global × X)) (k : String Global) (x : X) → it ≡ (k, x) ∷ rest → IsStrictlySortedBy string_cmp (keys_of it) → IsStrictlySortedBy string_cmp (keys_of rest)
 left_ascend it rest k x steps sorted =
     let left : IsStrictlySortedBy string_cmp (k ∷ keys_of rest) = subst (λ i. IsStrictlySortedBy string_cmp (keys_of i)) steps sorted in
     sorted_tail string_cmp k (keys_of rest) left
-
--- a value that is given, or one that isn't
-pub given_none : (default : Option AttributeValue) → given_or None default ≡ default
-given_none None = refl
-given_none (Some v) = refl

@@ -40,10 +40,6 @@ abbrev pub ComposesIn : Definitions → ℕ → List ℕ → List ℕ → Type 0
 ComposesIn ds zero a b = IsIn (composed_of ds a) b
 ComposesIn ds (suc further) a b = (c : List ℕ) × IsIn (composed_of ds a) c × ComposesIn ds further c b
 
--- a constraint is composed of another, directly or through others
-abbrev pub Composes : Definitions → List ℕ → List ℕ → Type 0
-Composes ds a b = (further : ℕ) × ComposesIn ds further a b
-
--- a constraint is composed of itself
+-- a constraint is composed of itself, directly or through others
 abbrev pub IsCyclic : Definitions → Type 0
-IsCyclic ds = (name : List ℕ) × Composes ds name name
+IsCyclic ds = (name : List ℕ) × (further : ℕ) × ComposesIn ds further name name

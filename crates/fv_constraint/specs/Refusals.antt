@@ -1,7 +1,8 @@
 -- What is refused of definitions, of the constraints in their trees, and of the places where these stand.
 use Rattle.std.specs.Prelude.{ℕ, List, [], ◌∷◌, ◌||◌, ◌&&◌, Bool, true, false, not, Option, Some, None, is_some}
 use Rattle.std.specs.List.{list_any}
-use Rattle.fv_builtin.specs.Given.{drafted, given_or, is_same}
+use Rattle.std.specs.Option.{option_or}
+use Rattle.fv_builtin.specs.Given.{drafted, is_same}
 use Rattle.fv_builtin.specs.Table.{takes}
 use Rattle.fv_datum.specs.AttributeKinds.{attribute_kind}
 use Rattle.fv_datum.specs.Attributes.{AttributeValue, Attributes}
@@ -43,7 +44,7 @@ bad_default d = list_any (λ a. is_other_kind a.1.kind a.1.default) d.attributes
 
 -- an attribute has no value in effect: it is neither given nor has it a default
 abbrev pub lacks_value : List (List ℕ × AttributeDefinition) → Attributes → Bool
-lacks_value attributes given = list_any (λ a. not (is_some (given_or (at_name a.0 given) a.1.default))) attributes
+lacks_value attributes given = list_any (λ a. not (is_some (option_or (at_name a.0 given) a.1.default))) attributes
 
 -- a constraint refuses the attributes that are given
 abbrev pub refuses_given : Meant → Attributes → Bool

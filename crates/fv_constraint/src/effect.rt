@@ -1,8 +1,8 @@
 //! The attributes that constraints get.
 ghost use Rattle.std.specs.Prelude.{◌≡◌, ℕ, List, true, None, IfOk, OnOk, cond, map, option_map, option_and_then, string_bytes, bytes_eq};
+ghost use Rattle.std.specs.Option.{option_or};
 ghost use Rattle.fv_datum.specs.Attributes.{attribute_view, entry_view};
 ghost use Rattle.fv_datum.specs.Lookup.{at_name};
-ghost use Rattle.fv_builtin.specs.Given.{given_or};
 ghost use Rattle.fv_datum.specs.Maps.{ascends, IsMapOf};
 ghost use Rattle.fv_constraint.specs.Meanings.{declared};
 ghost use Rattle.fv_declare_definition.specs.DefinitionViews.{attribute_definition_view, composing_view, definition_view};
@@ -24,7 +24,7 @@ pub(crate) fn value_of<'a>(
     name: &str,
 ) -> Option<&'a Attribute>
     ensures { option_map (λ v. attribute_view v.now) result
-        ≡ given_or (at_name name.now given.now) (attribute_definition_view attribute.now).default }
+        ≡ option_or (at_name name.now given.now) (attribute_definition_view attribute.now).default }
 {
     match given.find(name) {
         Some(value) => Some(value),
@@ -40,7 +40,7 @@ fn fill(
     value: Option<&Attribute>,
 ) -> Result<(), AllocError>
     ensures each { OnOk result ((other : List ℕ) → at_name other (map entry_view entries.new.entries)
-        ≡ given_or (at_name other (map entry_view entries.old.entries))
+        ≡ option_or (at_name other (map entry_view entries.old.entries))
         (cond (bytes_eq other (string_bytes name.now)) (option_map (λ v. attribute_view v.now) value.entry) None)) }
     ensures ascending { OnOk result (ascends (map entry_view entries.old.entries) ≡ true
         → ascends (map entry_view entries.new.entries) ≡ true) }

@@ -1,25 +1,20 @@
 -- The uses of constraints at their places, in their order.
-use Rattle.std.specs.Prelude.{ℕ, ◌++◌, List, Option, map}
+use Rattle.std.specs.Prelude.{ℕ, ◌++◌, List, map}
 use Rattle.std.specs.List.{flat_map, enumerate_from}
-use Rattle.fv_datum.specs.Attributes.{Attributes}
 use Rattle.fv_declare_draft.specs.Drafts.{FieldDraft, TypeDraft}
 use Rattle.fv_declare_draft.specs.Places.{PlacedUse}
 use Rattle.fv_declare_draft.specs.Uses.{UseDraft}
 use Rattle.fv_declare_schema.specs.Places.{Place, whole, field}
 
--- a use at its place: the number of its type, its place there, the constraint's name, the template of its message, if it has one of its own,
--- what is given, and the names of its groups; no names stand for `Default`
+-- a use at its place: the number of its type, and its place there
 pub record Use : Type 0 where
   pub type : ℕ
   pub place : Place
-  pub constraint : List ℕ
-  pub message : Option (List ℕ)
-  pub given : Attributes
-  pub groups : List (List ℕ)
+  pub draft : UseDraft
 
 -- a use at a place in the type of a number
 abbrev pub use_at : ℕ → Place → UseDraft → Use
-use_at type place u = record { type = type; place = place; constraint = u.constraint; message = u.message; given = u.given; groups = u.groups }
+use_at type place draft = record { type = type; place = place; draft = draft }
 
 -- a use at a place in the field of a number
 abbrev pub use_in : ℕ → ℕ → PlacedUse → Use

@@ -5,6 +5,7 @@ use Rattle.fv_extract.specs.Views.{step_view}
 use Rattle.fv_model_types.specs.Types.{type_use_view}
 use Rattle.fv_groups.specs.Groups.{Form, inherits, sequence}
 use Rattle.fv_declare_draft.specs.Cascades as cascades
+use Rattle.fv_declare_draft.specs.Gathering.{Gathered}
 use Rattle.fv_declare_draft.specs.Places as places
 use Rattle.fv_declare_draft.specs.Uses as uses
 use Rattle.fv_declare_draft.specs.declared.draft.PlacedUse.{PlacedUse}
@@ -49,7 +50,7 @@ abbrev pub placed_cascade_view : PlacedCascade → places.PlacedCascade
 placed_cascade_view c = record { steps = map step_view c.steps.items; kind = c.kind; cascade = cascade_view c.cascade }
 
 -- what a place holds, with the uses and cascades there and inside it
-abbrev pub held_view : Held → places.Held
+abbrev pub held_view : Held → Gathered
 held_view h = record {
   type = type_use_view h.type_use;
   uses = map placed_use_view h.uses.items;

@@ -8,7 +8,7 @@ use Rattle.fv_declare_definition.specs.Written.{definition_of}
 use Rattle.fv_datum.specs.NameLists.{names_in, names_of}
 use Rattle.fv_declare_draft.specs.Groups.{group_of}
 use Rattle.fv_declare_draft.specs.Messages.{message_of}
-use Rattle.fv_declare_draft.specs.Places.{PlacedUse, PlacedCascade, place_of}
+use Rattle.fv_declare_draft.specs.Places.{PlacedUse, PlacedCascade, place_of, type_at, uses_at, cascades_at}
 use Rattle.fv_declare_draft.specs.Uses.{UseDraft, uses_of}
 use Rattle.fv_groups.specs.Groups.{Groups}
 use Rattle.fv_model_types.specs.Types.{TypeUse}
@@ -43,7 +43,8 @@ pub record Drafted : Type 0 where
 
 -- a field with its place
 abbrev pub field_of : List ℕ × json.Data → Option FieldDraft
-field_of m = option_map (λ held. record { name = m.0; type = held.type; uses = held.uses; cascades = held.cascades }) (place_of [] m.1)
+field_of m =
+    option_map (λ place. record { name = m.0; type = type_at place; uses = uses_at [] place; cascades = cascades_at [] place }) (place_of m.1)
 
 -- `{"fields":{..},"constraints":[..],"sequence":[GROUP]}`, `constraints` and `sequence` may be missing
 abbrev pub type_of : List ℕ × json.Data → Option TypeDraft

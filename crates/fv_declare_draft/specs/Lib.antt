@@ -3,6 +3,7 @@ pub mod AllUses
 pub mod Cascades
 pub mod DraftViews
 pub mod Drafts
+pub mod Gathering
 pub mod Groups
 pub mod Messages
 pub mod Places

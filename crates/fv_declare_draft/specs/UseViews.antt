@@ -12,10 +12,12 @@ abbrev pub use_view : Use → spec.Use
 use_view u = record {
   type = u.type_index;
   place = place_view u.place;
-  constraint = u.constraint.now;
-  message = option_map (λ t. t.now) u.message;
-  given = u.given.now;
-  groups = map (λ n. n.now) u.groups.now;
+  draft = record {
+    constraint = u.constraint.now;
+    given = u.given.now;
+    groups = map (λ n. n.now) u.groups.now;
+    message = option_map (λ t. t.now) u.message;
+  };
 }
 
 -- a cascade at its place

@@ -4,11 +4,11 @@ ghost use Rattle.serde_json.specs.Find.{get};
 ghost use Rattle.fv_json.specs.Documents.{view as json_view};
 ghost use Rattle.fv_datum.specs.Forms.{map2};
 ghost use Rattle.fv_datum.specs.Lookup.{at_name};
-ghost use Rattle.fv_extract.specs.Places.{element, content, value as spec_value};
 ghost use Rattle.fv_extract.specs.Views.{step_view};
 ghost use Rattle.fv_model_types.specs.Types.{type_use_view};
 ghost use Rattle.fv_declare_draft.specs.DraftViews.{use_view, placed_use_view, cascade_view, placed_cascade_view, held_view};
-ghost use Rattle.fv_declare_draft.specs.Places.{plain_kinds, place_of as spec_place, held_of as spec_held, reference_of as spec_reference, alone as spec_alone, list_of as spec_list, optional_of as spec_optional, map_of as spec_map, use_there, cascade_there};
+ghost use Rattle.fv_declare_draft.specs.Gathering.{gathered, inside};
+ghost use Rattle.fv_declare_draft.specs.Places.{plain_kinds, place_of as spec_place, held_of as spec_held, reference_of as spec_reference, plain, list as spec_list, optional as spec_optional, a_map, use_there, cascade_there};
 ghost use Rattle.fv_declare_draft.specs.Uses.{uses_of as spec_uses};
 
 use crate::cascades::cascade_of;
@@ -55,7 +55,7 @@ fn reference_of(alloc: Global, value: &Json) -> Result<Option<TypeUse>, AllocErr
 
 /// What holds no other data.
 fn alone<'a>(alloc: Global, type_use: Option<TypeUse>) -> Option<Held<'a>>
-    ensures { option_map held_view result ≡ option_map spec_alone (option_map type_use_view type_use) }
+    ensures { (steps : _) → option_map held_view result ≡ option_map (inside steps) (option_map plain (option_map type_use_view type_use)) }
 {
     let type_use = type_use?;
     Some(Held {
@@ -134,7 +134,7 @@ pub(crate) fn place_of<'a>(
     steps: &[Step],
     value: &Json<'_, 'a>,
 ) -> Result<Option<Held<'a>>, AllocError>
-    ensures { IfOk result (λ o. option_map held_view o ≡ spec_place (map step_view steps.now) (json_view value.now)) }
+    ensures { IfOk result (λ o. option_map held_view o ≡ option_map (gathered (map step_view steps.now)) (spec_place (json_view value.now))) }
 {
     if !has_only(value, &["type", "constraints", "valid", "convert"]) {
         return Ok(None);
@@ -177,7 +177,7 @@ fn place_in<'a>(
     value: &Json<'_, 'a>,
 ) -> Result<Option<Held<'a>>, AllocError>
     ensures { IfOk result (λ o. option_map held_view o
-        ≡ option_and_then (spec_place (map step_view steps.now ++ step_view step ∷ [])) (get name.now (json_view value.now))) }
+        ≡ option_map (gathered (map step_view steps.now ++ step_view step ∷ [])) (option_and_then spec_place (get name.now (json_view value.now)))) }
 {
     let Some(inner) = value.get(name) else {
         return Ok(None);
@@ -192,8 +192,8 @@ fn list_of<'a>(
     steps: &[Step],
     value: &Json<'_, 'a>,
 ) -> Result<Option<Held<'a>>, AllocError>
-    ensures { IfOk result (λ o. option_map held_view o ≡ option_map spec_list (option_and_then
-        (spec_place (map step_view steps.now ++ element ∷ [])) (get (codes "list") (json_view value.now)))) }
+    ensures { IfOk result (λ o. option_map held_view o ≡ option_map (inside (map step_view steps.now))
+        (option_map spec_list (option_and_then spec_place (get (codes "list") (json_view value.now))))) }
 {
     match place_in(alloc, steps, Step::Element, "list", value)? {
         None => Ok(None),
@@ -218,8 +218,8 @@ fn optional_of<'a>(
     steps: &[Step],
     value: &Json<'_, 'a>,
 ) -> Result<Option<Held<'a>>, AllocError>
-    ensures { IfOk result (λ o. option_map held_view o ≡ option_map spec_optional (option_and_then
-        (spec_place (map step_view steps.now ++ content ∷ [])) (get (codes "optional") (json_view value.now)))) }
+    ensures { IfOk result (λ o. option_map held_view o ≡ option_map (inside (map step_view steps.now))
+        (option_map spec_optional (option_and_then spec_place (get (codes "optional") (json_view value.now))))) }
 {
     match place_in(alloc, steps, Step::Content, "optional", value)? {
         None => Ok(None),
@@ -244,9 +244,8 @@ fn map_of<'a>(
     steps: &[Step],
     value: &Json<'_, 'a>,
 ) -> Result<Option<Held<'a>>, AllocError>
-    ensures { IfOk result (λ o. option_map held_view o ≡ map2 (spec_map (map step_view steps.now))
-        (spec_uses (codes "keys") (json_view value.now))
-        (option_and_then (spec_place (map step_view steps.now ++ spec_value ∷ [])) (get (codes "map") (json_view value.now)))) }
+    ensures { IfOk result (λ o. option_map held_view o ≡ option_map (inside (map step_view steps.now))
+        (map2 a_map (spec_uses (codes "keys") (json_view value.now)) (option_and_then spec_place (get (codes "map") (json_view value.now))))) }
 {
     let Some(keys) = uses_of(alloc, value.get("keys"))? else {
         return Ok(None);
@@ -279,7 +278,7 @@ fn held_of<'a>(
     steps: &[Step],
     value: &Json<'_, 'a>,
 ) -> Result<Option<Held<'a>>, AllocError>
-    ensures { IfOk result (λ o. option_map held_view o ≡ spec_held (map step_view steps.now) (json_view value.now)) }
+    ensures { IfOk result (λ o. option_map held_view o ≡ option_map (inside (map step_view steps.now)) (spec_held (json_view value.now))) }
 {
     if let Some(name) = value.as_str() {
         return Ok(alone(alloc, plain_use(name)));

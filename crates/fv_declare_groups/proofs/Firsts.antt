@@ -1,15 +1,14 @@
 -- The first fault of a draft's groups, by what is known of each condition.
-use Rattle.std.proofs.Common.{◌≡◌, ◌≢◌, ◌⊎◌, inl, inr, List, [], ◌∷◌, Bool, true, false, ◌||◌, Option, Some, None, refl, ap, subst, true≢false, sym, ◌∙◌}
+use Rattle.std.proofs.Common.{◌≡◌, ◌≢◌, inl, inr, List, [], ◌∷◌, Bool, true, false, ◌||◌, Option, Some, None, refl, ap, subst, true≢false, sym, ◌∙◌}
 use Rattle.std.specs.List.{list_any}
 use Rattle.fv_declare_draft.specs.Drafts.{TypeDraft, Drafted}
-use Rattle.fv_graph.specs.Graph.{IsCyclic}
-use Rattle.fv_groups.specs.Groups.{Groups, inherit_next, member_next}
+use Rattle.fv_groups.specs.Groups.{Groups}
 use Rattle.fv_groups.specs.Judged.{has_unknown, has_inherited_sequence, sequence_in, AreSound}
 use Rattle.fv_declare_draft.specs.AllCascades.{Cascade, cascades_in}
 use Rattle.fv_declare_draft.specs.AllUses.{Use, uses_in}
 use Rattle.fv_declare_groups.specs.First.{IsFirst, HasSome}
 use Rattle.fv_declare_groups.specs.Graphed.{IsFaultOf}
-use Rattle.fv_declare_groups.specs.Grouping.{groups_in, named_unknown, unknown_group, misused, lacks_type, MembersMeet, is_misplaced, grouping_faults, Holds}
+use Rattle.fv_declare_groups.specs.Grouping.{groups_in, named_unknown, lacks_type, MembersMeet, is_misplaced, grouping_faults, Holds}
 use Rattle.fv_declare_groups.specs.declared.fault.GroupingFault.{GroupingFault}
 use Rattle.fv_declare_groups.specs.declared.fault.GroupingFault.TheVariants.{UnknownGroup, CyclicInheritance, CyclicSequence, SequenceMisused, SequenceLacksType, DefaultInTypeSequence, ConversionMisplaced, Memory}
 
@@ -53,7 +52,7 @@ module _ (d : Drafted) where
             is.1,
             inr (
               is.2,
-              inl (or_second (list_any (λ u. sequence_in all u.groups) (uses_in d.types)) (has_inherited_sequence all) is.3, refl),
+              inl (or_second (list_any (λ u. sequence_in all u.draft.groups) (uses_in d.types)) (has_inherited_sequence all) is.3, refl),
             ),
           ),
         )
@@ -67,7 +66,7 @@ module _ (d : Drafted) where
       later found h = inr (not_both _ (or_neither named (has_unknown all) names sound.known), inr (sound.inheritance, inr (sound.expansion, h)))
 
       abbrev in_sequence : Bool
-      in_sequence = list_any (λ u. sequence_in all u.groups) (uses_in d.types)
+      in_sequence = list_any (λ u. sequence_in all u.draft.groups) (uses_in d.types)
 
       -- a constraint is in a sequence
       pub use_misused : in_sequence ≡ true → Told (Some SequenceMisused)
@@ -104,10 +103,10 @@ module _ (d : Drafted) where
       sym (is ∙ ap (λ (g : Groups). named_unknown g us d.types cs d.forms) groups ∙ ap (λ (u : List Use). named_unknown (groups_in d) u d.types cs d.forms) uses
       ∙ ap (λ (c : List Cascade). named_unknown (groups_in d) (uses_in d.types) d.types c d.forms) cascades)
 
-  pub sequenced_same : (gs : Groups) (us : List Use) (b : Bool) → gs ≡ groups_in d → us ≡ uses_in d.types → b ≡ list_any (λ u. sequence_in gs u.groups) us
-      → list_any (λ u. sequence_in (groups_in d) u.groups) (uses_in d.types) ≡ b
+  pub sequenced_same : (gs : Groups) (us : List Use) (b : Bool) → gs ≡ groups_in d → us ≡ uses_in d.types → b ≡ list_any (λ u. sequence_in gs u.draft.groups) us
+      → list_any (λ u. sequence_in (groups_in d) u.draft.groups) (uses_in d.types) ≡ b
   sequenced_same gs us b groups uses is =
-      sym (is ∙ ap (λ (g : Groups). list_any (λ (u : Use). sequence_in g u.groups) us) groups ∙ ap (λ (u : List Use). list_any (λ (v : Use). sequence_in (groups_in d) v.groups) u) uses)
+      sym (is ∙ ap (λ (g : Groups). list_any (λ (u : Use). sequence_in g u.draft.groups) us) groups ∙ ap (λ (u : List Use). list_any (λ (v : Use). sequence_in (groups_in d) v.draft.groups) u) uses)
 
   pub lacking_same : (ts : List TypeDraft) (b : Bool) → ts ≡ d.types → b ≡ list_any lacks_type ts → list_any lacks_type d.types ≡ b
   lacking_same ts b types is = sym (is ∙ ap (list_any lacks_type) types)

@@ -43,7 +43,7 @@ fn sequence_in(graph: &GroupGraph, names: &[&str]) -> bool
 /// A constraint is in a sequence.
 #[tactic(auto, using(crate::proofs::Anys::use_turn))]
 pub(crate) fn has_misused(graph: &GroupGraph, uses: &[Use]) -> bool
-    ensures { result ≡ list_any (λ u. sequence_in graph.now u.groups) (map use_view uses.now) }
+    ensures { result ≡ list_any (λ u. sequence_in graph.now u.draft.groups) (map use_view uses.now) }
 {
     for given in uses {
         if sequence_in(graph, given.groups) {

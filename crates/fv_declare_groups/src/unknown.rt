@@ -27,7 +27,7 @@ fn unknown_in(declared: &Declared, names: &[&str]) -> bool
 /// A constraint is in a group that isn't declared.
 #[tactic(auto, using(crate::proofs::Anys::use_turn))]
 fn has_unknown_use(declared: &Declared, uses: &[Use]) -> bool
-    ensures { result ≡ list_any (λ u. unknown_in (all_groups (declared_view declared.now)) u.groups) (map use_view uses.now) }
+    ensures { result ≡ list_any (λ u. unknown_in (all_groups (declared_view declared.now)) u.draft.groups) (map use_view uses.now) }
 {
     for given in uses {
         if unknown_in(declared, given.groups) {

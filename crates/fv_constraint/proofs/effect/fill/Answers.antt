@@ -1,7 +1,7 @@
 use Rattle.std.proofs.Common.{◌≡◌, ◌∙◌, map, cond, None, true, false, option_map, is_some, string_bytes, bytes_eq, nat_cmp, sym, ap}
 use Rattle.std.specs.BTreeMap.{insert_entry}
 use Rattle.std.specs.Cmp.Lexicographic.{slice_cmp}
-use Rattle.fv_builtin.specs.Given.{given_or}
+use Rattle.std.specs.Option.{option_or}
 use Rattle.fv_datum.specs.Maps.{ascends}
 use Rattle.fv_datum.proofs.Maps.{put_seen, ascends-insert}
 use Rattle.fv_builtin.proofs.PutIn.{stands, given_stays}
@@ -29,7 +29,7 @@ returns-in_ok-put-clause-each c =
     ∙ ap (λ n. insert_entry (slice_cmp nat_cmp) old n (attribute_view c.in_ok-copy_of.field-0)) put.1 ∙ ap (insert_entry (slice_cmp nat_cmp) old name) c.in_ok-copy_of.ensures in
     let free : is_some (at_name name old) ≡ false =
     ap (λ n. is_some (at_name n old)) (sym c.as_str.ensures.value) ∙ sym (stands c.as_str.result.now c.args.entries.now.entries) ∙ sym c.contains_key.ensures ∙ c.if-contains_key.false in
-    λ q. ap (at_name q) new ∙ fill_put old name value free q ∙ ap (λ o. given_or (at_name q old) (cond (bytes_eq q name) (option_map (λ v. attribute_view v.now) o) None)) (sym c.in-Some.is)
+    λ q. ap (at_name q) new ∙ fill_put old name value free q ∙ ap (λ o. option_or (at_name q old) (cond (bytes_eq q name) (option_map (λ v. attribute_view v.now) o) None)) (sym c.in-Some.is)
 
 pub returns-in_ok-put-clause-ascending : goal.returns-in_ok-put-clause-ascending
 returns-in_ok-put-clause-ascending c = λ sorted.

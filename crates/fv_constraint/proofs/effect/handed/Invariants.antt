@@ -1,7 +1,7 @@
 use Rattle.std.proofs.Common.{◌≡◌, ℕ, List, map, true, option_and_then, string_cmp}
 use Rattle.std.specs.List.Sorted.{IsStrictlySortedBy}
 use Rattle.std.specs.Map.{keys_of}
-use Rattle.fv_builtin.specs.Given.{given_or}
+use Rattle.std.specs.Option.{option_or}
 use Rattle.fv_datum.specs.Maps.{ascends}
 use Rattle.fv_datum.specs.Attributes.{entry_view}
 use Rattle.fv_datum.specs.Lookup.{at_name}
@@ -13,7 +13,7 @@ use Rattle.fv_constraint.proofs.effect.handed.Given as goal
 abbrev pub invariant-loop-name : goal.invariant-loop-name
 invariant-loop-name l = record {
   each : (name : List ℕ)
-      → given_or (at_name name (map entry_view l.entries.entries)) (option_and_then (effective (declared (definition_view l.definition)) l.given) (at_name name (map override_entry l.name-iterator)))
+      → option_or (at_name name (map entry_view l.entries.entries)) (option_and_then (effective (declared (definition_view l.definition)) l.given) (at_name name (map override_entry l.name-iterator)))
       ≡ handed (composing_view l.composing) (effective (declared (definition_view l.definition)) l.given) name;
   ascending : ascends (map entry_view l.entries.entries) ≡ true;
   left : IsStrictlySortedBy string_cmp (keys_of l.name-iterator);

@@ -1,5 +1,5 @@
 use Rattle.std.proofs.Common.{◌≡◌, ◌∙◌, ℕ, List, map, None, cond, option_map, string_bytes, bytes_eq, ap}
-use Rattle.fv_builtin.specs.Given.{given_or}
+use Rattle.std.specs.Option.{option_or}
 use Rattle.fv_datum.proofs.Lookups.{option_map-copied}
 use Rattle.fv_datum.specs.Attributes.{Attributes, attribute_view, entry_view}
 use Rattle.fv_datum.specs.Lookup.{at_name}
@@ -13,7 +13,7 @@ loop-name-preserved c =
     let name = string_bytes c.in-Some.name.now in
     let value : option_map (λ v. attribute_view v.now) c.as_ref.result ≡ option_map attribute_view c.in-Some.attribute.now.default =
     option_map-copied attribute_view c.as_ref.result ∙ ap (option_map attribute_view) c.as_ref.ensures.value in
-    let filled = λ (q : List ℕ). c.in_ok-fill.ensures.each q ∙ ap (λ o. given_or (at_name q es) (cond (bytes_eq q name) o None)) value in
+    let filled = λ (q : List ℕ). c.in_ok-fill.ensures.each q ∙ ap (λ o. option_or (at_name q es) (cond (bytes_eq q name) o None)) value in
     record {
       each = filled_more attribute_definition_view (λ a. a.default) _ _ _ _ es _ _ c.in-Some.ensures.steps c.loop-name.invariant.left c.loop-name.invariant.each filled;
       ascending = λ sorted. c.in_ok-fill.ensures.ascending (c.loop-name.invariant.ascending sorted);

@@ -6,5 +6,5 @@ use Rattle.fv_declare_groups.proofs.sequences.has_misused.Given as goal
 
 abbrev pub invariant-loop-given : goal.invariant-loop-given
 invariant-loop-given l =
-    list_any (λ u. sequence_in l.graph u.groups) (map use_view (drop l.given-index l.uses))
-    ≡ list_any (λ u. sequence_in l.graph u.groups) (map use_view l.uses)
+    list_any (λ u. sequence_in l.graph u.draft.groups) (map use_view (drop l.given-index l.uses))
+    ≡ list_any (λ u. sequence_in l.graph u.draft.groups) (map use_view l.uses)

@@ -8,5 +8,5 @@ use Rattle.fv_declare_groups.proofs.unknown.has_unknown_use.Given as goal
 
 abbrev pub invariant-loop-given : goal.invariant-loop-given
 invariant-loop-given l =
-    list_any (λ u. unknown_in (all_groups (declared_view l.declared)) u.groups) (map use_view (drop l.given-index l.uses))
-    ≡ list_any (λ u. unknown_in (all_groups (declared_view l.declared)) u.groups) (map use_view l.uses)
+    list_any (λ u. unknown_in (all_groups (declared_view l.declared)) u.draft.groups) (map use_view (drop l.given-index l.uses))
+    ≡ list_any (λ u. unknown_in (all_groups (declared_view l.declared)) u.draft.groups) (map use_view l.uses)
