@@ -1,6 +1,7 @@
 -- The constraint that a built-in's name is with the attributes that are given.
 use Rattle.std.specs.Prelude.{◌≡◌, ℕ, ◌^◌, ◌*ℤ◌, ℤ, pos, List, Bool, true, false, not, nat_le, nat_lt, Option, Some, None, option_map, option_and_then, Result, Ok, Err, if◌then◌else◌, codes}
 use Rattle.std.specs.List.{list_any}
+use Rattle.std.specs.Option.{option_or, option_zip}
 use Rattle.fv_datum.specs.AttributeKinds.{attribute_kind}
 use Rattle.fv_datum.specs.Attributes.{AttributeValue, integer_in, text_in, boolean_in, Attributes}
 use Rattle.fv_datum.specs.Decimals.{decimal_units}
@@ -22,15 +23,9 @@ use Rattle.fv_builtin.specs.declared.name.BuiltinName.TheVariants.{Null, NotNull
 
 -- ---- the values in effect
 
--- the value that is given, else the default
-abbrev pub given_or : Option AttributeValue → Option AttributeValue → Option AttributeValue
-given_or given None = given
-given_or None (Some default) = Some default
-given_or (Some a) (Some default) = Some a
-
 -- the value in effect of a constraint's attribute: as it is given, else its default
 abbrev pub in_effect : BuiltinName → Attributes → List ℕ → Option AttributeValue
-in_effect which given name = given_or (at_name name given) (default_of which name)
+in_effect which given name = option_or (at_name name given) (default_of which name)
 
 -- a whole number from 0 to 2147483647
 abbrev pub count_in : ℤ → Option ℕ
@@ -79,33 +74,18 @@ pub data Draft : Type 0 where
   ready : BuiltIn → Draft
   to_match : List ℕ → Draft
 
--- two values, if both are there
-abbrev pub both : {X Y : Type 0} → Option X → Option Y → Option (X × Y)
-both x y = option_and_then (λ a. option_map (λ b. (a, b)) y) x
-
 -- a bound that is a whole number, in units of 10^-9
 abbrev pub whole_bound : BuiltinName → Attributes → Option ℤ
 whole_bound which given = option_map (λ n. n *ℤ pos (10 ^ 9)) (integer_at which given (codes "value"))
 
 -- a bound that is a decimal, in the same units, and whether it is included
 abbrev pub decimal_bound : BuiltinName → Attributes → Option (ℤ × Bool)
-decimal_bound which given = both (option_and_then decimal_units (text_at which given (codes "value"))) (boolean_at which given (codes "inclusive"))
+decimal_bound which given = option_zip (option_and_then decimal_units (text_at which given (codes "value"))) (boolean_at which given (codes "inclusive"))
 
--- how many digits
-abbrev pub digit_counts : Attributes → Option (ℕ × ℕ)
-digit_counts given = both (count_at Digits given (codes "integer")) (count_at Digits given (codes "fraction"))
-
--- the least and the greatest size, of which the second is not below the first
-abbrev pub in_order : ℕ × ℕ → Option (ℕ × ℕ)
-in_order p = if nat_lt p.1 p.0 then None else Some p
-
--- the least and the greatest size in effect, if each is a count and they are in order
+-- the least and the greatest size in effect, if each is a count and the second is not below the first
 abbrev pub size_bounds : Attributes → Option (ℕ × ℕ)
-size_bounds given = option_and_then in_order (both (count_at Size given (codes "min")) (count_at Size given (codes "max")))
-
--- the text of a pattern
-abbrev pub regexp_of : Attributes → Option (List ℕ)
-regexp_of given = text_at Pattern given (codes "regexp")
+size_bounds given =
+    option_and_then (λ p. if nat_lt p.1 p.0 then None else Some p) (option_zip (count_at Size given (codes "min")) (count_at Size given (codes "max")))
 
 -- what the attributes make of a constraint: none where one is missing or has a value that the constraint refuses
 abbrev pub accepted : BuiltinName → Attributes → Option Draft
@@ -121,7 +101,8 @@ accepted Positive given = Some (ready built.positive)
 accepted PositiveOrZero given = Some (ready built.positive_or_zero)
 accepted Negative given = Some (ready built.negative)
 accepted NegativeOrZero given = Some (ready built.negative_or_zero)
-accepted Digits given = option_map (λ p. ready (built.digits p.0 p.1)) (digit_counts given)
+accepted Digits given =
+    option_map (λ p. ready (built.digits p.0 p.1)) (option_zip (count_at Digits given (codes "integer")) (count_at Digits given (codes "fraction")))
 accepted Size given = option_map (λ p. ready (built.size p.0 p.1)) (size_bounds given)
 accepted NotEmpty given = Some (ready built.not_empty)
 accepted NotBlank given = Some (ready built.not_blank)
@@ -129,7 +110,7 @@ accepted Past given = Some (ready built.past)
 accepted PastOrPresent given = Some (ready built.past_or_present)
 accepted Future given = Some (ready built.future)
 accepted FutureOrPresent given = Some (ready built.future_or_present)
-accepted Pattern given = option_map (λ s. to_match s) (regexp_of given)
+accepted Pattern given = option_map (λ s. to_match s) (text_at Pattern given (codes "regexp"))
 
 -- the same, but none also where an attribute is foreign
 abbrev pub drafted : BuiltinName → Attributes → Option Draft

@@ -12,5 +12,4 @@ pub mod Says
 pub mod Sizes
 pub mod Table
 pub mod Times
-pub mod Truths
 pub mod Views

@@ -1,6 +1,6 @@
--- What a pattern says of a datum, and how it is read.
-use Rattle.std.specs.Prelude.{◌≡◌, ◌≢◌, ℕ, List, ◌++◌, Bool, true, is_some, codes}
-use Rattle.regex.specs.Patterns.{Re, find_str, Reads, default_config}
+-- How a pattern is read.
+use Rattle.std.specs.Prelude.{◌≡◌, ◌≢◌, ℕ, List, ◌++◌, codes}
+use Rattle.regex.specs.Patterns.{Re, Reads, default_config}
 use Rattle.regex.specs.Strings.{regex_source, regex_config, IsReadFromSource, IsDefaultFailure}
 use Rattle.regex.specs.declared.error.Error.{Error}
 use Rattle.regex.specs.declared.error.Error.TheVariants.{OutOfMemory}
@@ -8,12 +8,6 @@ use Rattle.regex.specs.declared.string.regex.Regex.{Regex}
 use Rattle.regex_hir.specs.Meaning.{meaning}
 use Rattle.regex_hir.specs.declared.hir.Hir.{Hir}
 use Rattle.regex_syntax.specs.Grammar.{Names}
-use Rattle.fv_datum.specs.Data.{Data, text}
-
--- a text has a match; any other datum passes
-abbrev pub is_match : Re → Data → Bool
-is_match re (text s) = is_some (find_str re s 0)
-is_match re _ = true
 
 -- the text of a pattern that matches all of a text or nothing
 abbrev pub anchored : List ℕ → List ℕ

@@ -1,11 +1,9 @@
 -- The size of a datum, and the characters of a text.
-use Rattle.std.specs.Prelude.{ℕ, ◌+◌, ◌&&◌, List, Bool, not, nat_lt, nat_le, Option, Some, None, if◌then◌else◌}
+use Rattle.std.specs.Prelude.{ℕ, ◌+◌, List, Bool, not, nat_lt, Option, Some, None, if◌then◌else◌}
 use Rattle.std.specs.Char.{is_whitespace}
 use Rattle.std.specs.List.{sum_by, list_any}
 use Rattle.std.specs.Str.{chars}
 use Rattle.fv_datum.specs.Data.{Data, text, list, map, Items, no_items, item, Entries, no_entries, entry}
-use Rattle.fv_datum.specs.Written.{is_null}
-use Rattle.fv_builtin.specs.Passing.{passes}
 
 -- the UTF-16 code units of a character: one up to U+FFFF, else two
 abbrev pub units_of : ℕ → ℕ
@@ -32,19 +30,6 @@ size_of (list ds) = Some (item_count ds)
 size_of (map es) = Some (entry_count es)
 size_of _ = None
 
--- the size is from min to max
-abbrev pub is_sized : ℕ → ℕ → Data → Bool
-is_sized min max d = passes (λ n. nat_le min n && nat_le n max) (size_of d)
-
--- not null, and of a size above 0
-abbrev pub is_not_empty : Data → Bool
-is_not_empty d = not (is_null d) && passes (λ n. nat_lt 0 n) (size_of d)
-
 -- some character is no white space
 abbrev pub has_ink : List ℕ → Bool
 has_ink s = list_any (λ c. not (is_whitespace c)) (chars s)
-
--- not null, and no text without such a character
-abbrev pub is_not_blank : Data → Bool
-is_not_blank (text s) = has_ink s
-is_not_blank d = not (is_null d)

@@ -64,22 +64,12 @@ is_time_kind kind.Date = true
 is_time_kind kind.Instant = true
 is_time_kind _ = false
 
--- texts
-abbrev pub is_text_kind : Kind → Bool
-is_text_kind kind.Text = true
-is_text_kind _ = false
-
--- booleans
-abbrev pub is_boolean_kind : Kind → Bool
-is_boolean_kind kind.Boolean = true
-is_boolean_kind _ = false
-
 -- the constraint is on data of a kind
 abbrev pub takes : BuiltinName → Kind → Bool
 takes Null k = true
 takes NotNull k = true
-takes AssertTrue k = is_boolean_kind k
-takes AssertFalse k = is_boolean_kind k
+takes AssertTrue kind.Boolean = true
+takes AssertFalse kind.Boolean = true
 takes Min k = is_number_kind k
 takes Max k = is_number_kind k
 takes DecimalMin k = is_number_kind k
@@ -91,9 +81,10 @@ takes NegativeOrZero k = is_number_kind k
 takes Digits k = is_number_kind k
 takes Size k = is_sized_kind k
 takes NotEmpty k = is_sized_kind k
-takes NotBlank k = is_text_kind k
+takes NotBlank kind.Text = true
 takes Past k = is_time_kind k
 takes PastOrPresent k = is_time_kind k
 takes Future k = is_time_kind k
 takes FutureOrPresent k = is_time_kind k
-takes Pattern k = is_text_kind k
+takes Pattern kind.Text = true
+takes _ _ = false

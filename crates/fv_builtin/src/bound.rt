@@ -1,10 +1,11 @@
 //! Min, Max, DecimalMin, DecimalMax, Positive, PositiveOrZero, Negative and NegativeOrZero: a
 //! number stands to a bound. Numbers are in units of 10^-9.
-ghost use Rattle.std.specs.Prelude.{◌≡◌, ◌^◌, ◌*ℤ◌, pos};
+ghost use Rattle.std.specs.Prelude.{◌≡◌, ◌^◌, ◌*ℤ◌, pos, int_le, int_lt, if◌then◌else◌};
 ghost use Rattle.fv_datum.specs.View.{view};
 ghost use Rattle.fv_builtin.specs.Given.{whole_bound, decimal_bound};
 ghost use Rattle.fv_builtin.specs.declared.name.BuiltinName.TheVariants.{Min, DecimalMin};
-ghost use Rattle.fv_builtin.specs.Numbers.{number_of, is_at_least, is_above, is_at_most, is_below, is_from, is_up_to};
+ghost use Rattle.fv_builtin.specs.Numbers.{number_of};
+ghost use Rattle.fv_builtin.specs.Passing.{passes};
 
 use crate::given::{boolean_or, integer_or, text_of};
 use crate::table::INCLUSIVE;
@@ -46,7 +47,7 @@ pub(crate) fn whole_units(number: i64) -> i128
 }
 
 pub(crate) fn is_at_least(bound: i128, datum: &Datum) -> bool
-    ensures { result ≡ is_at_least bound (view datum.now) }
+    ensures { result ≡ passes (λ n. int_le bound n) (number_of (view datum.now)) }
 {
     match number_of(datum) {
         None => true,
@@ -55,7 +56,7 @@ pub(crate) fn is_at_least(bound: i128, datum: &Datum) -> bool
 }
 
 pub(crate) fn is_above(bound: i128, datum: &Datum) -> bool
-    ensures { result ≡ is_above bound (view datum.now) }
+    ensures { result ≡ passes (λ n. int_lt bound n) (number_of (view datum.now)) }
 {
     match number_of(datum) {
         None => true,
@@ -64,7 +65,7 @@ pub(crate) fn is_above(bound: i128, datum: &Datum) -> bool
 }
 
 pub(crate) fn is_at_most(bound: i128, datum: &Datum) -> bool
-    ensures { result ≡ is_at_most bound (view datum.now) }
+    ensures { result ≡ passes (λ n. int_le n bound) (number_of (view datum.now)) }
 {
     match number_of(datum) {
         None => true,
@@ -73,7 +74,7 @@ pub(crate) fn is_at_most(bound: i128, datum: &Datum) -> bool
 }
 
 pub(crate) fn is_below(bound: i128, datum: &Datum) -> bool
-    ensures { result ≡ is_below bound (view datum.now) }
+    ensures { result ≡ passes (λ n. int_lt n bound) (number_of (view datum.now)) }
 {
     match number_of(datum) {
         None => true,
@@ -83,7 +84,8 @@ pub(crate) fn is_below(bound: i128, datum: &Datum) -> bool
 
 /// At least the bound or, without `inclusive`, above it.
 pub(crate) fn is_from(bound: i128, inclusive: bool, datum: &Datum) -> bool
-    ensures { result ≡ is_from bound inclusive (view datum.now) }
+    ensures { result ≡ passes (λ n. if inclusive then int_le bound n else int_lt bound n)
+        (number_of (view datum.now)) }
 {
     if inclusive {
         is_at_least(bound, datum)
@@ -94,7 +96,8 @@ pub(crate) fn is_from(bound: i128, inclusive: bool, datum: &Datum) -> bool
 
 /// At most the bound or, without `inclusive`, below it.
 pub(crate) fn is_up_to(bound: i128, inclusive: bool, datum: &Datum) -> bool
-    ensures { result ≡ is_up_to bound inclusive (view datum.now) }
+    ensures { result ≡ passes (λ n. if inclusive then int_le n bound else int_lt n bound)
+        (number_of (view datum.now)) }
 {
     if inclusive {
         is_at_most(bound, datum)

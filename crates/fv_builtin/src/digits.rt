@@ -1,8 +1,11 @@
 //! Digits: a number has at most so many digits before the point, and at most so many behind it.
-ghost use Rattle.std.specs.Prelude.{◌≡◌};
+ghost use Rattle.std.specs.Prelude.{◌≡◌, ◌&&◌, codes};
+ghost use Rattle.std.specs.Option.{option_zip};
 ghost use Rattle.fv_datum.specs.View.{view};
-ghost use Rattle.fv_builtin.specs.Given.{digit_counts};
-ghost use Rattle.fv_builtin.specs.Numbers.{has_integral, has_fraction, has_digits};
+ghost use Rattle.fv_builtin.specs.Given.{count_at};
+ghost use Rattle.fv_builtin.specs.declared.name.BuiltinName.TheVariants.{Digits};
+ghost use Rattle.fv_builtin.specs.Numbers.{number_of, has_integral, has_fraction};
+ghost use Rattle.fv_builtin.specs.Passing.{passes};
 
 use crate::bound::number_of;
 use crate::given::{count_in, integer_or};
@@ -13,7 +16,8 @@ const ONE: u128 = 1_000_000_000;
 
 /// The counts `integer` and `fraction`.
 pub(crate) fn digit_counts(attrs: &Attrs) -> Option<(u32, u32)>
-    ensures { result ≡ digit_counts attrs.now }
+    ensures { result ≡ option_zip (count_at Digits attrs.now (codes "integer"))
+        (count_at Digits attrs.now (codes "fraction")) }
 {
     let integer = count_in(integer_or(attrs.find("integer"), None)?)?;
     let fraction = count_in(integer_or(attrs.find("fraction"), None)?)?;
@@ -22,7 +26,8 @@ pub(crate) fn digit_counts(attrs: &Attrs) -> Option<(u32, u32)>
 
 /// Zeros at the end of the fraction don't count, and neither does a whole part of 0.
 pub(crate) fn has_digits(integer: u32, fraction: u32, datum: &Datum) -> bool
-    ensures { result ≡ has_digits integer fraction (view datum.now) }
+    ensures { result ≡ passes (λ n. has_integral integer n && has_fraction fraction n)
+        (number_of (view datum.now)) }
 {
     match number_of(datum) {
         None => true,

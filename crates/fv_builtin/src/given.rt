@@ -1,8 +1,8 @@
 //! The attributes that are given, and their values in effect.
 ghost use Rattle.std.specs.Prelude.{◌≡◌, option_map};
-ghost use Rattle.std.specs.Option.{option_and_then};
+ghost use Rattle.std.specs.Option.{option_and_then, option_or};
 ghost use Rattle.fv_datum.specs.Attributes.{attribute_view, integer, integer_in, text_in, boolean, boolean_in};
-ghost use Rattle.fv_builtin.specs.Given.{given_or, count_in, has_foreign, has_kind};
+ghost use Rattle.fv_builtin.specs.Given.{count_in, has_foreign, has_kind};
 
 use crate::name::BuiltinName;
 use crate::table::kind_of_attribute;
@@ -13,7 +13,7 @@ const GREATEST_COUNT: i64 = 2147483647;
 
 /// A whole number as it is given, else the default.
 pub(crate) fn integer_or(given: Option<&Attribute>, default: Option<i64>) -> Option<i64>
-    ensures { result ≡ option_and_then integer_in (given_or (option_map (λ a. attribute_view a.now) given.entry)
+    ensures { result ≡ option_and_then integer_in (option_or (option_map (λ a. attribute_view a.now) given.entry)
         (option_map (λ n. integer n) default)) }
 {
     match given {
@@ -25,7 +25,7 @@ pub(crate) fn integer_or(given: Option<&Attribute>, default: Option<i64>) -> Opt
 
 /// A boolean as it is given, else the default.
 pub(crate) fn boolean_or(given: Option<&Attribute>, default: Option<bool>) -> Option<bool>
-    ensures { result ≡ option_and_then boolean_in (given_or (option_map (λ a. attribute_view a.now) given.entry)
+    ensures { result ≡ option_and_then boolean_in (option_or (option_map (λ a. attribute_view a.now) given.entry)
         (option_map (λ b. boolean b) default)) }
 {
     match given {

@@ -1,11 +1,13 @@
 //! Pattern: all of a text matches a regular expression, as the `regex` crate reads it.
-ghost use Rattle.std.specs.Prelude.{◌≡◌, Err, IfOk, IfErr, string_bytes, is_some, option_map};
+ghost use Rattle.std.specs.Prelude.{◌≡◌, Err, IfOk, IfErr, string_bytes, is_some, option_map, codes};
 ghost use Rattle.regex.specs.Patterns.{find_str};
 ghost use Rattle.regex.specs.Strings.{regex_pattern};
 ghost use Rattle.fv_datum.specs.Data.{text};
 ghost use Rattle.fv_datum.specs.View.{view};
-ghost use Rattle.fv_builtin.specs.Given.{IsBuilt, answer_of, regexp_of};
-ghost use Rattle.fv_builtin.specs.Matches.{anchored, is_match, IsReadFrom};
+ghost use Rattle.fv_builtin.specs.Given.{IsBuilt, answer_of, text_at};
+ghost use Rattle.fv_builtin.specs.Matches.{anchored, IsReadFrom};
+ghost use Rattle.fv_builtin.specs.Passing.{passes, text_of};
+ghost use Rattle.fv_builtin.specs.declared.name.BuiltinName.TheVariants.{Pattern};
 
 use crate::compiled::Compiled;
 use crate::fault::BuiltinFault;
@@ -16,7 +18,7 @@ use std::alloc::{AllocError, Global};
 
 /// The text `regexp`.
 pub(crate) fn regexp_of(attrs: &Attrs) -> Option<&str>
-    ensures { option_map (λ s. s.now) result ≡ regexp_of attrs.now }
+    ensures { option_map (λ s. s.now) result ≡ text_at Pattern attrs.now (codes "regexp") }
 {
     text_of(attrs.find("regexp"))
 }
@@ -48,7 +50,8 @@ fn anchored(alloc: Global, regexp: &str) -> Result<String, AllocError>
 }
 
 pub(crate) fn is_match(alloc: Global, pattern: &Compiled, datum: &Datum) -> Result<bool, AllocError>
-    ensures { IfOk result (λ b. b ≡ is_match (regex_pattern pattern.now.regex.now) (view datum.now)) }
+    ensures { IfOk result (λ b. b ≡ passes (λ s. is_some (find_str (regex_pattern pattern.now.regex.now) s 0))
+        (text_of (view datum.now))) }
 {
     match datum {
         Datum::Text(text) => pattern.finds(alloc, text.as_str()),

@@ -1,9 +1,11 @@
 //! Size and NotEmpty: how large a text, a list or a map is. A text is counted in UTF-16 code
 //! units.
-ghost use Rattle.std.specs.Prelude.{◌≡◌};
+ghost use Rattle.std.specs.Prelude.{◌≡◌, ◌&&◌, not, nat_le, nat_lt};
 ghost use Rattle.fv_datum.specs.View.{view};
+ghost use Rattle.fv_datum.specs.Written.{is_null};
 ghost use Rattle.fv_builtin.specs.Given.{size_bounds};
-ghost use Rattle.fv_builtin.specs.Sizes.{units_of, utf16_size, size_of, is_sized, is_not_empty};
+ghost use Rattle.fv_builtin.specs.Passing.{passes};
+ghost use Rattle.fv_builtin.specs.Sizes.{units_of, utf16_size, size_of};
 
 use crate::given::{count_in, integer_or};
 use crate::table::{MAX_SIZE, MIN_SIZE};
@@ -51,7 +53,7 @@ fn units_of(c: char) -> u64
 
 /// From `min` to `max`, both included.
 pub(crate) fn is_sized(min: u32, max: u32, datum: &Datum) -> bool
-    ensures { result ≡ is_sized min max (view datum.now) }
+    ensures { result ≡ passes (λ n. nat_le min n && nat_le n max) (size_of (view datum.now)) }
 {
     match size_of(datum) {
         None => true,
@@ -61,7 +63,7 @@ pub(crate) fn is_sized(min: u32, max: u32, datum: &Datum) -> bool
 
 /// Not null, and of a size above 0.
 pub(crate) fn is_not_empty(datum: &Datum) -> bool
-    ensures { result ≡ is_not_empty (view datum.now) }
+    ensures { result ≡ (not (is_null (view datum.now)) && passes (λ n. nat_lt 0 n) (size_of (view datum.now))) }
 {
     if is_null(datum) {
         return false;

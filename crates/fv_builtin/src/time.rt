@@ -1,9 +1,11 @@
 //! Past, PastOrPresent, Future and FutureOrPresent: how a date or an instant stands to the
 //! present. A date is compared with the day of the moment in UTC.
-ghost use Rattle.std.specs.Prelude.{◌≡◌};
+ghost use Rattle.std.specs.Prelude.{◌≡◌, not};
+ghost use Rattle.std.specs.Ordering.{is_lt, is_gt};
 ghost use Rattle.fv_datum.specs.Moments.{IsMoment};
 ghost use Rattle.fv_datum.specs.View.{view};
-ghost use Rattle.fv_builtin.specs.Times.{order_of, is_past, is_past_or_present, is_future, is_future_or_present};
+ghost use Rattle.fv_builtin.specs.Passing.{passes};
+ghost use Rattle.fv_builtin.specs.Times.{order_of};
 
 use fv_datum::{Datum, day_of, today};
 use std::cmp::Ordering;
@@ -25,7 +27,7 @@ fn order_of(now: i64, datum: &Datum) -> Option<Ordering>
 
 pub(crate) fn is_past(now: i64, datum: &Datum) -> bool
     requires { IsMoment now }
-    ensures { result ≡ is_past now (view datum.now) }
+    ensures { result ≡ passes is_lt (order_of now (view datum.now)) }
 {
     match order_of(now, datum) {
         None => true,
@@ -35,7 +37,7 @@ pub(crate) fn is_past(now: i64, datum: &Datum) -> bool
 
 pub(crate) fn is_past_or_present(now: i64, datum: &Datum) -> bool
     requires { IsMoment now }
-    ensures { result ≡ is_past_or_present now (view datum.now) }
+    ensures { result ≡ passes (λ o. not (is_gt o)) (order_of now (view datum.now)) }
 {
     match order_of(now, datum) {
         None => true,
@@ -45,7 +47,7 @@ pub(crate) fn is_past_or_present(now: i64, datum: &Datum) -> bool
 
 pub(crate) fn is_future(now: i64, datum: &Datum) -> bool
     requires { IsMoment now }
-    ensures { result ≡ is_future now (view datum.now) }
+    ensures { result ≡ passes is_gt (order_of now (view datum.now)) }
 {
     match order_of(now, datum) {
         None => true,
@@ -55,7 +57,7 @@ pub(crate) fn is_future(now: i64, datum: &Datum) -> bool
 
 pub(crate) fn is_future_or_present(now: i64, datum: &Datum) -> bool
     requires { IsMoment now }
-    ensures { result ≡ is_future_or_present now (view datum.now) }
+    ensures { result ≡ passes (λ o. not (is_lt o)) (order_of now (view datum.now)) }
 {
     match order_of(now, datum) {
         None => true,

@@ -1,12 +1,12 @@
 //! AssertTrue and AssertFalse.
-ghost use Rattle.std.specs.Prelude.{◌≡◌};
+ghost use Rattle.std.specs.Prelude.{◌≡◌, not};
 ghost use Rattle.fv_datum.specs.View.{view};
-ghost use Rattle.fv_builtin.specs.Truths.{is_true, is_false};
+ghost use Rattle.fv_builtin.specs.Passing.{passes, boolean_of};
 
 use fv_datum::Datum;
 
 pub(crate) fn is_true(datum: &Datum) -> bool
-    ensures { result ≡ is_true (view datum.now) }
+    ensures { result ≡ passes (λ b. b) (boolean_of (view datum.now)) }
 {
     match datum {
         Datum::Boolean(flag) => *flag,
@@ -15,7 +15,7 @@ pub(crate) fn is_true(datum: &Datum) -> bool
 }
 
 pub(crate) fn is_false(datum: &Datum) -> bool
-    ensures { result ≡ is_false (view datum.now) }
+    ensures { result ≡ passes not (boolean_of (view datum.now)) }
 {
     match datum {
         Datum::Boolean(flag) => !*flag,

@@ -22,7 +22,7 @@ below (tree n ts) = ts
 abbrev mutual
   -- how many nodes a tree has
   pub size : {N : Type 0} → Tree N → ℕ
-  size (tree n below) = 1 + sizes below
+  size (tree n ts) = 1 + sizes ts
 
   -- how many nodes trees have
   pub sizes : {N : Type 0} → Trees N → ℕ

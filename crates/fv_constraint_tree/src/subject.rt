@@ -6,7 +6,7 @@ ghost use Rattle.fv_model.specs.Views.{object_view};
 ghost use Rattle.fv_registry.specs.Rules.{knows_field, knows_object};
 ghost use Rattle.fv_constraint_tree.specs.Fits.{test_fits};
 ghost use Rattle.fv_constraint_tree.specs.Says.{says};
-ghost use Rattle.fv_constraint_tree.specs.Views.{node_view, test_view, subject_view};
+ghost use Rattle.fv_constraint_tree.specs.Views.{test_view, subject_view};
 
 use crate::node::{Node, Test};
 use fv_datum::{Attrs, Datum};
@@ -59,7 +59,8 @@ pub(crate) fn says<R: RuleSet>(
 ) -> Result<bool, AllocError>
     requires moment { IsMoment now }
     requires there { test_fits (R.known rules.now.rules) (test_view node.now.test) ≡ true }
-    ensures { IfOk result (λ b. b ≡ says R.meaning now (node_view node.now) (subject_view subject.entry)) }
+    ensures { IfOk result (λ b. b
+        ≡ says R.meaning now node.now.attributes (test_view node.now.test) (subject_view subject.entry)) }
 {
     match (&node.test, subject) {
         (Test::BuiltIn(builtin), Subject::Datum(datum)) => builtin.holds(alloc, datum, now),

@@ -1,12 +1,7 @@
 -- Membership, and lists without repeats.
 use Rattle.std.proofs.Common.{◌≡◌, ◌≢◌, ℕ, List, [], ◌∷◌, ◌++◌, reverse, ◌⊎◌, inl, inr, refl, sym, subst, Bool, true, false, ◌||◌, nat_eq, arith}
 use Rattle.std.proofs.lemmas.List.{reverse-append, reverse-reverse}
-use Rattle.fv_graph.specs.Graph.{IsIn, AllDiffer}
-
--- a number is among these
-abbrev pub mem : List ℕ → ℕ → Bool
-mem [] i = false
-mem (x ∷ xs) i = nat_eq x i || mem xs i
+use Rattle.fv_graph.specs.Graph.{mem, IsIn, AllDiffer}
 
 pub in_left : {X : Type 0} (xs ys : List X) (x : X) → IsIn xs x → IsIn (xs ++ ys) x
 in_left [] ys x h = absurd h

@@ -1,5 +1,5 @@
 -- Directed graphs over numbered nodes, as a function from a node to the list of those that its edges lead to.
-use Rattle.std.specs.Prelude.{◌≡◌, ◌<◌, ◌↔◌, ℕ, zero, suc, List, [], ◌∷◌, ◌++◌, All, length, Option, Some, None, MatchOption, slice_get, Vec}
+use Rattle.std.specs.Prelude.{◌≡◌, ◌<◌, ◌↔◌, ◌||◌, ℕ, zero, suc, nat_eq, Bool, false, List, [], ◌∷◌, ◌++◌, All, length, Option, Some, None, MatchOption, slice_get, Vec}
 use Rattle.std.specs.declared.alloc.Global.{Global}
 use mathlib.Core.Logic.{◌⊎◌}
 
@@ -7,6 +7,11 @@ use mathlib.Core.Logic.{◌⊎◌}
 abbrev pub IsIn : {X : Type 0} → List X → X → Type 0
 IsIn [] x = ⊥
 IsIn (y ∷ ys) x = (y ≡ x) ⊎ IsIn ys x
+
+-- the same of numbers, as a test
+abbrev pub mem : List ℕ → ℕ → Bool
+mem [] i = false
+mem (x ∷ xs) i = nat_eq x i || mem xs i
 
 -- none of xs comes again later
 abbrev pub AllDiffer : {X : Type 0} → List X → Type 0

@@ -10,30 +10,18 @@ use Rattle.fv_message.specs.Full.{IsFullText}
 use Rattle.fv_message.specs.declared.fault.MessageFault.{MessageFault}
 use Rattle.fv_message.specs.declared.fault.MessageFault.TheVariants.{TooLarge, MessageSyntax, MessageCycle, Memory}
 
--- how many messages the user gives at most
-abbrev pub most_messages : ℕ
-most_messages = 1024
-
--- how many bytes a template has at most, as it is written
-abbrev pub most_bytes : ℕ
-most_bytes = 4096
-
--- how many bytes a key's text becomes at most, with no attributes
-abbrev pub most_full : ℕ
-most_full = 65536
-
--- a template is short enough
+-- a template is short enough: at most 4096 bytes, as it is written
 abbrev pub fits : List ℕ → Bool
-fits template = nat_le (length template) most_bytes
+fits template = nat_le (length template) 4096
 
 -- one of the texts is too long for a template
 abbrev pub has_long : Messages → Bool
 has_long user = list_any (λ m. not (fits m.1)) user
 
--- some message's text becomes too long, with no attributes
+-- some message's text becomes too long, with no attributes: more than 65536 bytes
 abbrev pub HasLongKey : Messages → Type 0
 HasLongKey ms =
-    (m : List ℕ × List ℕ) × IsIn ms m × (full : List ℕ) × IsFullText ms [] m.1 full × (most_full < length full)
+    (m : List ℕ × List ℕ) × IsIn ms m × (full : List ℕ) × IsFullText ms [] m.1 full × (65536 < length full)
 
 -- some message's text is no template, or its key is no parameter's name
 abbrev pub IsMisspelt : Messages → Type 0
@@ -54,9 +42,9 @@ LeadsIn ms (suc more) key name = (next : List ℕ) × HasParameter ms key next �
 abbrev pub IsCircular : Messages → Type 0
 IsCircular ms = (key : List ℕ) × (more : ℕ) × LeadsIn ms more key key
 
--- a limit is passed
+-- a limit is passed: there are more than 1024 messages, or a text is too long for a template, or becomes too long
 abbrev pub IsLarge : Messages → Type 0
-IsLarge user = (most_messages < length user) ⊎ (has_long user ≡ true) ⊎ HasLongKey (all_messages user)
+IsLarge user = (1024 < length user) ⊎ (has_long user ≡ true) ⊎ HasLongKey (all_messages user)
 
 -- the user's messages within the limits, with texts that are templates, and no key whose text leads back to it
 pub record AreSound (user : Messages) : Type 0 where

@@ -1,6 +1,6 @@
 -- How a template is read, byte by byte; for private functions, and for the law that it is read as what it spells.
 use Rattle.std.specs.Prelude.{ℕ, ◌==◌, ◌&&◌, ◌||◌, List, [], ◌∷◌, ◌++◌, Bool, true, false, Option, Some, None, option_map, unwrap_or, is_some}
-use Rattle.fv_message.specs.Template.{Piece, plain, parameter, opening, closing, backslash, dollar, begins, in_name, is_special, is_parameter_name, stands_plain}
+use Rattle.fv_message.specs.Template.{Piece, plain, parameter, begins, in_name, is_special, is_parameter_name, stands_plain}
 
 -- a text whose first byte is plain as it stands
 abbrev pub begins_plain : List ℕ → Bool
@@ -20,14 +20,14 @@ put p ps = option_map (λ more. p ∷ more) ps
 -- the pieces that are read from here on, if the text goes on as a template
 abbrev pub read_from : Standing → List ℕ → Option (List Piece)
 read_from outside [] = Some []
-read_from escaping [] = Some (plain backslash ∷ [])
+read_from escaping [] = Some (plain 92 ∷ [])
 read_from (naming name) [] = None
 read_from outside (b ∷ bs) =
-    elim (b == backslash) [
+    elim (b == 92) [
       | true ↦ read_from escaping bs
-      | false ↦ elim (b == opening) [
+      | false ↦ elim (b == 123) [
         | true ↦ read_from (naming []) bs
-        | false ↦ elim ((b == closing) || ((b == dollar) && begins (λ c. c == opening) bs)) [
+        | false ↦ elim ((b == 125) || ((b == 36) && begins (λ c. c == 123) bs)) [
           | true ↦ None
           | false ↦ put (plain b) (read_from outside bs)
         ]
@@ -36,10 +36,10 @@ read_from outside (b ∷ bs) =
 read_from escaping (b ∷ bs) =
     elim (is_special b) [
       | true ↦ put (plain b) (read_from outside bs)
-      | false ↦ put (plain backslash) (put (plain b) (read_from outside bs))
+      | false ↦ put (plain 92) (put (plain b) (read_from outside bs))
     ]
 read_from (naming name) (b ∷ bs) =
-    elim ((b == closing) && is_parameter_name name) [
+    elim ((b == 125) && is_parameter_name name) [
       | true ↦ put (parameter name) (read_from outside bs)
       | false ↦ elim (in_name b) [ true ↦ read_from (naming (name ++ b ∷ [])) bs | false ↦ None ]
     ]

@@ -1,6 +1,6 @@
 //! The judgement of a user's messages by themselves.
 ghost use Rattle.std.specs.Prelude.{◌≡◌, ◌||◌, nat_lt, length};
-ghost use Rattle.fv_message.specs.Judged.{has_long, most_messages};
+ghost use Rattle.fv_message.specs.Judged.{has_long};
 ghost use Rattle.fv_message.specs.Judging.{is_misspelt};
 ghost use Rattle.fv_message.specs.Views.{messages_view};
 
@@ -12,7 +12,7 @@ const MOST_MESSAGES: usize = 1024;
 
 /// Whether one of the texts is too long for a template, or there are too many messages.
 pub(crate) fn are_large(user: &IndexMap<String, String>) -> bool
-    ensures { result ≡ (has_long (messages_view user.now) || nat_lt most_messages (length (messages_view user.now))) }
+    ensures { result ≡ (has_long (messages_view user.now) || nat_lt 1024 (length (messages_view user.now))) }
 {
     for (_, text) in user.iter() {
         if !template_fits(text.as_str()) {

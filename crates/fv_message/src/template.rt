@@ -3,7 +3,7 @@ ghost use Rattle.std.specs.Prelude.{◌≡◌, ◌↔◌, ◌∷◌, true, not, 
 ghost use Rattle.std.specs.List.{prefix_len, list_all};
 ghost use Rattle.fv_message.specs.Judged.{fits};
 ghost use Rattle.fv_message.specs.Parts.{BeginsWith, FirstPart};
-ghost use Rattle.fv_message.specs.Template.{begins, in_name, is_special, is_parameter_name, opening, stands_plain, IsTemplate};
+ghost use Rattle.fv_message.specs.Template.{begins, in_name, is_special, is_parameter_name, stands_plain, IsTemplate};
 ghost use Rattle.fv_message.specs.Reading.{begins_plain};
 ghost use Rattle.fv_message.specs.declared.template.Part.TheVariants.{Plain};
 
@@ -48,7 +48,8 @@ fn plain_len(text: &[u8]) -> usize
 /// The parameter that a template begins with, from what stands behind its opening brace, and what
 /// stands behind the parameter.
 fn split_parameter(behind: &str) -> Option<(Part<'_>, &str)>
-    ensures { FirstPart (opening ∷ behind.now) result }
+    // 123 is `{`.
+    ensures { FirstPart (123 ∷ behind.now) result }
 {
     let (name, rest) = behind.split_once('}')?;
     if !is_parameter_name(name) {

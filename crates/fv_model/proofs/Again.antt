@@ -12,7 +12,7 @@ use Rattle.fv_datum.specs.Lookup.{at_name}
 use Rattle.fv_datum.specs.Members.{pairs}
 use Rattle.fv_datum.specs.Outcomes.{Gives}
 use Rattle.fv_datum.specs.Written.{is_null, written}
-use Rattle.fv_model_types.specs.Flaws.{undeclared, misfits, flaw_among}
+use Rattle.fv_model_types.specs.Flaws.{undeclared, misfits}
 use Rattle.fv_model_types.specs.Spelled.{datum_of}
 use Rattle.fv_model_types.specs.Types.{TypeUse, DeclaredFields, Declared, AreApart, FieldsApart}
 use Rattle.fv_model_types.proofs.Again.{some_read, written_again}
@@ -23,13 +23,14 @@ use Rattle.fv_model_types.proofs.Members.{AreAscending, ascending_put, same_memb
 use Rattle.fv_model_types.proofs.PlainJson.{IsPlain, fits_flat}
 use Rattle.fv_model.specs.Bundles.{IsAscending, Thing, Things, Bundled}
 use Rattle.fv_model.specs.Draft.{Drafted}
-use Rattle.fv_model.specs.Reading.{unknown_type, unknown_field, wrong_kind, has_flaw, draft_fault, datum_at, field_of, fields_of, object_of, bundle_of, judged, bundle_read}
+use Rattle.fv_model.specs.Reading.{has_flaw, datum_at, field_of, fields_of, object_of, bundle_of, bundle_read}
 use Rattle.fv_model.specs.Views.{bundle_view}
-use Rattle.fv_model.specs.WellTyped.{NamesObject, FitsUse, FieldsFit, FitsType, IsWellTyped}
-use Rattle.fv_model.specs.Writing.{IsWritten, datum_json, added, thing_json, objects_added, bundle_json, named_written, bundle_written}
+use Rattle.fv_model.specs.WellTyped.{NamesObject, FitsUse, FieldsAre, FitsType, IsWellTyped}
+use Rattle.fv_model.specs.Writing.{IsWritten, datum_json, thing_json, bundle_json, named_written, bundle_written}
 use Rattle.fv_model.specs.declared.bundle.Bundle.{Bundle}
 use Rattle.fv_model.specs.declared.fault.BundleFault.{BundleFault}
 use Rattle.fv_model.specs.declared.fault.BundleFault.TheVariants.{Memory}
+use Rattle.fv_model.proofs.Conditions.{unknown_type, unknown_field, wrong_kind, draft_fault, judged, added, objects_added, flaw_among}
 use Rattle.fv_model.proofs.Law.{put_if, added_other, part_for, draft_back, flaw_known}
 use Rattle.fv_model.proofs.Made.{AreWritten}
 use Rattle.fv_model.proofs.Typed.{some_of, chosen, none_at, head_false, faultless, unless_none, read_well_typed}
@@ -139,14 +140,14 @@ fields_again ds g apart given declared fit =
 field_given : (os : Things) (u : TypeUse) (d : Data) → FitsUse os u d → is_null d ≡ false → IsGivenJson (datum_json d)
 field_given os u d fits some = ((fits_flat (NamesObject os) u d fits).0, not_null d some (fits_writable (NamesObject os) u d fits))
 
-each_given : (os : Things) (ds : DeclaredFields) (fs : List (List ℕ × Data)) → FieldsFit os ds fs → AllByRecursion (λ f. is_null f.1 ≡ false → IsGivenJson (datum_json f.1)) fs
+each_given : (os : Things) (ds : DeclaredFields) (fs : List (List ℕ × Data)) → FieldsAre (NamesObject os) ds fs → AllByRecursion (λ f. is_null f.1 ≡ false → IsGivenJson (datum_json f.1)) fs
 each_given os [] [] fit = tt
-each_given os (d ∷ ds) (f ∷ fs) fit = (field_given os d.1 f.1 fit.1, each_given os ds fs fit.2)
+each_given os (d ∷ ds) (f ∷ fs) fit = (field_given os d.1 f.1 fit.0.1, each_given os ds fs fit.1)
 each_given os [] (f ∷ fs) fit = absurd fit
 each_given os (d ∷ ds) [] fit = absurd fit
 
 -- what is written of the fields of an object that fits
-pub fields_given : (os : Things) (ds : DeclaredFields) (fs : List (List ℕ × Data)) → FieldsFit os ds fs → IsGiven (added json.no_members fs)
+pub fields_given : (os : Things) (ds : DeclaredFields) (fs : List (List ℕ × Data)) → FieldsAre (NamesObject os) ds fs → IsGiven (added json.no_members fs)
 fields_given os ds fs fit = record {
   ordered = ascending_added fs json.no_members tt;
   each = each_added IsGivenJson fs json.no_members (each_given os ds fs fit) tt;

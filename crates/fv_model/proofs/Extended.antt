@@ -16,9 +16,10 @@ use Rattle.fv_datum.proofs.Lists.{each_of, none_made}
 use Rattle.fv_model.specs.Bundles.{Thing, Things, Bundled}
 use Rattle.fv_model.specs.Draft.{Part, Drafted}
 use Rattle.fv_model.specs.Extends.{Extends}
-use Rattle.fv_model.specs.Reading.{object_types, root_missing, has_flaw, large_datum, conditions, draft_fault, bundle_of, judged, bundle_read}
+use Rattle.fv_model.specs.Reading.{object_types, has_flaw, conditions, bundle_of, bundle_read}
 use Rattle.fv_model.specs.WellTyped.{FitsType, IsWellTyped, HasRootType}
 use Rattle.fv_model.specs.Writing.{bundle_json}
+use Rattle.fv_model.proofs.Conditions.{root_missing, large_datum, draft_fault, judged}
 use Rattle.fv_model.proofs.Law.{found_each, Agree, Taken, taken, any_added, flaw_known, part_for, types_agree, draft_back, no_first, root_asked, is_there}
 
 -- no fault at an object

@@ -1,12 +1,11 @@
 -- The first fault of a draft, by parts.
 use Rattle.std.proofs.Common.{◌≡◌, List, [], ◌∷◌, ◌++◌, cond, Bool, true, false, Option, Some, None, ℕ, refl, ◌∙◌}
 use Rattle.fv_datum.specs.Outcomes.{first}
-use Rattle.fv_model.specs.Conditions.{name_conditions, late_conditions}
 use Rattle.fv_model.specs.Draft.{Drafted}
-use Rattle.fv_model.specs.Reading.{unknown_field, wrong_kind, draft_fault}
 use Rattle.fv_model_types.specs.Types.{Declared}
 use Rattle.fv_model.specs.declared.fault.BundleFault.{BundleFault}
 use Rattle.fv_model.specs.declared.fault.BundleFault.TheVariants.{UnknownField, WrongKind}
+use Rattle.fv_model.proofs.Conditions.{unknown_field, wrong_kind, draft_fault, name_conditions, late_conditions}
 
 not_here : {E : Type 0} (b : Bool) (e : E) (o p q : Option E) → (o ≡ None → p ≡ q) → cond b (Some e) o ≡ None → cond b (Some e) p ≡ q
 not_here true e o p q more is = cc

@@ -10,7 +10,7 @@ use Rattle.fv_model_types.specs.Types.{TypeUse, texts, integers, decimals, boole
 use Rattle.fv_datum.proofs.Lists.{each_of}
 use Rattle.fv_model.specs.Bundles.{Thing, Things, Bundled}
 use Rattle.fv_model.specs.Replaced.{changed_at, thing_with, bundle_with}
-use Rattle.fv_model.specs.WellTyped.{NamesObject, FitsUse, FieldsFit, FitsType, IsWellTyped, HasRootType}
+use Rattle.fv_model.specs.WellTyped.{NamesObject, FitsUse, FieldsAre, FitsType, IsWellTyped, HasRootType}
 use Rattle.fv_model.specs.Setting.{use_of}
 use Rattle.fv_model.proofs.Sound.{Is}
 
@@ -83,9 +83,9 @@ module _ (object : List ℕ) (change : Thing → Thing) (same : (t : Thing) → 
 -- ---- the data of the objects
 
 module _ (os qs : Things) (more : (type name : List ℕ) → NamesObject os type name → NamesObject qs type name) where
-  fields_kept : (ds : DeclaredFields) (fs : List (List ℕ × Data)) → FieldsFit os ds fs → FieldsFit qs ds fs
+  fields_kept : (ds : DeclaredFields) (fs : List (List ℕ × Data)) → FieldsAre (NamesObject os) ds fs → FieldsAre (NamesObject qs) ds fs
   fields_kept [] [] fit = tt
-  fields_kept (d ∷ ds) (f ∷ fs) fit = (fit.0, fits (NamesObject os) (NamesObject qs) more d.1 f.1 fit.1, fields_kept ds fs fit.2)
+  fields_kept (d ∷ ds) (f ∷ fs) fit = ((fit.0.0, fits (NamesObject os) (NamesObject qs) more d.1 f.1 fit.0.1), fields_kept ds fs fit.1)
   fields_kept [] (f ∷ fs) fit = absurd fit
   fields_kept (d ∷ ds) [] fit = absurd fit
 
@@ -95,17 +95,17 @@ module _ (os qs : Things) (more : (type name : List ℕ) → NamesObject os type
   module _ (field : List ℕ) (x : Data) where
     -- where the field is this one, or another
     field_at : (b : Bool) (d : List ℕ × TypeUse) (f : List ℕ × Data) (ds : DeclaredFields) (fs gs : List (List ℕ × Data)) (u : TypeUse) → cond b (Some d.1) (at_name field ds) ≡ Some u → f.0 ≡ d.0 → FitsUse os d.1 f.1 → FitsUse qs u x
-        → FieldsFit qs ds fs → (at_name field ds ≡ Some u → FieldsFit qs ds gs) → FieldsFit qs (d ∷ ds) (cond b ((f.0, x) ∷ fs) (f ∷ gs))
+        → FieldsAre (NamesObject qs) ds fs → (at_name field ds ≡ Some u → FieldsAre (NamesObject qs) ds gs) → FieldsAre (NamesObject qs) (d ∷ ds) (cond b ((f.0, x) ∷ fs) (f ∷ gs))
     field_at true d f ds fs gs u holds name old new rest other =
         let here : u ≡ d.1 = cc in
-        (name, subst (λ (v : TypeUse). FitsUse qs v x) here new, rest)
-    field_at false d f ds fs gs u holds name old new rest other = (name, fits (NamesObject os) (NamesObject qs) more d.1 f.1 old, other holds)
+        ((name, subst (λ (v : TypeUse). FitsUse qs v x) here new), rest)
+    field_at false d f ds fs gs u holds name old new rest other = ((name, fits (NamesObject os) (NamesObject qs) more d.1 f.1 old), other holds)
 
-    fields_with : (ds : DeclaredFields) (fs : List (List ℕ × Data)) (u : TypeUse) → at_name field ds ≡ Some u → FitsUse qs u x → FieldsFit os ds fs → FieldsFit qs ds (changed_at field (λ _. x) fs)
+    fields_with : (ds : DeclaredFields) (fs : List (List ℕ × Data)) (u : TypeUse) → at_name field ds ≡ Some u → FitsUse qs u x → FieldsAre (NamesObject os) ds fs → FieldsAre (NamesObject qs) ds (changed_at field (λ _. x) fs)
     fields_with [] [] u holds new fit = tt
     fields_with (d ∷ ds) (f ∷ fs) u holds new fit =
-        subst (λ (n : List ℕ). FieldsFit qs (d ∷ ds) (cond (bytes_eq field n) ((f.0, x) ∷ fs) (f ∷ changed_at field (λ _. x) fs))) (sym fit.0)
-        (field_at (bytes_eq field d.0) d f ds fs (changed_at field (λ _. x) fs) u holds fit.0 fit.1 new (fields_kept ds fs fit.2) (λ later. fields_with ds fs u later new fit.2))
+        subst (λ (n : List ℕ). FieldsAre (NamesObject qs) (d ∷ ds) (cond (bytes_eq field n) ((f.0, x) ∷ fs) (f ∷ changed_at field (λ _. x) fs))) (sym fit.0.0)
+        (field_at (bytes_eq field d.0) d f ds fs (changed_at field (λ _. x) fs) u holds fit.0.0 fit.0.1 new (fields_kept ds fs fit.1) (λ later. fields_with ds fs u later new fit.1))
     fields_with [] (f ∷ fs) u holds new fit = absurd fit
     fields_with (d ∷ ds) [] u holds new fit = absurd fit
 

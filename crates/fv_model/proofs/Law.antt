@@ -1,5 +1,5 @@
 -- What was written of a well-typed bundle is read as that bundle.
-use Rattle.std.proofs.Common.{◌≡◌, ◌≢◌, ℕ, List, [], ◌∷◌, ◌++◌, map, length, cond, Bool, true, false, not, nat_lt, Option, Some, None, Ok, Ordering, Less, Equal, Greater, nat_cmp, bytes_eq, is_some, option_map, option_and_then, refl, sym, ap, subst, ◌∙◌, true≢false, append_assoc, append-nil}
+use Rattle.std.proofs.Common.{◌≡◌, ◌≢◌, ℕ, List, [], ◌∷◌, ◌++◌, map, length, cond, Bool, true, false, not, nat_lt, Option, Some, None, Ok, Ordering, Less, Equal, Greater, nat_cmp, bytes_eq, is_some, option_map, refl, sym, ap, subst, ◌∙◌, true≢false, append_assoc, append-nil}
 use Rattle.std.specs.List.{list_any, AllByRecursion}
 use Rattle.std.specs.Map.{keys_of}
 use Rattle.std.specs.Option.{ForSome}
@@ -19,16 +19,17 @@ use Rattle.fv_datum.specs.Data.{Data, null}
 use Rattle.fv_datum.specs.Lookup.{at_name}
 use Rattle.fv_datum.specs.Name.{names}
 use Rattle.fv_datum.specs.Written.{is_null}
-use Rattle.fv_model_types.specs.Flaws.{Flaw, flaw_among, undeclared, misfits, is_missing, dangles, is_other, strays, is_large}
+use Rattle.fv_model_types.specs.Flaws.{Flaw, undeclared, misfits, dangles, is_other, strays, is_large}
 use Rattle.fv_model_types.specs.Names.{ObjectTypes}
 use Rattle.fv_model_types.proofs.Back.{read_back, none_large, none_refers}
 use Rattle.fv_model.specs.Bundles.{IsAscending, Thing, Things, Bundled}
 use Rattle.fv_datum.specs.Members.{pairs, each_some}
 use Rattle.fv_model.specs.Draft.{Part, part_of, draft_of}
-use Rattle.fv_model.specs.Reading.{object_types, root_missing, has_flaw, large_datum, root_type, conditions, draft_fault, datum_at, field_of, object_of, bundle_of, judged, bundle_read}
+use Rattle.fv_model.specs.Reading.{object_types, has_flaw, conditions, datum_at, field_of, object_of, bundle_of, bundle_read}
 use Rattle.fv_model_types.specs.Types.{TypeUse, DeclaredFields, Declared, AreApart, FieldsApart, name_at}
-use Rattle.fv_model.specs.WellTyped.{NamesObject, FitsUse, FieldsFit, FitsType, IsWellTyped, HasRootType}
-use Rattle.fv_model.specs.Writing.{datum_json, added, thing_json, objects_added, bundle_json}
+use Rattle.fv_model.specs.WellTyped.{NamesObject, FitsUse, FieldsAre, FitsType, IsWellTyped, HasRootType}
+use Rattle.fv_model.specs.Writing.{datum_json, thing_json, bundle_json}
+use Rattle.fv_model.proofs.Conditions.{root_missing, large_datum, root_type, draft_fault, judged, added, objects_added, flaw_among}
 use Rattle.fv_model_types.specs.declared.types.TypeId.{TypeId}
 use Rattle.fv_model_types.proofs.Apart.{apart-head, apart-tail, found_apart}
 use Rattle.fv_datum.proofs.Lists.{each_of, none_made}
@@ -46,9 +47,9 @@ added_other q [] ms h = refl
 added_other q (f ∷ fs) ms h = added_other q fs _ h.1 ∙ put_if (is_null f.1) q f.0 (datum_json f.1) ms h.0
 
 -- the names of the fields are those of the type
-same_names : (os : Things) (q : List ℕ) (ds : DeclaredFields) (fs : List (List ℕ × Data)) → FieldsFit os ds fs → AllByRecursion (λ e. e.0 ≢ q) ds → AllByRecursion (λ f. q ≢ f.0) fs
+same_names : (os : Things) (q : List ℕ) (ds : DeclaredFields) (fs : List (List ℕ × Data)) → FieldsAre (NamesObject os) ds fs → AllByRecursion (λ e. e.0 ≢ q) ds → AllByRecursion (λ f. q ≢ f.0) fs
 same_names os q [] [] fit h = tt
-same_names os q (d ∷ ds) (f ∷ fs) fit h = (λ e. h.0 (sym fit.0 ∙ sym e), same_names os q ds fs fit.2 h.1)
+same_names os q (d ∷ ds) (f ∷ fs) fit h = (λ e. h.0 (sym fit.0.0 ∙ sym e), same_names os q ds fs fit.1 h.1)
 same_names os q [] (f ∷ fs) fit h = absurd fit
 same_names os q (d ∷ ds) [] fit h = absurd fit
 
@@ -67,17 +68,17 @@ none_put : (b : Bool) (k : List ℕ) (d : json.Data) (ms : json.Members) (ds : D
 none_put b k d ms [] other none = tt
 none_put b k d ms (e ∷ ds) other none = (put_if b e.0 k d ms other.0 ∙ none.0, none_put b k d ms ds other.1 none.1)
 
-fields_back : (os : Things) (ds : DeclaredFields) (fs : List (List ℕ × Data)) (ms : json.Members) → AreApart ds → FieldsFit os ds fs → AllByRecursion (λ e. get_member e.0 ms ≡ None) ds
+fields_back : (os : Things) (ds : DeclaredFields) (fs : List (List ℕ × Data)) (ms : json.Members) → AreApart ds → FieldsAre (NamesObject os) ds fs → AllByRecursion (λ e. get_member e.0 ms ≡ None) ds
     → map (field_of (added ms fs)) ds ≡ fs
 fields_back os [] [] ms apart fit none = refl
 fields_back os (d ∷ ds) (f ∷ fs) ms apart fit none =
     let now = cond (is_null f.1) ms (json.put f.0 (datum_json f.1) ms) in
-    let same : f.0 ≡ d.0 = fit.0 in
+    let same : f.0 ≡ d.0 = fit.0.0 in
     let others : AllByRecursion (λ e. e.0 ≢ f.0) ds = rw same (apart-head d ds apart) in
     let here : get_member f.0 ms ≡ None = rw same none.0 in
-    let kept : get_member d.0 (added now fs) ≡ get_member f.0 now = rw (← same) (added_other f.0 fs now (same_names os f.0 ds fs fit.2 others)) in
-    let datum : datum_at d.1 (get_member d.0 (added now fs)) ≡ f.1 = ap (datum_at d.1) kept ∙ at_put os (is_null f.1) d.1 f.0 f.1 ms refl fit.1 here in
-    let tail = fields_back os ds fs now (apart-tail d ds apart) fit.2 (none_put (is_null f.1) f.0 (datum_json f.1) ms ds others none.1) in
+    let kept : get_member d.0 (added now fs) ≡ get_member f.0 now = rw (← same) (added_other f.0 fs now (same_names os f.0 ds fs fit.1 others)) in
+    let datum : datum_at d.1 (get_member d.0 (added now fs)) ≡ f.1 = ap (datum_at d.1) kept ∙ at_put os (is_null f.1) d.1 f.0 f.1 ms refl fit.0.1 here in
+    let tail = fields_back os ds fs now (apart-tail d ds apart) fit.1 (none_put (is_null f.1) f.0 (datum_json f.1) ms ds others none.1) in
     let head : field_of (added now fs) d ≡ f = ap (λ x. (x, datum_at d.1 (get_member d.0 (added now fs)))) (sym same) ∙ ap (λ x. (f.0, x)) datum in
     ap (λ x. x ∷ map (field_of (added now fs)) ds) head ∙ ap (λ xs. f ∷ xs) tail
 fields_back os [] (f ∷ fs) ms apart fit none = absurd fit
@@ -132,19 +133,19 @@ Agree types os = (name : List ℕ) → at_name name types ≡ option_map (λ t. 
 known_type : (os : Things) (types : ObjectTypes) (type name : List ℕ) → Agree types os → NamesObject os type name → at_name name types ≡ Some type
 known_type os types type name agree (t, found, same) = agree name ∙ ap (option_map (λ (u : Thing). u.type_name)) found ∙ ap (λ n. Some n) same
 
-missing_not : (types : ObjectTypes) (type name : List ℕ) → at_name name types ≡ Some type → is_missing types (Some name) ≡ false
+missing_not : (types : ObjectTypes) (type name : List ℕ) → at_name name types ≡ Some type → not (is_some (at_name name types)) ≡ false
 missing_not types type name found = rw found refl
 
 not_dangling : (os : Things) (types : ObjectTypes) (type : TypeUse) (d : Data) → Agree types os → FitsUse os type d → dangles types (Some type) (datum_json d) ≡ false
 not_dangling os types type d agree fits =
-    none_refers (NamesObject os) (λ own name. is_missing types name) (λ own. refl) (λ own name is. missing_not types own name (known_type os types own name agree is)) type d fits
+    none_refers (NamesObject os) (λ own name. not (is_some (at_name name types))) (λ own name is. missing_not types own name (known_type os types own name agree is)) type d fits
 
-other_not : (types : ObjectTypes) (type name : List ℕ) → at_name name types ≡ Some type → is_other type (option_and_then (λ n. at_name n types) (Some name)) ≡ false
+other_not : (types : ObjectTypes) (type name : List ℕ) → at_name name types ≡ Some type → is_other type (at_name name types) ≡ false
 other_not types type name found = rw (found, same_bytes type) refl
 
 not_stray : (os : Things) (types : ObjectTypes) (type : TypeUse) (d : Data) → Agree types os → FitsUse os type d → strays types (Some type) (datum_json d) ≡ false
 not_stray os types type d agree fits =
-    none_refers (NamesObject os) (λ own name. is_other own (option_and_then (λ n. at_name n types) name)) (λ own. refl) (λ own name is. other_not types own name (known_type os types own name agree is)) type d fits
+    none_refers (NamesObject os) (λ own name. is_other own (at_name name types)) (λ own name is. other_not types own name (known_type os types own name agree is)) type d fits
 
 -- no field is undeclared, of another kind, refers wrongly or is too large
 pub record Taken (types : ObjectTypes) (all : DeclaredFields) (fs : List (List ℕ × Data)) : Type 0 where
@@ -154,17 +155,17 @@ pub record Taken (types : ObjectTypes) (all : DeclaredFields) (fs : List (List �
   pub own : AllByRecursion (λ f. strays types (at_name f.0 all) (datum_json f.1) ≡ false) fs
   pub lengths : AllByRecursion (λ f. is_large (at_name f.0 all) (datum_json f.1) ≡ false) fs
 
-pub taken : (os : Things) (types : ObjectTypes) (all ds : DeclaredFields) (fs : List (List ℕ × Data)) → Agree types os → FieldsFit os ds fs → AllByRecursion (λ e. at_name e.0 all ≡ Some e.1) ds → Taken types all fs
+pub taken : (os : Things) (types : ObjectTypes) (all ds : DeclaredFields) (fs : List (List ℕ × Data)) → Agree types os → FieldsAre (NamesObject os) ds fs → AllByRecursion (λ e. at_name e.0 all ≡ Some e.1) ds → Taken types all fs
 taken os types all [] [] agree fit known = record { declared = tt; fits = tt; there = tt; own = tt; lengths = tt }
 taken os types all (d ∷ ds) (f ∷ fs) agree fit known =
-    let found : at_name f.0 all ≡ Some d.1 = rw fit.0 known.0 in
-    let more = taken os types all ds fs agree fit.2 known.1 in
+    let found : at_name f.0 all ≡ Some d.1 = rw fit.0.0 known.0 in
+    let more = taken os types all ds fs agree fit.1 known.1 in
     record {
       declared = (rw found refl, more.declared);
-      fits = (rw (found, read_back (NamesObject os) d.1 f.1 fit.1) refl, more.fits);
-      there = (rw found (not_dangling os types d.1 f.1 agree fit.1), more.there);
-      own = (rw found (not_stray os types d.1 f.1 agree fit.1), more.own);
-      lengths = (rw found (none_large (NamesObject os) d.1 f.1 fit.1), more.lengths);
+      fits = (rw (found, read_back (NamesObject os) d.1 f.1 fit.0.1) refl, more.fits);
+      there = (rw found (not_dangling os types d.1 f.1 agree fit.0.1), more.there);
+      own = (rw found (not_stray os types d.1 f.1 agree fit.0.1), more.own);
+      lengths = (rw found (none_large (NamesObject os) d.1 f.1 fit.0.1), more.lengths);
     }
 taken os types all [] (f ∷ fs) agree fit known = absurd fit
 taken os types all (d ∷ ds) [] agree fit known = absurd fit

@@ -1,5 +1,6 @@
 pub mod Again
 pub mod Anys
+pub mod Conditions
 pub mod Extended
 pub mod Firsts
 pub mod Given

@@ -1,12 +1,13 @@
 -- A datum in which nothing is wrong fits its field.
-use Rattle.std.proofs.Common.{◌≡◌, ℕ, List, [], ◌∷◌, Bool, true, false, not, Option, Some, None, Ok, Err, option_and_then, bytes_eq, is_some, inl, inr, refl, sym, ap, ◌∙◌}
+use Rattle.std.proofs.Common.{◌≡◌, ℕ, List, [], ◌∷◌, Bool, true, false, not, Option, Some, None, Ok, Err, bytes_eq, is_some, inl, inr, refl, sym, ap, ◌∙◌}
+use Rattle.std.specs.Option.{option_map_or}
 use Rattle.std.proofs.lemmas.Slice.Eq.{bytes_eq-Decides}
 use Rattle.serde_json.specs.Data as json
 use Rattle.serde_json.specs.Find.{as_str}
 use Rattle.fv_datum.specs.Data.{Data}
 use Rattle.fv_datum.specs.Lookup.{at_name}
 use Rattle.fv_datum.specs.Outcomes.{first, unless_fault}
-use Rattle.fv_model_types.specs.Flaws.{misfits, referring, is_missing, dangles, is_other, strays, is_large}
+use Rattle.fv_model_types.specs.Flaws.{misfits, referring, dangles, is_other, strays, is_large}
 use Rattle.fv_model_types.specs.Names.{ObjectTypes}
 use Rattle.fv_model_types.specs.Spelled.{datum_of}
 use Rattle.fv_model_types.specs.Types.{TypeUse, Declared}
@@ -21,7 +22,8 @@ use Rattle.fv_model.proofs.Typed.{chosen}
 use Rattle.fv_model.proofs.Wrong.{right}
 use Rattle.fv_model.specs.declared.fault.BundleFault.{BundleFault}
 use Rattle.fv_model.specs.declared.fault.BundleFault.TheVariants.{UnknownField, WrongKind, DanglingRef, RefType, TooLarge, NoObject}
-use Rattle.fv_model.specs.Setting.{types_of, use_of, conditions, datum_for, datum_given, datum_in_use}
+use Rattle.fv_model.specs.Setting.{use_of, conditions, datum_for, datum_given, datum_in_use}
+use Rattle.fv_model.proofs.Conditions.{types_of}
 
 some_of : {X : Type 0} (o : Option X) → not (is_some o) ≡ false → (x : X) × (o ≡ Some x)
 some_of (Some x) e = (x, refl)
@@ -42,12 +44,12 @@ same_name x y e = (bytes_eq-Decides x y).0 (not_false (bytes_eq x y) e)
 
 -- the references that the tests of references find
 abbrev missing : ObjectTypes → TypeUse → json.Data → Bool
-missing types = referring (λ type name. is_missing types name)
+missing types = referring (λ type name. not (is_some (at_name name types)))
 
 abbrev other : ObjectTypes → TypeUse → json.Data → Bool
-other types = referring (λ type name. is_other type (option_and_then (λ n. at_name n types) name))
+other types = referring (λ type name. is_other type (at_name name types))
 
-refers_at : (os : Things) (type name : List ℕ) (o : Option (List ℕ)) → o ≡ Some name → is_missing (types_of os) o ≡ false → is_other type (option_and_then (λ n. at_name n (types_of os)) o) ≡ false → NamesObject os type name
+refers_at : (os : Things) (type name : List ℕ) (o : Option (List ℕ)) → o ≡ Some name → option_map_or (λ n. not (is_some (at_name n (types_of os)))) o false ≡ false → option_map_or (λ n. is_other type (at_name n (types_of os))) o false ≡ false → NamesObject os type name
 refers_at os type name None is there own = cc
 refers_at os type name (Some n) is there own =
     let same : n ≡ name = cc in

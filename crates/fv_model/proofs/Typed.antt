@@ -1,7 +1,8 @@
 -- What is read is well-typed, and its root of the asked type.
-use Rattle.std.proofs.Common.{◌≡◌, ◌⊎◌, ℕ, ◌≤◌, List, [], ◌∷◌, map, length, cond, Bool, true, false, not, nat_lt, Option, Some, None, Result, Ok, Err, IfOk, option_map, option_and_then, Ordering, Less, Equal, Greater, nat_cmp, bytes_eq, is_some, inl, inr, refl, sym, subst, ◌∙◌}
+use Rattle.std.proofs.Common.{◌≡◌, ◌⊎◌, ℕ, ◌≤◌, List, [], ◌∷◌, map, length, cond, Bool, true, false, not, nat_lt, Option, Some, None, Result, Ok, Err, IfOk, option_map, Ordering, Less, Equal, Greater, nat_cmp, bytes_eq, is_some, inl, inr, refl, sym, subst, ◌∙◌}
 use Rattle.std.specs.List.{list_any, AllByRecursion}
 use Rattle.std.specs.Map.{keys_of}
+use Rattle.std.specs.Option.{option_map_or}
 use Rattle.std.specs.Option.{ForSome}
 use Rattle.std.specs.Ordering.{match_ordering}
 use Rattle.std.specs.Cmp.Lexicographic.{slice_cmp}
@@ -14,22 +15,23 @@ use Rattle.serde_json.specs.Find.{get_member, as_str}
 use Rattle.fv_datum.specs.Outcomes.{Gives, first, unless_fault}
 use Rattle.fv_datum.specs.Lookup.{at_name}
 use Rattle.fv_datum.specs.Name.{names}
-use Rattle.fv_model_types.specs.Flaws.{flaw_among, misfits, referring, is_missing, dangles, is_other, strays, is_large}
+use Rattle.fv_model_types.specs.Flaws.{misfits, referring, dangles, is_other, strays, is_large}
 use Rattle.fv_model_types.specs.Names.{ObjectTypes}
 use Rattle.fv_model_types.specs.Spelled.{datum_of}
 use Rattle.fv_model_types.proofs.Fitted.{IsFree, spelled_fits}
 use Rattle.fv_model.specs.Bundles.{IsAscending, Bundled}
 use Rattle.fv_datum.specs.Members.{pairs}
 use Rattle.fv_model.specs.Draft.{Part, Drafted, draft_of}
-use Rattle.fv_model.specs.Reading.{bad_name, root_missing, unknown_type, unknown_field, has_flaw, some_flawed, wrong_kind, object_types, dangling_ref, ref_type, large_datum, too_large, root_type, conditions, draft_fault, datum_at, field_of, object_of, bundle_of, judged, bundle_read}
+use Rattle.fv_model.specs.Reading.{has_flaw, object_types, conditions, datum_at, field_of, object_of, bundle_of, bundle_read}
 use Rattle.fv_model_types.specs.Types.{TypeUse, DeclaredFields, Declared, FieldsApart, name_at}
 use Rattle.fv_model.specs.Views.{bundle_view}
-use Rattle.fv_model.specs.WellTyped.{NamesObject, FitsUse, FieldsFit, FitsType, IsWellTyped, HasRootType}
+use Rattle.fv_model.specs.WellTyped.{NamesObject, FitsUse, FieldsAre, FitsType, IsWellTyped, HasRootType}
 use Rattle.fv_model.specs.Writing.{IsWritten}
 use Rattle.fv_model.proofs.Made.{AreWritten, objects_written}
 use Rattle.fv_model.specs.declared.bundle.Bundle.{Bundle}
 use Rattle.fv_model.specs.declared.fault.BundleFault.{BundleFault}
 use Rattle.fv_model.specs.declared.fault.BundleFault.TheVariants.{Memory}
+use Rattle.fv_model.proofs.Conditions.{bad_name, root_missing, unknown_type, unknown_field, some_flawed, wrong_kind, dangling_ref, ref_type, large_datum, too_large, root_type, draft_fault, judged, flaw_among}
 use Rattle.fv_model_types.specs.declared.types.TypeId.{TypeId}
 use Rattle.fv_model_types.proofs.Apart.{found_apart}
 use Rattle.fv_datum.proofs.Bools.{not_false, or_left, or_right}
@@ -56,7 +58,7 @@ named_object ts (p ∷ ps) name type e = elim (chosen (bytes_eq name p.name) p.t
 same_name : (x y : List ℕ) → not (bytes_eq x y) ≡ false → x ≡ y
 same_name x y e = (bytes_eq-Decides x y).0 (not_false (bytes_eq x y) e)
 
-refers_at : (ts : Declared) (ps : List Part) (type name : List ℕ) (o : Option (List ℕ)) → is_missing (object_types ps) o ≡ false → is_other type (option_and_then (λ n. at_name n (object_types ps)) o) ≡ false → o ≡ Some name → NamesObject (map (object_of ts) ps) type name
+refers_at : (ts : Declared) (ps : List Part) (type name : List ℕ) (o : Option (List ℕ)) → option_map_or (λ n. not (is_some (at_name n (object_types ps)))) o false ≡ false → option_map_or (λ n. is_other type (at_name n (object_types ps))) o false ≡ false → o ≡ Some name → NamesObject (map (object_of ts) ps) type name
 refers_at ts ps type name None there own is = cc
 refers_at ts ps type name (Some s) there own is =
     let same : s ≡ name = cc in
@@ -91,10 +93,10 @@ record IsSound (types : ObjectTypes) (type : Option TypeUse) (j : json.Data) : T
 
 -- a reference to no object, and one to an object of another type
 abbrev missing : ObjectTypes → TypeUse → json.Data → Bool
-missing types = referring (λ type name. is_missing types name)
+missing types = referring (λ type name. not (is_some (at_name name types)))
 
 abbrev other : ObjectTypes → TypeUse → json.Data → Bool
-other types = referring (λ type name. is_other type (option_and_then (λ n. at_name n types) name))
+other types = referring (λ type name. is_other type (at_name name types))
 
 fits_some : (ts : Declared) (ps : List Part) (type : TypeUse) (j : json.Data) → IsSound (object_types ps) (Some type) j → IsWritten (datum_at type (Some j)) → FitsUse (map (object_of ts) ps) type (datum_at type (Some j))
 fits_some ts ps type j sound can =
@@ -124,9 +126,9 @@ fits_found ts ps all given f sound found can =
     }) can
 
 fields_fit : (ts : Declared) (ps : List Part) (all ds : DeclaredFields) (given : json.Members) → AreSound (object_types ps) all (pairs given) → AllByRecursion (λ e. at_name e.0 all ≡ Some e.1) ds → AllByRecursion (λ f. IsWritten f.1) (map (field_of given) ds)
-    → FieldsFit (map (object_of ts) ps) ds (map (field_of given) ds)
+    → FieldsAre (NamesObject (map (object_of ts) ps)) ds (map (field_of given) ds)
 fields_fit ts ps all [] given sound known can = tt
-fields_fit ts ps all (d ∷ ds) given sound known can = (refl, fits_found ts ps all given d sound known.0 can.0, fields_fit ts ps all ds given sound known.1 can.1)
+fields_fit ts ps all (d ∷ ds) given sound known can = ((refl, fits_found ts ps all given d sound known.0 can.0), fields_fit ts ps all ds given sound known.1 can.1)
 
 -- ---- the object
 

@@ -1,5 +1,5 @@
 -- What the tests of what is declared tell.
-use Rattle.std.proofs.Common.{◌≡◌, inl, inr, ℕ, suc, ℤ, pos, negsuc, ◌≤◌, ◌^◌, ◌↔◌, ◌&&◌, List, [], ◌∷◌, length, Bool, true, false, nat_le, Option, Some, None, Ordering, Less, Equal, Greater, nat_cmp, bytes_eq, FitsSigned, refl, sym, ap}
+use Rattle.std.proofs.Common.{◌≡◌, inl, inr, ℕ, suc, ℤ, pos, negsuc, ◌≤◌, ◌^◌, ◌↔◌, ◌&&◌, List, [], ◌∷◌, map, length, Bool, true, false, nat_le, Option, Some, None, Ordering, Less, Equal, Greater, nat_cmp, bytes_eq, FitsSigned, refl, sym, ap}
 use Rattle.std.specs.Int.{w64}
 use Rattle.std.specs.List.{list_all, AllByRecursion}
 use Rattle.std.specs.List.Sorted.{IsStrictlySortedBy}
@@ -19,7 +19,6 @@ use Rattle.fv_datum.specs.Name.{names}
 use Rattle.fv_datum.specs.Written.{keys_fit, key_of, is_text, below_first}
 use Rattle.fv_model_types.specs.Held.{target}
 use Rattle.fv_model_types.specs.Fits.{Referring, Fits}
-use Rattle.fv_model_types.specs.Spelled.{keyed}
 use Rattle.fv_model_types.specs.Types.{TypeUse, texts, integers, decimals, booleans, dates, instants, references, lists, maps, optionals, DeclaredFields, Declared}
 use Rattle.fv_model.specs.Bundles.{Thing, Things, Bundled}
 use Rattle.fv_model.specs.Typing.{Naming, naming, items_count, entries_count, fits_use, items_fit, entries_fit, fields_fit, thing_fits, ascend_behind, is_named_thing, is_well_typed}
@@ -98,6 +97,10 @@ entries_list (entry k d es) = (key_of k, d) ∷ entries_list es
 entries_length : (es : Entries) → length (entries_list es) ≡ entries_count es
 entries_length no_entries = refl
 entries_length (entry k d es) = ap suc (entries_length es)
+
+-- entries by their keys' texts
+abbrev keyed : List (List ℕ × Data) → List (Data × Data)
+keyed = map (λ e. (datum.text e.0, e.1))
 
 entries_counted : (es : List (List ℕ × Data)) → entries_count (entries_of (keyed es)) ≡ length es
 entries_counted [] = refl
@@ -229,7 +232,7 @@ module _ (N : Naming) (Named : Referring) (tells : Tells N Named) where
 
   fields_told : (ds : DeclaredFields) (fs : List (List ℕ × Data)) → FieldsAre Named ds fs → fields_fit N ds fs ≡ true
   fields_told [] [] fit = refl
-  fields_told (d ∷ ds) (f ∷ fs) fit = both _ _ ((bytes_eq-Decides f.0 d.0).1 fit.0) (both _ _ (fits_told d.1 f.1 fit.1) (fields_told ds fs fit.2))
+  fields_told (d ∷ ds) (f ∷ fs) fit = both _ _ ((bytes_eq-Decides f.0 d.0).1 fit.0.0) (both _ _ (fits_told d.1 f.1 fit.0.1) (fields_told ds fs fit.1))
   fields_told [] (f ∷ fs) fit = absurd fit
   fields_told (d ∷ ds) [] fit = absurd fit
 
@@ -238,7 +241,7 @@ module _ (N : Naming) (Named : Referring) (tells : Tells N Named) where
   fields_so (d ∷ ds) (f ∷ fs) e =
       let parts = and_parts _ _ e in
       let more = and_parts _ _ parts.1 in
-      ((bytes_eq-Decides f.0 d.0).0 parts.0, fits_so d.1 f.1 more.0, fields_so ds fs more.1)
+      (((bytes_eq-Decides f.0 d.0).0 parts.0, fits_so d.1 f.1 more.0), fields_so ds fs more.1)
   fields_so [] (f ∷ fs) e = cc
   fields_so (d ∷ ds) [] e = cc
 

@@ -10,27 +10,28 @@ use Rattle.fv_datum.specs.Members.{pairs}
 use Rattle.fv_datum.specs.Name.{names}
 use Rattle.fv_datum.specs.Outcomes.{unless_fault}
 use Rattle.fv_datum.specs.Written.{is_null}
-use Rattle.fv_model_types.specs.Flaws.{is_large, flaw_among}
+use Rattle.fv_model_types.specs.Flaws.{is_large}
 use Rattle.fv_model_types.specs.Types.{DeclaredFields, Declared}
 use Rattle.fv_datum.proofs.Bools.{or_false}
 use Rattle.fv_datum.proofs.Lists.{none_made}
 use Rattle.fv_model_types.proofs.Small.{IsSmall, fits_small, never_large}
 use Rattle.fv_model.specs.Bundles.{Thing, Things, Bundled}
 use Rattle.fv_model.specs.Draft.{Drafted}
-use Rattle.fv_model.specs.Reading.{bad_name, root_missing, unknown_type, unknown_field, wrong_kind, dangling_ref, ref_type, large_datum, too_large, root_type, has_flaw, draft_fault, bundle_of, judged, bundle_read}
+use Rattle.fv_model.specs.Reading.{has_flaw, bundle_of, bundle_read}
 use Rattle.fv_model.specs.Unfit.{is_of_types}
-use Rattle.fv_model.specs.WellTyped.{NamesObject, FieldsFit, FitsType, IsWellTyped}
-use Rattle.fv_model.specs.Writing.{datum_json, added, bundle_json}
+use Rattle.fv_model.specs.WellTyped.{NamesObject, FieldsAre, FitsType, IsWellTyped}
+use Rattle.fv_model.specs.Writing.{datum_json, bundle_json}
 use Rattle.fv_model.specs.declared.fault.BundleFault.{BundleFault}
 use Rattle.fv_model.specs.declared.fault.BundleFault.TheVariants.{BadName, RootMissing, UnknownType, UnknownField, WrongKind, DanglingRef, RefType, TooLarge, RootType}
+use Rattle.fv_model.proofs.Conditions.{bad_name, root_missing, unknown_type, unknown_field, wrong_kind, dangling_ref, ref_type, large_datum, too_large, root_type, draft_fault, judged, added, flaw_among}
 use Rattle.fv_model.proofs.Again.{each_added}
 use Rattle.fv_model.proofs.Law.{part_for, draft_back, types_agree, is_there}
 
 -- ---- nothing that was written is too large
 
-each_small : (os : Things) (ds : DeclaredFields) (fs : List (List ℕ × Data)) → FieldsFit os ds fs → AllByRecursion (λ f. is_null f.1 ≡ false → IsSmall (datum_json f.1)) fs
+each_small : (os : Things) (ds : DeclaredFields) (fs : List (List ℕ × Data)) → FieldsAre (NamesObject os) ds fs → AllByRecursion (λ f. is_null f.1 ≡ false → IsSmall (datum_json f.1)) fs
 each_small os [] [] fit = tt
-each_small os (d ∷ ds) (f ∷ fs) fit = ((λ some. fits_small (NamesObject os) d.1 f.1 fit.1), each_small os ds fs fit.2)
+each_small os (d ∷ ds) (f ∷ fs) fit = ((λ some. fits_small (NamesObject os) d.1 f.1 fit.0.1), each_small os ds fs fit.1)
 each_small os [] (f ∷ fs) fit = absurd fit
 each_small os (d ∷ ds) [] fit = absurd fit
 

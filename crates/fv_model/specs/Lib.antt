@@ -1,6 +1,5 @@
 pub mod Ascents
 pub mod Bundles
-pub mod Conditions
 pub mod Draft
 pub mod Extends
 pub mod FaultNames

@@ -1,5 +1,6 @@
 -- One datum of a bundle is changed.
-use Rattle.std.specs.Prelude.{ℕ, List, [], ◌∷◌, map, Bool, false, not, Option, Some, None, option_map, option_and_then, unwrap_or, Result, is_some}
+use Rattle.std.specs.Prelude.{ℕ, List, [], ◌∷◌, map, Bool, false, not, Option, Some, option_and_then, Result, is_some}
+use Rattle.std.specs.Option.{option_map_or}
 use Rattle.serde_json.specs.Data as json
 use Rattle.fv_datum.specs.Data.{Data, null}
 use Rattle.fv_datum.specs.Lookup.{at_name}
@@ -7,15 +8,11 @@ use Rattle.fv_datum.specs.Outcomes.{first, unless_fault}
 use Rattle.fv_model_types.specs.Flaws.{Flaw, undeclared, misfits, dangles, strays, is_large}
 use Rattle.fv_model_types.specs.Names.{ObjectTypes}
 use Rattle.fv_model_types.specs.Types.{TypeUse, Declared}
-use Rattle.fv_model.specs.Bundles.{Thing, Things, Bundled}
+use Rattle.fv_model.specs.Bundles.{Thing, Bundled}
 use Rattle.fv_model.specs.Reading.{fields_of, datum_at}
 use Rattle.fv_model.specs.Replaced.{bundle_with}
 use Rattle.fv_model.specs.declared.fault.BundleFault.{BundleFault}
 use Rattle.fv_model.specs.declared.fault.BundleFault.TheVariants.{UnknownField, WrongKind, DanglingRef, RefType, TooLarge, NoObject}
-
--- the names of objects, each with the name of its type
-abbrev pub types_of : Things → ObjectTypes
-types_of = map (λ o. (o.0, o.1.type_name))
 
 -- what the field of that name of an object holds: none where the object's type doesn't have it
 abbrev pub use_of : Declared → List ℕ → Thing → Option TypeUse
@@ -25,38 +22,34 @@ use_of ts field t = at_name field (fields_of ts t.type_name)
 
 -- the datum that is given for a field of an object has the flaw; none where there is no object
 abbrev pub is_flawed : Flaw → Declared → List ℕ → json.Data → Option Thing → Bool
-is_flawed flaw ts field j None = false
-is_flawed flaw ts field j (Some t) = flaw (use_of ts field t) j
+is_flawed flaw ts field j there = option_map_or (λ t. flaw (use_of ts field t) j) there false
 
 -- what can be wrong, in the order in which it is answered: a reference names an object of this bundle, of the declared type
 abbrev pub conditions : Declared → ObjectTypes → List ℕ → json.Data → Option Thing → List (Bool × BundleFault)
 conditions ts types field j there =
-    (is_flawed undeclared ts field j there, UnknownField)
-    ∷ (is_flawed misfits ts field j there, WrongKind)
-    ∷ (is_flawed (dangles types) ts field j there, DanglingRef)
-    ∷ (is_flawed (strays types) ts field j there, RefType)
-    ∷ (is_flawed is_large ts field j there, TooLarge)
-    ∷ (not (is_some there), NoObject)
+    (is_flawed undeclared ts field j there, UnknownField)  -- B4
+    ∷ (is_flawed misfits ts field j there, WrongKind)  -- B5
+    ∷ (is_flawed (dangles types) ts field j there, DanglingRef)  -- B6
+    ∷ (is_flawed (strays types) ts field j there, RefType)  -- B7
+    ∷ (is_flawed is_large ts field j there, TooLarge)  -- B8
+    ∷ (not (is_some there), NoObject)  -- B10: there is no such object
     ∷ []
-
--- the first of them that holds
-abbrev pub set_fault : Declared → Bundled → List ℕ → List ℕ → json.Data → Option BundleFault
-set_fault ts b object field j = first (conditions ts (types_of b.objects) field j (at_name object b.objects))
 
 -- ---- what is changed where nothing is wrong
 
 -- the datum that a value spells for a field of an object
 abbrev pub datum_for : Declared → List ℕ → json.Data → Option Thing → Data
-datum_for ts field j there = unwrap_or (option_map (λ u. datum_at u (Some j)) (option_and_then (use_of ts field) there)) null
+datum_for ts field j there = option_map_or (λ u. datum_at u (Some j)) (option_and_then (use_of ts field) there) null
 
 -- the bundle with the datum that a value spells in a field of one of its objects, or the first fault
 abbrev pub bundle_set : Declared → Bundled → List ℕ → List ℕ → json.Data → Result Bundled BundleFault
-bundle_set ts b object field j = unless_fault (set_fault ts b object field j)
+bundle_set ts b object field j = unless_fault (first (conditions ts (map (λ o. (o.0, o.1.type_name)) b.objects) field j (at_name object b.objects)))
     (bundle_with object field (datum_for ts field j (at_name object b.objects)) b)
 
 -- the datum alone, or the first fault
 abbrev pub datum_given : Declared → Bundled → List ℕ → List ℕ → json.Data → Result Data BundleFault
-datum_given ts b object field j = unless_fault (set_fault ts b object field j) (datum_for ts field j (at_name object b.objects))
+datum_given ts b object field j = unless_fault (first (conditions ts (map (λ o. (o.0, o.1.type_name)) b.objects) field j (at_name object b.objects)))
+    (datum_for ts field j (at_name object b.objects))
 
 -- the same of a type use, where the objects have these types
 abbrev pub datum_in_use : ObjectTypes → TypeUse → json.Data → Result Data BundleFault

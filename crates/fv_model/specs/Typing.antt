@@ -16,7 +16,7 @@ use Rattle.fv_datum.specs.Name.{names}
 use Rattle.fv_datum.specs.Written.{key_of, keys_fit}
 use Rattle.fv_model_types.specs.Held.{target, items, values, content}
 use Rattle.fv_model_types.specs.Limits.{longest_text, most_entries}
-use Rattle.fv_model_types.specs.Types.{TypeUse, texts, integers, decimals, booleans, dates, instants, references, lists, maps, optionals, DeclaredFields, Declared}
+use Rattle.fv_model_types.specs.Types.{TypeUse, texts, integers, decimals, booleans, dates, instants, DeclaredFields, Declared}
 use Rattle.fv_model.specs.Bundles.{Thing, Things, Bundled}
 use Rattle.fv_model.specs.Limits.{most_objects}
 

@@ -1,6 +1,6 @@
 -- The bundles that are well-typed.
-use Rattle.std.specs.Prelude.{◌≡◌, ◌≤◌, ℕ, List, [], ◌∷◌, length, true, Some, is_some}
-use Rattle.std.specs.List.{AllByRecursion}
+use Rattle.std.specs.Prelude.{◌≡◌, ◌≤◌, ℕ, List, length, true, Some, is_some}
+use Rattle.std.specs.List.{AllByRecursion, AllZip}
 use Rattle.std.specs.Map.{keys_of}
 use Rattle.fv_datum.specs.Data.{Data}
 use Rattle.fv_datum.specs.Lookup.{at_name}
@@ -24,20 +24,13 @@ FitsUse os = Fits (NamesObject os)
 
 -- each field of a type, in order, with null or a datum of its type use within the limits; each reference in it is one of the names
 abbrev pub FieldsAre : Referring → DeclaredFields → List (List ℕ × Data) → Type 0
-FieldsAre Named [] [] = Unit {0}
-FieldsAre Named (d ∷ ds) (f ∷ fs) = (f.0 ≡ d.0) × Fits Named d.1 f.1 × FieldsAre Named ds fs
-FieldsAre Named [] (f ∷ fs) = ⊥
-FieldsAre Named (d ∷ ds) [] = ⊥
-
--- each field of a type with a datum that fits
-abbrev pub FieldsFit : Things → DeclaredFields → List (List ℕ × Data) → Type 0
-FieldsFit os = FieldsAre (NamesObject os)
+FieldsAre Named = AllZip (λ d f. (f.0 ≡ d.0) × Fits Named d.1 f.1)
 
 -- an object of a declared type, in a bundle of these objects
 pub record FitsType (ts : Declared) (os : Things) (t : Thing) : Type 0 where
   pub fields : DeclaredFields
   pub declared : at_name t.type_name ts ≡ Some fields
-  pub fit : FieldsFit os fields t.fields
+  pub fit : FieldsAre (NamesObject os) fields t.fields
 
 -- each field of a type with null or a datum of its type use; a reference may be any name
 abbrev pub AreOfFields : DeclaredFields → List (List ℕ × Data) → Type 0

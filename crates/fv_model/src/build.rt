@@ -1,5 +1,5 @@
 //! The bundle that a draft is, where its types are declared and its data are of their kinds.
-ghost use Rattle.std.specs.Prelude.{◌≡◌, All, true, false, IfOk, map, option_map, is_some};
+ghost use Rattle.std.specs.Prelude.{◌≡◌, All, true, false, not, IfOk, map, option_map, is_some};
 ghost use Rattle.std.specs.List.{list_any};
 ghost use Rattle.std.specs.Map.{keys_of};
 ghost use Rattle.serde_json.specs.Find.{get_member};
@@ -10,7 +10,7 @@ ghost use Rattle.fv_datum.specs.View.{view};
 ghost use Rattle.fv_model.specs.Bundles.{IsAscending};
 ghost use Rattle.fv_model_types.specs.Types.{type_use_view, fields_view};
 ghost use Rattle.fv_model.specs.Views.{types_view, given_view, part_view, draft_view, object_view, objects_view, bundle_view};
-ghost use Rattle.fv_model.specs.Reading.{object_types, unknown_type, datum_at, field_of, object_of, bundle_of};
+ghost use Rattle.fv_model.specs.Reading.{object_types, datum_at, field_of, object_of, bundle_of};
 ghost use Rattle.fv_model.specs.Fitting.{misfits_given, field_misfits, part_misfits, unless_wrong};
 ghost use Rattle.fv_model.specs.Writing.{IsWritten};
 
@@ -82,7 +82,7 @@ fn object_for(alloc: Global, types: &Types, part: &Part) -> Result<Object, Bundl
 
 fn objects_for(alloc: Global, types: &Types, parts: &[Part]) -> Result<Objects, BundleFault>
     requires ascending { IsAscending (keys_of (object_types (map part_view parts.now))) }
-    requires declared { unknown_type (types_view types.now) (map part_view parts.now) ≡ false }
+    requires declared { list_any (λ p. not (is_some (at_name p.type_name (types_view types.now)))) (map part_view parts.now) ≡ false }
     ensures { Gives BundleFault.Memory objects_view result (unless_wrong
         (list_any (part_misfits (types_view types.now)) (map part_view parts.now))
         (map (object_of (types_view types.now)) (map part_view parts.now))) }
@@ -97,7 +97,7 @@ fn objects_for(alloc: Global, types: &Types, parts: &[Part]) -> Result<Objects, 
 
 /// The bundle, or `WrongKind` where a datum that a field is given is of another kind.
 pub(crate) fn build(alloc: Global, types: &Types, draft: &Draft) -> Result<Bundle, BundleFault>
-    requires declared { unknown_type (types_view types.now) (draft_view draft.now).objects ≡ false }
+    requires declared { list_any (λ p. not (is_some (at_name p.type_name (types_view types.now)))) (draft_view draft.now).objects ≡ false }
     ensures bundle { Gives BundleFault.Memory bundle_view result (unless_wrong
         (list_any (part_misfits (types_view types.now)) (draft_view draft.now).objects)
         (bundle_of (types_view types.now) (draft_view draft.now))) }

@@ -1,12 +1,15 @@
 //! What can be wrong with a draft, and which fault is the first: before its data are decoded
 //! (`name_fault`), and after (`late_fault`).
-ghost use Rattle.std.specs.Prelude.{◌≡◌, map, option_map, Some};
+ghost use Rattle.std.specs.Prelude.{◌≡◌, map, take, drop, not, is_some, option_map, None};
+ghost use Rattle.std.specs.List.{list_any};
 ghost use Rattle.fv_datum.specs.Outcomes.{first};
+ghost use Rattle.fv_datum.specs.Lookup.{at_name};
+ghost use Rattle.fv_datum.specs.Name.{names};
+ghost use Rattle.fv_model_types.specs.Flaws.{is_other};
 ghost use Rattle.fv_model_types.specs.Types.{name_at};
 ghost use Rattle.fv_model.specs.Views.{types_view, part_view, draft_view};
 ghost use Rattle.fv_model_types.specs.Tells.{Tells};
-ghost use Rattle.fv_model.specs.Conditions.{name_conditions, late_conditions};
-ghost use Rattle.fv_model.specs.Reading.{bad_name, root_missing, unknown_type, some_flawed, object_types, root_type};
+ghost use Rattle.fv_model.specs.Reading.{has_flaw, object_types, conditions};
 
 use crate::fault::BundleFault;
 use crate::parts::{Draft, Part};
@@ -19,7 +22,7 @@ const MOST_OBJECTS: usize = 256;
 /// An object's name is no name.
 #[tactic(auto, using(crate::proofs::Anys::part_turn))]
 fn bad_name(parts: &[Part]) -> bool
-    ensures { result ≡ bad_name (map part_view parts.now) }
+    ensures { result ≡ list_any (λ p. not (names p.name)) (map part_view parts.now) }
 {
     for p in parts {
         if !is_name(p.name) {
@@ -31,7 +34,7 @@ fn bad_name(parts: &[Part]) -> bool
 
 /// The root names no object.
 fn root_missing(draft: &Draft) -> bool
-    ensures { result ≡ root_missing (draft_view draft.now).root (draft_view draft.now).objects }
+    ensures { result ≡ not (is_some (at_name (draft_view draft.now).root (object_types (draft_view draft.now).objects))) }
 {
     draft.type_at(draft.root).is_none()
 }
@@ -39,7 +42,7 @@ fn root_missing(draft: &Draft) -> bool
 /// An object's type isn't declared.
 #[tactic(auto, using(crate::proofs::Anys::part_turn))]
 fn unknown_type(types: &Types, parts: &[Part]) -> bool
-    ensures { result ≡ unknown_type (types_view types.now) (map part_view parts.now) }
+    ensures { result ≡ list_any (λ p. not (is_some (at_name p.type_name (types_view types.now)))) (map part_view parts.now) }
 {
     for p in parts {
         if types.fields(p.type_name).is_none() {
@@ -51,14 +54,14 @@ fn unknown_type(types: &Types, parts: &[Part]) -> bool
 
 /// The root is of another type than this one.
 fn root_type(type_name: &str, draft: &Draft) -> bool
-    ensures { result ≡ root_type (Some type_name.now) (draft_view draft.now).root (draft_view draft.now).objects }
+    ensures { result ≡ is_other type_name.now (at_name (draft_view draft.now).root (object_types (draft_view draft.now).objects)) }
 {
     is_other(type_name, draft.type_at(draft.root))
 }
 
 /// The first fault of a draft's names and types.
 pub(crate) fn name_fault(types: &Types, draft: &Draft) -> Option<BundleFault>
-    ensures { result ≡ first (name_conditions (types_view types.now) (draft_view draft.now)) }
+    ensures { result ≡ first (take 3 (conditions (types_view types.now) None (draft_view draft.now))) }
 {
     if bad_name(&draft.objects) {
         return Some(BundleFault::BadName);
@@ -80,9 +83,9 @@ pub(crate) fn late_fault(
     flaws: Flaws,
 ) -> Option<BundleFault>
     requires { Tells flaws (object_types (draft_view draft.now).objects)
-        (λ flaw. some_flawed flaw (types_view types.now) (draft_view draft.now).objects) }
-    ensures { result ≡ first (late_conditions (types_view types.now) (option_map
-        (λ t. name_at (types_view types.now) t.index) asked) (draft_view draft.now)) }
+        (λ flaw. list_any (has_flaw flaw (types_view types.now)) (draft_view draft.now).objects) }
+    ensures { result ≡ first (drop 5 (conditions (types_view types.now) (option_map
+        (λ t. name_at (types_view types.now) t.index) asked) (draft_view draft.now))) }
 {
     if flaws.dangling {
         return Some(BundleFault::DanglingRef);

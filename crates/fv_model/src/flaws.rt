@@ -1,8 +1,8 @@
 //! What can be wrong with the data of a draft's objects, in one pass.
-ghost use Rattle.std.specs.List.{AllByRecursion};
+ghost use Rattle.std.specs.List.{list_any, AllByRecursion};
 ghost use Rattle.fv_model_types.specs.Tells.{Tells};
 ghost use Rattle.fv_model.specs.Ascents.{Ascends};
-ghost use Rattle.fv_model.specs.Reading.{has_flaw, some_flawed, object_types};
+ghost use Rattle.fv_model.specs.Reading.{has_flaw, object_types};
 ghost use Rattle.fv_model.specs.Views.{types_view, part_view, draft_view};
 
 use crate::parts::{Draft, Part};
@@ -27,7 +27,7 @@ fn part_flaws(types: &Types, draft: &Draft, part: &Part) -> Flaws
 /// What is wrong with the data of a draft's objects.
 pub(crate) fn draft_flaws(types: &Types, draft: &Draft) -> Flaws
     ensures told { Tells result (object_types (draft_view draft.now).objects)
-        (λ flaw. some_flawed flaw (types_view types.now) (draft_view draft.now).objects) }
+        (λ flaw. list_any (has_flaw flaw (types_view types.now)) (draft_view draft.now).objects) }
     ensures ascending { AllByRecursion (Ascends (types_view types.now)) (draft_view draft.now).objects }
 {
     let mut flaws = Flaws::none();

@@ -1,5 +1,5 @@
 //! The datum that is given for a field of an object, or what is wrong with it.
-ghost use Rattle.std.specs.Prelude.{◌≡◌, [], ◌∷◌, IfOk, option_map};
+ghost use Rattle.std.specs.Prelude.{◌≡◌, [], ◌∷◌, map, IfOk, option_map};
 ghost use Rattle.fv_json.specs.Documents.{view as json_view};
 ghost use Rattle.fv_datum.specs.Lookup.{at_name};
 ghost use Rattle.fv_datum.specs.Outcomes.{Gives, first};
@@ -8,7 +8,7 @@ ghost use Rattle.fv_model_types.specs.Types.{type_use_view};
 ghost use Rattle.fv_model_types.specs.Writing.{IsWritten};
 ghost use Rattle.fv_model.specs.Reading.{fields_of};
 ghost use Rattle.fv_model.specs.Views.{types_view, bundle_view};
-ghost use Rattle.fv_model.specs.Setting.{datum_given, datum_in_use, types_of};
+ghost use Rattle.fv_model.specs.Setting.{datum_given, datum_in_use};
 
 use crate::bundle::Bundle;
 use crate::fault::BundleFault;
@@ -53,7 +53,7 @@ fn datum_in_use(
     value: &Json,
 ) -> Result<Datum, BundleFault>
     ensures exact { Gives BundleFault.Memory view result
-        (datum_in_use (types_of (bundle_view bundle.now).objects) (type_use_view type_use.now) (json_view value.now)) }
+        (datum_in_use (map (λ o. (o.0, o.1.type_name)) (bundle_view bundle.now).objects) (type_use_view type_use.now) (json_view value.now)) }
     ensures written { IfOk result (λ d. IsWritten (view d)) }
 {
     let datum = spelled_datum(alloc, type_use, value)?;

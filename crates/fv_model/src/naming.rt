@@ -1,8 +1,7 @@
 //! The objects of a bundle by their types' names.
-ghost use Rattle.std.specs.Prelude.{◌≡◌, IfOk};
+ghost use Rattle.std.specs.Prelude.{◌≡◌, map, IfOk};
 ghost use Rattle.fv_model_types.specs.Names.{object_types_view};
 ghost use Rattle.fv_model.specs.Views.{objects_view};
-ghost use Rattle.fv_model.specs.Setting.{types_of};
 
 use crate::bundle::Objects;
 use fv_model_types::TypeNames;
@@ -14,7 +13,7 @@ pub(crate) fn type_names<'a>(
     alloc: Global,
     objects: &'a Objects,
 ) -> Result<TypeNames<'a>, AllocError>
-    ensures { IfOk result (λ m. object_types_view m ≡ types_of (objects_view objects.now)) }
+    ensures { IfOk result (λ m. object_types_view m ≡ map (λ o. (o.0, o.1.type_name)) (objects_view objects.now)) }
 {
     let mut out = IndexMap::with_capacity(alloc, objects.len())?;
     for (name, object) in objects.iter() {

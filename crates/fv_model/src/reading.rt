@@ -1,10 +1,10 @@
-ghost use Rattle.std.specs.Prelude.{◌≡◌, option_map, IfOk, Ok, Some};
+ghost use Rattle.std.specs.Prelude.{◌≡◌, option_map, IfOk, Ok};
 ghost use Rattle.std.specs.Option.{ForSome};
 ghost use Rattle.fv_json.specs.Documents.{view as json_view};
-ghost use Rattle.fv_datum.specs.Outcomes.{Gives};
+ghost use Rattle.fv_datum.specs.Outcomes.{Gives, first, unless_fault};
 ghost use Rattle.fv_model_types.specs.Types.{Declared, name_at};
 ghost use Rattle.fv_model.specs.Views.{types_view, draft_view, bundle_view};
-ghost use Rattle.fv_model.specs.Reading.{judged, bundle_read};
+ghost use Rattle.fv_model.specs.Reading.{conditions, bundle_of, bundle_read};
 ghost use Rattle.std.specs.Map.{keys_of};
 ghost use Rattle.fv_model.specs.Bundles.{Bundled, IsAscending};
 ghost use Rattle.fv_model.specs.WellTyped.{IsWellTyped, HasRootType};
@@ -76,8 +76,8 @@ fn judged(
     draft: &Draft,
 ) -> Result<Bundle, BundleFault>
     ensures exact { Gives BundleFault.Memory bundle_view result
-        (judged (types_view types.now) (option_map (λ t. name_at (types_view types.now) t.index) asked)
-        (Some (draft_view draft.now))) }
+        (unless_fault (first (conditions (types_view types.now) (option_map (λ t. name_at (types_view types.now) t.index) asked)
+        (draft_view draft.now))) (bundle_of (types_view types.now) (draft_view draft.now))) }
     ensures ascending { IfOk result (λ b. IsAscending (keys_of (bundle_view b).objects)) }
 {
     if let Some(fault) = name_fault(types, draft) {

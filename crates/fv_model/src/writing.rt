@@ -1,11 +1,12 @@
 ghost use Rattle.std.specs.Prelude.{◌≡◌, ◌↔◌, ◌&&◌, IsTrue, IfOk, map};
+ghost use Rattle.std.specs.List.{fold};
 ghost use Rattle.serde_json.specs.Data as json;
 ghost use Rattle.serde_json.specs.View.{view as json_view, members_view};
 ghost use Rattle.fv_datum.specs.Written.{keys_fit};
 ghost use Rattle.fv_datum.specs.View.{view, items_view, entries_view};
 ghost use Rattle.fv_model.specs.Typing.{is_writable, items_writable, entries_writable};
 ghost use Rattle.fv_model.specs.Views.{object_view, objects_view, bundle_view};
-ghost use Rattle.fv_model.specs.Writing.{IsWritten, datum_json, added, objects_added, thing_json, bundle_json};
+ghost use Rattle.fv_model.specs.Writing.{IsWritten, datum_json, fields_json, thing_json, bundle_json};
 
 use crate::bundle::{Bundle, Object, Objects};
 use fv_datum::{Datum, DatumFault, is_null, keys_fit, write_datum};
@@ -75,7 +76,7 @@ fn datum_value(alloc: Global, datum: &Datum) -> Result<Value, AllocError>
 }
 
 fn write_fields(alloc: Global, object: &Object) -> Result<Map<String, Value>, AllocError>
-    ensures { IfOk result (λ m. members_view m.entries ≡ added json.no_members (object_view object.now).fields) }
+    ensures { IfOk result (λ m. members_view m.entries ≡ fields_json (object_view object.now).fields) }
 {
     let mut members = Map::new(alloc);
     for (name, datum) in object.fields() {
@@ -103,7 +104,7 @@ fn write_object(alloc: Global, object: &Object) -> Result<Value, AllocError>
 }
 
 fn write_objects(alloc: Global, objects: &Objects) -> Result<Map<String, Value>, AllocError>
-    ensures { IfOk result (λ m. members_view m.entries ≡ objects_added json.no_members (objects_view objects.now)) }
+    ensures { IfOk result (λ m. members_view m.entries ≡ fold (λ ms o. json.put o.0 (thing_json o.1) ms) json.no_members (objects_view objects.now)) }
 {
     let mut members = Map::new(alloc);
     for (name, object) in objects.iter() {

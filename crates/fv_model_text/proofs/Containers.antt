@@ -1,5 +1,5 @@
 -- The JSON of containers, and its tokens as they are written.
-use Rattle.std.proofs.Common.{◌≡◌, List, [], ◌∷◌, ◌++◌, map, true, false, Option, Some, None, option_map, option_and_then, unwrap_or, is_some, refl, sym, ap, ◌∙◌, append_assoc, append-nil}
+use Rattle.std.proofs.Common.{◌≡◌, List, [], ◌∷◌, ◌++◌, map, true, Some, option_map, option_and_then, refl, sym, ap, ◌∙◌, append_assoc}
 use Rattle.std.specs.List.{AllByRecursion}
 use Rattle.std.proofs.lemmas.Bool.{and_parts, and_from}
 use Rattle.json.specs.Token.{Token, begin_array, end_array}
@@ -9,7 +9,7 @@ use Rattle.serde_json.specs.View as seen
 use Rattle.serde_json.specs.Written.{items_outline}
 use Rattle.fv_datum.specs.Data as datum
 use Rattle.fv_datum.specs.Data.{Data, items_of, entries_of}
-use Rattle.fv_datum.specs.Written.{is_null, key_of, keys_fit, written, items_written, entries_written}
+use Rattle.fv_datum.specs.Written.{key_of, keys_fit, written, entries_written}
 use Rattle.fv_model.specs.Writing.{IsWritten, datum_json}
 use Rattle.fv_model_types.proofs.Back.{some_json, items_json}
 use Rattle.fv_model_text.proofs.InOrder.{Named, members_of, rises, put_all, put_all-member, put_all-in_order}

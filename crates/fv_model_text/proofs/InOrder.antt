@@ -1,5 +1,6 @@
 -- Members that are written as their names come.
 use Rattle.std.proofs.Common.{◌≡◌, ◌&&◌, ℕ, List, [], ◌∷◌, ◌++◌, Bool, true, false, cond, if◌then◌else◌, Ordering, Less, Equal, Greater, nat_cmp, map, refl, sym, ap, ◌∙◌, append_assoc}
+use Rattle.std.specs.List.{fold}
 use Rattle.std.specs.Ordering.{is_lt, ordering_reverse}
 use Rattle.std.specs.Cmp.Lexicographic.{slice_cmp}
 use Rattle.std.proofs.lemmas.Bool.{and_parts, and_from}
@@ -11,7 +12,7 @@ use Rattle.serde_json.specs.Written.{members_outline}
 use Rattle.fv_datum.specs.Data.{Data}
 use Rattle.fv_datum.specs.Written.{is_null}
 use Rattle.fv_model.specs.Bundles.{Thing}
-use Rattle.fv_model.specs.Writing.{datum_json, thing_json, added, objects_added}
+use Rattle.fv_model.specs.Writing.{datum_json, thing_json}
 
 abbrev pub Named : Type 0
 Named = List ℕ × json.Data
@@ -36,6 +37,14 @@ abbrev pub named : List ℕ × Thing → Named
 named o = (o.0, thing_json o.1)
 
 -- ---- they are the members that `put` makes
+
+-- the members with each field that isn't null put in
+abbrev pub added : json.Members → List (List ℕ × Data) → json.Members
+added = fold (λ ms f. if is_null f.1 then ms else json.put f.0 (datum_json f.1) ms)
+
+-- the members with each object put in
+abbrev pub objects_added : json.Members → List (List ℕ × Thing) → json.Members
+objects_added = fold (λ ms o. json.put o.0 (thing_json o.1) ms)
 
 abbrev pub put_all : json.Members → List Named → json.Members
 put_all ms [] = ms

@@ -1,10 +1,11 @@
 //! A bundle whose names ascend, as those of a bundle that was read do, is written as it comes. Of
 //! any other a tree of JSON is made first, which puts the names in order.
 ghost use Rattle.std.specs.Prelude.{◌≡◌, IfOk, string_bytes};
+ghost use Rattle.std.specs.List.{fold};
 ghost use Rattle.serde_json.specs.Data as json;
 ghost use Rattle.serde_json.specs.Written.{compact_text};
 ghost use Rattle.fv_model.specs.Views.{object_view, objects_view, bundle_view};
-ghost use Rattle.fv_model.specs.Writing.{added, objects_added, thing_json, bundle_json};
+ghost use Rattle.fv_model.specs.Writing.{fields_json, thing_json, bundle_json};
 ghost use Rattle.fv_model_text.specs.Puts.{Puts};
 
 use crate::data::write_datum;
@@ -16,7 +17,7 @@ use std::alloc::{AllocError, Global};
 
 /// An object of the fields that aren't null.
 fn write_fields(out: &mut Writer, object: &Object) -> Result<(), Halt>
-    ensures { Puts result out.old out.new (json.object (added json.no_members (object_view object.now).fields)) }
+    ensures { Puts result out.old out.new (json.object (fields_json (object_view object.now).fields)) }
 {
     out.begin_object()?;
     let mut last = "";
@@ -49,7 +50,8 @@ fn write_object(out: &mut Writer, object: &Object) -> Result<(), Halt>
 
 /// The objects by their names.
 fn write_objects(out: &mut Writer, objects: &Objects) -> Result<(), Halt>
-    ensures { Puts result out.old out.new (json.object (objects_added json.no_members (objects_view objects.now))) }
+    ensures { Puts result out.old out.new (json.object
+        (fold (λ ms o. json.put o.0 (thing_json o.1) ms) json.no_members (objects_view objects.now))) }
 {
     out.begin_object()?;
     let mut last = "";

@@ -16,12 +16,12 @@ use Rattle.fv_datum.specs.Written.{is_null, keys_fit, written, items_written, en
 use Rattle.fv_datum.specs.declared.kind.Kind.{Kind}
 use Rattle.fv_datum.specs.declared.kind.Kind.TheVariants as kind
 use Rattle.fv_datum.specs.Ascending.{IsAscending}
-use Rattle.fv_model_types.specs.Spelled.{datum_of, entry_read, only_item, keyed, list_of, map_of}
+use Rattle.fv_model_types.specs.Spelled.{datum_of, entry_read, only_item, list_of, map_of}
 use Rattle.fv_model_types.specs.Types.{TypeUse, texts, integers, decimals, booleans, dates, instants, references, lists, maps, optionals}
 use Rattle.fv_model_types.proofs.Fitted.{mapped, entry_parts}
 use Rattle.fv_datum.proofs.Lists.{both_some}
 use Rattle.fv_model_types.proofs.Members.{AreAscending, all_put, put_again, ascending_keys}
-use Rattle.fv_model_types.proofs.Orders.{keys_in_order}
+use Rattle.fv_model_types.proofs.Orders.{keyed, keys_in_order}
 use Rattle.fv_model_types.proofs.PlainJson.{IsWhole, IsPlain, ArePlainItems, ArePlain}
 use Rattle.fv_model_types.proofs.Spelling.{keys_read}
 

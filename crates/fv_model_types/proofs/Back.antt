@@ -24,12 +24,12 @@ use Rattle.fv_datum.proofs.Spelled.{spelled-written}
 use Rattle.fv_model_types.specs.Fits.{Referring, OrNull, IsOfUse, Fits}
 use Rattle.fv_model_types.specs.Flaws.{anywhere, referring, is_over, is_long}
 use Rattle.fv_datum.specs.Ascending.{IsAscending}
-use Rattle.fv_model_types.specs.Spelled.{datum_of, entry_read, keyed, list_of, map_of}
+use Rattle.fv_model_types.specs.Spelled.{datum_of, entry_read, list_of, map_of}
 use Rattle.fv_model_types.specs.Types.{TypeUse, texts, integers, decimals, booleans, dates, instants, references, lists, maps, optionals}
 use Rattle.fv_model_types.specs.Writing.{IsWritten, datum_json}
 use Rattle.fv_datum.proofs.Bools.{or_false}
 use Rattle.fv_datum.proofs.Lists.{each_of, none_made, read_made}
-use Rattle.fv_model_types.proofs.Orders.{below_middle, keys_in_order}
+use Rattle.fv_model_types.proofs.Orders.{keyed, below_middle, keys_in_order}
 use Rattle.fv_model_types.proofs.Plain.{fits_written}
 use Rattle.fv_model_types.proofs.Writable as can
 
@@ -308,19 +308,19 @@ none_large N u d fits = quiet N is_over (record { null = null_small; own = own_s
 
 -- references are as a test wants them
 
-null_refers : (test : List ℕ → Option (List ℕ) → Bool) → ((type : List ℕ) → test type None ≡ false) → (u : TypeUse) → anywhere (referring test) u json.null ≡ false
-null_refers test none texts = refl
-null_refers test none integers = refl
-null_refers test none decimals = refl
-null_refers test none booleans = refl
-null_refers test none dates = refl
-null_refers test none instants = refl
-null_refers test none (references type) = none type
-null_refers test none (lists u) = refl
-null_refers test none (maps u) = refl
-null_refers test none (optionals u) = refl
+null_refers : (test : List ℕ → List ℕ → Bool) (u : TypeUse) → anywhere (referring test) u json.null ≡ false
+null_refers test texts = refl
+null_refers test integers = refl
+null_refers test decimals = refl
+null_refers test booleans = refl
+null_refers test dates = refl
+null_refers test instants = refl
+null_refers test (references type) = refl
+null_refers test (lists u) = refl
+null_refers test (maps u) = refl
+null_refers test (optionals u) = refl
 
-own_refers : (N : Referring) (test : List ℕ → Option (List ℕ) → Bool) → ((type name : List ℕ) → N type name → test type (Some name) ≡ false) → (u : TypeUse) (d : Data) → IsOfUse N u d → referring test u (datum_json d) ≡ false
+own_refers : (N : Referring) (test : List ℕ → List ℕ → Bool) → ((type name : List ℕ) → N type name → test type name ≡ false) → (u : TypeUse) (d : Data) → IsOfUse N u d → referring test u (datum_json d) ≡ false
 own_refers N test named texts d of = refl
 own_refers N test named integers d of = refl
 own_refers N test named decimals d of = refl
@@ -332,6 +332,6 @@ own_refers N test named (lists u) d of = refl
 own_refers N test named (maps u) d of = refl
 own_refers N test named (optionals u) d of = refl
 
-pub none_refers : (N : Referring) (test : List ℕ → Option (List ℕ) → Bool) → ((type : List ℕ) → test type None ≡ false) → ((type name : List ℕ) → N type name → test type (Some name) ≡ false) → (u : TypeUse) (d : Data) → Fits N u d
+pub none_refers : (N : Referring) (test : List ℕ → List ℕ → Bool) → ((type name : List ℕ) → N type name → test type name ≡ false) → (u : TypeUse) (d : Data) → Fits N u d
     → anywhere (referring test) u (datum_json d) ≡ false
-none_refers N test none named u d fits = quiet N (referring test) (record { null = null_refers test none; own = own_refers N test named }) u d fits
+none_refers N test named u d fits = quiet N (referring test) (record { null = null_refers test; own = own_refers N test named }) u d fits

@@ -3,7 +3,7 @@ use Rattle.std.proofs.Common.{◌≡◌, List, [], ◌∷◌, length, Bool, fals
 use Rattle.std.specs.List.{list_any}
 use Rattle.serde_json.specs.Data as json
 use Rattle.fv_datum.specs.Members.{pairs, listed}
-use Rattle.fv_model_types.specs.Flaws.{undeclared, is_over_map}
+use Rattle.fv_model_types.specs.Flaws.{undeclared, is_long}
 use Rattle.fv_model_types.specs.Names.{ObjectTypes}
 use Rattle.fv_model_types.specs.Tells.{Tells}
 use Rattle.fv_model_types.specs.Types.{TypeUse, lists, maps, optionals}
@@ -33,13 +33,13 @@ list_tells types u js own found both size joins tells = record {
   large = joined own.large found.large both.large (nat_lt 65536 (length (listed js))) _ joins.large size.large tells.large;
 }
 
-pub map_tells : (types : ObjectTypes) (u : TypeUse) (ms : json.Members) (own found both : Flaws) → IsOfSize own (is_over_map (pairs ms)) → Joins own found both → Tells found types (λ flaw. list_any (λ m. flaw (Some u) m.1) (pairs ms))
+pub map_tells : (types : ObjectTypes) (u : TypeUse) (ms : json.Members) (own found both : Flaws) → IsOfSize own (nat_lt 65536 (length (pairs ms)) || list_any (λ m. is_long m.0) (pairs ms)) → Joins own found both → Tells found types (λ flaw. list_any (λ m. flaw (Some u) m.1) (pairs ms))
     → Tells both types (λ flaw. flaw (Some (maps u)) (json.object ms))
 map_tells types u ms own found both size joins tells = record {
   undeclared = joined own.undeclared found.undeclared both.undeclared false (list_any (λ m. undeclared (Some u) m.1) (pairs ms)) joins.undeclared size.undeclared tells.undeclared ∙ none_any (λ m. undeclared (Some u) m.1) (pairs ms) (λ m. refl);
   dangling = joined own.dangling found.dangling both.dangling false _ joins.dangling size.dangling tells.dangling;
   stray = joined own.stray found.stray both.stray false _ joins.stray size.stray tells.stray;
-  large = joined own.large found.large both.large (is_over_map (pairs ms)) _ joins.large size.large tells.large;
+  large = joined own.large found.large both.large (nat_lt 65536 (length (pairs ms)) || list_any (λ m. is_long m.0) (pairs ms)) _ joins.large size.large tells.large;
 }
 
 pub optional_tells : (types : ObjectTypes) (u : TypeUse) (js : json.Items) (found : Flaws) → Tells found types (λ flaw. list_any (flaw (Some u)) (listed js)) → Tells found types (λ flaw. flaw (Some (optionals u)) (json.array js))

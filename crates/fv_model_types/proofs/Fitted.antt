@@ -1,5 +1,5 @@
 -- What is spelled fits its type use, where nothing in it is too large and each reference is one of the names.
-use Rattle.std.proofs.Common.{◌≡◌, ◌⊎◌, inl, inr, ℕ, ◌≤◌, List, [], ◌∷◌, ◌++◌, length, Bool, true, false, cond, nat_lt, Option, Some, None, option_map, option_and_then, is_some, Ordering, Less, Equal, Greater, nat_cmp, refl, sym, ap, ◌∙◌}
+use Rattle.std.proofs.Common.{◌≡◌, ◌⊎◌, inl, inr, ℕ, ◌≤◌, List, [], ◌∷◌, ◌++◌, ◌||◌, length, Bool, true, false, cond, nat_lt, Option, Some, None, option_map, option_and_then, is_some, Ordering, Less, Equal, Greater, nat_cmp, refl, sym, ap, ◌∙◌}
 use Rattle.std.specs.List.{list_any, AllByRecursion}
 use Rattle.std.specs.List.Sorted.{IsStrictlySortedBy}
 use Rattle.std.specs.Map.{keys_of}
@@ -19,11 +19,12 @@ use Rattle.fv_datum.specs.Written.{keys_fit, written, items_written, entries_wri
 use Rattle.fv_datum.specs.declared.kind.Kind.TheVariants as kind
 use Rattle.fv_datum.proofs.Spelled.{spelled-fits}
 use Rattle.fv_model_types.specs.Fits.{Referring, Fits}
-use Rattle.fv_model_types.specs.Flaws.{anywhere, is_over, is_over_map, is_long}
+use Rattle.fv_model_types.specs.Flaws.{anywhere, is_over, is_long}
 use Rattle.fv_datum.specs.Ascending.{IsAscending}
-use Rattle.fv_model_types.specs.Spelled.{datum_of, entry_read, keyed, list_of, map_of}
+use Rattle.fv_model_types.specs.Spelled.{datum_of, entry_read, list_of, map_of}
 use Rattle.fv_model_types.specs.Types.{TypeUse, texts, integers, decimals, booleans, dates, instants, references, lists, maps, optionals}
 use Rattle.fv_model_types.specs.Writing.{IsWritten}
+use Rattle.fv_model_types.proofs.Orders.{keyed}
 use Rattle.fv_datum.proofs.Bools.{or_left, or_right}
 use Rattle.fv_datum.proofs.Lists.{each_read, length_read}
 
@@ -178,12 +179,12 @@ spelled_fits Named a b (maps u) json.null d refers e can free = inl cc
 spelled_fits Named a b (maps u) (json.object ms) d refers e can free =
     let found = mapped map_of (each_some (entry_read (datum_of u)) (pairs ms)) d e in
     let es = found.0 in
-    let small = or_left (is_over_map (pairs ms)) _ free.small in
+    let small = or_left (nat_lt 65536 (length (pairs ms)) || list_any (λ m. is_long m.0) (pairs ms)) _ free.small in
     let count = or_left (nat_lt 65536 (length (pairs ms))) _ small in
     let few : length es ≤ 65536 = rw (length_read (entry_read (datum_of u)) (pairs ms) es found.1) (ltb-false 65536 (length (pairs ms)) count) in
     let able = if_some (keys_fit (entries_of (keyed es))) (option_map json.object (entries_written json.no_members (entries_of (keyed es)))) (rw found.2 at can) in
     let parts = entries_writable json.no_members es (map_part json.object (entries_written json.no_members (entries_of (keyed es))) able.1) in
-    let each = free_members a b u (pairs ms) (or_right (a (maps u) (json.object ms)) _ free.first) (or_right (b (maps u) (json.object ms)) _ free.second) (or_right (is_over_map (pairs ms)) _ free.small) (or_right (nat_lt 65536 (length (pairs ms))) _ small) in
+    let each = free_members a b u (pairs ms) (or_right (a (maps u) (json.object ms)) _ free.first) (or_right (b (maps u) (json.object ms)) _ free.second) (or_right (nat_lt 65536 (length (pairs ms)) || list_any (λ m. is_long m.0) (pairs ms)) _ free.small) (or_right (nat_lt 65536 (length (pairs ms))) _ small) in
     let all = each_read (entry_read (datum_of u)) (λ m. IsFree a b u m.1 × (is_long m.0 ≡ false)) (λ y. IsWritten y.1) (λ y. (length y.0 ≤ 65536) × Fits Named u y.1)
     (λ m y is w ok. let p = entry_parts (datum_of u) m y is in (rw p.0 (ltb-false 65536 (length m.0) ok.1), spelled_fits Named a b u m.1 y.1 refers p.1 w ok.0)) (pairs ms) es found.1 parts each in
     inr (es, few, ascend es able.0, all, found.2)

@@ -1,13 +1,16 @@
 -- Members whose names ascend.
-use Rattle.std.proofs.Common.{◌≡◌, ℕ, List, [], ◌∷◌, ◌++◌, true, refl, Less, nat_cmp}
+use Rattle.std.proofs.Common.{◌≡◌, ℕ, List, [], ◌∷◌, ◌++◌, map, true, refl, Less, nat_cmp}
 use Rattle.std.specs.List.{AllByRecursion}
 use Rattle.std.specs.List.Sorted.{IsStrictlySortedBy}
 use Rattle.std.specs.Cmp.Lexicographic.{slice_cmp}
 use Rattle.std.specs.Map.{keys_of}
-use Rattle.fv_datum.specs.Data.{Data, entries_of}
+use Rattle.fv_datum.specs.Data.{Data, text, entries_of}
 use Rattle.fv_datum.specs.Written.{keys_fit}
 use Rattle.fv_datum.specs.Ascending.{IsAscending}
-use Rattle.fv_model_types.specs.Spelled.{keyed}
+
+-- entries by their keys' texts
+abbrev pub keyed : List (List ℕ × Data) → List (Data × Data)
+keyed = map (λ e. (text e.0, e.1))
 
 -- a name that is below those that follow is below one in their midst
 pub below_middle : {X : Type 0} (l k : List ℕ) (x : X) (front more : List (List ℕ × X)) → AllByRecursion (λ y. slice_cmp nat_cmp l y ≡ Less) (keys_of (front ++ (k, x) ∷ more)) → slice_cmp nat_cmp l k ≡ Less

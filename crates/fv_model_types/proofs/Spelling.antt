@@ -9,9 +9,10 @@ use Rattle.fv_datum.specs.Members.{each_some}
 use Rattle.fv_datum.specs.Outcomes.{Gives}
 use Rattle.fv_datum.specs.declared.fault.DatumFault.{DatumFault}
 use Rattle.fv_datum.specs.declared.fault.DatumFault.TheVariants.{WrongKind, Memory}
-use Rattle.fv_model_types.specs.Spelled.{keyed, entry_read, only_item, datum_of}
+use Rattle.fv_model_types.specs.Spelled.{entry_read, only_item, datum_of}
 use Rattle.fv_datum.proofs.Lists.{both_some}
 use Rattle.fv_model_types.specs.Types.{TypeUse, optionals}
+use Rattle.fv_model_types.proofs.Orders.{keyed}
 
 -- what an optional's JSON is read as
 pub optional_spelled : (u : TypeUse) (j : json.Data) (js : json.Items) → j ≡ json.array js → datum_of (optionals u) j ≡ option_map optional (only_item (datum_of u) js)

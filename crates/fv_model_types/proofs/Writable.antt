@@ -6,8 +6,8 @@ use Rattle.std.proofs.lemmas.List.Elements.{All-head, All-tail}
 use Rattle.serde_json.specs.Data as json
 use Rattle.fv_datum.specs.Members.{each_some}
 use Rattle.fv_datum.specs.Ascending.{IsAscending}
-use Rattle.fv_model_types.specs.Spelled.{keyed, entry_read}
-use Rattle.fv_model_types.proofs.Orders.{keys_in_order}
+use Rattle.fv_model_types.specs.Spelled.{entry_read}
+use Rattle.fv_model_types.proofs.Orders.{keyed, keys_in_order}
 use Rattle.fv_model_types.proofs.Spelling.{keys_read}
 use Rattle.fv_datum.specs.Data as datum
 use Rattle.fv_datum.specs.Data.{Data, items_of, entries_of}

@@ -1,5 +1,5 @@
 -- What can be wrong with a given datum.
-use Rattle.std.specs.Prelude.{◌≡◌, ℕ, ◌||◌, List, [], length, Bool, false, not, nat_lt, Option, Some, None, option_and_then, is_some}
+use Rattle.std.specs.Prelude.{◌≡◌, ℕ, ◌||◌, List, [], length, Bool, false, not, nat_lt, Option, Some, is_some}
 use Rattle.std.specs.List.{list_any}
 use Rattle.std.specs.Option.{option_map_or}
 use Rattle.std.specs.Str.{bytes_eq}
@@ -10,15 +10,11 @@ use Rattle.fv_datum.specs.Members.{pairs, listed}
 use Rattle.fv_model_types.specs.Limits.{longest_text, most_entries}
 use Rattle.fv_model_types.specs.Names.{ObjectTypes}
 use Rattle.fv_model_types.specs.Spelled.{datum_of}
-use Rattle.fv_model_types.specs.Types.{TypeUse, texts, references, lists, maps, optionals, DeclaredFields}
+use Rattle.fv_model_types.specs.Types.{TypeUse, texts, references, lists, maps, optionals}
 
 -- a test of a datum that is given, and of what its field holds: None where the object's type has no such field
 abbrev pub Flaw : Type 0
 Flaw = Option TypeUse → json.Data → Bool
-
--- one of the data that are given for the fields of a type has the flaw
-abbrev pub flaw_among : Flaw → DeclaredFields → List (List ℕ × json.Data) → Bool
-flaw_among flaw fields = list_any (λ g. flaw (at_name g.0 fields) g.1)
 
 -- its object's type has no such field
 abbrev pub undeclared : Flaw
@@ -26,8 +22,7 @@ undeclared type_use j = not (is_some type_use)
 
 -- it isn't of its field's type use
 abbrev pub misfits : Flaw
-misfits None j = false
-misfits (Some type_use) j = not (is_some (datum_of type_use j))
+misfits type_use j = option_map_or (λ u. not (is_some (datum_of u j))) type_use false
 
 -- ---- flaws that stand in containers too
 
@@ -48,46 +43,35 @@ anywhere test type_use j = test type_use j
 
 -- the same of a given datum, none where the object's type has no such field
 abbrev pub somewhere : (TypeUse → json.Data → Bool) → Flaw
-somewhere test None j = false
-somewhere test (Some type_use) j = anywhere test type_use j
-
--- a name that no object has
-abbrev pub is_missing : ObjectTypes → Option (List ℕ) → Bool
-is_missing types None = false
-is_missing types (Some name) = not (is_some (at_name name types))
+somewhere test type_use j = option_map_or (λ u. anywhere test u j) type_use false
 
 -- another type than this one
 abbrev pub is_other : List ℕ → Option (List ℕ) → Bool
-is_other type None = false
-is_other type (Some own) = not (bytes_eq type own)
+is_other type own = option_map_or (λ t. not (bytes_eq type t)) own false
 
 -- a reference that is found by a test of its type and of its name
-abbrev pub referring : (List ℕ → Option (List ℕ) → Bool) → TypeUse → json.Data → Bool
-referring test (references type) j = test type (as_str j)
+abbrev pub referring : (List ℕ → List ℕ → Bool) → TypeUse → json.Data → Bool
+referring test (references type) j = option_map_or (test type) (as_str j) false
 referring test _ j = false
 
 -- a text of more than 65,536 bytes
 abbrev pub is_long : List ℕ → Bool
 is_long s = nat_lt longest_text (length s)
 
--- a map of more than 65,536 entries, or with a key that is too long
-abbrev pub is_over_map : List (List ℕ × json.Data) → Bool
-is_over_map ms = nat_lt most_entries (length ms) || list_any (λ m. is_long m.0) ms
-
--- a text that is too long, a list of more than 65,536 items, or a map that is too large
+-- a text that is too long, a list of more than 65,536 items, or a map of more than 65,536 entries or with a key that is too long
 abbrev pub is_over : TypeUse → json.Data → Bool
 is_over texts j = option_map_or is_long (as_str j) false
 is_over (lists held) j = nat_lt most_entries (length (items_in j))
-is_over (maps held) j = is_over_map (members_in j)
+is_over (maps held) j = nat_lt most_entries (length (members_in j)) || list_any (λ m. is_long m.0) (members_in j)
 is_over _ j = false
 
 -- there is a reference to no object in it
 abbrev pub dangles : ObjectTypes → Flaw
-dangles types = somewhere (referring (λ type name. is_missing types name))
+dangles types = somewhere (referring (λ type name. not (is_some (at_name name types))))
 
 -- there is a reference to an object of another type in it
 abbrev pub strays : ObjectTypes → Flaw
-strays types = somewhere (referring (λ type name. is_other type (option_and_then (λ n. at_name n types) name)))
+strays types = somewhere (referring (λ type name. is_other type (at_name name types)))
 
 -- there is a text, a key, a list or a map in it that is too large
 abbrev pub is_large : Flaw

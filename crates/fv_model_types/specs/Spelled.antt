@@ -11,13 +11,9 @@ use Rattle.fv_model_types.specs.Types.{TypeUse, lists, maps, optionals, kind_of}
 abbrev pub list_of : List Data → Data
 list_of ds = list (items_of ds)
 
--- entries by their keys' texts
-abbrev pub keyed : List (List ℕ × Data) → List (Data × Data)
-keyed = each (λ e. (text e.0, e.1))
-
 -- a map from these texts to these data
 abbrev pub map_of : List (List ℕ × Data) → Data
-map_of es = map (entries_of (keyed es))
+map_of es = map (entries_of (each (λ e. (text e.0, e.1)) es))
 
 -- null for `null`, and else what the value is read as
 abbrev pub or_null : json.Data → Option Data → Option Data

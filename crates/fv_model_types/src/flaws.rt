@@ -1,5 +1,5 @@
 //! What can be wrong with data that are given, apart from their kinds, in one pass.
-ghost use Rattle.std.specs.Prelude.{◌≡◌, ◌||◌, false, Some, option_map, option_and_then};
+ghost use Rattle.std.specs.Prelude.{◌≡◌, ◌||◌, false, not, nat_lt, length, Some, is_some, option_map};
 ghost use Rattle.std.specs.List.{list_any};
 ghost use Rattle.std.specs.Map.{keys_of};
 ghost use Rattle.std.specs.Option.{option_map_or};
@@ -12,7 +12,7 @@ ghost use Rattle.fv_datum.specs.Ascending.{IsAscending};
 ghost use Rattle.fv_model_types.specs.Names.{object_types_view};
 ghost use Rattle.fv_model_types.specs.Types.{type_use_view, fields_view};
 ghost use Rattle.fv_model_types.specs.Tells.{Tells};
-ghost use Rattle.fv_model_types.specs.Flaws.{flaw_among, is_other, is_missing, is_long, is_over_map, IsNeverFlawed};
+ghost use Rattle.fv_model_types.specs.Flaws.{is_other, is_long, IsNeverFlawed};
 
 use crate::type_use::TypeUse;
 use crate::types::{Fields, use_in};
@@ -108,10 +108,10 @@ pub fn is_other(type_name: &str, own: Option<&str>) -> bool
 /// What is wrong with a reference to an object of this type.
 fn reference_flaws(types: &TypeNames, target: &str, value: &Json) -> Flaws
     ensures undeclared { result.undeclared ≡ false }
-    ensures dangling { result.dangling
-        ≡ is_missing (object_types_view types.now) (as_str (json_view value.now)) }
-    ensures stray { result.stray ≡ is_other target.now (option_and_then
-        (λ name. at_name name (object_types_view types.now)) (as_str (json_view value.now))) }
+    ensures dangling { result.dangling ≡ option_map_or
+        (λ name. not (is_some (at_name name (object_types_view types.now)))) (as_str (json_view value.now)) false }
+    ensures stray { result.stray ≡ option_map_or
+        (λ name. is_other target.now (at_name name (object_types_view types.now))) (as_str (json_view value.now)) false }
     ensures large { result.large ≡ false }
 {
     match value.as_str() {
@@ -159,7 +159,8 @@ fn has_long_key(members: Members) -> bool
 
 /// More entries than a map may have, or a key that is too long.
 fn is_large_map(members: Members) -> bool
-    ensures { result ≡ is_over_map (pairs (members_view members.entry)) }
+    ensures { result ≡ (nat_lt 65536 (length (pairs (members_view members.entry)))
+        || list_any (λ m. is_long m.0) (pairs (members_view members.entry))) }
 {
     members.len() > MOST_ENTRIES || has_long_key(members)
 }
@@ -267,7 +268,7 @@ fn flaws_at(types: &TypeNames, type_use: Option<&TypeUse>, value: &Json) -> Flaw
 /// What is wrong with the data that are given for a type's fields.
 pub fn flaws_among(types: &TypeNames, fields: &Fields, given: Members) -> Flaws
     ensures told { Tells result (object_types_view types.now)
-        (λ flaw. flaw_among flaw (fields_view fields.now) (pairs (members_view given.entry))) }
+        (λ flaw. list_any (λ g. flaw (at_name g.0 (fields_view fields.now)) g.1) (pairs (members_view given.entry))) }
     ensures ascending { IsAscending (keys_of (pairs (members_view given.entry))) }
 {
     let mut flaws = Flaws::none();

@@ -10,7 +10,7 @@ ghost use Rattle.fv_datum.specs.Members.{pairs, listed, each_some};
 ghost use Rattle.fv_datum.specs.Outcomes.{Gives};
 ghost use Rattle.fv_datum.specs.View.{view, pair_view, items_view, entries_view};
 ghost use Rattle.fv_datum.specs.declared.fault.DatumFault.TheVariants.{WrongKind, Memory};
-ghost use Rattle.fv_model_types.specs.Spelled.{datum_of, entry_read, keyed, only_item};
+ghost use Rattle.fv_model_types.specs.Spelled.{datum_of, entry_read, only_item};
 ghost use Rattle.fv_model_types.specs.Types.{type_use_view, lists, maps, optionals};
 ghost use Rattle.fv_model_types.specs.Writing.{IsWritten};
 
@@ -166,7 +166,7 @@ fn read_entries(
     held: &TypeUse,
 ) -> Result<Vec<(Datum, Datum)>, DatumFault>
     ensures exact { Gives Memory (λ v. map pair_view v.items) result
-        (ok_or (option_map keyed (each_some (entry_read (datum_of (type_use_view held.now)))
+        (ok_or (option_map (map (λ e. (datum.text e.0, e.1))) (each_some (entry_read (datum_of (type_use_view held.now)))
         (pairs (members_view members.entry)))) WrongKind) }
     ensures written { IfOk result (λ v. IsWritten (datum.map (entries_view v.items))) }
 {

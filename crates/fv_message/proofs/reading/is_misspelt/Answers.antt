@@ -1,4 +1,4 @@
-use Rattle.std.proofs.Common.{◌≡◌, rules, arith}
+use Rattle.std.proofs.Common.{◌≡◌, rules}
 use Rattle.fv_message.specs.Reading.{is_template}
 use Rattle.fv_message.proofs.Becoming.{template_told}
 use Rattle.fv_message.proofs.reading.is_misspelt.Goals as goal
@@ -6,9 +6,9 @@ use Rattle.fv_message.proofs.reading.is_misspelt.Goals as goal
 pub returns-then-not-check_template : goal.returns-then-not-check_template
 returns-then-not-check_template c =
     let told : c.check_template.result ≡ is_template c.as_str.result.now = template_told c.as_str.result.now c.check_template.result c.check_template.ensures in
-    first_of (search (rules, told), grind (arith, rules, told))
+    search (rules, told)
 
 pub loop-key-preserved : goal.loop-key-preserved
 loop-key-preserved c =
     let told : c.check_template.result ≡ is_template c.as_str.result.now = template_told c.as_str.result.now c.check_template.result c.check_template.ensures in
-    first_of (search (rules, told), grind (arith, rules, told))
+    search (rules, told)

@@ -1,8 +1,9 @@
 use Rattle.std.proofs.Common.{◌≡◌, ◌++◌, map, drop, false}
 use Rattle.std.specs.List.{list_any}
 use Rattle.fv_model.specs.Views.{types_view, objects_view, part_view}
-use Rattle.fv_model.specs.Reading.{unknown_type, object_of}
+use Rattle.fv_model.specs.Reading.{object_of}
 use Rattle.fv_model.specs.Fitting.{part_misfits}
+use Rattle.fv_model.proofs.Conditions.{unknown_type}
 use Rattle.fv_model.proofs.build.objects_for.Given as goal
 
 abbrev pub invariant-loop-part : goal.invariant-loop-part

@@ -2,7 +2,8 @@ use Rattle.std.proofs.Common.{map, drop}
 use Rattle.std.specs.List.{AllByRecursion}
 use Rattle.fv_model.specs.Ascents.{Ascends}
 use Rattle.fv_model.specs.Views.{types_view, part_view}
-use Rattle.fv_model.specs.Reading.{object_types, some_flawed}
+use Rattle.fv_model.specs.Reading.{object_types}
+use Rattle.fv_model.proofs.Conditions.{some_flawed}
 use Rattle.fv_model_types.proofs.Telling.{Telling}
 use Rattle.fv_model.proofs.flaws.draft_flaws.Given as goal
 

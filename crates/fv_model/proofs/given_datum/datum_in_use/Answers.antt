@@ -4,7 +4,8 @@ use Rattle.fv_datum.specs.View.{view}
 use Rattle.fv_model_types.specs.Names.{object_types_view}
 use Rattle.fv_model_types.specs.Types.{type_use_view}
 use Rattle.fv_model.specs.Views.{bundle_view}
-use Rattle.fv_model.specs.Setting.{types_of, datum_in_use}
+use Rattle.fv_model.specs.Setting.{datum_in_use}
+use Rattle.fv_model.proofs.Conditions.{types_of}
 use Rattle.fv_model.proofs.Sound.{use_told}
 use Rattle.fv_model.proofs.given_datum.datum_in_use.Goals as goal
 

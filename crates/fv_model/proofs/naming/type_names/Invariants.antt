@@ -1,7 +1,7 @@
 use Rattle.std.proofs.Common.{◌≡◌, ◌++◌, map}
 use Rattle.fv_model_types.specs.Names.{object_types_view}
 use Rattle.fv_model.specs.Views.{named_view, objects_view}
-use Rattle.fv_model.specs.Setting.{types_of}
+use Rattle.fv_model.proofs.Conditions.{types_of}
 use Rattle.fv_model.proofs.naming.type_names.Given as goal
 
 abbrev pub invariant-loop-name : goal.invariant-loop-name

@@ -3,7 +3,8 @@ use Rattle.std.specs.List.{AllByRecursion}
 use Rattle.serde_json.specs.Data as json
 use Rattle.serde_json.specs.View.{members_view}
 use Rattle.fv_model.specs.Views.{fields_left, object_view}
-use Rattle.fv_model.specs.Writing.{IsWritten, added}
+use Rattle.fv_model.specs.Writing.{IsWritten}
+use Rattle.fv_model.proofs.Conditions.{added}
 use Rattle.fv_model.proofs.writing.write_fields.Given as goal
 
 abbrev pub invariant-loop-name : goal.invariant-loop-name

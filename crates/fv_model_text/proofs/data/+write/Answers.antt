@@ -2,7 +2,7 @@ use Rattle.std.proofs.Common.{◌≡◌, [], map, true, drop, ap, rules, arith}
 use Rattle.std.proofs.lemmas.List.{drop_all}
 use Rattle.std.specs.List.{AllByRecursion}
 use Rattle.fv_datum.specs.Data as datum
-use Rattle.fv_datum.specs.Data.{Data, items_of, entries_of}
+use Rattle.fv_datum.specs.Data.{items_of, entries_of}
 use Rattle.fv_datum.specs.View.{view, pair_view, items_view, entries_view}
 use Rattle.fv_datum.specs.Written.{keys_fit}
 use Rattle.fv_model.specs.Writing.{IsWritten}

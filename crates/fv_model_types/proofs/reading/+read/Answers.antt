@@ -6,9 +6,10 @@ use Rattle.fv_json.specs.MembersView.{items_view as json_items, members_view, me
 use Rattle.fv_datum.specs.Data.{text, optional}
 use Rattle.fv_datum.specs.Members.{pairs, each_some}
 use Rattle.fv_datum.specs.View.{view, pair_view}
-use Rattle.fv_model_types.specs.Spelled.{datum_of, entry_read, only_item, keyed}
+use Rattle.fv_model_types.specs.Spelled.{datum_of, entry_read, only_item}
 use Rattle.fv_model_types.specs.Types.{maps, type_use_view}
 use Rattle.fv_model_types.specs.Writing.{IsWritten}
+use Rattle.fv_model_types.proofs.Orders.{keyed}
 use Rattle.fv_model_types.proofs.Seen.{view-Map, view-DataText, view-DataOptional, array_is}
 use Rattle.fv_model_types.proofs.Spelling.{optional_spelled, part_taken, some_of, entries_more}
 use Rattle.fv_model_types.proofs.Writable.{all_seen, list_writable, entries_writable}

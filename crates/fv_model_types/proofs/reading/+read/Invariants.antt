@@ -3,9 +3,10 @@ use Rattle.std.specs.List.{All}
 use Rattle.fv_json.specs.MembersView.{items_view as json_items, members_view, items_left, members_left}
 use Rattle.fv_datum.specs.Members.{pairs, listed, each_some}
 use Rattle.fv_datum.specs.View.{view, pair_view}
-use Rattle.fv_model_types.specs.Spelled.{datum_of, entry_read, keyed}
+use Rattle.fv_model_types.specs.Spelled.{datum_of, entry_read}
 use Rattle.fv_model_types.specs.Types.{type_use_view}
 use Rattle.fv_model_types.specs.Writing.{IsWritten}
+use Rattle.fv_model_types.proofs.Orders.{keyed}
 use Rattle.fv_datum.proofs.Fronts.{with_front}
 use Rattle.fv_model_types.proofs.reading.+read.Given as goal
 

@@ -1,4 +1,4 @@
-use Rattle.std.proofs.Common.{◌≡◌, List, [], ℕ, ◌++◌, string_bytes, sym, ap, subst, ◌∙◌, rules, arith}
+use Rattle.std.proofs.Common.{◌≡◌, List, [], ℕ, ◌++◌, string_bytes, sym, ap, subst, ◌∙◌, rules}
 use Rattle.std.specs.Str.{IsUtf8}
 use Rattle.std.proofs.lemmas.List.Concat.{flat_map-append}
 use Rattle.fv_message.specs.Evaluated.{piece_text, full_pieces, full_text}
@@ -33,11 +33,11 @@ loop-part-preserved c =
 pub returns-in-Some : goal.returns-in-Some
 returns-in-Some c =
     let sound = subst (λ (ms : Messages). AreReadable ms × (IsCircular ms → ⊥)) c.self.view_is (c.self.invariant.2, c.self.invariant.3) in
-    let made : string_bytes c.write_expansion.new.text ≡ full_text c.args.self.now c.args.attributes.now c.args.template.now = first_of (search rules, grind (arith, rules)) in
+    let made : string_bytes c.write_expansion.new.text ≡ full_text c.args.self.now c.args.attributes.now c.args.template.now = search rules in
     written c.args.self.now c.args.attributes.now c.args.template.now (string_bytes c.write_expansion.new.text) sound made
 
 pub returns : goal.returns
 returns c =
     let sound = subst (λ (ms : Messages). AreReadable ms × (IsCircular ms → ⊥)) c.self.view_is (c.self.invariant.2, c.self.invariant.3) in
-    let made : string_bytes c.if-not-is_empty.text ≡ full_text c.args.self.now c.args.attributes.now c.args.template.now = first_of (search rules, grind (arith, rules)) in
+    let made : string_bytes c.if-not-is_empty.text ≡ full_text c.args.self.now c.args.attributes.now c.args.template.now = search rules in
     written c.args.self.now c.args.attributes.now c.args.template.now (string_bytes c.if-not-is_empty.text) sound made

@@ -1,12 +1,11 @@
-use Rattle.std.proofs.Common.{◌≡◌, ◌≤◌, ◌∙◌, ℕ, List, Some, length, arith, map, zip, string_bytes, bytes_eq, position, sym, ap}
+use Rattle.std.proofs.Common.{◌≡◌, ◌≤◌, ◌∙◌, ℕ, List, Some, length, arith, map, string_bytes, bytes_eq, position, sym, ap}
 use Rattle.std.specs.Map.{keys_of}
 use Rattle.fv_datum.specs.Data.{Data}
 use Rattle.fv_datum.specs.View.{view}
 use Rattle.fv_model_types.specs.Types.{use_view, name_at}
-use Rattle.fv_model_types.specs.declared.type_use.TypeUse.{TypeUse}
 use Rattle.fv_datum.proofs.Lookups.{position-map}
 use Rattle.fv_model.specs.Bundles.{Thing}
-use Rattle.fv_model.specs.Views.{types_view, object_view}
+use Rattle.fv_model.specs.Views.{types_view}
 use Rattle.fv_model.specs.declared.bundle.Object.{Object}
 use Rattle.fv_model.proofs.Put.{put_at, put_past, put_none}
 use Rattle.fv_model.proofs.bundle.Object.put.Goals as goal
