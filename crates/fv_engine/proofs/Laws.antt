@@ -1,6 +1,6 @@
 -- Laws of a call: each from the step that it is.
 use Rattle.std.proofs.Common.{arith, ◌<◌, ◌≤◌, ◌≡◌, ◌≢◌, ◌⊎◌, ◌||◌, ℕ, ℤ, IsTrue, not, bytes_eq, Bool, true, false, if◌then◌else◌, List, [], ◌∷◌, Option, Some, None, is_some, option_map, option_and_then, Result, Ok, Err, inl, inr, refl, sym, ap, subst, ◌∙◌}
-use Rattle.std.specs.List.{AllByRecursion}
+use Rattle.std.specs.List.{AllByRecursion, list_any}
 use Rattle.std.specs.List.Sorted.{IsStrictlySortedBy}
 use Rattle.std.specs.Result.{result_err}
 use Rattle.std.proofs.Math.Path.{fun_ext}
@@ -26,8 +26,9 @@ use Rattle.fv_engine_machine.specs.Judging.{groups_of, IsListingOf, AreListings}
 use Rattle.fv_model.specs.Bundles.{Thing, Bundled}
 use Rattle.fv_model.specs.Reading.{value_read}
 use Rattle.fv_model.specs.declared.fault.BundleFault.{BundleFault}
-use Rattle.fv_engine_pending.specs.Parts.{bundle_under, kept_as, put_in, numbered, and_then, is_misread}
-use Rattle.fv_engine_pending.specs.Touched.{IsTouched, are_touching, needed_id}
+use Rattle.fv_engine_pending.specs.Parts.{bundle_under, kept_as, and_then, is_misread, part_made}
+use Rattle.fv_engine_pending.specs.Steps.{numbered}
+use Rattle.fv_engine_pending.specs.Touched.{IsTouched, needed_id, touches}
 use Rattle.fv_engine_pending.specs.declared.fault.PartFault.{PartFault}
 use Rattle.fv_engine_pending.specs.declared.fault.PartFault.TheVariants as part
 use Rattle.fv_registry.specs.Meanings.{Meanings}
@@ -240,7 +241,7 @@ module _ (means : Meanings) (ds : Declarations) (now : ℤ) (id form : List ℕ)
   the_part = put id form bundle ∷ []
 
   -- the id is touched, and no other
-  put_touches : are_touching id the_part ≡ true
+  put_touches : list_any (touches id) the_part ≡ true
   put_touches = ap (λ (b : Bool). b || false) ((bytes_eq-Decides id id).1 refl)
 
   only_touched : (m : Records) (i : List ℕ) (k kept : Kept) → IsTouched the_part (with_record id kept m) i k → k ≡ kept
@@ -252,7 +253,7 @@ module _ (means : Meanings) (ds : Declarations) (now : ℤ) (id form : List ℕ)
       either true e = refl
       either false e = e
 
-  put_in_is : (m n : Records) → put_in ds.types ds.forms id form bundle m ≡ Ok n
+  put_in_is : (m n : Records) → part_made ds.types ds.forms (put id form bundle) m ≡ Ok n
       → (is_some (at_name form ds.forms) ≡ true) × (b : Bundled) × (bundle_under ds.types ds.forms form bundle ≡ Ok b) × (n ≡ with_record id (keep form b) m)
   put_in_is m n is = go (is_some (at_name form ds.forms)) (bundle_under ds.types ds.forms form bundle) refl refl is
     where
@@ -271,7 +272,7 @@ module _ (means : Meanings) (ds : Declarations) (now : ℤ) (id form : List ℕ)
 
   took_put : (m n : Records) → Took means ds now the_part m n → TookPut means ds now id form bundle m n
   took_put m n (is, none) =
-      let p = put_in_is m n (one_made (put_in ds.types ds.forms id form bundle m) n is) in
+      let p = put_in_is m n (one_made (part_made ds.types ds.forms (put id form bundle) m) n is) in
       let known : n id ≡ Some (keep form p.1) = ap (λ (q : Records). q id) p.3 ∙ there id (keep form p.1) m in
       let listing : IsListingOf means ds now (keep form p.1) [] = elim (none.complete id (keep form p.1) (put_touches, known)) [ inl listed ↦ listed | inr some ↦ absurd some.1 ] in
       (p.0, p.1, p.2, listing, p.3)

@@ -1,10 +1,11 @@
 -- What a line asks for.
-use Rattle.std.specs.Prelude.{ℕ, ◌&&◌, ◌||◌, ◌==◌, List, [], ◌∷◌, length, Bool, nat_lt, nat_le, Option, Some, None, option_map, option_and_then, if◌then◌else◌, codes}
+use Rattle.std.specs.Prelude.{ℕ, ◌&&◌, ◌||◌, ◌==◌, List, [], ◌∷◌, length, Bool, nat_lt, nat_le, Option, Some, None, option_map, option_and_then, unwrap_or, if◌then◌else◌, codes}
 use Rattle.std.specs.Char.{is_ascii_alphanumeric}
 use Rattle.std.specs.List.{list_all}
 use Rattle.serde_json.specs.Data as json
 use Rattle.serde_json.specs.Find.{as_number, as_str, as_u64, get as get_at}
 use Rattle.fv_datum.specs.Forms.{only, required, maybe, optional, each_item, map2, map3, map4}
+use Rattle.fv_datum.specs.Json.{passing, string_of}
 use Rattle.fv_datum.specs.Lookup.{at_name}
 use Rattle.fv_datum.specs.Parsing.{json_of}
 use Rattle.fv_datum.specs.NameLists.{names_of}
@@ -37,21 +38,17 @@ pub data Request : Type 0 where
   -- the form, the id above which the list begins, and the most ids
   list : List ℕ → Option (List ℕ) → ℕ → Request
 
--- an ASCII letter, an ASCII digit, `_` or `-`
-abbrev pub is_id_byte : ℕ → Bool
-is_id_byte b = is_ascii_alphanumeric b || b == 95 || b == 45
-
 -- 1 to 64 ASCII letters, ASCII digits, `_` and `-`
 abbrev pub is_id : List ℕ → Bool
-is_id s = nat_lt 0 (length s) && nat_le (length s) 64 && list_all is_id_byte s
+is_id s = nat_lt 0 (length s) && nat_le (length s) 64 && list_all (λ b. is_ascii_alphanumeric b || b == 95 || b == 45) s
 
--- the text, if it is an id
-abbrev pub checked_id : List ℕ → Option (List ℕ)
-checked_id s = if is_id s then Some s else None
+-- a string that is an id
+abbrev pub id_in : json.Data → Option (List ℕ)
+id_in = string_of is_id
 
 -- the id at the member `id`
 abbrev pub id_at : json.Data → Option (List ℕ)
-id_at j = option_and_then checked_id (required as_str (codes "id") j)
+id_at = required id_in (codes "id")
 
 -- ---- parts
 
@@ -73,27 +70,15 @@ remove_of = only (codes "do" ∷ codes "id" ∷ []) (λ j. option_map remove (id
 abbrev pub part_forms : List (List ℕ × (json.Data → Option Part))
 part_forms = (codes "put", put_of) ∷ (codes "set", set_of) ∷ (codes "remove", remove_of) ∷ []
 
--- the part that a JSON value is, by the name of what is to be done
-abbrev pub part_by : List ℕ → json.Data → Option Part
-part_by name j = option_and_then (λ form. form j) (at_name name part_forms)
-
--- the part that a JSON value is
+-- the part that a JSON value is, by the name at its member `do`
 abbrev pub part_of : json.Data → Option Part
-part_of j = option_and_then (λ name. part_by name j) (required as_str (codes "do") j)
+part_of j = option_and_then (λ name. option_and_then (λ form. form j) (at_name name part_forms)) (required as_str (codes "do") j)
 
--- 1 to 64 parts
-abbrev pub some_parts : List Part → Option (List Part)
-some_parts parts = if nat_lt 0 (length parts) && nat_le (length parts) 64 then Some parts else None
-
--- the parts that an array has
+-- the parts that an array has, 1 to 64 of them
 abbrev pub parts_in : json.Data → Option (List Part)
-parts_in j = option_and_then some_parts (each_item part_of j)
+parts_in j = option_and_then (passing (λ parts. nat_lt 0 (length parts) && nat_le (length parts) 64)) (each_item part_of j)
 
 -- ---- commands
-
--- a part by itself
-abbrev pub alone_of : (json.Data → Option Part) → json.Data → Option Request
-alone_of form j = option_map alone (form j)
 
 -- `{"do":"batch","parts":[PART,..]}`, with 1 to 64 parts
 abbrev pub batch_of : json.Data → Option Request
@@ -103,13 +88,9 @@ batch_of = only (codes "do" ∷ codes "parts" ∷ []) (λ j. option_map batch (r
 abbrev pub get_of : json.Data → Option Request
 get_of = only (codes "do" ∷ codes "id" ∷ []) (λ j. option_map get (id_at j))
 
--- names, if they are at most 32, repeats included
-abbrev pub few_names : List (List ℕ) → Option (List (List ℕ))
-few_names names = if nat_le (length names) 32 then Some names else None
-
--- the names at the member `groups`: an array of at most 32 texts; none where there is no such member
+-- the names at the member `groups`: an array of at most 32 texts, repeats included; no names where there is no such member
 abbrev pub groups_at : json.Data → Option (List (List ℕ))
-groups_at j = option_and_then few_names (names_of (codes "groups") j)
+groups_at j = option_and_then (passing (λ names. nat_le (length names) 32)) (names_of (codes "groups") j)
 
 -- `{"do":"check","id":ID,"groups":[NAME,..]}`, where the groups may be missing
 abbrev pub check_of : json.Data → Option Request
@@ -125,17 +106,9 @@ abbrev pub check_value_of : json.Data → Option Request
 check_value_of = only (codes "do" ∷ codes "type" ∷ codes "field" ∷ codes "value" ∷ codes "groups" ∷ []) (λ j.
     map4 check_value (required as_str (codes "type") j) (required as_str (codes "field") j) (get_at (codes "value") j) (groups_at j))
 
--- an id
-abbrev pub id_in : json.Data → Option (List ℕ)
-id_in j = option_and_then checked_id (as_str j)
-
--- 1 to 1,000
-abbrev pub checked_limit : ℕ → Option ℕ
-checked_limit n = if nat_lt 0 n && nat_le n 1000 then Some n else None
-
--- the most ids that a list gives
+-- the most ids that a list gives: 1 to 1,000
 abbrev pub limit_in : json.Data → Option ℕ
-limit_in j = option_and_then checked_limit (option_and_then as_u64 (as_number j))
+limit_in j = option_and_then (passing (λ n. nat_lt 0 n && nat_le n 1000)) (option_and_then as_u64 (as_number j))
 
 -- `{"do":"list","form":NAME,"after":ID,"limit":N}`, where the last two may be missing; the limit is 100 then
 abbrev pub list_of : json.Data → Option Request
@@ -145,9 +118,9 @@ list_of = only (codes "do" ∷ codes "form" ∷ codes "after" ∷ codes "limit" 
 -- the commands by their names
 abbrev pub forms : List (List ℕ × (json.Data → Option Request))
 forms =
-    (codes "put", alone_of put_of)
-    ∷ (codes "set", alone_of set_of)
-    ∷ (codes "remove", alone_of remove_of)
+    (codes "put", λ j. option_map alone (put_of j))
+    ∷ (codes "set", λ j. option_map alone (set_of j))
+    ∷ (codes "remove", λ j. option_map alone (remove_of j))
     ∷ (codes "batch", batch_of)
     ∷ (codes "get", get_of)
     ∷ (codes "check", check_of)
@@ -156,23 +129,14 @@ forms =
     ∷ (codes "list", list_of)
     ∷ []
 
--- the command that a JSON value is, by the name of what is to be done
-abbrev pub done_by : List ℕ → json.Data → Option Request
-done_by name j = option_and_then (λ form. form j) (at_name name forms)
-
--- the command that a JSON value is
+-- the command that a JSON value is, by the name at its member `do`
 abbrev pub command_of : json.Data → Option Request
-command_of j = option_and_then (λ name. done_by name j) (required as_str (codes "do") j)
-
--- the command, or that the JSON is none
-abbrev pub or_shape : Option Request → Request
-or_shape None = shape
-or_shape (Some r) = r
+command_of j = option_and_then (λ name. option_and_then (λ form. form j) (at_name name forms)) (required as_str (codes "do") j)
 
 -- what a line asks for by its JSON value, or that it has none
 abbrev pub of_json : Option json.Data → Request
 of_json None = not_json
-of_json (Some j) = or_shape (command_of j)
+of_json (Some j) = unwrap_or (command_of j) shape
 
 -- what a line asks for: one of more than 1,048,576 bytes nothing
 unfoldable pub asked : List ℕ → Request

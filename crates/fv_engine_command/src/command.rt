@@ -1,9 +1,10 @@
 //! What a line asks for.
-ghost use Rattle.std.specs.Prelude.{◌≡◌, IfOk, codes, map, option_map};
+ghost use Rattle.std.specs.Prelude.{◌≡◌, IfOk, codes, map, option_map, option_and_then};
 ghost use Rattle.fv_datum.specs.Forms.{maybe, optional};
+ghost use Rattle.fv_datum.specs.Lookup.{at_name};
 ghost use Rattle.fv_json.specs.Documents.{view as json_view};
 ghost use Rattle.fv_engine_command.specs.CommandView.{command_view, part_view};
-ghost use Rattle.fv_engine_command.specs.Commands.{alone, batch_of, get_of, groups_at, check_of, check_field_of, check_value_of, id_in, limit_in, list_of, done_by, command_of};
+ghost use Rattle.fv_engine_command.specs.Commands.{alone, batch_of, get_of, groups_at, check_of, check_field_of, check_value_of, id_in, limit_in, list_of, forms, command_of};
 
 use crate::ids::{id_in, id_of};
 use crate::part::{Part, parts_in, put_of, remove_of, set_of};
@@ -225,7 +226,8 @@ fn done_by<'j, 'a>(
     name: &str,
     value: &Json<'j, 'a>,
 ) -> Result<Option<Command<'j, 'a>>, AllocError>
-    ensures { IfOk result (λ o. option_map command_view o ≡ done_by name.now (json_view value.now)) }
+    ensures { IfOk result (λ o. option_map command_view o
+        ≡ option_and_then (λ form. form (json_view value.now)) (at_name name.now forms)) }
 {
     match name {
         "put" => Ok(alone(put_of(value))),

@@ -1,8 +1,9 @@
 //! Ids.
-ghost use Rattle.std.specs.Prelude.{◌≡◌, option_map};
+ghost use Rattle.std.specs.Prelude.{◌≡◌, ◌||◌, ◌==◌, option_map};
+ghost use Rattle.std.specs.Char.{is_ascii_alphanumeric};
 ghost use Rattle.std.specs.List.{list_all};
 ghost use Rattle.fv_json.specs.Documents.{view as json_view};
-ghost use Rattle.fv_engine_command.specs.Commands.{is_id_byte, is_id, id_in, id_at};
+ghost use Rattle.fv_engine_command.specs.Commands.{is_id, id_in, id_at};
 
 use fv_json::Json;
 
@@ -10,13 +11,13 @@ use fv_json::Json;
 const LONGEST_ID: usize = 64;
 
 fn is_id_byte(byte: u8) -> bool
-    ensures { result ≡ is_id_byte byte }
+    ensures { result ≡ (is_ascii_alphanumeric byte || byte == 95 || byte == 45) }
 {
     byte.is_ascii_alphanumeric() || byte == b'_' || byte == b'-'
 }
 
 fn all_id_bytes(bytes: &[u8]) -> bool
-    ensures { result ≡ list_all is_id_byte bytes.now }
+    ensures { result ≡ list_all (λ b. is_ascii_alphanumeric b || b == 95 || b == 45) bytes.now }
 {
     bytes.iter().all(|byte| is_id_byte(*byte))
 }

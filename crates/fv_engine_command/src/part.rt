@@ -1,10 +1,11 @@
 //! The parts of commands that change records.
-ghost use Rattle.std.specs.Prelude.{◌≡◌, IfOk, map, option_map};
+ghost use Rattle.std.specs.Prelude.{◌≡◌, IfOk, map, option_map, option_and_then};
 ghost use Rattle.fv_json.specs.Documents.{view as json_view};
 ghost use Rattle.fv_json.specs.MembersView.{items_view};
+ghost use Rattle.fv_datum.specs.Lookup.{at_name};
 ghost use Rattle.fv_datum.specs.Members.{listed, each_some};
 ghost use Rattle.fv_engine_command.specs.CommandView.{part_view};
-ghost use Rattle.fv_engine_command.specs.Commands.{put_of, set_of, remove_of, part_by, part_of, parts_in};
+ghost use Rattle.fv_engine_command.specs.Commands.{put_of, set_of, remove_of, part_forms, part_of, parts_in};
 
 use crate::ids::id_of;
 use fv_json::{Items, Json, has_only, text_at};
@@ -77,7 +78,8 @@ pub(crate) fn remove_of<'j, 'a>(value: &Json<'j, 'a>) -> Option<Part<'j, 'a>>
 
 /// The part of a name that a JSON value is.
 fn part_by<'j, 'a>(name: &str, value: &Json<'j, 'a>) -> Option<Part<'j, 'a>>
-    ensures { option_map part_view result ≡ part_by name.now (json_view value.now) }
+    ensures { option_map part_view result
+        ≡ option_and_then (λ form. form (json_view value.now)) (at_name name.now part_forms) }
 {
     match name {
         "put" => put_of(value),

@@ -1,6 +1,7 @@
 -- What a call makes of the machine.
 use Rattle.std.proofs.Common.{codes, bytes_eq, ◌≡◌, ◌≢◌, ◌⊎◌, ℕ, ℤ, ◌≤◌, ◌<◌, length, map, not, nat_lt, IsTrue, if◌then◌else◌, List, [], ◌∷◌, Bool, true, false, Option, Some, None, is_some, option_map, option_and_then, inl, inr, refl, sym, ap, subst, ◌∙◌, arith}
 use Rattle.std.specs.List.{AllByRecursion}
+use Rattle.std.specs.Option.{unwrap_or}
 use Rattle.std.proofs.lemmas.Bool.{lt-ltb, le-ltb}
 use Rattle.sqlite.specs.State.{State, HasCleanDisk}
 use Rattle.serde_json.specs.Data as json
@@ -14,8 +15,7 @@ use Rattle.fv_engine_machine.specs.Causes.{StoreHasFailed, HasCause, GivesOut, C
 use Rattle.fv_engine_machine.specs.Keeping.{Unchanged, Replies, Fails, Checks, unjudged}
 use Rattle.fv_engine_machine.specs.Machines.{Machine, over, with_map, contents, room_in, Becomes}
 use Rattle.fv_engine_machine.specs.Refusals.{when, first_of, is_too_long, parts_of, refusal}
-use Rattle.fv_engine_command.specs.Commands as command
-use Rattle.fv_engine_command.specs.Commands.{Part, Request, too_long, not_json, shape, alone, batch, get, check, check_field, check_value, list, id_in, id_at, put_of, set_of, remove_of, parts_in, alone_of, batch_of, get_of, groups_at, check_of, check_field_of, check_value_of, limit_in, list_of, forms, or_shape, command_of, of_json, asked}
+use Rattle.fv_engine_command.specs.Commands.{Part, Request, too_long, not_json, shape, alone, batch, get, check, check_field, check_value, list, id_in, id_at, put_of, set_of, remove_of, parts_in, batch_of, get_of, groups_at, check_of, check_field_of, check_value_of, limit_in, list_of, forms, command_of, of_json, asked}
 use Rattle.fv_engine_machine.specs.Step.{done_by, Changes, Checked, Serves, Answers, IsTaken, looks_up, LooksUp, Step}
 use Rattle.fv_groups.specs.Groups.{numbers_of}
 use Rattle.fv_groups.specs.Judged.{unknown_in}
@@ -29,7 +29,7 @@ use Rattle.fv_engine_reply.specs.declared.answer.Done.{Done}
 use Rattle.fv_engine_reply.specs.declared.answer.Done.TheVariants.{Batch}
 use Rattle.fv_engine_reply.specs.declared.answer.Refusal.{Refusal}
 use Rattle.fv_engine_reply.specs.declared.answer.Refusal.TheVariants.{LineTooLong, NotJson, Shape, UnknownForm, Bundle, NoRecord, UnknownGroup, NoSuchField, TooManyVisits, Store, Memory}
-use Rattle.fv_store.specs.Lists.{Lists, beginning}
+use Rattle.fv_store.specs.Lists.{Lists}
 use Rattle.fv_store.specs.Records.{Kept, Records}
 use Rattle.fv_store.specs.declared.fault.StoreFault.{StoreFault}
 use Rattle.fv_store.specs.declared.fault.StoreFault.TheVariants as store
@@ -299,56 +299,56 @@ module _ (means : Meanings) (now : ℤ) where
 
 -- ---- requests
 
-short_if : (b : Bool) (p q : Option Request) → is_too_long (or_shape p) ≡ false → is_too_long (or_shape q) ≡ false → is_too_long (or_shape (if b then p else q)) ≡ false
+short_if : (b : Bool) (p q : Option Request) → is_too_long (unwrap_or p shape) ≡ false → is_too_long (unwrap_or q shape) ≡ false → is_too_long (unwrap_or (if b then p else q) shape) ≡ false
 short_if true p q first second = first
 short_if false p q first second = second
 
-short_then : {X : Type 0} (f : X → Option Request) (o : Option X) → ((x : X) → is_too_long (or_shape (f x)) ≡ false) → is_too_long (or_shape (option_and_then f o)) ≡ false
+short_then : {X : Type 0} (f : X → Option Request) (o : Option X) → ((x : X) → is_too_long (unwrap_or (f x) shape) ≡ false) → is_too_long (unwrap_or (option_and_then f o) shape) ≡ false
 short_then f None each = refl
 short_then f (Some x) each = each x
 
-short_map : {X : Type 0} (f : X → Request) (o : Option X) → ((x : X) → is_too_long (f x) ≡ false) → is_too_long (or_shape (option_map f o)) ≡ false
+short_map : {X : Type 0} (f : X → Request) (o : Option X) → ((x : X) → is_too_long (f x) ≡ false) → is_too_long (unwrap_or (option_map f o) shape) ≡ false
 short_map f None each = refl
 short_map f (Some x) each = each x
 
 short_map3 : {X Y Z : Type 0} (f : X → Y → Z → Request) (x : Option X) (y : Option Y) (z : Option Z)
-    → ((a : X) (b : Y) (c : Z) → is_too_long (f a b c) ≡ false) → is_too_long (or_shape (map3 f x y z)) ≡ false
+    → ((a : X) (b : Y) (c : Z) → is_too_long (f a b c) ≡ false) → is_too_long (unwrap_or (map3 f x y z) shape) ≡ false
 short_map3 f None y z each = refl
 short_map3 f (Some a) None z each = refl
 short_map3 f (Some a) (Some b) None each = refl
 short_map3 f (Some a) (Some b) (Some c) each = each a b c
 
-short_map2 : {X Y : Type 0} (f : X → Y → Request) (x : Option X) (y : Option Y) → ((a : X) (b : Y) → is_too_long (f a b) ≡ false) → is_too_long (or_shape (map2 f x y)) ≡ false
+short_map2 : {X Y : Type 0} (f : X → Y → Request) (x : Option X) (y : Option Y) → ((a : X) (b : Y) → is_too_long (f a b) ≡ false) → is_too_long (unwrap_or (map2 f x y) shape) ≡ false
 short_map2 f None y each = refl
 short_map2 f (Some a) None each = refl
 short_map2 f (Some a) (Some b) each = each a b
 
-short_alone : (form : json.Data → Option Part) (j : json.Data) → is_too_long (or_shape (alone_of form j)) ≡ false
+short_alone : (form : json.Data → Option Part) (j : json.Data) → is_too_long (unwrap_or (option_map alone (form j)) shape) ≡ false
 short_alone form j = short_map alone (form j) (λ p. refl)
 
-short_batch : (j : json.Data) → is_too_long (or_shape (batch_of j)) ≡ false
+short_batch : (j : json.Data) → is_too_long (unwrap_or (batch_of j) shape) ≡ false
 short_batch j = short_if (has_only (codes "do" ∷ codes "parts" ∷ []) j) (option_map batch (required parts_in (codes "parts") j)) None
     (short_map batch (required parts_in (codes "parts") j) (λ ps. refl)) refl
 
-short_get : (j : json.Data) → is_too_long (or_shape (get_of j)) ≡ false
+short_get : (j : json.Data) → is_too_long (unwrap_or (get_of j) shape) ≡ false
 short_get j = short_if (has_only (codes "do" ∷ codes "id" ∷ []) j) (option_map get (id_at j)) None (short_map get (id_at j) (λ id. refl)) refl
 
-short_check : (j : json.Data) → is_too_long (or_shape (check_of j)) ≡ false
+short_check : (j : json.Data) → is_too_long (unwrap_or (check_of j) shape) ≡ false
 short_check j = short_if (has_only (codes "do" ∷ codes "id" ∷ codes "groups" ∷ []) j) (map2 check (id_at j) (groups_at j)) None (short_map2 check (id_at j) (groups_at j) (λ id names. refl)) refl
 
 short_map4 : {V X Y Z : Type 0} (f : V → X → Y → Z → Request) (v : Option V) (x : Option X) (y : Option Y) (z : Option Z)
-    → ((a : V) (b : X) (c : Y) (d : Z) → is_too_long (f a b c d) ≡ false) → is_too_long (or_shape (map4 f v x y z)) ≡ false
+    → ((a : V) (b : X) (c : Y) (d : Z) → is_too_long (f a b c d) ≡ false) → is_too_long (unwrap_or (map4 f v x y z) shape) ≡ false
 short_map4 f None x y z each = refl
 short_map4 f (Some a) x y z each = short_map3 (f a) x y z (each a)
 
-short_check_field : (j : json.Data) → is_too_long (or_shape (check_field_of j)) ≡ false
+short_check_field : (j : json.Data) → is_too_long (unwrap_or (check_field_of j) shape) ≡ false
 short_check_field j =
     let object = required as_str (codes "object") j in
     let field = required as_str (codes "field") j in
     short_if (has_only (codes "do" ∷ codes "id" ∷ codes "object" ∷ codes "field" ∷ codes "groups" ∷ []) j) (map4 check_field (id_at j) object field (groups_at j)) None
     (short_map4 check_field (id_at j) object field (groups_at j) (λ i o f names. refl)) refl
 
-short_check_value : (j : json.Data) → is_too_long (or_shape (check_value_of j)) ≡ false
+short_check_value : (j : json.Data) → is_too_long (unwrap_or (check_value_of j) shape) ≡ false
 short_check_value j =
     let type = required as_str (codes "type") j in
     let field = required as_str (codes "field") j in
@@ -356,7 +356,7 @@ short_check_value j =
     short_if (has_only (codes "do" ∷ codes "type" ∷ codes "field" ∷ codes "value" ∷ codes "groups" ∷ []) j) (map4 check_value type field value (groups_at j)) None
     (short_map4 check_value type field value (groups_at j) (λ t f v names. refl)) refl
 
-short_list : (j : json.Data) → is_too_long (or_shape (list_of j)) ≡ false
+short_list : (j : json.Data) → is_too_long (unwrap_or (list_of j) shape) ≡ false
 short_list j =
     let form = required as_str (codes "form") j in
     let after = maybe id_in (codes "after") j in
@@ -364,23 +364,23 @@ short_list j =
     short_if (has_only (codes "do" ∷ codes "form" ∷ codes "after" ∷ codes "limit" ∷ []) j) (map3 list form after limit) None
     (short_map3 list form after limit (λ f a n. refl)) refl
 
-short_among : (fs : List (List ℕ × (json.Data → Option Request))) → AllByRecursion (λ f. (j : json.Data) → is_too_long (or_shape (f.1 j)) ≡ false) fs → (name : List ℕ) (j : json.Data)
-    → is_too_long (or_shape (option_and_then (λ form. form j) (at_name name fs))) ≡ false
+short_among : (fs : List (List ℕ × (json.Data → Option Request))) → AllByRecursion (λ f. (j : json.Data) → is_too_long (unwrap_or (f.1 j) shape) ≡ false) fs → (name : List ℕ) (j : json.Data)
+    → is_too_long (unwrap_or (option_and_then (λ form. form j) (at_name name fs)) shape) ≡ false
 short_among [] each name j = refl
 short_among (f ∷ fs) each name j = picked (bytes_eq name f.0) (short_among fs each.1 name j)
   where
-    picked : (same : Bool) → is_too_long (or_shape (option_and_then (λ (form : json.Data → Option Request). form j) (at_name name fs))) ≡ false
-        → is_too_long (or_shape (option_and_then (λ (form : json.Data → Option Request). form j) (if same then Some f.1 else at_name name fs))) ≡ false
+    picked : (same : Bool) → is_too_long (unwrap_or (option_and_then (λ (form : json.Data → Option Request). form j) (at_name name fs)) shape) ≡ false
+        → is_too_long (unwrap_or (option_and_then (λ (form : json.Data → Option Request). form j) (if same then Some f.1 else at_name name fs)) shape) ≡ false
     picked true rest = each.0 j
     picked false rest = rest
 
-short_done : (name : List ℕ) (j : json.Data) → is_too_long (or_shape (command.done_by name j)) ≡ false
+short_done : (name : List ℕ) (j : json.Data) → is_too_long (unwrap_or (option_and_then (λ form. form j) (at_name name forms)) shape) ≡ false
 short_done name j = short_among forms
     (short_alone put_of, (short_alone set_of, (short_alone remove_of, (short_batch, (short_get, (short_check, (short_check_field, (short_check_value, (short_list, tt))))))))) name j
 
 -- a command isn't a line that is too long
-pub short_command : (j : json.Data) → is_too_long (or_shape (command_of j)) ≡ false
-short_command j = short_then (λ name. command.done_by name j) (required as_str (codes "do") j) (λ name. short_done name j)
+pub short_command : (j : json.Data) → is_too_long (unwrap_or (command_of j) shape) ≡ false
+short_command j = short_then (λ name. option_and_then (λ form. form j) (at_name name forms)) (required as_str (codes "do") j) (λ name. short_done name j)
 
 pub short_json : (o : Option json.Data) → is_too_long (of_json o) ≡ false
 short_json None = refl
@@ -388,8 +388,8 @@ short_json (Some j) = short_command j
 
 -- a command that is there is what is asked
 pub asked_of : {H : Type 0} (held : H → State) (old new : Machine H) (means : Meanings) (now : ℤ) (answer : Answer) (o : Option Request) (r : Request) → Some r ≡ o
-    → Becomes held old new (λ x y. Handles means now r x answer y) → Becomes held old new (λ x y. Handles means now (or_shape o) x answer y)
-asked_of held old new means now answer o r is becoming = subst (λ (p : Option Request). Becomes held old new (λ x y. Handles means now (or_shape p) x answer y)) is becoming
+    → Becomes held old new (λ x y. Handles means now r x answer y) → Becomes held old new (λ x y. Handles means now (unwrap_or o shape) x answer y)
+asked_of held old new means now answer o r is becoming = subst (λ (p : Option Request). Becomes held old new (λ x y. Handles means now (unwrap_or p shape) x answer y)) is becoming
 
 -- ---- lines
 
@@ -444,7 +444,7 @@ module _ (means : Meanings) (now : ℤ) (form : List ℕ) (after : Option (List 
       (λ looks. let never : true ≡ false = sym (ap (λ (o : Option (List ℕ)). not (is_some o)) none) ∙ looks.2 in absurd cc)
 
   module _ (type : List ℕ) (some : at_name form x.declared.forms ≡ Some type) (stay : Unchanged x y) where
-    pub listed_ids : IsTrue x.is_open → (found : List (List ℕ)) → Lists x.records form (beginning after) limit found → Handles means now (list form after limit) x (ids found) y
+    pub listed_ids : IsTrue x.is_open → (found : List (List ℕ)) → Lists x.records form (unwrap_or after []) limit found → Handles means now (list form after limit) x (ids found) y
     unfolding list_refusal
     listed_ids live found lists = still means now (list form after limit) x y stay (ids found) tt (inr (ap list_refusal some, (found, lists, refl, stay.records))) (λ looks. live)
 

@@ -31,8 +31,8 @@ abbrev pub GivesOut : Answer → ℕ → Machine Records → Machine Records →
 GivesOut (done what) count old new = IsTrue old.is_open × IsTrue new.is_open × (old.room ≤ new.room + count)
 GivesOut _ count old new = IsTrue new.is_open → new.room ≡ old.room
 
--- What is declared stays and no fault is forgotten; what is shut stays shut, and only a failure of the disk shuts the connection. By one that
--- is shut, a request that looks something up fails. The store refuses with a cause.
+-- What a step leaves of a connection: what is declared stays, and no failure of the disk is forgotten. A connection that is shut stays shut,
+-- and only a failure of the disk shuts it. Where it is shut, a request that looks something up is refused. The store refuses with a cause.
 pub record Causes (means : Meanings) (now : ℤ) (r : Request) (answer : Answer) (old new : Machine Records) : Type 0 where
   pub declared : new.declared ≡ old.declared
   pub counts : old.faults ≤ new.faults

@@ -10,7 +10,8 @@ use Rattle.fv_store.specs.Records.{Records, Contents}
 use Rattle.fv_store.specs.Stands.{Holds}
 
 -- What is declared and the records, as a map or as the connection to the database that keeps them; whether the connection is open, which a
--- failure of the disk may shut; how often the disk has failed; how many rowids there are from the highest that is taken on, itself included.
+-- failure of the disk may shut; how often the disk has failed; how many rowids are left: rowids end at 2 ^ 63 - 1, and these are counted from
+-- the highest rowid of a record on, which counts too.
 pub record Machine (R : Type 0) : Type 0 where
   pub declared : Declarations
   pub records : R
@@ -18,12 +19,12 @@ pub record Machine (R : Type 0) : Type 0 where
   pub faults : ℕ
   pub room : ℕ
 
--- how many rowids there are from one on, itself included: below 2 ^ 63, at most so many, and none from one that is no rowid
+-- how many rowids there are from this one up to 2 ^ 63 - 1, both counted: 2 ^ 63 at most, and none where the number is no rowid
 abbrev pub rowids_from : ℤ → ℕ
 rowids_from (pos n) = 2 ^ 63 - n
 rowids_from (negsuc n) = if nat_lt n (2 ^ 63) then 2 ^ 63 else 0
 
--- the same from the highest of rows on
+-- the same from the highest rowid of these rows on
 abbrev pub room_above : List Row → ℕ
 room_above [] = 2 ^ 63
 room_above (row ∷ rows) = min (rowids_from (id_in (rowid row))) (room_above rows)

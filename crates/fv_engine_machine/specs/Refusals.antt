@@ -19,10 +19,12 @@ use Rattle.fv_validate.specs.Values.{field_use}
 
 -- ---- the conditions
 
+-- a line of more than 1,048,576 bytes
 abbrev pub is_too_long : Request → Bool
 is_too_long too_long = true
 is_too_long _ = false
 
+-- a line that is no JSON
 abbrev pub is_no_json : Request → Bool
 is_no_json not_json = true
 is_no_json _ = false
@@ -95,9 +97,11 @@ lacks_field ds m _ = false
 
 -- ---- the order
 
+-- the refusal, where its condition holds
 abbrev pub when : Bool → Refusal → Option Answer
 when condition why = if condition then Some (refused why) else None
 
+-- the first of these that is there
 abbrev pub first_of : List (Option Answer) → Option Answer
 first_of [] = None
 first_of (Some answer ∷ rest) = Some answer
@@ -107,13 +111,13 @@ first_of (None ∷ rest) = first_of rest
 -- others, as it is told as Shape; the faults of a command's parts are told by the first part that has one
 abbrev pub refusal : Declarations → Records → Request → Option Answer
 refusal ds m r = first_of (
-    when (is_too_long r) LineTooLong
-    ∷ when (is_no_json r) NotJson
-    ∷ when (is_misshapen ds r) Shape
-    ∷ when (lacks_form ds r) UnknownForm
-    ∷ value_fault ds r
-    ∷ part_fault ds m r
-    ∷ when (lacks_record m r) NoRecord
-    ∷ when (lacks_group ds r) UnknownGroup
-    ∷ when (lacks_field ds m r) NoSuchField
+    when (is_too_long r) LineTooLong  -- C1
+    ∷ when (is_no_json r) NotJson  -- C2
+    ∷ when (is_misshapen ds r) Shape  -- C3
+    ∷ when (lacks_form ds r) UnknownForm  -- C4 of a list
+    ∷ value_fault ds r  -- C5 of a checkvalue
+    ∷ part_fault ds m r  -- C4, C5 and C6 of parts
+    ∷ when (lacks_record m r) NoRecord  -- C6 of a get, a check and a checkfield
+    ∷ when (lacks_group ds r) UnknownGroup  -- C7
+    ∷ when (lacks_field ds m r) NoSuchField  -- C8
     ∷ [])

@@ -1,12 +1,12 @@
 -- The step of the record machine: what a line does to a map from ids to records, and the answer.
-use Rattle.std.specs.Prelude.{◌≡◌, ◌≢◌, ◌⊎◌, ℕ, ℤ, IsTrue, Bool, true, false, List, [], ◌∷◌, Some, None, Ok}
+use Rattle.std.specs.Prelude.{◌≡◌, ◌≢◌, ◌⊎◌, ℕ, ℤ, IsTrue, Bool, true, false, List, [], ◌∷◌, Some, None, Ok, unwrap_or, is_some}
 use Rattle.std.specs.List.{list_any}
 use Rattle.fv_datum.specs.Data.{Data}
 use Rattle.fv_datum.specs.Lookup.{at_name}
 use Rattle.fv_declare_schema.specs.Declarations.{Declarations}
 use Rattle.fv_engine_machine.specs.Refusals.{is_misshapen, is_too_long, lacks_form, made, parts_of, refusal}
 use Rattle.fv_engine_command.specs.Commands.{Part, put, set, remove, Request, alone, batch, get, check, check_field, check_value, list, asked}
-use Rattle.fv_engine_pending.specs.Touched.{needs_record}
+use Rattle.fv_engine_pending.specs.Touched.{needed_id}
 use Rattle.fv_groups.specs.Groups.{numbers_of}
 use Rattle.fv_model.specs.Bundles.{Thing, Bundled}
 use Rattle.fv_model.specs.Reading.{value_read}
@@ -17,7 +17,7 @@ use Rattle.fv_engine_reply.specs.Texts.{answer_text}
 use Rattle.fv_engine_reply.specs.declared.answer.Done.{Done}
 use Rattle.fv_engine_reply.specs.declared.answer.Done.TheVariants.{Put, Set, Remove, Batch}
 use Rattle.fv_engine_reply.specs.declared.answer.Refusal.TheVariants.{TooManyVisits, Store, Memory}
-use Rattle.fv_store.specs.Lists.{Lists, beginning}
+use Rattle.fv_store.specs.Lists.{Lists}
 use Rattle.fv_store.specs.Records.{Kept, Records}
 use Rattle.fv_model_types.specs.Types.{TypeUse}
 use Rattle.fv_validate.specs.Values.{field_use, valued}
@@ -31,8 +31,9 @@ done_by (put id form j) = Put
 done_by (set id object field j) = Set
 done_by (remove id) = Remove
 
--- Parts are made in order in a copy of the map, and what they put or set there is judged at a moment. They are refused for too many visits of
--- one; where none has a violation they are taken, and the copy is the map then; else they are refused by all that have some.
+-- What the parts of a command are answered at a moment, and the new map. They are made in order in a copy of the old map, and each record that
+-- they put or set there is judged. If one of these has too many visits, the parts are refused for that; if none has a violation, they are
+-- taken, and the copy is the new map; else they are refused, with each record that has violations. Where they are refused the old map stays.
 abbrev pub Changes : Meanings → Declarations → ℤ → List Part → Done → Records → Answer → Records → Type 0
 Changes means ds now parts what old answer new = (copy : Records) × (made ds parts old ≡ Ok copy)
     × ((OneIsOverVisited ds parts copy × (answer ≡ refused TooManyVisits) × (new ≡ old))
@@ -64,8 +65,9 @@ Serves means ds now (check_field id object field names) old answer new =
 Serves means ds now (check_value type field value names) old answer new =
     (held : TypeUse) × (field_use ds.types type field ≡ Some held) × ((d : Data) × (value_read held value ≡ Ok d)
     × FieldChecked means ds now (valued ds.types type field d) field (numbers_of ds.groups names) value_checked answer) × (new ≡ old)
+-- above the id that is told, else above the empty text, which is below each id
 Serves means ds now (list form after limit) old answer new =
-    (found : List (List ℕ)) × Lists old form (beginning after) limit found × (answer ≡ ids found) × (new ≡ old)
+    (found : List (List ℕ)) × Lists old form (unwrap_or after []) limit found × (answer ≡ ids found) × (new ≡ old)
 Serves means ds now _ old answer new = ⊥
 
 -- a request is told its first refusal, if it has one, and is else served
@@ -83,7 +85,7 @@ looks_up (get id) = true
 looks_up (check id names) = true
 looks_up (check_field id object field names) = true
 looks_up (list form after limit) = true
-looks_up r = list_any needs_record (parts_of r)
+looks_up r = list_any (λ p. is_some (needed_id p)) (parts_of r)
 
 -- one that does so, as it isn't refused before
 abbrev pub LooksUp : Declarations → Request → Type 0

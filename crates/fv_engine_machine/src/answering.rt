@@ -1,12 +1,12 @@
 //! What a command does to the records, and its answer.
-ghost use Rattle.std.specs.Prelude.{◌≡◌, ℤ, map};
+ghost use Rattle.std.specs.Prelude.{◌≡◌, ℤ, map, unwrap_or};
 ghost use Rattle.fv_datum.specs.Moments.{IsMoment};
 ghost use Rattle.fv_datum.specs.Parsing.{json_of};
 ghost use Rattle.fv_declare_schema.specs.Declarations.{Declarations};
 ghost use Rattle.fv_engine_machine.specs.Keeping.{Replies};
 ghost use Rattle.fv_engine_machine.specs.Machines.{over, Becomes};
 ghost use Rattle.fv_engine_command.specs.CommandView.{part_view};
-ghost use Rattle.fv_engine_command.specs.Commands.{alone, batch, get, command_of, or_shape, of_json};
+ghost use Rattle.fv_engine_command.specs.Commands.{alone, batch, get, command_of, of_json, shape};
 ghost use Rattle.fv_engine_machine.specs.Causes.{Handles};
 ghost use Rattle.fv_registry.specs.Meanings.{Meanings};
 ghost use Rattle.fv_engine_reply.specs.AnswerView.{answer_view};
@@ -91,7 +91,7 @@ fn answer<'a, R: RuleSet, S: Alter>(
     requires { IsMoment now }
     ensures { Becomes (state S.Store) (over (state S.Store) book.now store.old)
         (over (state S.Store) book.now store.new)
-        (λ x y. Handles R.meaning now (or_shape (command_of (json_view value.now))) x (answer_view result) y) }
+        (λ x y. Handles R.meaning now (unwrap_or (command_of (json_view value.now)) shape) x (answer_view result) y) }
 {
     match command_of(alloc, value) {
         Err(_) => Answer::Refused(Refusal::Memory),
@@ -137,7 +137,7 @@ fn reply_to<R: RuleSet, S: Alter>(
     requires { IsMoment now }
     ensures { Becomes (state S.Store) (over (state S.Store) book.now store.old)
         (over (state S.Store) book.now store.new)
-        (λ x y. Replies R.meaning now (or_shape (command_of (json_view value.now))) x result y) }
+        (λ x y. Replies R.meaning now (unwrap_or (command_of (json_view value.now)) shape) x result y) }
 {
     let answer = answer(store, alloc, book, value, now);
     Reply::of(alloc, &answer)

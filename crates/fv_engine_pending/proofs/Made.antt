@@ -1,6 +1,7 @@
 -- Parts make of records what they make of the records on the way.
 use Rattle.std.proofs.Common.{◌≡◌, ℕ, ◌+◌, List, [], ◌∷◌, map, Bool, true, false, cond, Option, Some, None, is_some, Result, Ok, Err, bytes_eq, refl, sym, ap, ◌∙◌}
 use Rattle.std.specs.List.{AllByRecursion}
+use Rattle.std.specs.Option.{option_map_or}
 use Rattle.std.specs.Prelude.{unwrap_or}
 use Rattle.std.specs.Result.{result_map_both}
 use Rattle.std.proofs.Math.Path.{fun_ext}
@@ -13,12 +14,12 @@ use Rattle.fv_model.specs.Setting.{bundle_set}
 use Rattle.fv_model.specs.Bundles.{Bundled}
 use Rattle.fv_model.specs.declared.fault.BundleFault.{BundleFault}
 use Rattle.fv_engine_pending.specs.Fits.{Agrees, Covers}
-use Rattle.fv_engine_pending.specs.Parts.{bundle_under, kept_as, set_in, removed_from, part_made, parts_made, numbered, and_then}
-use Rattle.fv_engine_pending.specs.Steps.{faulty, staged, left_as, set_on, removed_on, step_made, steps_made}
+use Rattle.fv_engine_pending.specs.Parts.{bundle_under, kept_as, part_made, parts_made, and_then}
+use Rattle.fv_engine_pending.specs.Steps.{faulty, staged, left_as, set_on, removed_on, step_made, steps_made, numbered}
 use Rattle.fv_engine_pending.specs.Ways.{Way, overlay, standing_at, IsOn, left_at, without_id}
 use Rattle.fv_engine_pending.specs.declared.fault.PartFault.{PartFault}
-use Rattle.fv_engine_pending.specs.declared.fault.PartFault.TheVariants.{UnknownForm}
-use Rattle.fv_store.specs.Records.{Kept, Records, Roots}
+use Rattle.fv_engine_pending.specs.declared.fault.PartFault.TheVariants.{UnknownForm, NoRecord}
+use Rattle.fv_store.specs.Records.{Kept, Records, Roots, without_record}
 use Rattle.fv_model_types.specs.Types.{Declared}
 
 some_of : {X : Type 0} (o : Option X) → is_some o ≡ true → (x : X) × (o ≡ Some x)
@@ -121,7 +122,14 @@ module _ (types : Declared) (forms : Roots) (m : Records) where
   put_seen id form w true r = kept_seen id form w w (λ q other. refl) r
   put_seen id form w false r = refl
 
-  set_seen : (id object field : List ℕ) (j : json.Data) (w : Way) (o : Option Kept) → set_in types id object field j (overlay w m) o ≡ seen (set_on types id object field j w o)
+  -- what a set and a remove make of records, by the record that stands at their id
+  abbrev set_in : List ℕ → List ℕ → List ℕ → json.Data → Records → Option Kept → Result Records PartFault
+  set_in id object field j ms o = option_map_or (λ k. kept_as id k.form ms (bundle_set types k.bundle object field j)) o (Err NoRecord)
+
+  abbrev removed_from : List ℕ → Records → Option Kept → Result Records PartFault
+  removed_from id ms o = option_map_or (λ k. Ok (without_record id ms)) o (Err NoRecord)
+
+  set_seen : (id object field : List ℕ) (j : json.Data) (w : Way) (o : Option Kept) → set_in id object field j (overlay w m) o ≡ seen (set_on types id object field j w o)
   set_seen id object field j w None = refl
   set_seen id object field j w (Some k) = kept_seen id k.form (without_id id w) w (at_without id w) (bundle_set types k.bundle object field j)
 
@@ -137,7 +145,7 @@ module _ (types : Declared) (forms : Roots) (m : Records) where
 
   part_seen : (p : Part) (w : Way) → Covers w p → part_made types forms p (overlay w m) ≡ seen (step_made types (staged types forms p) w)
   part_seen (put id form j) w covers = put_seen id form w (is_some (at_name form forms)) (bundle_under types forms form j)
-  part_seen (set id object field j) w covers = ap (set_in types id object field j (overlay w m)) (over_on id w (covers id refl)) ∙ set_seen id object field j w (standing_at id w)
+  part_seen (set id object field j) w covers = ap (set_in id object field j (overlay w m)) (over_on id w (covers id refl)) ∙ set_seen id object field j w (standing_at id w)
   part_seen (remove id) w covers = ap (removed_from id (overlay w m)) (over_on id w (covers id refl)) ∙ remove_seen id w (standing_at id w)
 
   covers_more : (w new : Way) → ((q : List ℕ) → IsOn q w → IsOn q new) → (ps : List Part) → AllByRecursion (Covers w) ps → AllByRecursion (Covers new) ps

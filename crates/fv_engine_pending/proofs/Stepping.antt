@@ -3,8 +3,8 @@ use Rattle.std.proofs.Common.{◌≡◌, ◌+◌, ℕ, List, [], ◌∷◌, ◌+
 use Rattle.std.proofs.lemmas.List.{map-append}
 use Rattle.fv_datum.specs.Outcomes.{Gives}
 use Rattle.fv_engine_pending.specs.Fits.{Keeps}
-use Rattle.fv_engine_pending.specs.Parts.{and_then, numbered}
-use Rattle.fv_engine_pending.specs.Steps.{Staged, step_view, step_made, steps_made}
+use Rattle.fv_engine_pending.specs.Parts.{and_then}
+use Rattle.fv_engine_pending.specs.Steps.{Staged, step_view, step_made, steps_made, numbered}
 use Rattle.fv_engine_pending.specs.Ways.{Way}
 use Rattle.fv_engine_pending.specs.declared.step.Step.{Step}
 use Rattle.fv_engine_pending.proofs.Fitting.{keeps_more}

@@ -11,9 +11,9 @@ use Rattle.fv_engine_command.specs.Commands.{Part, put, set, remove}
 use Rattle.fv_model.specs.Setting.{bundle_set}
 use Rattle.fv_model.specs.Bundles.{Bundled}
 use Rattle.fv_engine_pending.specs.Fits.{AreNeeded}
-use Rattle.fv_engine_pending.specs.Parts.{bundle_under, numbered, and_then}
-use Rattle.fv_engine_pending.specs.Steps.{faulty, staged, left_as, set_on, removed_on, step_made, steps_made}
-use Rattle.fv_engine_pending.specs.Touched.{touches, are_touching, IsTouched, needs_record, needs_at, count_needed}
+use Rattle.fv_engine_pending.specs.Parts.{bundle_under, and_then}
+use Rattle.fv_engine_pending.specs.Steps.{faulty, staged, left_as, set_on, removed_on, step_made, steps_made, numbered}
+use Rattle.fv_engine_pending.specs.Touched.{touches, IsTouched, needs_record, needs_at, count_needed}
 use Rattle.fv_engine_pending.specs.Ways.{Way, overlay, standing_at, IsOn, left_at, without_id}
 use Rattle.fv_engine_pending.specs.declared.fault.PartFault.{PartFault}
 use Rattle.fv_engine_pending.specs.declared.fault.PartFault.TheVariants.{UnknownForm}
@@ -68,7 +68,7 @@ module _ (types : Declared) (forms : Roots) (id : List ℕ) where
   touched_after n p ps w new (Ok v) is ih (inr later) e = ih v later e
   touched_after n p ps w new (Err fault) is ih which e = cc
 
-  touched_is_on : (n : ℕ) (ps : List Part) (w new : Way) → IsTrue (are_touching id ps) → steps_made types n (map (staged types forms) ps) w ≡ Ok new → IsOn id new
+  touched_is_on : (n : ℕ) (ps : List Part) (w new : Way) → IsTrue (list_any (touches id) ps) → steps_made types n (map (staged types forms) ps) w ≡ Ok new → IsOn id new
   touched_is_on n [] w new touched e = cc
   touched_is_on n (p ∷ ps) w new touched e =
       touched_after n p ps w new (step_made types (staged types forms p) w) refl (λ v later made. touched_is_on (n + 1) ps v new later made) (or_true (touches id p) (list_any (touches id) ps) touched) e
@@ -120,7 +120,7 @@ on_as : (o : Option (Option Kept)) (was : Option Kept) (k : Kept) → is_some o 
 on_as None was k on is = cc
 on_as (Some x) was k on is = ap (λ (y : Option Kept). Some y) is
 
-needed_or : (parts : List Part) (way : Way) (id : List ℕ) (k : Kept) → AreNeeded parts way → (list_any (touches id) parts ≡ true) ⊎ ((list_any (needs_at id) parts ≡ false) × (at_name id way ≡ Some (Some k))) → IsTrue (are_touching id parts)
+needed_or : (parts : List Part) (way : Way) (id : List ℕ) (k : Kept) → AreNeeded parts way → (list_any (touches id) parts ≡ true) ⊎ ((list_any (needs_at id) parts ≡ false) × (at_name id way ≡ Some (Some k))) → IsTrue (list_any (touches id) parts)
 needed_or parts way id k needed (inl touched) = touched
 needed_or parts way id k needed (inr stood) = absurd (true≢false (sym (needed id (ap is_some stood.1)) ∙ stood.0))
 

@@ -1,6 +1,8 @@
 -- What the parts of a command make of records.
-use Rattle.std.specs.Prelude.{ℕ, ◌+◌, List, [], ◌∷◌, Bool, true, false, Option, Some, None, is_some, Result, Ok, Err, if◌then◌else◌}
+use Rattle.std.specs.Prelude.{ℕ, ◌+◌, List, [], ◌∷◌, Bool, true, false, is_some, Result, Ok, Err, if◌then◌else◌}
 use Rattle.std.specs.List.{list_any}
+use Rattle.std.specs.Option.{option_map_or}
+use Rattle.std.specs.Result.{result_map_both}
 use Rattle.serde_json.specs.Data as json
 use Rattle.fv_datum.specs.Lookup.{at_name}
 use Rattle.fv_engine_command.specs.Commands.{Part, put, set, remove}
@@ -11,7 +13,7 @@ use Rattle.fv_model.specs.declared.fault.BundleFault.{BundleFault}
 use Rattle.fv_model.specs.declared.fault.BundleFault.TheVariants as fault
 use Rattle.fv_engine_pending.specs.declared.fault.PartFault.{PartFault}
 use Rattle.fv_engine_pending.specs.declared.fault.PartFault.TheVariants.{UnknownForm, Bundle, NoRecord}
-use Rattle.fv_store.specs.Records.{Kept, Records, Roots, with_record, without_record}
+use Rattle.fv_store.specs.Records.{Records, Roots, with_record, without_record}
 use Rattle.fv_model_types.specs.Types.{Declared}
 
 -- the bundle that JSON spells under a form, or its first fault
@@ -20,44 +22,26 @@ bundle_under types forms form j = bundle_read types (at_name form forms) j
 
 -- the records with a bundle of a form at an id, where there is a bundle, and else its fault
 abbrev pub kept_as : List ℕ → List ℕ → Records → Result Bundled BundleFault → Result Records PartFault
-kept_as id form m (Ok b) = Ok (with_record id (record { form = form; bundle = b }) m)
-kept_as id form m (Err fault) = Err (Bundle fault)
+kept_as id form m = result_map_both (λ b. with_record id (record { form = form; bundle = b }) m) Bundle
 
--- what a put makes of records: the form has to be declared
-abbrev pub put_in : Declared → Roots → List ℕ → List ℕ → json.Data → Records → Result Records PartFault
-put_in types forms id form j m = if is_some (at_name form forms) then kept_as id form m (bundle_under types forms form j) else Err UnknownForm
-
--- what a set makes of records, by the record that stands at its id
-abbrev pub set_in : Declared → List ℕ → List ℕ → List ℕ → json.Data → Records → Option Kept → Result Records PartFault
-set_in types id object field j m None = Err NoRecord
-set_in types id object field j m (Some k) = kept_as id k.form m (bundle_set types k.bundle object field j)
-
--- what a remove makes of records, by the record that stands at its id
-abbrev pub removed_from : List ℕ → Records → Option Kept → Result Records PartFault
-removed_from id m None = Err NoRecord
-removed_from id m (Some k) = Ok (without_record id m)
-
--- what a part makes of records, or why it can't be done
+-- what a part makes of records, or why it can't be done: the form of a put has to be declared, a set and a remove need a record at their id
 abbrev pub part_made : Declared → Roots → Part → Records → Result Records PartFault
-part_made types forms (put id form j) m = put_in types forms id form j m
-part_made types forms (set id object field j) m = set_in types id object field j m (m id)
-part_made types forms (remove id) m = removed_from id m (m id)
-
--- a fault with the number of the part that has it
-abbrev pub numbered : {X E : Type 0} → ℕ → Result X E → Result X (ℕ × E)
-numbered n (Ok x) = Ok x
-numbered n (Err e) = Err (n, e)
+part_made types forms (put id form j) m =
+    if is_some (at_name form forms) then kept_as id form m (bundle_under types forms form j) else Err UnknownForm
+part_made types forms (set id object field j) m =
+    option_map_or (λ k. kept_as id k.form m (bundle_set types k.bundle object field j)) (m id) (Err NoRecord)
+part_made types forms (remove id) m = option_map_or (λ k. Ok (without_record id m)) (m id) (Err NoRecord)
 
 -- one thing and then another, unless the first fails
 abbrev pub and_then : {X Y E : Type 0} → (X → Result Y E) → Result X E → Result Y E
 and_then f (Ok x) = f x
 and_then f (Err e) = Err e
 
--- what parts make of records in order, each of what the parts before have left, or the first that can't be done, with its number: that of the
--- first of them is given
+-- what parts make of records in order, each of what the parts before have left, or the first that can't be done with its number; n is the
+-- number of the first of them
 abbrev pub parts_made : Declared → Roots → ℕ → List Part → Records → Result Records (ℕ × PartFault)
 parts_made types forms n [] m = Ok m
-parts_made types forms n (p ∷ ps) m = and_then (parts_made types forms (n + 1) ps) (numbered n (part_made types forms p m))
+parts_made types forms n (p ∷ ps) m = and_then (parts_made types forms (n + 1) ps) (result_map_both (λ x. x) (λ e. (n, e)) (part_made types forms p m))
 
 -- a bundle isn't of the form of one
 abbrev pub is_misread : Result Bundled BundleFault → Bool

@@ -9,7 +9,7 @@ use Rattle.fv_model.specs.Setting.{bundle_set}
 use Rattle.fv_model.specs.Bundles.{Bundled}
 use Rattle.fv_model.specs.Views.{bundle_view}
 use Rattle.fv_model.specs.declared.fault.BundleFault.{BundleFault}
-use Rattle.fv_engine_pending.specs.Parts.{bundle_under, numbered, and_then}
+use Rattle.fv_engine_pending.specs.Parts.{bundle_under, and_then}
 use Rattle.fv_engine_pending.specs.Ways.{Way, standing_at, left_at, without_id}
 use Rattle.fv_engine_pending.specs.declared.fault.PartFault.{PartFault}
 use Rattle.fv_engine_pending.specs.declared.fault.PartFault.TheVariants.{UnknownForm, Bundle, NoRecord}
@@ -59,6 +59,10 @@ abbrev pub step_made : Declared → Staged → Way → Result Way PartFault
 step_made types (put_step id form bundle) way = left_as id form way bundle
 step_made types (set_step id object field j) way = set_on types id object field j way (standing_at id way)
 step_made types (remove_step id) way = removed_on id way (standing_at id way)
+
+-- a fault with the number of the part that has it
+abbrev pub numbered : {X E : Type 0} → ℕ → Result X E → Result X (ℕ × E)
+numbered n = result_map_both (λ x. x) (λ e. (n, e))
 
 -- what parts make of them in order, numbered from this number on
 abbrev pub steps_made : Declared → ℕ → List Staged → Way → Result Way (ℕ × PartFault)

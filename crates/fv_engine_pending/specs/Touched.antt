@@ -12,13 +12,9 @@ touches id (put i form j) = bytes_eq id i
 touches id (set i object field j) = bytes_eq id i
 touches id (remove i) = false
 
--- one of the parts does
-abbrev pub are_touching : List ℕ → List Part → Bool
-are_touching id = list_any (touches id)
-
 -- the id was put or set by one of the parts, and this is its record
 abbrev pub IsTouched : List Part → Records → List ℕ → Kept → Type 0
-IsTouched parts m id kept = IsTrue (are_touching id parts) × (m id ≡ Some kept)
+IsTouched parts m id kept = IsTrue (list_any (touches id) parts) × (m id ≡ Some kept)
 
 -- the id at which a part needs a record: that of a set or a remove
 abbrev pub needed_id : Part → Option (List ℕ)

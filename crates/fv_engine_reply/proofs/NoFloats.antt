@@ -2,10 +2,10 @@
 use Rattle.std.proofs.Common.{◌≡◌, ◌||◌, ℕ, Bool, false, List, [], ◌∷◌, Option, Some, None, refl, map}
 use Rattle.serde_json.specs.Data as json
 use Rattle.serde_json.specs.View.{items_of}
-use Rattle.serde_json.specs.Written.{has_float, items_have_float, members_have_float}
+use Rattle.serde_json.specs.Written.{has_float, items_have_float}
 use Rattle.fv_model_types.specs.Writing.{datum_json}
-use Rattle.fv_engine_reply.specs.Answers.{Judged}
-use Rattle.fv_engine_reply.specs.Texts.{violation_json, judged_json, violated_json, listing_json, ids_json, part_member, refused_json}
+use Rattle.fv_engine_reply.specs.Answers.{Judged, violated, ids}
+use Rattle.fv_engine_reply.specs.Texts.{violation_json, judged_json, listing_json, refused_json, answer_json}
 use Rattle.fv_engine_reply.specs.declared.answer.Refusal.{Refusal}
 use Rattle.fv_engine_reply.specs.declared.answer.Refusal.TheVariants.{LineTooLong, NotJson, Shape, UnknownForm, Bundle, NoRecord, UnknownGroup, NoSuchField, TooManyVisits, Store, Memory}
 use Rattle.fv_model_text.proofs.NoFloats.{datum_json_float}
@@ -28,7 +28,7 @@ records_whole : (rs : List Judged) → items_have_float (items_of (map judged_js
 records_whole [] = refl
 records_whole (r ∷ rs) = neither (has_float (judged_json r)) _ (record_whole r) (records_whole rs)
 
-pub violated_whole : (rs : List Judged) → has_float (violated_json rs) ≡ false
+pub violated_whole : (rs : List Judged) → has_float (answer_json (violated rs)) ≡ false
 violated_whole rs = let inner : items_have_float (items_of (map judged_json rs)) ≡ false = records_whole rs in rw inner refl
 
 pub listing_whole : (name : List ℕ) (vs : List Reported) → has_float (listing_json name vs) ≡ false
@@ -38,22 +38,29 @@ texts_whole : (ts : List (List ℕ)) → items_have_float (items_of (map (λ t. 
 texts_whole [] = refl
 texts_whole (t ∷ ts) = texts_whole ts
 
-pub ids_whole : (ts : List (List ℕ)) → has_float (ids_json ts) ≡ false
+pub ids_whole : (ts : List (List ℕ)) → has_float (answer_json (ids ts)) ≡ false
 ids_whole ts = let inner : items_have_float (items_of (map (λ t. json.string t) ts)) ≡ false = texts_whole ts in rw inner refl
 
-part_whole : (part : Option ℕ) → members_have_float (part_member part) ≡ false
-part_whole None = refl
-part_whole (Some n) = refl
-
 pub refused_whole : (part : Option ℕ) (why : Refusal) → has_float (refused_json part why) ≡ false
-refused_whole part LineTooLong = part_whole part
-refused_whole part NotJson = part_whole part
-refused_whole part Shape = part_whole part
-refused_whole part UnknownForm = part_whole part
-refused_whole part (Bundle fault) = part_whole part
-refused_whole part NoRecord = part_whole part
-refused_whole part UnknownGroup = part_whole part
-refused_whole part NoSuchField = part_whole part
-refused_whole part TooManyVisits = part_whole part
-refused_whole part Store = part_whole part
-refused_whole part Memory = part_whole part
+refused_whole None LineTooLong = refl
+refused_whole (Some n) LineTooLong = refl
+refused_whole None NotJson = refl
+refused_whole (Some n) NotJson = refl
+refused_whole None Shape = refl
+refused_whole (Some n) Shape = refl
+refused_whole None UnknownForm = refl
+refused_whole (Some n) UnknownForm = refl
+refused_whole None (Bundle fault) = refl
+refused_whole (Some n) (Bundle fault) = refl
+refused_whole None NoRecord = refl
+refused_whole (Some n) NoRecord = refl
+refused_whole None UnknownGroup = refl
+refused_whole (Some n) UnknownGroup = refl
+refused_whole None NoSuchField = refl
+refused_whole (Some n) NoSuchField = refl
+refused_whole None TooManyVisits = refl
+refused_whole (Some n) TooManyVisits = refl
+refused_whole None Store = refl
+refused_whole (Some n) Store = refl
+refused_whole None Memory = refl
+refused_whole (Some n) Memory = refl

@@ -4,7 +4,8 @@ ghost use Rattle.fv_datum.specs.View.{view};
 ghost use Rattle.fv_model.specs.Views.{bundle_view};
 ghost use Rattle.fv_model_types.specs.Writing.{datum_json};
 ghost use Rattle.fv_engine_reply.specs.AnswerView.{judged_view};
-ghost use Rattle.fv_engine_reply.specs.Texts.{violation_json, judged_json, violated_json, listing_json, ids_json, refused_json, record_json};
+ghost use Rattle.fv_engine_reply.specs.Answers.{violated, shown, ids as ids_told};
+ghost use Rattle.fv_engine_reply.specs.Texts.{violation_json, judged_json, listing_json, refused_json, answer_json, answer_text};
 ghost use Rattle.fv_validate.specs.ViolationView.{violation_view};
 ghost use Rattle.json.specs.Print.{quoted};
 ghost use Rattle.serde_json.specs.Data as json;
@@ -109,7 +110,7 @@ fn judged_values(alloc: Global, records: &[Judged]) -> Result<Vec<Value>, AllocE
 }
 
 fn violated_value(alloc: Global, records: &[Judged]) -> Result<Value, AllocError>
-    ensures { IfOk result (λ v. json_view v ≡ violated_json (map judged_view records.now)) }
+    ensures { IfOk result (λ v. json_view v ≡ answer_json (violated (map judged_view records.now))) }
 {
     let records = array_of(judged_values(alloc, records)?);
     json!(in alloc; {"error": "C10", "name": "Violations", "records": records})
@@ -117,7 +118,7 @@ fn violated_value(alloc: Global, records: &[Judged]) -> Result<Value, AllocError
 
 /// `{"error":"C10","name":"Violations","records":[..]}`, with the records that have violations.
 pub(crate) fn violated(alloc: Global, records: &[Judged]) -> Result<Reply, AllocError>
-    ensures { IfOk result (λ r. r ≡ compact_text (violated_json (map judged_view records.now))) }
+    ensures { IfOk result (λ r. r ≡ answer_text (violated (map judged_view records.now))) }
 {
     let value = violated_value(alloc, records)?;
     text_of(alloc, &value)
@@ -156,7 +157,7 @@ fn text_values(alloc: Global, texts: &[String]) -> Result<Vec<Value>, AllocError
 }
 
 fn ids_value(alloc: Global, ids: &[String]) -> Result<Value, AllocError>
-    ensures { IfOk result (λ v. json_view v ≡ ids_json (map string_bytes ids.now)) }
+    ensures { IfOk result (λ v. json_view v ≡ answer_json (ids_told (map string_bytes ids.now))) }
 {
     let ids = array_of(text_values(alloc, ids)?);
     json!(in alloc; {"ids": ids, "ok": "list"})
@@ -164,7 +165,7 @@ fn ids_value(alloc: Global, ids: &[String]) -> Result<Value, AllocError>
 
 /// `{"ids":[..],"ok":"list"}`.
 pub(crate) fn ids_listed(alloc: Global, ids: &[String]) -> Result<Reply, AllocError>
-    ensures { IfOk result (λ r. r ≡ compact_text (ids_json (map string_bytes ids.now))) }
+    ensures { IfOk result (λ r. r ≡ answer_text (ids_told (map string_bytes ids.now))) }
 {
     let value = ids_value(alloc, ids)?;
     text_of(alloc, &value)
@@ -206,7 +207,7 @@ pub(crate) fn record_shown(
     form: &str,
     bundle: &Bundle,
 ) -> Result<Reply, AllocError>
-    ensures { IfOk result (λ r. r ≡ compact_text (record_json id.now form.now (bundle_view bundle.now))) }
+    ensures { IfOk result (λ r. r ≡ answer_text (shown id.now form.now (bundle_view bundle.now))) }
 {
     let bundle = write_text(alloc, bundle)?;
     let form = quoted(alloc, form)?;

@@ -1,5 +1,5 @@
 -- What is told of the visits that are listed are the violations.
-use Rattle.std.proofs.Common.{◌≡◌, ◌<◌, ◌↔◌, ℕ, ℤ, zero, suc, List, [], ◌∷◌, ◌++◌, length, map, get_or, All, inl, inr, refl, sym, ap, ap₂, subst, ◌∙◌, arith}
+use Rattle.std.proofs.Common.{◌≡◌, ◌<◌, ◌↔◌, ℕ, ℤ, zero, suc, List, [], ◌∷◌, ◌++◌, length, map, get_or, All, inl, inr, refl, sym, ap, ap₂, subst, ◌∙◌, arith, fold}
 use Rattle.fv_datum.specs.Data.{Data}
 use Rattle.fv_declare_schema.specs.Declarations.{Declarations}
 use Rattle.fv_graph.specs.Graph.{IsIn}
@@ -14,10 +14,11 @@ use Rattle.fv_walk_request.proofs.Tidy.{judging_tidy, visiting_tidy}
 use Rattle.fv_walk_traces.specs.Finite.{IsTidy}
 use Rattle.fv_walk_traces.specs.Listing.{IsFailing, IsListed, violation_at}
 use Rattle.fv_walk_traces.specs.OneObject.{IsLocal}
+use Rattle.fv_walk_traces.specs.Reaching.{at_object, violation}
 use Rattle.fv_walk_traces.specs.Requests.{Own, Plain, Request}
 use Rattle.fv_walk_traces.specs.Traces.{Arrives}
 use Rattle.fv_walk_traces.specs.Turns.{Spot, of_object, at, LocalFailure, Ask, Step, Group, Fail, Free, Rank, Turns, Shadows, ShadowsByRecursion}
-use Rattle.fv_walk_traces.specs.Violations.{Reached, Violation, IsViolation, at_object, nodes_to, onward, told, value_at, violation}
+use Rattle.fv_walk_traces.specs.Violations.{Reached, Violation, IsViolation, nodes_to, onward, value_at}
 use Rattle.fv_walk_traces.proofs.Listing.{listing_exact}
 use Rattle.fv_walk_traces.proofs.Shadowing.{by_recursion, from_recursion}
 use Rattle.fv_listing.specs.Arrivals.{Arrival, IsArrival, levels}
@@ -48,20 +49,20 @@ module _ (ds : Declarations) (b : Bundled) (groups : List ℕ) (own other : ℕ 
   fail_same x f =
       ap₂ (λ (ns : List PathNode) (v : Data). record { path = x.path ++ ns; object = x.object; node = f.node; value = v }) (nodes_same x.object f.spot) (value_same x.object f.spot)
 
-  told_same : (x : Reached) (turns : Turns) → told (onward (request_for own ds b groups)) x turns ≡ told (onward (request_for other ds b groups)) x turns
+  told_same : (x : Reached) (turns : Turns) → fold (onward (request_for own ds b groups)) x turns ≡ fold (onward (request_for other ds b groups)) x turns
   told_same x [] = refl
   told_same x (Free (Ask g) ∷ turns) = told_same x turns
   told_same x (Free (Step way) ∷ turns) = told_same (onward (request_for other ds b groups) x (Free (Step way))) turns
   told_same x (Free (Group h) ∷ turns) = told_same x turns
   told_same x (Free (Fail f) ∷ turns) =
-      told_same (onward (request_for own ds b groups) x (Free (Fail f))) turns ∙ ap (λ (y : Reached). told (onward (request_for other ds b groups)) y turns) (fail_same x f)
+      told_same (onward (request_for own ds b groups) x (Free (Fail f))) turns ∙ ap (λ (y : Reached). fold (onward (request_for other ds b groups)) y turns) (fail_same x f)
   told_same x (Rank i ∷ turns) = told_same x turns
 
   violation_same : (turns : Turns) (f : LocalFailure) → violation_at (request_for own ds b groups) turns f ≡ violation_at (request_for other ds b groups) turns f
   violation_same turns f =
       let root = at_object [] (request_for own ds b groups).root in
       ap (λ (x : Reached). violation (onward (request_for own ds b groups) x (Free (Fail f)))) (told_same root turns)
-      ∙ ap (λ (x : Reached). violation x) (fail_same (told (onward (request_for other ds b groups)) root turns) f)
+      ∙ ap (λ (x : Reached). violation x) (fail_same (fold (onward (request_for other ds b groups)) root turns) f)
 
 -- ---- the violations
 

@@ -1,5 +1,5 @@
 -- What is told of visits.
-use Rattle.std.proofs.Common.{◌≡◌, ◌<◌, ◌≤◌, ◌↔◌, ℕ, ℤ, zero, suc, ◌+◌, List, [], ◌∷◌, ◌++◌, length, map, take, get_or, Bool, true, false, not, nat_eq, IsTrue, Vec, inl, inr, ◌⊎◌, refl, sym, ap, ap₂, subst, ◌∙◌, arith}
+use Rattle.std.proofs.Common.{◌≡◌, ◌<◌, ◌≤◌, ◌↔◌, ℕ, ℤ, zero, suc, ◌+◌, List, [], ◌∷◌, ◌++◌, length, map, take, get_or, Bool, true, false, not, nat_eq, IsTrue, Vec, inl, inr, ◌⊎◌, refl, sym, ap, ap₂, subst, ◌∙◌, arith, fold}
 use Rattle.std.proofs.lemmas.List.{take_more, map-append}
 use Rattle.std.specs.declared.alloc.Global.{Global}
 use Rattle.fv_datum.specs.Data.{Data}
@@ -17,9 +17,10 @@ use Rattle.fv_walk_request.specs.Requests.{object_at}
 use Rattle.fv_graph.proofs.Images.{in_map, from_map}
 use Rattle.fv_walk_traces.specs.Listing.{violation_at}
 use Rattle.fv_walk_traces.specs.OneObject.{IsLocalIn}
+use Rattle.fv_walk_traces.specs.Reaching.{at_object, violation}
 use Rattle.fv_walk_traces.specs.Requests.{Request}
 use Rattle.fv_walk_traces.specs.Turns.{LocalFailure, Fail, Free, Turns, ShadowsByRecursion}
-use Rattle.fv_walk_traces.specs.Violations.{Reached, Violation, at_object, nodes_to, onward, told as led, value_at, violation}
+use Rattle.fv_walk_traces.specs.Violations.{Reached, Violation, nodes_to, onward, value_at}
 use Rattle.fv_walk.specs.FailureView as told
 use Rattle.fv_walk.specs.declared.failure.Failure.{Failure}
 use Rattle.fv_listing.specs.Arrivals.{Arrival}
@@ -43,7 +44,7 @@ local_by m now c ds a t fails same is exact = record {
 
 -- a failure at the object of a visit, by the path there
 pub told_is : (request : Request) (a : Arrival) (f : LocalFailure) (before path : List PathNode) (value : Data)
-    → at_object before a.object ≡ led (onward request) (at_object [] request.root) a.turns → path ≡ before ++ nodes_to request a.object f.spot → value ≡ value_at request a.object f.spot
+    → at_object before a.object ≡ fold (onward request) (at_object [] request.root) a.turns → path ≡ before ++ nodes_to request a.object f.spot → value ≡ value_at request a.object f.spot
     → ◌≡◌ {A = Violation} (record { path = path; node = f.node; value = value }) (violation_at request a.turns f)
 told_is request a f before path value there path_is value_is =
     ap₂ (λ (p : List PathNode) (v : Data). record { path = p; node = f.node; value = v }) path_is value_is

@@ -1,5 +1,5 @@
 //! The paths that turns lead along.
-ghost use Rattle.std.specs.Prelude.{◌≡◌, ◌<◌, ◌∷◌, [], ◌++◌, map, IfOk, OnOk};
+ghost use Rattle.std.specs.Prelude.{◌≡◌, ◌<◌, ◌∷◌, [], ◌++◌, map, IfOk, OnOk, fold};
 ghost use Rattle.fv_datum.specs.Data.{Data};
 ghost use Rattle.fv_extract.specs.Parts.{parts_at};
 ghost use Rattle.fv_extract.specs.Views.{part_view, step_view};
@@ -10,7 +10,8 @@ ghost use Rattle.fv_path.specs.Paths.{IsPath};
 ghost use Rattle.fv_walk_request.specs.Graphs.{way_view};
 ghost use Rattle.fv_walk_request.specs.Requests.{nodes_at, object_at};
 ghost use Rattle.fv_walk_request.specs.Sound as parts;
-ghost use Rattle.fv_walk_traces.specs.Violations.{at_object, but_named, nodes_to, onward, told};
+ghost use Rattle.fv_walk_traces.specs.Violations.{but_named, nodes_to, onward};
+ghost use Rattle.fv_walk_traces.specs.Reaching.{at_object};
 ghost use Rattle.fv_walk.specs.Paths.{TakesField};
 ghost use Rattle.fv_listing.specs.Arrivals.{IsArrival};
 ghost use Rattle.fv_listing.specs.Courses.{IsSound, visiting, bundle_in, objects_in};
@@ -103,7 +104,7 @@ pub(crate) fn path_to(alloc: Global, course: &Course, visit: &Visit) -> Result<P
     requires sound { IsSound course.now }
     requires arrival { IsArrival (visiting course.now) (visit_view visit.now) }
     ensures path { IfOk result (λ p. at_object p visit.now.object
-        ≡ told (onward (visiting course.now)) (at_object [] (visiting course.now).root) (visit_view visit.now).turns) }
+        ≡ fold (onward (visiting course.now)) (at_object [] (visiting course.now).root) (visit_view visit.now).turns) }
     ensures room { IfOk result (λ p. TakesField p) }
 {
     let mut path = Path::new(alloc);

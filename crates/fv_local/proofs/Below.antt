@@ -3,13 +3,14 @@ use Rattle.std.proofs.Common.{◌≡◌, ◌<◌, ◌≤◌, ℕ, zero, suc, Lis
 use Rattle.std.specs.List.{AllByRecursion, IsDistinct, list_any, concat}
 use Rattle.std.proofs.lemmas.Map.Steps.{length-le_from_distinct_below}
 use Rattle.fv_graph.specs.Graph.{IsIn, AllDiffer, LeadsIn, IsBelow}
+use Rattle.fv_groups.specs.Once.{once}
 use Rattle.fv_graph.specs.Recursion.{value_in}
 use Rattle.fv_graph.proofs.Lists.{in_cases, eq_of, or_true}
 use Rattle.fv_groups.specs.Groups.{Groups, Inherits, inherit_next, inherited_by, numbers_of, form_at}
 use Rattle.fv_groups.specs.Marked.{Reaches}
 use Rattle.fv_groups.proofs.Edges.{numbers_below}
 use Rattle.fv_groups.proofs.Reaching.{reaches_on}
-use Rattle.fv_local.specs.Below.{joined, below}
+use Rattle.fv_local.specs.Below.{below}
 use Rattle.fv_local.proofs.Members.{in_once, once_differs, in_concat}
 
 -- ---- chains that meet no node twice
@@ -80,6 +81,10 @@ module _ (next : ℕ → List ℕ) where
     short i j ks chain apart = length-le_from_distinct_below ks count apart.1 (each_below i j ks chain)
 
 -- ---- what is joined along chains
+
+-- a node and those that others stand for, each once
+abbrev joined : ℕ → List (List ℕ) → List ℕ
+joined i lists = once (i ∷ concat lists)
 
 module _ (next : ℕ → List ℕ) where
   from_lists : (f : ℕ → List ℕ) (i j : ℕ) (ks : List ℕ) → ((k : ℕ) → IsIn ks k → IsIn (next i) k) → ((k : ℕ) → IsIn (f k) j → Reaches next k j) → IsIn (concat (map f ks)) j → Reaches next i j

@@ -12,13 +12,14 @@ use Rattle.fv_constraint_tree.specs.Reports.{violated}
 use Rattle.fv_local.specs.Below.{below}
 use Rattle.fv_local.specs.Reached.{is_in, ranks_of, AreReached}
 use Rattle.fv_registry.specs.Meanings.{Meanings}
-use Rattle.fv_walk_traces.specs.OneField.{begins_with, own_of_field}
+use Rattle.fv_walk_traces.specs.OneField.{is_in_field, own_of_field}
 use Rattle.fv_walk_traces.specs.Requests.{Plain, InRanks}
 use Rattle.fv_walk_traces.specs.Turns.{LocalFailure}
 use Rattle.fv_graph.proofs.Images.{from_flat_map, from_map, from_filter}
 use Rattle.fv_model_types.specs.Types.{number_of}
 use Rattle.fv_declare_schema.specs.Places.{Place, whole, field}
-use Rattle.fv_local.specs.Failures.{Standing, part_at, standing_at, failures_at, failures_of}
+use Rattle.fv_local.specs.Failures.{Standing, standing_at, failures_of}
+use Rattle.fv_local.proofs.Standings.{part_at, failures_at}
 use Rattle.fv_local.specs.Fields.{is_at, stands_in, is_of_field}
 use Rattle.fv_local.specs.Own.{own_in}
 use Rattle.fv_local.specs.Told.{AreRanksIn}
@@ -55,24 +56,24 @@ one_kept test xs before after k i less at is =
 module _ (m : Meanings) (now : ℤ) (object : Thing) (n : ℕ) where
   -- ---- what fails of a use begins with the field where the use stands in it
 
-  begins : (u : Placed) (place : Place) (f : LocalFailure) → IsIn (flat_map (λ s. failures_at m now s u) (standing_at object place)) f → begins_with n f ≡ is_at n place
+  begins : (u : Placed) (place : Place) (f : LocalFailure) → IsIn (flat_map (λ s. failures_at m now s u) (standing_at object place)) f → is_in_field n f ≡ is_at n place
   begins u place f h =
       let r = from_flat_map (λ (s : Standing). failures_at m now s u) (standing_at object place) f h in
       let q = from_map (λ (k : ℕ × Node). record { spot = r.0.0; node = k.0 }) (violated m now r.0.1 u.number u.tree) f r.2 in
-      ap (begins_with n) q.1 ∙ at place r.0 q.0.0 r.1
+      ap (is_in_field n) q.1 ∙ at place r.0 q.0.0 r.1
     where
-      at : (place : Place) (s : Standing) (k : ℕ) → IsIn (standing_at object place) s → begins_with n (record { spot = s.0; node = k }) ≡ is_at n place
-      at whole s k (inl e) = ap (λ (t : Standing). begins_with n (record { spot = t.0; node = k })) (sym e)
+      at : (place : Place) (s : Standing) (k : ℕ) → IsIn (standing_at object place) s → is_in_field n (record { spot = s.0; node = k }) ≡ is_at n place
+      at whole s k (inl e) = ap (λ (t : Standing). is_in_field n (record { spot = t.0; node = k })) (sym e)
       at whole s k (inr e) = absurd e
       at (field number steps kind) s k h =
           let p = from_map (part_at (record { field = number; steps = steps })) (parts_at object (record { field = number; steps = steps })) s h in
-          ap (λ (t : Standing). begins_with n (record { spot = t.0; node = k })) p.1
+          ap (λ (t : Standing). is_in_field n (record { spot = t.0; node = k })) p.1
 
-  field_fails : (us : List Placed) → filter (begins_with n) (flat_map (failures_of m now object) us) ≡ flat_map (failures_of m now object) (filter (stands_in n) us)
+  field_fails : (us : List Placed) → filter (is_in_field n) (flat_map (failures_of m now object) us) ≡ flat_map (failures_of m now object) (filter (stands_in n) us)
   field_fails [] = refl
   field_fails (u ∷ us) =
-      filter-append (begins_with n) (failures_of m now object u) (flat_map (failures_of m now object) us)
-      ∙ ap₂ (λ (l : List LocalFailure) (k : List LocalFailure). l ++ k) (filter_same (begins_with n) (stands_in n u) (failures_of m now object u) (begins u u.place)) (field_fails us)
+      filter-append (is_in_field n) (failures_of m now object u) (flat_map (failures_of m now object) us)
+      ∙ ap₂ (λ (l : List LocalFailure) (k : List LocalFailure). l ++ k) (filter_same (is_in_field n) (stands_in n u) (failures_of m now object u) (begins u u.place)) (field_fails us)
       ∙ go (stands_in n u)
     where
       go : (b : Bool) → cond b (failures_of m now object u) [] ++ flat_map (failures_of m now object) (filter (stands_in n) us)
@@ -84,10 +85,10 @@ module _ (m : Meanings) (now : ℤ) (object : Thing) (n : ℕ) where
     abbrev all : Placed → Bool
     all u = true
 
-    fails_in_field : (hs : List ℕ) → filter (begins_with n) (kept_fails m now object ds type all hs) ≡ kept_fails m now object ds type (stands_in n) hs
+    fails_in_field : (hs : List ℕ) → filter (is_in_field n) (kept_fails m now object ds type all hs) ≡ kept_fails m now object ds type (stands_in n) hs
     fails_in_field hs = field_fails (filter (is_in type hs) ds.occurrences) ∙ ap (flat_map (failures_of m now object)) (filter_map (stands_in n) (is_in type hs) ds.occurrences)
 
-    ranks_in_field : (ranks : List ℕ) → map (filter (begins_with n)) (map (fails_of_rank m now object ds type all) ranks) ≡ map (fails_of_rank m now object ds type (stands_in n)) ranks
+    ranks_in_field : (ranks : List ℕ) → map (filter (is_in_field n)) (map (fails_of_rank m now object ds type all) ranks) ≡ map (fails_of_rank m now object ds type (stands_in n)) ranks
     ranks_in_field [] = refl
     ranks_in_field (r ∷ ranks) = ap₂ (λ (l : List LocalFailure) (k : List (List LocalFailure)). l ∷ k) (fails_in_field (below ds.groups r)) (ranks_in_field ranks)
 

@@ -6,9 +6,8 @@ use Rattle.fv_declare_schema.specs.Declarations.{Declarations}
 use Rattle.fv_declare_schema.specs.Declarations as spec
 use Rattle.fv_declare_schema.specs.PlacedView.{placed_view}
 use Rattle.fv_declare_schema.specs.declared.placed.Placed.{Placed}
-use Rattle.fv_graph.specs.Graph.{IsIn}
+use Rattle.fv_graph.specs.Graph.{mem, IsIn}
 use Rattle.fv_graph.proofs.Lists.{in_left, in_right, in_cases, eq_of, eq_same}
-use Rattle.fv_groups.specs.Once.{mem}
 use Rattle.fv_groups.specs.Tables.{indices}
 use Rattle.fv_groups.specs.declared.declared.GroupId.{GroupId}
 use Rattle.fv_local.specs.Reached.{is_in, IsReached, AreReached}

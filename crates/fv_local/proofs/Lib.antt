@@ -15,4 +15,5 @@ pub mod Reports
 pub mod Rows
 pub mod Sets
 pub mod Spans
+pub mod Standings
 pub mod Steps

@@ -7,9 +7,8 @@ use Rattle.fv_datum.specs.Data.{Data, null}
 use Rattle.fv_declare_schema.specs.Declarations.{Placed, Declarations}
 use Rattle.fv_extract.specs.Parts.{parts_at}
 use Rattle.fv_extract.specs.Places as to
-use Rattle.fv_graph.specs.Graph.{IsIn}
+use Rattle.fv_graph.specs.Graph.{mem, IsIn}
 use Rattle.fv_graph.proofs.Lists.{in_left, eq_of, eq_same}
-use Rattle.fv_groups.specs.Once.{mem}
 use Rattle.fv_model.specs.Bundles.{Thing}
 use Rattle.fv_constraint_tree.specs.Nodes.{Node}
 use Rattle.fv_constraint_tree.specs.Reports.{violated}
@@ -27,7 +26,8 @@ use Rattle.fv_walk_traces.proofs.Lists.{or_else_left, or_else_right, or_else_cas
 use Rattle.fv_model_types.specs.Types.{number_of}
 use Rattle.fv_declare_schema.specs.Places.{Place, whole, field}
 use Rattle.fv_local.specs.FailureView.{failure_view}
-use Rattle.fv_local.specs.Failures.{Standing, part_at, standing_at, failures_at, failures_of}
+use Rattle.fv_local.specs.Failures.{Standing, standing_at, failures_of}
+use Rattle.fv_local.proofs.Standings.{part_at, failures_at}
 use Rattle.fv_local.specs.Own.{own_at, own_in}
 use Rattle.fv_local.specs.Told.{Told, datum_of, told_view, numbers_of, told_part, part_told, object_told, told_at, IsTold, IsToldFirst, IsToldIn}
 use Rattle.fv_local.specs.declared.failure.LocalFailure as code

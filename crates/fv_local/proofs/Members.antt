@@ -1,9 +1,9 @@
 -- What is in a list: in one without repeats, in lists that are joined, and in what a test leaves.
 use Rattle.std.proofs.Common.{◌≡◌, ℕ, List, [], ◌∷◌, map, filter, ◌⊎◌, ◌↔◌, inl, inr, refl, sym, subst, Bool, true, false, cond, ◌||◌, nat_eq}
 use Rattle.std.specs.List.{concat, list_any}
-use Rattle.fv_graph.specs.Graph.{IsIn, AllDiffer}
+use Rattle.fv_graph.specs.Graph.{mem, IsIn, AllDiffer}
 use Rattle.fv_graph.proofs.Lists.{in_left, in_right, eq_of, eq_same, or_true}
-use Rattle.fv_groups.specs.Once.{mem, once_after, once}
+use Rattle.fv_groups.specs.Once.{once_after, once}
 
 -- ---- the test
 

@@ -5,13 +5,9 @@ use Rattle.fv_graph.specs.Recursion.{value}
 use Rattle.fv_groups.specs.Groups.{Groups, inherit_next}
 use Rattle.fv_groups.specs.Once.{once}
 
--- a group and those that the groups below it stand for, each once
-abbrev pub joined : ℕ → List (List ℕ) → List ℕ
-joined g lists = once (g ∷ concat lists)
-
--- a group and those that it inherits, directly or through others, each once
+-- a group and those that it inherits, directly or through others, each once: itself, and what those stand for that it names
 abbrev pub below : Groups → ℕ → List ℕ
-below gs g = value joined (inherit_next gs) (length gs) g
+below gs g = value (λ h lists. once (h ∷ concat lists)) (inherit_next gs) (length gs) g
 
 -- the same, but for `Default`, whose number is 0, where a sequence stands in its place
 abbrev pub groups_at : Groups → Bool → ℕ → List ℕ

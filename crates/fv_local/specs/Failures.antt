@@ -1,11 +1,9 @@
 -- What fails of the uses of constraints at an object.
 use Rattle.std.specs.Prelude.{ℕ, ℤ, List, [], ◌∷◌, map, filter}
 use Rattle.std.specs.List.{flat_map}
-use Rattle.fv_datum.specs.Data.{Data}
 use Rattle.fv_declare_schema.specs.Declarations.{Placed, Declarations}
-use Rattle.fv_extract.specs.Parts.{Locus, parts_at}
+use Rattle.fv_extract.specs.Parts.{parts_at}
 use Rattle.fv_extract.specs.Places as object
-use Rattle.fv_extract.specs.Places.{Step}
 use Rattle.fv_model.specs.Bundles.{Thing}
 use Rattle.fv_constraint_tree.specs.Reports.{violated}
 use Rattle.fv_constraint_tree.specs.Says.{Subject, of_datum, of_object}
@@ -19,23 +17,16 @@ use Rattle.fv_declare_schema.specs.Places.{Place, whole, field}
 abbrev pub Standing : Type 0
 Standing = turn.Spot × Subject
 
--- a part of an object at a place
-abbrev pub part_at : object.Place → Locus × Data → Standing
-part_at place p = (turn.at place p.0, of_datum p.1)
-
 -- what stands at a place: the parts that the steps lead to in the field of that number, or the object itself
 abbrev pub standing_at : Thing → Place → List Standing
-standing_at object whole = (turn.of_object, of_object object) ∷ []
-standing_at object (field number steps kind) =
-    map (part_at (record { field = number; steps = steps })) (parts_at object (record { field = number; steps = steps }))
+standing_at o whole = (turn.of_object, of_object o) ∷ []
+standing_at o (field number steps kind) =
+    let place : object.Place = record { field = number; steps = steps } in map (λ p. (turn.at place p.0, of_datum p.1)) (parts_at o place)
 
--- the nodes of a use's tree that are reported of what stands there
-abbrev pub failures_at : Meanings → ℤ → Standing → Placed → List LocalFailure
-failures_at m now s u = map (λ n. record { spot = s.0; node = n.0 }) (violated m now s.1 u.number u.tree)
-
--- what fails of a use
+-- what fails of a use: the nodes of its tree that are reported of what stands at its place
 abbrev pub failures_of : Meanings → ℤ → Thing → Placed → List LocalFailure
-failures_of m now object u = flat_map (λ s. failures_at m now s u) (standing_at object u.place)
+failures_of m now object u =
+    flat_map (λ s. map (λ n. record { spot = s.0; node = n.0 }) (violated m now s.1 u.number u.tree)) (standing_at object u.place)
 
 -- what fails of the uses at a type that are in one of these groups
 abbrev pub failures_in : Meanings → Declarations → ℤ → Thing → ℕ → List ℕ → List LocalFailure

@@ -1,10 +1,9 @@
 -- What fails of an object's own constraints, by groups.
-use Rattle.std.specs.Prelude.{ℕ, ℤ, List, [], ◌∷◌, map, cond, nat_eq}
+use Rattle.std.specs.Prelude.{ℕ, ℤ, List, [], ◌∷◌, map, cond, nat_eq, option_and_then, slice_get}
 use Rattle.std.specs.Option.{option_map_or}
 use Rattle.fv_declare_schema.specs.Declarations.{Declarations}
 use Rattle.fv_model.specs.Bundles.{Thing}
 use Rattle.fv_local.specs.Below.{below}
-use Rattle.fv_local.specs.Reached.{ranks_of}
 use Rattle.fv_registry.specs.Meanings.{Meanings}
 use Rattle.fv_walk_traces.specs.Requests.{Own, Plain, InRanks}
 use Rattle.fv_model_types.specs.Types.{number_of}
@@ -20,7 +19,7 @@ ranked m ds now object type ranks = InRanks (map (λ r. failures_in m ds now obj
 abbrev pub own_at : Meanings → Declarations → ℤ → Thing → ℕ → ℕ → Own
 own_at m ds now object type h =
     let plain = Plain (failures_in m ds now object type (h ∷ [])) in
-    cond (nat_eq h 0) (option_map_or (ranked m ds now object type) (ranks_of ds type) plain) plain
+    cond (nat_eq h 0) (option_map_or (ranked m ds now object type) (option_and_then (λ ranks. ranks) (slice_get ds.sequences type)) plain) plain
 
 -- what fails of an object's own constraints in a group; nothing where its type isn't declared
 abbrev pub own_in : Meanings → Declarations → ℤ → Thing → ℕ → Own

@@ -3,8 +3,7 @@ use Rattle.std.specs.Prelude.{◌≡◌, ◌<◌, ◌↔◌, ◌&&◌, ℕ, List
 use Rattle.std.specs.List.{list_any, AllZip}
 use Rattle.std.specs.Option.{option_map_or}
 use Rattle.fv_declare_schema.specs.Declarations.{Placed, Declarations}
-use Rattle.fv_graph.specs.Graph.{IsIn}
-use Rattle.fv_groups.specs.Once.{mem}
+use Rattle.fv_graph.specs.Graph.{mem, IsIn}
 use Rattle.fv_local.specs.Below.{below, groups_at}
 
 -- a use at the type of that number that is in one of these groups

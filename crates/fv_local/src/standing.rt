@@ -1,7 +1,7 @@
 //! The groups that a group stands for at a type.
 ghost use Rattle.std.specs.Prelude.{◌≡◌, ◌<◌, All, length};
 ghost use Rattle.std.specs.List.{list_any};
-ghost use Rattle.fv_groups.specs.Once.{mem};
+ghost use Rattle.fv_graph.specs.Graph.{mem};
 ghost use Rattle.fv_groups.specs.Tables.{indices};
 ghost use Rattle.fv_local.specs.Below.{groups_at};
 

@@ -18,7 +18,8 @@ use Rattle.sqlite.specs.State.{State, mode_of, Executes}
 use Rattle.sqlite.proofs.Callers.{statement_of, runs_as, one_step}
 use Rattle.fv_store.specs.Tables.{store_schema}
 use Rattle.fv_store.specs.Records.{Kept, Records, with_record, bundle_text}
-use Rattle.fv_store.specs.Stands.{record_row, AreTexts, HasRows, Spells}
+use Rattle.fv_store.specs.Showing.{AreTexts}
+use Rattle.fv_store.specs.Stands.{record_row, HasRows, Spells}
 use Rattle.fv_store.proofs.Texts.{kept_table, insert_text, insert_terms, insert_is, insert_plain}
 use Rattle.fv_store.specs.Causes.{HasRoom}
 use Rattle.fv_store.proofs.Rooms.{room_after}

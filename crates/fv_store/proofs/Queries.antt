@@ -20,9 +20,9 @@ use Rattle.sqlite.proofs.Callers.{IsPlain, reads_as}
 use Rattle.sqlite_rules.specs.Lists.{Has}
 use Rattle.fv_store.specs.Tables.{store_schema}
 use Rattle.fv_store.specs.Records.{Kept, Records}
-use Rattle.fv_store.specs.Stands.{HasRows, IsText, Spells, HasTables, Stays, about_row}
+use Rattle.fv_store.specs.Stands.{HasRows, Spells, HasTables, Stays, about_row}
 use Rattle.fv_store.specs.Keeping.{Keeps, IsSettled}
-use Rattle.fv_store.specs.Showing.{shown_row, ShowsRecord, shown_about, ShowsAbout}
+use Rattle.fv_store.specs.Showing.{shown_row, ShowsRecord, shown_about, ShowsAbout, IsText}
 use Rattle.fv_store.proofs.QueryTexts.{find_text, find_query, find_is, find_plain, find_unlisted, read_text, read_query, read_is, read_plain, read_unlisted}
 use Rattle.fv_store.proofs.OneTable.{by_id, by_id_is, shown_sound, shown_complete}
 

@@ -1,6 +1,6 @@
 -- The text of a well-typed bundle is read back as its JSON.
-use Rattle.std.proofs.Common.{◌≡◌, nat_lt, subst, Ordering, Less, Equal, Greater, nat_cmp, ℕ, pos, negsuc, suc, max, ◌≤◌, List, [], ◌∷◌, Bool, true, false, cond, Some, option_map, option_and_then, refl, sym, ap, ap₂, ◌∙◌, arith, append-nil}
-use Rattle.std.specs.List.{AllByRecursion}
+use Rattle.std.proofs.Common.{◌≡◌, nat_lt, subst, Ordering, Less, Equal, Greater, nat_cmp, ℕ, pos, negsuc, suc, max, ◌≤◌, List, [], ◌∷◌, Bool, true, false, cond, if◌then◌else◌, Some, option_map, option_and_then, refl, sym, ap, ap₂, ◌∙◌, arith, append-nil}
+use Rattle.std.specs.List.{fold, AllByRecursion}
 use Rattle.std.specs.Str.{bytes_eq}
 use Rattle.std.specs.Ordering.{match_ordering}
 use Rattle.std.specs.Cmp.Lexicographic.{slice_cmp}
@@ -25,9 +25,9 @@ use Rattle.fv_datum.proofs.Lists.{none_each}
 use Rattle.fv_model_types.proofs.Members.{all_put, ascending_put, put_again}
 use Rattle.fv_model_types.proofs.PlainJson.{IsWhole, IsPlain, ArePlainItems, ArePlain, IsFlat, Fields, no_fields, fits_flat}
 use Rattle.fv_model.specs.Bundles.{Thing, Things, Bundled}
-use Rattle.fv_model.specs.WellTyped.{NamesObject, FitsUse, FitsType, FieldsFit, IsWellTyped}
+use Rattle.fv_model.specs.WellTyped.{NamesObject, FitsUse, FieldsAre, FitsType, IsWellTyped}
 use Rattle.fv_model_types.specs.Writing.{datum_json}
-use Rattle.fv_model.specs.Writing.{added, thing_json, objects_added, bundle_json}
+use Rattle.fv_model.specs.Writing.{thing_json, bundle_json}
 use Rattle.fv_store.specs.Records.{bundle_text}
 
 -- ---- data that are read back
@@ -127,6 +127,14 @@ unless_null : (n : ℕ) (b : Bool) (k : List ℕ) (d : Data) (ms : Members) → 
 unless_null n true k d ms flat h = h
 unless_null n false k d ms flat h = record { plain = plain_put k d ms flat.0 h.plain; ordered = ascending_put k d ms h.ordered; flat = flat_put n k d ms flat.1 h.flat }
 
+-- the members with each field that isn't null put in
+abbrev added : Members → List (List ℕ × datum.Data) → Members
+added = fold (λ ms f. if is_null f.1 then ms else put f.0 (datum_json f.1) ms)
+
+-- the members with each object put in
+abbrev objects_added : Members → List (List ℕ × Thing) → Members
+objects_added = fold (λ ms o. put o.0 (thing_json o.1) ms)
+
 -- no more containers one in another than types have
 field_flat : (os : Things) (u : TypeUse) (d : datum.Data) → nat_lt 4 (nested u) ≡ false → FitsUse os u d → IsFlat 4 (datum_json d)
 field_flat os u d few fits =
@@ -134,10 +142,10 @@ field_flat os u d few fits =
     let bound : nested u ≤ 4 = ltb-false 4 (nested u) few in
     (flat.0, (let deep = flat.1 in omega arith))
 
-fields_added : (os : Things) (ds : DeclaredFields) (fs : List (List ℕ × datum.Data)) (ms : Members) → AllByRecursion (λ d. nat_lt 4 (nested d.1) ≡ false) ds → FieldsFit os ds fs → Fields 4 ms → Fields 4 (added ms fs)
+fields_added : (os : Things) (ds : DeclaredFields) (fs : List (List ℕ × datum.Data)) (ms : Members) → AllByRecursion (λ d. nat_lt 4 (nested d.1) ≡ false) ds → FieldsAre (NamesObject os) ds fs → Fields 4 ms → Fields 4 (added ms fs)
 fields_added os [] [] ms few fit h = h
 fields_added os (d ∷ ds) (f ∷ fs) ms few fit h =
-    fields_added os ds fs (cond (is_null f.1) ms (put f.0 (datum_json f.1) ms)) few.1 fit.2 (unless_null 4 (is_null f.1) f.0 (datum_json f.1) ms (field_flat os d.1 f.1 few.0 fit.1) h)
+    fields_added os ds fs (cond (is_null f.1) ms (put f.0 (datum_json f.1) ms)) few.1 fit.1 (unless_null 4 (is_null f.1) f.0 (datum_json f.1) ms (field_flat os d.1 f.1 few.0 fit.0.1) h)
 fields_added os [] (f ∷ fs) ms few fit h = absurd fit
 fields_added os (d ∷ ds) [] ms few fit h = absurd fit
 

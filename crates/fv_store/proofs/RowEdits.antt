@@ -20,7 +20,8 @@ use Rattle.sqlite_rules.specs.Lists.{Has}
 use Rattle.sqlite_rules.proofs.TableLemmas.{put_all_has, put_all_keeps, put_all_adds}
 use Rattle.sqlite_trees.proofs.TreeLemmas.{IsTable-put_row}
 use Rattle.fv_store.specs.Records.{Kept, Records, with_record, without_record}
-use Rattle.fv_store.specs.Stands.{record_row, IsRowOf, AreTexts, HasRows}
+use Rattle.fv_store.specs.Showing.{AreTexts}
+use Rattle.fv_store.specs.Stands.{record_row, IsRowOf, HasRows}
 
 equal_ints : (i n : ℤ) → is_eq (int_cmp n i) ≡ true → i ≡ n
 equal_ints i n h = grind (arith, ints, nat_tests)

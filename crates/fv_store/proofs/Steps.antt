@@ -13,10 +13,11 @@ use Rattle.sqlite.specs.Held.{Held, state}
 use Rattle.sqlite.specs.State.{State, HasCleanDisk, ExecutesInside, KeepsCommit, Shows, KeepsCounts, Survives}
 use Rattle.fv_store.specs.declared.change.Change.{Change}
 use Rattle.fv_store.specs.Records.{Kept, Records, with_record, bundle_text}
+use Rattle.fv_store.specs.Showing.{AreTexts}
 use Rattle.fv_store.specs.Steps.{Advances, Makes, MakesAll, Always, IsExcused, Lacks, Keeps, Updates}
 use Rattle.fv_store.specs.Changes.{after, after_all}
 use Rattle.fv_store.specs.Causes.{AreShort, HasFailed, HasRoom, IsShort, LeavesRoom, PutsShort}
-use Rattle.fv_store.specs.Stands.{Spells, AreTexts, Frame}
+use Rattle.fv_store.specs.Stands.{Spells, Frame}
 use Rattle.fv_store.proofs.Texts.{insert_text, update_text}
 use Rattle.fv_store.proofs.Rooms.{fewer}
 use Rattle.fv_store.proofs.Inserts.{inserts, zero_is_not_one}

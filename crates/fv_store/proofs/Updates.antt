@@ -24,7 +24,8 @@ use Rattle.sqlite_rules.specs.Lists.{Has}
 use Rattle.sqlite_rules.specs.Calls.{ids_of}
 use Rattle.fv_store.specs.Tables.{store_schema}
 use Rattle.fv_store.specs.Records.{Kept, Records, bundle_text, with_record}
-use Rattle.fv_store.specs.Stands.{HasRows, HasTables, AreTexts, Spells, record_row}
+use Rattle.fv_store.specs.Showing.{AreTexts}
+use Rattle.fv_store.specs.Stands.{HasRows, HasTables, Spells, record_row}
 use Rattle.fv_store.specs.Causes.{HasRoom}
 use Rattle.fv_store.specs.Steps.{Lacks, Updates}
 use Rattle.fv_store.proofs.Texts.{kept_table, update_text, update_terms, update_query, update_is, update_plain}

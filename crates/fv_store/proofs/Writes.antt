@@ -39,8 +39,9 @@ use Rattle.sqlite_rules.proofs.ListLemmas.{all_from}
 use Rattle.sqlite_rules.proofs.PlaceLemmas.{next_is_free}
 use Rattle.fv_store.specs.Tables.{store_schema}
 use Rattle.fv_store.specs.Records.{Kept, Records, with_record, bundle_text}
+use Rattle.fv_store.specs.Showing.{AreTexts}
 use Rattle.fv_store.specs.Causes.{HasRoom, IsShort}
-use Rattle.fv_store.specs.Stands.{Spells, HasRows, AreTexts, record_row}
+use Rattle.fv_store.specs.Stands.{Spells, HasRows, record_row}
 use Rattle.fv_store.specs.Steps.{IsExcused}
 use Rattle.fv_store.proofs.Texts.{kept_table, insert_text, insert_terms, insert_is, insert_plain, insert_whole, insert_accepted, update_text, update_query, update_is, update_plain, update_whole, update_accepted}
 use Rattle.fv_store.proofs.Refusals.{no_sum, never_steps, run_cause}

@@ -1,5 +1,5 @@
 -- The ids of the records of a form.
-use Rattle.std.specs.Prelude.{◌≡◌, ℕ, List, [], ◌∷◌, take, Some, Option, unwrap_or}
+use Rattle.std.specs.Prelude.{◌≡◌, ℕ, List, [], ◌∷◌, take, Some}
 use Rattle.std.specs.Ordering.{nat_cmp}
 use Rattle.std.specs.declared.cmp.Ordering.TheVariants.{Less}
 use Rattle.std.specs.Cmp.Lexicographic.{slice_cmp}
@@ -25,10 +25,6 @@ pub record AreListed (m : Records) (form above : List ℕ) (ids : List (List ℕ
 -- the first of them, so many at most
 abbrev pub Lists : Records → List ℕ → List ℕ → ℕ → List (List ℕ) → Type 0
 Lists m form above limit ids = (all : List (List ℕ)) × AreListed m form above all × (ids ≡ take limit all)
-
--- above which id a list begins: the one that is given, else above the empty text, which is no id
-abbrev pub beginning : Option (List ℕ) → List ℕ
-beginning after = unwrap_or after []
 
 -- the row that shows an id
 abbrev pub id_row : List ℕ → Row

@@ -5,7 +5,6 @@ use Rattle.sqlite.specs.declared.types.Value.TheVariants.{Int, Text as Words, Bl
 use Rattle.sqlite.specs.Order.{Row}
 use Rattle.fv_store.specs.Lists.{Lists, id_row}
 use Rattle.fv_store.specs.Records.{Kept, Records, bundle_text}
-use Rattle.fv_store.specs.Stands.{IsText}
 use Rattle.fv_store.specs.declared.shown.Shown.{Shown}
 
 -- a record with its bundle's text
@@ -15,6 +14,14 @@ kept_text k = (k.form, bundle_text k.bundle)
 -- what a query shows of a record
 abbrev pub shown_row : Kept → Row
 shown_row k = Words k.form ∷ Words (bundle_text k.bundle) ∷ []
+
+-- its form and its bundle's text are text
+abbrev pub IsText : Kept → Type 0
+IsText k = IsUtf8 k.form × IsUtf8 (bundle_text k.bundle)
+
+-- and so is its id
+abbrev pub AreTexts : List ℕ → Kept → Type 0
+AreTexts id k = IsUtf8 id × IsText k
 
 -- no row where there is no record, and else a first row that shows it
 abbrev pub ShowsRecord : List Row → Option Kept → Type 0

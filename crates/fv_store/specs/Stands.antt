@@ -14,14 +14,6 @@ use Rattle.fv_store.specs.Tables.{no_schema, store_schema}
 abbrev pub record_row : ℤ → List ℕ → Kept → Row
 record_row n id k = Int n ∷ Words id ∷ Words k.form ∷ Words (bundle_text k.bundle) ∷ []
 
--- the form and the bundle's text are text
-abbrev pub IsText : Kept → Type 0
-IsText k = IsUtf8 k.form × IsUtf8 (bundle_text k.bundle)
-
--- and so is the id
-abbrev pub AreTexts : List ℕ → Kept → Type 0
-AreTexts id k = IsUtf8 id × IsText k
-
 -- the row of `about`: its key stands for the rowid and is kept as NULL
 abbrev pub about_row : ℕ → List ℕ → Row
 about_row version declarations = Int (pos 1) ∷ Null ∷ Int (pos version) ∷ Raw declarations ∷ []
@@ -34,7 +26,7 @@ pub record IsRowOf (m : Records) (row : Row) : Type 0 where
   pub is : row ≡ record_row number id kept
   pub known : m id ≡ Some kept
   -- what it keeps as text is text
-  pub utf8 : AreTexts id kept
+  pub utf8 : IsUtf8 id × (IsUtf8 kept.form × IsUtf8 (bundle_text kept.bundle))
 
 -- the rows are one for each record, in some order
 pub record HasRows (rows : List Row) (m : Records) : Type 0 where

@@ -33,21 +33,16 @@ about_table = record {
   is_counted = false;
 }
 
--- the second: a row for each record
+-- the second: a row for each record; what isn't told here is as in the first
 abbrev pub record_table : Table
-record_table = record {
+record_table = record about_table {
   name = codes "record";
-  tree = 0;
   columns = column_of (codes "id") Text true ∷ column_of (codes "form") Text true ∷ column_of (codes "bundle") Text true ∷ [];
   key = None;
   primary = 1 ∷ [];
   uniques = (1 ∷ []) ∷ [];
   orders = (record { digits = 0 }) ∷ [];
   checks = [];
-  references = [];
-  computed = [];
-  stamps = record { places = []; terms = []; formats = [] };
-  is_counted = false;
 }
 
 -- no table, index or view

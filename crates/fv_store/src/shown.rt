@@ -1,9 +1,8 @@
 //! What a row shows of a record.
 ghost use Rattle.std.specs.Prelude.{◌≡◌, IfErr, IfOk};
 ghost use Rattle.fv_store.specs.Records.{Kept};
-ghost use Rattle.fv_store.specs.Stands.{IsText};
 ghost use Rattle.fv_store.specs.Excuses.{IsRefusal};
-ghost use Rattle.fv_store.specs.Showing.{kept_text, shown_row, shown_view};
+ghost use Rattle.fv_store.specs.Showing.{kept_text, shown_row, shown_view, IsText};
 
 use sqlite::{Error, Row};
 

@@ -1,5 +1,5 @@
 //! The store.
-ghost use Rattle.std.specs.Prelude.{◌≡◌, ◌≢◌, false, length, IfOk, IfErr, IfSome, OnOk, OnErr, MatchResult, map, option_map, string_bytes, Some, None};
+ghost use Rattle.std.specs.Prelude.{◌≡◌, ◌≢◌, false, length, IfOk, IfErr, IfSome, OnOk, OnErr, MatchResult, map, option_map, string_bytes, Some, None, unwrap_or, []};
 ghost use Rattle.sqlite.specs.State.{HasCleanDisk};
 ghost use Rattle.sqlite.specs.Held.{state};
 ghost use Rattle.fv_model_types.specs.TypesView.{types_view};
@@ -9,7 +9,7 @@ ghost use Rattle.fv_store.specs.Causes.{AreShort, HasFailed, HasRoom, IsShortAbo
 ghost use Rattle.fv_store.specs.Changes.{changed, ChangesFit};
 ghost use Rattle.fv_store.specs.Stands.{Frame, Holds, HasTables, IsBlank, IsLive, Opens, Stays};
 ghost use Rattle.fv_store.specs.Faults.{about_fault, IsAboutFault};
-ghost use Rattle.fv_store.specs.Lists.{Lists, beginning};
+ghost use Rattle.fv_store.specs.Lists.{Lists};
 ghost use Rattle.fv_store.specs.Records.{AllFit};
 ghost use Rattle.fv_store.specs.Stored.{stored_view};
 
@@ -147,7 +147,7 @@ impl<S: Alter> Store<S> {
         ensures open { OnOk result (IsLive (state S.Store self.new)) }
         ensures found { HasCleanDisk (state S.Store self.new)
             → IfOk result (λ ids. (c : _) → Holds (state S.Store self.old) c
-            → Lists c.records form.now (beginning (option_map (λ s. s.now) after.entry)) limit
+            → Lists c.records form.now (unwrap_or (option_map (λ s. s.now) after.entry) []) limit
             (map string_bytes ids.items)) }
         ensures cause { HasCleanDisk (state S.Store self.new) → IfErr result (λ e. e ≡ StoreFault.Store → (c : _)
             → Holds (state S.Store self.old) c → HasFailed (state S.Store self.old) (state S.Store self.new)) }

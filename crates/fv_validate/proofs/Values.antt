@@ -28,7 +28,7 @@ module _ (ts : Declared) (type name : List ℕ) (d : Data) (fields : DeclaredFie
 
   each_fits : (fs : DeclaredFields) → AllByRecursion (λ e. at_name e.0 fields ≡ Some e.1) fs → ((u : TypeUse) → at_name name fields ≡ Some u → Fits AnyName u d) → AreOfFields fs (map (single_field name d) fs)
   each_fits [] found fits = tt
-  each_fits (f ∷ fs) found fits = (refl, go (bytes_eq name f.0) refl, each_fits fs found.1 fits)
+  each_fits (f ∷ fs) found fits = ((refl, go (bytes_eq name f.0) refl), each_fits fs found.1 fits)
     where
       go : (b : Bool) → bytes_eq name f.0 ≡ b → Fits AnyName f.1 (cond b d null)
       go true e = fits f.1 (ap (λ (n : List ℕ). at_name n fields) ((bytes_eq-Decides name f.0).0 e) ∙ found.0)

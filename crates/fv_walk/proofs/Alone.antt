@@ -14,7 +14,7 @@ use Rattle.fv_walk_traces.proofs.Ends.{last_fail}
 use Rattle.fv_walk_traces.proofs.OneField.{field_violation}
 use Rattle.fv_datum.proofs.Lists.{map_get}
 use Rattle.fv_walk_traces.specs.Frames.{held}
-use Rattle.fv_walk_traces.specs.OneField.{begins_with, IsViolationOfField, own_of_field, narrowed}
+use Rattle.fv_walk_traces.specs.OneField.{is_in_field, IsViolationOfField, own_of_field, narrowed}
 use Rattle.fv_walk_traces.specs.Requests.{Own, Plain, InRanks, Request}
 use Rattle.fv_walk_traces.specs.Traces.{OwnEnds}
 use Rattle.fv_walk_traces.specs.Turns.{Spot, of_object, at, LocalFailure, Group, Fail, Free, Rank, Turns}
@@ -25,22 +25,22 @@ use Rattle.fv_walk.proofs.Ranked.{at_root, told_are_violations}
 
 -- a failure that ends what fails in a field is in the field, and among what fails at all
 abbrev IsInField : ℕ → Own → LocalFailure → Type 0
-IsInField n o f = (begins_with n f ≡ true) × own.FailsIn o f
+IsInField n o f = (is_in_field n f ≡ true) × own.FailsIn o f
 
 ends_in_field : (n h : ℕ) (o : Own) (last before : Turns) (f : LocalFailure) → OwnEnds (own_of_field n o) last → Free (Group h) ∷ last ≡ before ++ Free (Fail f) ∷ [] → IsInField n o f
 ends_in_field n h (Plain fails) last before f ends is =
     let same : ends.0 ≡ f = last_fail (Free (Group h) ∷ []) before ends.0 f (ap (λ (l : Turns). Free (Group h) ∷ l) (sym ends.2) ∙ is) in
-    let kept = from_filter (begins_with n) fails ends.0 ends.1 in
+    let kept = from_filter (is_in_field n) fails ends.0 ends.1 in
     subst (IsInField n (Plain fails)) same (kept.1, kept.0)
 ends_in_field n h (InRanks lists) last before f ends is =
     let same : ends.2 ≡ f = last_fail (Free (Group h) ∷ Rank ends.0 ∷ []) before ends.2 f (ap (λ (l : Turns). Free (Group h) ∷ l) (sym ends.5) ∙ is) in
-    let rank = map_get (filter (begins_with n)) lists ends.0 ends.1 ends.3 in
-    let kept = from_filter (begins_with n) rank.0 ends.2 (subst (λ (l : List LocalFailure). IsIn l ends.2) rank.2 ends.4) in
+    let rank = map_get (filter (is_in_field n)) lists ends.0 ends.1 ends.3 in
+    let kept = from_filter (is_in_field n) rank.0 ends.2 (subst (λ (l : List LocalFailure). IsIn l ends.2) rank.2 ends.4) in
     subst (IsInField n (InRanks lists)) same (kept.1, (ends.0, rank.0, rank.1, kept.0))
 
 module _ (m : Meanings) (ds : Declarations) (now : ℤ) (object : Thing) (n : ℕ) where
   -- what fails in the field stands there, and is among what fails in a group
-  pub in_field : (group : ℕ) (f : LocalFailure) → FailsIn m ds now object n group f → (h : ℕ) × (begins_with n f ≡ true) × own.FailsIn (own_in m ds now object h) f
+  pub in_field : (group : ℕ) (f : LocalFailure) → FailsIn m ds now object n group f → (h : ℕ) × (is_in_field n f ≡ true) × own.FailsIn (own_in m ds now object h) f
   in_field group f (r, before, (h, last, is_below, ends, r_is), spared, is) =
       let k = ends_in_field n h (own_in m ds now object h) last before f ends (sym r_is ∙ is) in
       (h, k.0, k.1)
@@ -58,11 +58,11 @@ module _ (m : Meanings) (ds : Declarations) (now : ℤ) (object : Thing) (n : �
       go true e = refl
       go false e = sym (plain_ranks ds.groups g e)
 
-  spot_told : (groups : List ℕ) (spot : Spot) (node : ℕ) → begins_with n (record { spot = spot; node = node }) ≡ true → at_root (here groups) (record { spot = spot; node = node }) ≡ violation_in object (record { spot = spot; node = node })
+  spot_told : (groups : List ℕ) (spot : Spot) (node : ℕ) → is_in_field n (record { spot = spot; node = node }) ≡ true → at_root (here groups) (record { spot = spot; node = node }) ≡ violation_in object (record { spot = spot; node = node })
   spot_told groups of_object node begins = absurd (true≢false (sym begins))
   spot_told groups (at place locus) node begins = refl
 
-  told_in_field : (groups : List ℕ) (f : LocalFailure) → begins_with n f ≡ true → at_root (here groups) f ≡ violation_in object f
+  told_in_field : (groups : List ℕ) (f : LocalFailure) → is_in_field n f ≡ true → at_root (here groups) f ≡ violation_in object f
   told_in_field groups f begins = spot_told groups f.spot f.node begins
 
   pub violations_told : (groups : List ℕ) (v : Violation) → IsViolationOfField (asking groups) n v ↔ IsToldFor m ds now object n groups v

@@ -1,13 +1,14 @@
 -- A request in which no reference is followed: its violations are what fails at its root in the first of the ranks of each group that is
 -- asked for.
-use Rattle.std.proofs.Common.{◌≡◌, ◌<◌, ℕ, zero, suc, List, [], ◌∷◌, ◌++◌, Bool, true, false, cond, Some, slice_get, ◌⊎◌, inl, inr, ◌↔◌, refl, sym, ap, subst, ◌∙◌, true≢false, arith}
+use Rattle.std.proofs.Common.{◌≡◌, ◌<◌, ℕ, zero, suc, List, [], ◌∷◌, ◌++◌, Bool, true, false, cond, Some, slice_get, ◌⊎◌, inl, inr, ◌↔◌, refl, sym, ap, subst, ◌∙◌, true≢false, arith, fold}
 use Rattle.fv_graph.specs.Graph.{IsIn}
 use Rattle.fv_walk_traces.specs.Frames.{held}
 use Rattle.fv_walk_traces.specs.OneObject.{IsLocal}
+use Rattle.fv_walk_traces.specs.Reaching.{at_object, violation}
 use Rattle.fv_walk_traces.specs.Requests.{Request}
 use Rattle.fv_walk_traces.specs.Traces.{Carried, IsOwnEnd, IsTrace}
 use Rattle.fv_walk_traces.specs.Turns.{LocalFailure, Way, Ask, Fail, Free, Rank, Turns, ShadowsByRecursion}
-use Rattle.fv_walk_traces.specs.Violations.{Violation, Reached, onward, told, at_object, violation, IsViolation}
+use Rattle.fv_walk_traces.specs.Violations.{Violation, Reached, onward, IsViolation}
 use Rattle.fv_walk_traces.proofs.Ends.{last_fail, some_local}
 use Rattle.fv_walk_traces.proofs.Listing.{end_last}
 use Rattle.fv_walk_traces.proofs.Shadowing.{past_common, by_recursion, from_recursion}
@@ -36,11 +37,11 @@ module _ (request : Request) (none : (object : ℕ) (way : Way) → IsIn (reques
   ranks_held g e = ap (λ (b : Bool). cond b (request.ranks g) (g ∷ [])) e
 
   -- what a trace tells behind the group that is asked for
-  behind : (g i : ℕ) (mark own r : Turns) → r ≡ (Free (Ask g) ∷ mark) ++ own → (mark ≡ []) ⊎ (mark ≡ Rank i ∷ []) → told (onward request) start r ≡ told (onward request) start own
-  behind g i mark own r whole (inl e) = ap (told (onward request) start) (whole ∙ ap (λ (l : Turns). (Free (Ask g) ∷ l) ++ own) e)
-  behind g i mark own r whole (inr e) = ap (told (onward request) start) (whole ∙ ap (λ (l : Turns). (Free (Ask g) ∷ l) ++ own) e)
+  behind : (g i : ℕ) (mark own r : Turns) → r ≡ (Free (Ask g) ∷ mark) ++ own → (mark ≡ []) ⊎ (mark ≡ Rank i ∷ []) → fold (onward request) start r ≡ fold (onward request) start own
+  behind g i mark own r whole (inl e) = ap (fold (onward request) start) (whole ∙ ap (λ (l : Turns). (Free (Ask g) ∷ l) ++ own) e)
+  behind g i mark own r whole (inr e) = ap (fold (onward request) start) (whole ∙ ap (λ (l : Turns). (Free (Ask g) ∷ l) ++ own) e)
 
-  told_behind : (g carried : ℕ) (mark own r : Turns) → Carried request g mark carried → r ≡ (Free (Ask g) ∷ mark) ++ own → told (onward request) start r ≡ told (onward request) start own
+  told_behind : (g carried : ℕ) (mark own r : Turns) → Carried request g mark carried → r ≡ (Free (Ask g) ∷ mark) ++ own → fold (onward request) start r ≡ fold (onward request) start own
   told_behind g carried mark own r (inl c) whole = behind g 0 mark own r whole (inl c.1)
   told_behind g carried mark own r (inr c) whole = behind g c.0 mark own r whole (inr c.2)
 
@@ -135,7 +136,7 @@ module _ (request : Request) (none : (object : ℕ) (way : Way) → IsIn (reques
       alone : (other : Turns) → IsOwnEnd request request.root group other → ShadowsByRecursion other e → ⊥
       alone other o s = spared other o (from_recursion other e s)
 
-      value : v ≡ violation (told (onward request) start e)
+      value : v ≡ violation (fold (onward request) start e)
       value =
           let l = end_last request start request.root group e end in
           let same : l.1 ≡ f = last_fail l.0 before l.1 f (sym l.2 ∙ e_is) in

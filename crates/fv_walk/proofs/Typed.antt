@@ -5,7 +5,7 @@ use Rattle.fv_datum.specs.Data.{Data}
 use Rattle.fv_datum.specs.Lookup.{at_name}
 use Rattle.fv_datum.specs.Name.{names}
 use Rattle.fv_model.specs.Bundles.{Thing, Things, Bundled}
-use Rattle.fv_model.specs.WellTyped.{AnyName, NamesObject, FieldsFit, FitsType, IsWellTyped, AreOfFields, IsOfType}
+use Rattle.fv_model.specs.WellTyped.{AnyName, NamesObject, FieldsAre, FitsType, IsWellTyped, AreOfFields, IsOfType}
 use Rattle.fv_model_types.specs.Fits.{Referring, OrNull, IsOfUse, Fits}
 use Rattle.fv_model_types.specs.Types.{TypeUse, texts, integers, decimals, booleans, dates, instants, references, lists, maps, optionals, DeclaredFields, Declared}
 use Rattle.fv_model_types.proofs.Back.{fits_writable}
@@ -48,11 +48,11 @@ fits_any Named u d h = or_null (IsOfUse Named u) (IsOfUse AnyName u) (of_use Nam
 
 -- ---- the objects of a bundle
 
-of_fields : (os : Things) (ds : DeclaredFields) (fs : List (List ℕ × Data)) → FieldsFit os ds fs → AreOfFields ds fs
+of_fields : (os : Things) (ds : DeclaredFields) (fs : List (List ℕ × Data)) → FieldsAre (NamesObject os) ds fs → AreOfFields ds fs
 of_fields os [] [] fit = tt
 of_fields os [] (f ∷ fs) fit = fit
 of_fields os (d ∷ ds) [] fit = fit
-of_fields os (d ∷ ds) (f ∷ fs) fit = (fit.0, fits_any (NamesObject os) d.1 f.1 fit.1, of_fields os ds fs fit.2)
+of_fields os (d ∷ ds) (f ∷ fs) fit = ((fit.0.0, fits_any (NamesObject os) d.1 f.1 fit.0.1), of_fields os ds fs fit.1)
 
 of_type : (ts : Declared) (os : Things) (t : Thing) → FitsType ts os t → IsOfType ts t
 of_type ts os t fits = record { fields = fits.fields; declared = fits.declared; fit = of_fields os fits.fields t.fields fits.fit }
@@ -70,9 +70,9 @@ field_is (d ∷ ds) [] i f fit named e = cc
 field_is [] (g ∷ fs) i f fit named e = absurd fit
 field_is (d ∷ ds) (g ∷ fs) zero f fit named e =
     let same : g ≡ f = cc in
-    let is : f.0 ≡ d.0 = subst (λ (h : List ℕ × Data). h.0 ≡ d.0) same fit.0 in
-    (d.1, subst (λ (n : List ℕ). names n ≡ true) (sym is) named.0, subst (λ (h : List ℕ × Data). Fits AnyName d.1 h.1) same fit.1)
-field_is (d ∷ ds) (g ∷ fs) (suc i) f fit named e = field_is ds fs i f fit.2 named.1 e
+    let is : f.0 ≡ d.0 = subst (λ (h : List ℕ × Data). h.0 ≡ d.0) same fit.0.0 in
+    (d.1, subst (λ (n : List ℕ). names n ≡ true) (sym is) named.0, subst (λ (h : List ℕ × Data). Fits AnyName d.1 h.1) same fit.0.1)
+field_is (d ∷ ds) (g ∷ fs) (suc i) f fit named e = field_is ds fs i f fit.1 named.1 e
 
 pub type_sound : (ds : Declarations) (t : Thing) → AreOrdered ds → IsOfType ds.types t → IsSound t
 type_sound ds t ordered typed =

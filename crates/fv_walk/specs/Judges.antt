@@ -1,12 +1,12 @@
 -- What stands before a walk, in the words of its course and of its judge; for private clauses.
 use Rattle.std.specs.Prelude.{◌≡◌, ◌≤◌, ℕ, ◌+◌, List, ◌∷◌, All, Some, false, length, drop, slice_get}
+use Rattle.fv_graph.specs.Graph.{mem}
 use Rattle.fv_groups.specs.Tables.{indices}
 use Rattle.fv_groups.specs.declared.declared.GroupId.{GroupId}
 use Rattle.fv_registry.specs.Meanings.{Meanings}
 use Rattle.fv_walk_traces.specs.Frames.{held, carried_at, own_log, asks_owe}
 use Rattle.fv_walk_traces.specs.Log.{Event, Entered, entries}
 use Rattle.fv_walk_traces.specs.Requests.{Request}
-use Rattle.fv_walk_traces.specs.Traces.{is_among}
 use Rattle.fv_walk_traces.specs.Turns.{Way}
 use Rattle.fv_walk_traces.specs.Violations.{Reached}
 use Rattle.fv_walk.specs.Courses.{visiting, judging, objects_in, groups_in}
@@ -42,7 +42,7 @@ SkipsTo c below f at = SkipsWays (f.object ∷ on_way below) (drop f.next ((visi
 
 -- the one at a place leads to no object on the way
 abbrev pub IsOpenAt : Course → List Frame → Frame → ℕ → Type 0
-IsOpenAt c below f at = (way : Way) → slice_get ((visiting c).ways f.object) at ≡ Some way → is_among (f.object ∷ on_way below) way.target ≡ false
+IsOpenAt c below f at = (way : Way) → slice_get ((visiting c).ways f.object) at ≡ Some way → mem (f.object ∷ on_way below) way.target ≡ false
 
 -- how many visits a stack has before it
 abbrev pub visits_left : Course → List Frame → ℕ

@@ -8,12 +8,12 @@ ghost use Rattle.fv_groups.specs.Judged.{unknown_in};
 ghost use Rattle.fv_groups.specs.Tables.{indices};
 ghost use Rattle.fv_model.specs.Views.{bundle_view};
 ghost use Rattle.fv_model.specs.WellTyped.{IsWellTyped};
-ghost use Rattle.fv_walk_request.specs.Requests.{request_of};
+ghost use Rattle.fv_walk_request.specs.Requests.{request_of, unjudged};
 ghost use Rattle.fv_walk_traces.specs.Finite.{AreSoMany};
-ghost use Rattle.fv_walk_traces.specs.Traces.{IsEntered};
+ghost use Rattle.fv_walk_traces.specs.Traces.{IsEntered, IsVisit};
 ghost use Rattle.fv_walk_traces.specs.Violations.{Violation, IsViolation};
 ghost use Rattle.fv_walk.specs.FailureView.{failure_view};
-ghost use Rattle.fv_walk.specs.Visits.{HasVisits, HasFewVisits, HasTooManyVisits};
+ghost use Rattle.fv_walk.specs.Visits.{HasFewVisits, HasTooManyVisits};
 ghost use Rattle.fv_walk.specs.declared.fault.WalkFault.{WalkFault};
 
 use crate::failure::Failure;
@@ -83,7 +83,7 @@ pub fn visits(
     asked: &[String],
 ) -> Result<usize, WalkFault>
     ensures few { IfOk result (λ n. IsWellTyped schema.now.types (bundle_view bundle.now)
-        → HasVisits schema.now (bundle_view bundle.now) (numbers_of schema.now.groups (map string_bytes asked.now)) n × (n ≤ 4096)) }
+        → AreSoMany (IsVisit (unjudged schema.now (bundle_view bundle.now) (numbers_of schema.now.groups (map string_bytes asked.now)))) n × (n ≤ 4096)) }
     ensures known { OnOk result (unknown_in schema.now.groups (map string_bytes asked.now) ≡ false) }
     ensures unknown { IfErr result (λ fault. fault ≡ WalkFault.UnknownGroup → unknown_in schema.now.groups (map string_bytes asked.now) ≡ true) }
     ensures many { IfErr result (λ fault. fault ≡ WalkFault.TooManyVisits

@@ -5,7 +5,7 @@ ghost use Rattle.fv_local.specs.FailureView as local;
 ghost use Rattle.fv_model.specs.Views.{object_view};
 ghost use Rattle.fv_walk.specs.Ranks.{violation_in};
 ghost use Rattle.fv_walk_request.specs.Sound.{IsSound};
-ghost use Rattle.fv_walk_traces.specs.OneField.{begins_with};
+ghost use Rattle.fv_walk_traces.specs.OneField.{is_in_field};
 ghost use Rattle.fv_walk.specs.FailureView.{failure_view};
 
 use crate::failure::Failure;
@@ -19,7 +19,7 @@ use std::alloc::{AllocError, Global};
 fn failure_of(alloc: Global, object: &Object, failure: &LocalFailure) -> Result<Failure, AllocError>
     requires sound { IsSound (object_view object.now) }
     requires found { IsFoundIn (object_view object.now) failure.now.spot }
-    requires field { (n : ℕ) × (begins_with n (local.failure_view failure.now) ≡ true) }
+    requires field { (n : ℕ) × (is_in_field n (local.failure_view failure.now) ≡ true) }
     ensures { IfOk result (λ f. failure_view f ≡ violation_in (object_view object.now) (local.failure_view failure.now)) }
 {
     let Spot::Part(place, locus, datum) = &failure.spot else {
@@ -46,7 +46,7 @@ pub(crate) fn add_failures(
 ) -> Result<(), AllocError>
     requires sound { IsSound (object_view object.now) }
     requires found { All (λ f. IsFoundIn (object_view object.now) f.spot) found.now }
-    requires field { All (λ f. (n : ℕ) × (begins_with n (local.failure_view f) ≡ true)) found.now }
+    requires field { All (λ f. (n : ℕ) × (is_in_field n (local.failure_view f) ≡ true)) found.now }
     ensures { OnOk result (map failure_view failures.new.items ≡ map failure_view failures.old.items
         ++ map (violation_in (object_view object.now)) (map local.failure_view found.now)) }
 {

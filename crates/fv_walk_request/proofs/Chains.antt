@@ -1,12 +1,13 @@
 -- The violation of a trace by the references that its steps follow, one after the other, and the failure at the object they lead to.
-use Rattle.std.proofs.Common.{◌≡◌, inl, inr, ℕ, zero, suc, List, [], ◌∷◌, ◌++◌, Some, slice_get, refl, sym, ap, subst, ◌∙◌}
+use Rattle.std.proofs.Common.{◌≡◌, inl, inr, ℕ, zero, suc, List, [], ◌∷◌, ◌++◌, Some, slice_get, refl, sym, ap, subst, ◌∙◌, fold}
 use Rattle.std.proofs.lemmas.List.{append_assoc, append-nil}
 use Rattle.fv_graph.specs.Graph.{IsIn}
 use Rattle.fv_path.specs.Nodes.{PathNode}
+use Rattle.fv_walk_traces.specs.Reaching.{at_object, violation}
 use Rattle.fv_walk_traces.specs.Requests.{Own, Plain, InRanks, Request}
 use Rattle.fv_walk_traces.specs.Traces.{Carried, Arrives, OwnEnds, IsOwnEnd, IsTrace}
 use Rattle.fv_walk_traces.specs.Turns.{LocalFailure, Way, Step, Fail, Free, Turns}
-use Rattle.fv_walk_traces.specs.Violations.{Violation, Reached, but_named, nodes_to, value_at, onward, told, at_object, violation, violation_of, IsViolation}
+use Rattle.fv_walk_traces.specs.Violations.{Violation, Reached, but_named, nodes_to, value_at, onward, violation_of, IsViolation}
 
 -- it is among what fails, in a rank where there are ranks
 abbrev pub FailsIn : Own → LocalFailure → Type 0
@@ -52,24 +53,24 @@ module _ (request : Request) where
 
   -- ---- the turns of a trace
 
-  told_append : (x : Reached) (xs ys : Turns) → told (onward request) x (xs ++ ys) ≡ told (onward request) (told (onward request) x xs) ys
+  told_append : (x : Reached) (xs ys : Turns) → fold (onward request) x (xs ++ ys) ≡ fold (onward request) (fold (onward request) x xs) ys
   told_append x [] ys = refl
   told_append x (t ∷ xs) ys = told_append (onward request x t) xs ys
 
-  mark_told : (x : Reached) (g : ℕ) (mark : Turns) (carried : ℕ) → Carried request g mark carried → told (onward request) x mark ≡ x
-  mark_told x g mark carried (inl h) = ap (λ (l : Turns). told (onward request) x l) h.1
-  mark_told x g mark carried (inr h) = ap (λ (l : Turns). told (onward request) x l) h.2
+  mark_told : (x : Reached) (g : ℕ) (mark : Turns) (carried : ℕ) → Carried request g mark carried → fold (onward request) x mark ≡ x
+  mark_told x g mark carried (inl h) = ap (λ (l : Turns). fold (onward request) x l) h.1
+  mark_told x g mark carried (inr h) = ap (λ (l : Turns). fold (onward request) x l) h.2
 
   abbrev start : Reached
   start = at_object [] request.root
 
   -- what arrives at an object has followed references to it
   along : (steps : ℕ) (turns : Turns) (object carried : ℕ) (on : List ℕ) → Arrives request steps turns object carried on
-      → (ways : List Way) × Leads request.root ways object × (told (onward request) start turns ≡ at_object (path_along request.root ways []) object)
+      → (ways : List Way) × Leads request.root ways object × (fold (onward request) start turns ≡ at_object (path_along request.root ways []) object)
   along zero turns object carried on h = (
     [],
     sym h.1,
-    ap (λ (l : Turns). told (onward request) start l) h.0.4 ∙ mark_told start h.0.0 h.0.1 carried h.0.3 ∙ ap (λ (o : ℕ). at_object [] o) (sym h.1),
+    ap (λ (l : Turns). fold (onward request) start l) h.0.4 ∙ mark_told start h.0.0 h.0.1 carried h.0.3 ∙ ap (λ (o : ℕ). at_object [] o) (sym h.1),
   )
   along (suc steps) turns object carried on (earlier, from, held, before, way, mark, visit, is_way, new, carries, turns_are, object_is, on_is) =
       let ih = along steps earlier from held before visit in
@@ -78,23 +79,23 @@ module _ (request : Request) where
       let path = path_along request.root ih.0 [] ++ but_named (request.nodes from way.place way.locus) in (
         ways,
         subst (λ (o : ℕ). Leads request.root ways o) (sym object_is) (leads_on request.root from ih.0 way ih.1 is_way),
-        ap (λ (l : Turns). told (onward request) start l) turns_are
+        ap (λ (l : Turns). fold (onward request) start l) turns_are
             ∙ told_append start earlier (step ∷ mark)
-            ∙ ap (λ (x : Reached). told (onward request) x (step ∷ mark)) ih.2
+            ∙ ap (λ (x : Reached). fold (onward request) x (step ∷ mark)) ih.2
             ∙ mark_told (at_object path way.target) (request.converted from way.place held) mark carried carries
             ∙ ap (λ (p : List PathNode). at_object p way.target) (step_on request.root from ih.0 way ih.1)
             ∙ ap (λ (o : ℕ). at_object (path_along request.root ways []) o) (sym object_is),
       )
 
-  last_told : (x : Reached) (own : Own) (last : Turns) → OwnEnds own last → (f : LocalFailure) × FailsIn own f × (told (onward request) x last ≡ onward request x (Free (Fail f)))
-  last_told x (Plain fails) last e = (e.0, e.1, ap (λ (l : Turns). told (onward request) x l) e.2)
-  last_told x (InRanks lists) last e = (e.2, (e.0, e.1, e.3, e.4), ap (λ (l : Turns). told (onward request) x l) e.5)
+  last_told : (x : Reached) (own : Own) (last : Turns) → OwnEnds own last → (f : LocalFailure) × FailsIn own f × (fold (onward request) x last ≡ onward request x (Free (Fail f)))
+  last_told x (Plain fails) last e = (e.0, e.1, ap (λ (l : Turns). fold (onward request) x l) e.2)
+  last_told x (InRanks lists) last e = (e.2, (e.0, e.1, e.3, e.4), ap (λ (l : Turns). fold (onward request) x l) e.5)
 
   end_told : (x : Reached) (object carried : ℕ) (last : Turns) → IsOwnEnd request object carried last
-      → (h : ℕ) × (f : LocalFailure) × FailsIn (request.own object h) f × (told (onward request) x last ≡ onward request x (Free (Fail f)))
+      → (h : ℕ) × (f : LocalFailure) × FailsIn (request.own object h) f × (fold (onward request) x last ≡ onward request x (Free (Fail f)))
   end_told x object carried last (h, turns, is_below, ends, last_is) =
       let k = last_told x (request.own object h) turns ends in
-      (h, k.0, k.1, ap (λ (l : Turns). told (onward request) x l) last_is ∙ k.2)
+      (h, k.0, k.1, ap (λ (l : Turns). fold (onward request) x l) last_is ∙ k.2)
 
   -- a violation is that of a failure at the end of references that lead on from the root
   abbrev pub IsAlong : Violation → Type 0
@@ -113,8 +114,8 @@ module _ (request : Request) where
         e.1,
         a.1,
         e.2,
-        ap (λ (l : Turns). violation (told (onward request) start l)) turns_are
-            ∙ ap violation (told_append start first last ∙ ap (λ (y : Reached). told (onward request) y last) a.2 ∙ e.3)
+        ap (λ (l : Turns). violation (fold (onward request) start l)) turns_are
+            ∙ ap violation (told_append start first last ∙ ap (λ (y : Reached). fold (onward request) y last) a.2 ∙ e.3)
             ∙ ap (λ (p : List PathNode). record { path = p; node = e.1.node; value = value_at request object e.1.spot }) (path_then request.root a.0 [] (nodes_to request object e.1.spot)),
       )
 

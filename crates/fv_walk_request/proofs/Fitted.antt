@@ -1,12 +1,11 @@
 -- Data that fit a type use have indices of 32 bits.
-use Rattle.std.proofs.Common.{◌≡◌, inl, inr, ℕ, ◌+◌, ◌≤◌, zero, suc, List, [], ◌∷◌, length, true, Some, slice_get, sym, subst, arith}
+use Rattle.std.proofs.Common.{◌≡◌, inl, inr, ℕ, ◌+◌, ◌≤◌, zero, suc, List, [], ◌∷◌, map, length, true, Some, slice_get, sym, subst, arith}
 use Rattle.std.specs.List.{AllByRecursion}
 use Rattle.fv_datum.specs.Data.{Data, null, text, integer, decimal, boolean, date, instant, reference, items_of, entries_of}
 use Rattle.fv_datum.specs.Name.{names}
 use Rattle.fv_model.specs.Bundles.{Things}
-use Rattle.fv_model.specs.WellTyped.{FieldsFit, NamesObject}
+use Rattle.fv_model.specs.WellTyped.{NamesObject, FieldsAre}
 use Rattle.fv_model_types.specs.Fits.{Referring, OrNull, Fits, IsOfUse}
-use Rattle.fv_model_types.specs.Spelled.{keyed}
 use Rattle.fv_model_types.specs.Types.{TypeUse, texts, integers, decimals, booleans, dates, instants, references, lists, maps, optionals, DeclaredFields}
 use Rattle.fv_walk_request.specs.Loci.{IsIndexed, AreIndexed, EntriesIndexed}
 
@@ -23,7 +22,7 @@ items_indexed : (P : Data → Type 0) → ((d : Data) → P d → IsIndexed d) �
 items_indexed P each i [] few all = tt
 items_indexed P each i (d ∷ ds) few all = (omega arith, each d all.0, items_indexed P each (i + 1) ds (omega arith) all.1)
 
-entries_indexed : (P : Data → Type 0) → ((d : Data) → P d → IsIndexed d) → (es : List (List ℕ × Data)) → AllByRecursion (λ e. (length e.0 ≤ 65536) × P e.1) es → EntriesIndexed (entries_of (keyed es))
+entries_indexed : (P : Data → Type 0) → ((d : Data) → P d → IsIndexed d) → (es : List (List ℕ × Data)) → AllByRecursion (λ e. (length e.0 ≤ 65536) × P e.1) es → EntriesIndexed (entries_of (map (λ e. (text e.0, e.1)) es))
 entries_indexed P each [] all = tt
 entries_indexed P each (e ∷ es) all = (tt, each e.1 all.0.1, entries_indexed P each es all.1)
 
@@ -45,28 +44,28 @@ pub fits_indexed : (Named : Referring) (u : TypeUse) (d : Data) → Fits Named u
 fits_indexed Named u d h = or_null (IsOfUse Named u) (use_indexed Named u) d h
 
 -- each field's datum is of a type use
-pub field_fits : (os : Things) (ds : DeclaredFields) (fs : List (List ℕ × Data)) (i : ℕ) (f : List ℕ × Data) → FieldsFit os ds fs → slice_get fs i ≡ Some f
+pub field_fits : (os : Things) (ds : DeclaredFields) (fs : List (List ℕ × Data)) (i : ℕ) (f : List ℕ × Data) → FieldsAre (NamesObject os) ds fs → slice_get fs i ≡ Some f
     → (u : TypeUse) × Fits (NamesObject os) u f.1
 field_fits os [] [] i f fit e = cc
 field_fits os (d ∷ ds) [] i f fit e = cc
 field_fits os [] (g ∷ fs) i f fit e = absurd fit
 field_fits os (d ∷ ds) (g ∷ fs) zero f fit e =
     let same : g ≡ f = cc in
-    (d.1, subst (λ (h : List ℕ × Data). Fits (NamesObject os) d.1 h.1) same fit.1)
-field_fits os (d ∷ ds) (g ∷ fs) (suc i) f fit e = field_fits os ds fs i f fit.2 e
+    (d.1, subst (λ (h : List ℕ × Data). Fits (NamesObject os) d.1 h.1) same fit.0.1)
+field_fits os (d ∷ ds) (g ∷ fs) (suc i) f fit e = field_fits os ds fs i f fit.1 e
 
 -- and has such indices
-pub field_indexed : (os : Things) (ds : DeclaredFields) (fs : List (List ℕ × Data)) (i : ℕ) (f : List ℕ × Data) → FieldsFit os ds fs → slice_get fs i ≡ Some f → IsIndexed f.1
+pub field_indexed : (os : Things) (ds : DeclaredFields) (fs : List (List ℕ × Data)) (i : ℕ) (f : List ℕ × Data) → FieldsAre (NamesObject os) ds fs → slice_get fs i ≡ Some f → IsIndexed f.1
 field_indexed os ds fs i f fit e = let fits = field_fits os ds fs i f fit e in fits_indexed (NamesObject os) fits.0 f.1 fits.1
 
 -- a field of a type whose fields have names has one
-pub field_named : (os : Things) (ds : DeclaredFields) (fs : List (List ℕ × Data)) (i : ℕ) (f : List ℕ × Data) → FieldsFit os ds fs → AllByRecursion (λ d. names d.0 ≡ true) ds
+pub field_named : (os : Things) (ds : DeclaredFields) (fs : List (List ℕ × Data)) (i : ℕ) (f : List ℕ × Data) → FieldsAre (NamesObject os) ds fs → AllByRecursion (λ d. names d.0 ≡ true) ds
     → slice_get fs i ≡ Some f → names f.0 ≡ true
 field_named os [] [] i f fit named e = cc
 field_named os (d ∷ ds) [] i f fit named e = cc
 field_named os [] (g ∷ fs) i f fit named e = absurd fit
 field_named os (d ∷ ds) (g ∷ fs) zero f fit named e =
     let same : g ≡ f = cc in
-    let is : f.0 ≡ d.0 = subst (λ (h : List ℕ × Data). h.0 ≡ d.0) same fit.0 in
+    let is : f.0 ≡ d.0 = subst (λ (h : List ℕ × Data). h.0 ≡ d.0) same fit.0.0 in
     subst (λ (n : List ℕ). names n ≡ true) (sym is) named.0
-field_named os (d ∷ ds) (g ∷ fs) (suc i) f fit named e = field_named os ds fs i f fit.2 named.1 e
+field_named os (d ∷ ds) (g ∷ fs) (suc i) f fit named e = field_named os ds fs i f fit.1 named.1 e

@@ -15,7 +15,7 @@ use Rattle.fv_graph.proofs.Lists.{eq_of}
 use Rattle.fv_graph.specs.Graph.{IsIn}
 use Rattle.fv_declare_schema.specs.ValidPlaces.{ValidPlace}
 use Rattle.fv_model.specs.Bundles.{Thing, Things, Bundled}
-use Rattle.fv_model.specs.WellTyped.{FieldsFit, FitsType, IsWellTyped}
+use Rattle.fv_model.specs.WellTyped.{NamesObject, FieldsAre, FitsType, IsWellTyped}
 use Rattle.fv_walk_request.specs.Loci.{leads}
 use Rattle.fv_walk_request.specs.Paths.{field_name, nodes_of}
 use Rattle.fv_graph.proofs.Images.{from_flat_map, from_filter_map}
@@ -149,9 +149,9 @@ apart {X} (x ∷ fs) i j f g ascending h k same = go i j h k (apart fs)
     go (suc i) zero h k ih = let is : x ≡ g = cc in absurd (after fs x.0 i f above h (ap (λ (y : List ℕ × X). y.0) is ∙ sym same))
     go (suc i) (suc j) h k ih = ap suc (ih i j f g (sorted_tail (slice_cmp nat_cmp) x.0 (map (λ f. f.0) fs) ascending) h k same)
 
-names_fit : (os : Things) (ds : DeclaredFields) (fs : List (List ℕ × Data)) → FieldsFit os ds fs → map (λ f. f.0) ds ≡ map (λ f. f.0) fs
+names_fit : (os : Things) (ds : DeclaredFields) (fs : List (List ℕ × Data)) → FieldsAre (NamesObject os) ds fs → map (λ f. f.0) ds ≡ map (λ f. f.0) fs
 names_fit os [] [] fit = refl
-names_fit os (d ∷ ds) (f ∷ fs) fit = ap₂ (λ (n : List ℕ) (ns : List (List ℕ)). n ∷ ns) (sym fit.0) (names_fit os ds fs fit.2)
+names_fit os (d ∷ ds) (f ∷ fs) fit = ap₂ (λ (n : List ℕ) (ns : List (List ℕ)). n ∷ ns) (sym fit.0.0) (names_fit os ds fs fit.1)
 names_fit os [] (f ∷ fs) fit = absurd fit
 names_fit os (d ∷ ds) [] fit = absurd fit
 

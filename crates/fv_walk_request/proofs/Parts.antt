@@ -2,8 +2,10 @@
 use Rattle.std.proofs.Common.{◌≡◌, ◌≢◌, inl, inr, ℕ, List, [], ◌∷◌, Bool, true, false, cond, Option, Some, None, slice_get, refl, sym, ap, ap₂, ◌∙◌}
 use Rattle.std.proofs.lemmas.Bool.{and_parts, and_from, false≢true}
 use Rattle.std.proofs.lemmas.Slice.Eq.{bytes_eq-Decides}
-use Rattle.std.specs.Option.{option_map_or}
-use Rattle.fv_datum.specs.Data.{Data}
+use Rattle.std.specs.Cmp.Lexicographic.{pointwise}
+use Rattle.std.specs.Map.{lookup}
+use Rattle.std.specs.Option.{option_map_or, unwrap_or}
+use Rattle.fv_datum.specs.Data.{Data, null}
 use Rattle.fv_extract.proofs.Loci.{parts_differ}
 use Rattle.fv_extract.specs.Pairs.{Pairwise, Differ}
 use Rattle.fv_extract.specs.Parts.{Part, at_index, at_key, Locus, parts_of, parts_at}
@@ -15,7 +17,7 @@ use Rattle.fv_walk_request.specs.Loci.{leads}
 use Rattle.fv_walk_request.specs.Paths.{field_name}
 use Rattle.fv_walk_request.proofs.Leading.{IsLedTo, parts_led}
 use Rattle.fv_walk_request.specs.Sound.{IsSound}
-use Rattle.fv_walk_request.specs.Requests.{is_same_part, is_same_locus, datum_among, datum_at}
+use Rattle.fv_walk_request.specs.Requests.{is_same_part, datum_at}
 use Rattle.fv_walk_request.proofs.Numbers.{each_in}
 
 part_same : (p q : Part) → is_same_part p q ≡ true → p ≡ q
@@ -28,23 +30,30 @@ same_part : (p : Part) → is_same_part p p ≡ true
 same_part (at_index i) = eq_same i
 same_part (at_key k) = (bytes_eq-Decides k k).1 refl
 
-locus_same : (l m : Locus) → is_same_locus l m ≡ true → l ≡ m
+locus_same : (l m : Locus) → pointwise is_same_part l m ≡ true → l ≡ m
 locus_same [] [] e = refl
 locus_same [] (q ∷ m) e = absurd (false≢true e)
 locus_same (p ∷ l) [] e = absurd (false≢true e)
-locus_same (p ∷ l) (q ∷ m) e = let parts = and_parts (is_same_part p q) (is_same_locus l m) e in ap₂ (λ x xs. x ∷ xs) (part_same p q parts.0) (locus_same l m parts.1)
+locus_same (p ∷ l) (q ∷ m) e = let parts = and_parts (is_same_part p q) (pointwise is_same_part l m) e in ap₂ (λ x xs. x ∷ xs) (part_same p q parts.0) (locus_same l m parts.1)
 
-same_locus : (l : Locus) → is_same_locus l l ≡ true
+same_locus : (l : Locus) → pointwise is_same_part l l ≡ true
 same_locus [] = refl
-same_locus (p ∷ l) = and_from (is_same_part p p) (is_same_locus l l) (same_part p) (same_locus l)
+same_locus (p ∷ l) = and_from (is_same_part p p) (pointwise is_same_part l l) (same_part p) (same_locus l)
+
+-- the datum of the part that has the locus
+abbrev datum_in : List (Locus × Data) → Locus → Option Data
+datum_in ps locus = lookup (λ l. pointwise is_same_part l locus) ps
+
+abbrev datum_among : List (Locus × Data) → Locus → Data
+datum_among ps locus = unwrap_or (datum_in ps locus) null
 
 -- among parts with loci of their own, the locus of one gives its datum
 among : (ps : List (Locus × Data)) (p : Locus × Data) → Pairwise Differ ps → IsIn ps p → datum_among ps p.0 ≡ p.1
 among [] p differ h = absurd h
-among (q ∷ qs) p differ (inl same) = ap (λ (b : Bool). cond b q.1 (datum_among qs p.0)) (ap (λ (r : Locus × Data). is_same_locus q.0 r.0) (sym same) ∙ same_locus q.0) ∙ ap (λ (r : Locus × Data). r.1) same
-among (q ∷ qs) p differ (inr k) = go (is_same_locus q.0 p.0) refl (among qs p differ.1 k)
+among (q ∷ qs) p differ (inl same) = ap (λ (b : Bool). unwrap_or (cond b (Some q.1) (datum_in qs p.0)) null) (ap (λ (r : Locus × Data). pointwise is_same_part q.0 r.0) (sym same) ∙ same_locus q.0) ∙ ap (λ (r : Locus × Data). r.1) same
+among (q ∷ qs) p differ (inr k) = go (pointwise is_same_part q.0 p.0) refl (among qs p differ.1 k)
   where
-    go : (b : Bool) → is_same_locus q.0 p.0 ≡ b → datum_among qs p.0 ≡ p.1 → cond b q.1 (datum_among qs p.0) ≡ p.1
+    go : (b : Bool) → pointwise is_same_part q.0 p.0 ≡ b → datum_among qs p.0 ≡ p.1 → unwrap_or (cond b (Some q.1) (datum_in qs p.0)) null ≡ p.1
     go true e ih = absurd (each_in (λ r. q.0 ≢ r.0) qs p differ.0 k (locus_same q.0 p.0 e))
     go false e ih = ih
 

@@ -1,7 +1,8 @@
 -- The valid places of a type differ, and each converts by its own conversions.
-use Rattle.std.proofs.Common.{◌≡◌, ◌≢◌, ◌<◌, ◌⊎◌, inl, inr, ℕ, List, [], ◌∷◌, length, filter, Bool, true, false, cond, nat_eq, Option, Some, None, refl, sym, ap, ap₂, subst, ◌∙◌, arith}
+use Rattle.std.proofs.Common.{◌≡◌, ◌≢◌, ◌<◌, inl, inr, ℕ, List, [], ◌∷◌, length, filter, Bool, true, false, cond, nat_eq, Option, Some, None, refl, ap, ap₂, subst, ◌∙◌, arith}
 use Rattle.std.proofs.lemmas.Bool.{and_parts, and_from, false≢true}
 use Rattle.std.specs.List.{AllByRecursion}
+use Rattle.std.specs.Cmp.Lexicographic.{pointwise}
 use Rattle.std.specs.Option.{option_map_or}
 use Rattle.fv_declare_schema.specs.Declarations.{Declarations}
 use Rattle.fv_declare_schema.specs.Ordered.{PrecedesPlace, ArePlacesRising, AreOrdered}
@@ -12,7 +13,7 @@ use Rattle.fv_graph.specs.Graph.{IsIn}
 use Rattle.fv_declare_schema.specs.ValidPlaces.{ValidPlace}
 use Rattle.fv_model.specs.Bundles.{Thing}
 use Rattle.fv_model_types.specs.Types.{number_of}
-use Rattle.fv_walk_request.specs.Conversions.{convert, is_same_step, are_same_steps, stands_at, converted_among, valid_places_of, valid_places_at}
+use Rattle.fv_walk_request.specs.Conversions.{convert, is_same_step, stands_at, converted_among, valid_places_of, valid_places_at}
 use Rattle.fv_walk_request.specs.Ways.{place_of}
 
 -- the places of two are two
@@ -77,25 +78,25 @@ same_step key = refl
 same_step value = refl
 same_step content = refl
 
-steps_same : (ss ts : List Step) → are_same_steps ss ts ≡ true → ss ≡ ts
+steps_same : (ss ts : List Step) → pointwise is_same_step ss ts ≡ true → ss ≡ ts
 steps_same [] [] e = refl
 steps_same [] (t ∷ ts) e = absurd (false≢true e)
 steps_same (s ∷ ss) [] e = absurd (false≢true e)
 steps_same (s ∷ ss) (t ∷ ts) e =
-    let parts = and_parts (is_same_step s t) (are_same_steps ss ts) e in
+    let parts = and_parts (is_same_step s t) (pointwise is_same_step ss ts) e in
     ap₂ (λ (x : Step) (xs : List Step). x ∷ xs) (step_same s t parts.0) (steps_same ss ts parts.1)
 
-same_steps : (ss : List Step) → are_same_steps ss ss ≡ true
+same_steps : (ss : List Step) → pointwise is_same_step ss ss ≡ true
 same_steps [] = refl
-same_steps (s ∷ ss) = and_from (is_same_step s s) (are_same_steps ss ss) (same_step s) (same_steps ss)
+same_steps (s ∷ ss) = and_from (is_same_step s s) (pointwise is_same_step ss ss) (same_step s) (same_steps ss)
 
 stands_same : (p q : ValidPlace) → stands_at (place_of p) q ≡ true → place_of q ≡ place_of p
 stands_same p q e =
-    let parts = and_parts (nat_eq q.field p.field) (are_same_steps q.steps p.steps) e in
+    let parts = and_parts (nat_eq q.field p.field) (pointwise is_same_step q.steps p.steps) e in
     ap₂ (λ (f : ℕ) (ss : List Step). record { field = f; steps = ss }) (eq_of q.field p.field parts.0) (steps_same q.steps p.steps parts.1)
 
 stands_here : (p : ValidPlace) → stands_at (place_of p) p ≡ true
-stands_here p = and_from (nat_eq p.field p.field) (are_same_steps p.steps p.steps) (eq_same p.field) (same_steps p.steps)
+stands_here p = and_from (nat_eq p.field p.field) (pointwise is_same_step p.steps p.steps) (eq_same p.field) (same_steps p.steps)
 
 all_of : {X : Type 0} (P : X → Type 0) (xs : List X) (x : X) → AllByRecursion P xs → IsIn xs x → P x
 all_of P [] x all h = absurd h

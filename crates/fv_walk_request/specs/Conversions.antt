@@ -1,5 +1,6 @@
 -- The group that is carried on through a place whose objects are validated ("Group conversion").
 use Rattle.std.specs.Prelude.{ℕ, List, [], ◌∷◌, Bool, true, false, ◌&&◌, cond, nat_eq, filter}
+use Rattle.std.specs.Cmp.Lexicographic.{pointwise}
 use Rattle.std.specs.Option.{option_map_or}
 use Rattle.fv_declare_schema.specs.Declarations.{Declarations}
 use Rattle.fv_extract.specs.Places.{Step, element, key, value, content, Place}
@@ -21,15 +22,9 @@ is_same_step value value = true
 is_same_step content content = true
 is_same_step _ _ = false
 
--- the same steps one after the other
-abbrev pub are_same_steps : List Step → List Step → Bool
-are_same_steps [] [] = true
-are_same_steps (s ∷ ss) (t ∷ ts) = is_same_step s t && are_same_steps ss ts
-are_same_steps _ _ = false
-
--- the valid place is this place of its type
+-- the valid place is this place of its type: the field, and the same steps one after the other
 abbrev pub stands_at : Place → ValidPlace → Bool
-stands_at place p = nat_eq p.field place.field && are_same_steps p.steps place.steps
+stands_at place p = nat_eq p.field place.field && pointwise is_same_step p.steps place.steps
 
 -- the group that is made of a group by the one of these valid places that stands there; the group itself where none does
 abbrev pub converted_among : List ValidPlace → Place → ℕ → ℕ

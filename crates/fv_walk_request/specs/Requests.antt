@@ -1,7 +1,9 @@
 -- The request that judges a bundle: its objects by their numbers, and what stands in them.
-use Rattle.std.specs.Prelude.{ℕ, ℤ, List, [], ◌∷◌, Bool, true, false, ◌&&◌, cond, nat_eq, slice_get, unwrap_or}
+use Rattle.std.specs.Prelude.{ℕ, ℤ, List, [], ◌∷◌, Bool, false, nat_eq, slice_get, unwrap_or}
 use Rattle.std.specs.Option.{option_map_or}
 use Rattle.std.specs.Str.{bytes_eq}
+use Rattle.std.specs.Cmp.Lexicographic.{pointwise}
+use Rattle.std.specs.Map.{lookup}
 use Rattle.fv_datum.specs.Data.{Data, null}
 use Rattle.fv_declare_schema.specs.Declarations.{Declarations}
 use Rattle.fv_extract.specs.Parts.{Part, at_index, at_key, Locus, parts_at}
@@ -36,20 +38,9 @@ is_same_part (at_index i) (at_index j) = nat_eq i j
 is_same_part (at_key k) (at_key l) = bytes_eq k l
 is_same_part _ _ = false
 
--- the same parts one after the other
-abbrev pub is_same_locus : Locus → Locus → Bool
-is_same_locus [] [] = true
-is_same_locus (p ∷ l) (q ∷ m) = is_same_part p q && is_same_locus l m
-is_same_locus _ _ = false
-
--- the datum of the part that has the locus; null where none has
-abbrev pub datum_among : List (Locus × Data) → Locus → Data
-datum_among [] locus = null
-datum_among (p ∷ ps) locus = cond (is_same_locus p.0 locus) p.1 (datum_among ps locus)
-
--- the datum at a place and a locus of an object
+-- the datum at a place of an object: of the part there whose locus has the same parts one after the other; null where none has
 abbrev pub datum_at : Thing → Place → Locus → Data
-datum_at object place locus = datum_among (parts_at object place) locus
+datum_at object place locus = unwrap_or (lookup (λ l. pointwise is_same_part l locus) (parts_at object place)) null
 
 -- the nodes from an object to a part of it
 abbrev pub nodes_at : Thing → Place → Locus → List PathNode
@@ -80,18 +71,20 @@ request_for own ds b groups = record {
   name = object_name b;
 }
 
--- the one that judges at a moment
+-- the request that judges a bundle by declarations, for groups that are asked for, at a moment
+abbrev pub request_of : Meanings → Declarations → ℤ → Bundled → List ℕ → Request
+request_of m ds now b asked = request_for (λ object group. own_in m ds now (object_at b object) group) ds b (asked_groups asked)
+
+-- the same in which nothing fails: its visits are those of the request, and nothing is judged to tell them
+abbrev pub unjudged : Declarations → Bundled → List ℕ → Request
+unjudged ds b asked = request_for (λ object group. Plain []) ds b (asked_groups asked)
+
+-- ---- both for groups that stand there once each, as they are walked through
+
+-- the request that judges
 abbrev pub judging : Meanings → Declarations → ℤ → Bundled → List ℕ → Request
 judging m ds now b groups = request_for (λ object group. own_in m ds now (object_at b object) group) ds b groups
 
--- the one in which nothing fails: it has the same visits
+-- the one in which nothing fails
 abbrev pub visiting : Declarations → Bundled → List ℕ → Request
 visiting ds b groups = request_for (λ object group. Plain []) ds b groups
-
--- the request that judges a bundle by declarations, for groups that are asked for, at a moment
-abbrev pub request_of : Meanings → Declarations → ℤ → Bundled → List ℕ → Request
-request_of m ds now b asked = judging m ds now b (asked_groups asked)
-
--- the same without what fails: its visits are those of the request, and nothing is judged to tell them
-abbrev pub unjudged : Declarations → Bundled → List ℕ → Request
-unjudged ds b asked = visiting ds b (asked_groups asked)

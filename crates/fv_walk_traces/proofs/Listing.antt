@@ -1,10 +1,11 @@
 -- Listing the visits, dropping those that a failing visit shadows, gives exactly the violations.
-use Rattle.std.proofs.Common.{◌≡◌, ℕ, zero, suc, List, [], ◌∷◌, ◌++◌, ◌⊎◌, inl, inr, ◌↔◌, refl, sym, ap, ◌∙◌, subst}
+use Rattle.std.proofs.Common.{◌≡◌, ℕ, zero, suc, List, [], ◌∷◌, ◌++◌, ◌⊎◌, inl, inr, ◌↔◌, refl, sym, ap, ◌∙◌, subst, fold}
 use Rattle.fv_path.specs.Nodes.{PathNode}
 use Rattle.fv_walk_traces.specs.Turns.{LocalFailure, FreeTurn, Ask, Step, Group, Fail, Turn, Free, Rank, Turns, IsSmallerRank, Shadows, ShadowsByRecursion}
+use Rattle.fv_walk_traces.specs.Reaching.{at_object, violation}
 use Rattle.fv_walk_traces.specs.Requests.{Own, Plain, InRanks, Request}
 use Rattle.fv_walk_traces.specs.Traces.{Carried, Arrives, OwnEnds, IsOwnEnd, IsTrace}
-use Rattle.fv_walk_traces.specs.Violations.{Violation, but_named, Reached, onward, told, at_object, violation, IsViolation}
+use Rattle.fv_walk_traces.specs.Violations.{Violation, but_named, Reached, onward, IsViolation}
 use Rattle.fv_walk_traces.specs.Listing.{IsFailing, IsListed}
 use Rattle.fv_walk_traces.specs.Points.{Start, Standing}
 use Rattle.fv_walk_traces.specs.Finite.{IsTidy}
@@ -41,27 +42,27 @@ visit_turns request (suc steps) turns object carried on (earlier, from, held, be
     subst (λ (l : Turns). AreVisitTurns l) (sym turns_are)
     (visit_append earlier (Free (Step way) ∷ mark) (visit_turns request steps earlier from held before visit) (tt, mark_visits request (request.converted from way.place held) mark carried carries))
 
-told_append : (request : Request) (x : Reached) (xs ys : Turns) → told (onward request) x (xs ++ ys) ≡ told (onward request) (told (onward request) x xs) ys
+told_append : (request : Request) (x : Reached) (xs ys : Turns) → fold (onward request) x (xs ++ ys) ≡ fold (onward request) (fold (onward request) x xs) ys
 told_append request x [] ys = refl
 told_append request x (t ∷ xs) ys = told_append request (onward request x t) xs ys
 
-mark_told : (request : Request) (x : Reached) (g : ℕ) (mark : Turns) (carried : ℕ) → Carried request g mark carried → told (onward request) x mark ≡ x
-mark_told request x g mark carried (inl h) = ap (λ (l : Turns). told (onward request) x l) h.1
-mark_told request x g mark carried (inr h) = ap (λ (l : Turns). told (onward request) x l) h.2
+mark_told : (request : Request) (x : Reached) (g : ℕ) (mark : Turns) (carried : ℕ) → Carried request g mark carried → fold (onward request) x mark ≡ x
+mark_told request x g mark carried (inl h) = ap (λ (l : Turns). fold (onward request) x l) h.1
+mark_told request x g mark carried (inr h) = ap (λ (l : Turns). fold (onward request) x l) h.2
 
-visit_told : (request : Request) (steps : ℕ) (turns : Turns) (object carried : ℕ) (on : List ℕ) → Arrives request steps turns object carried on → (path : List PathNode) × (told (onward request) (at_object [] request.root) turns ≡ at_object path object)
+visit_told : (request : Request) (steps : ℕ) (turns : Turns) (object carried : ℕ) (on : List ℕ) → Arrives request steps turns object carried on → (path : List PathNode) × (fold (onward request) (at_object [] request.root) turns ≡ at_object path object)
 visit_told request zero turns object carried on h = (
   [],
-  ap (λ (l : Turns). told (onward request) (at_object [] request.root) l) h.0.4 ∙ mark_told request (at_object [] request.root) h.0.0 h.0.1 carried h.0.3 ∙ ap (λ (o : ℕ). at_object [] o) (sym h.1),
+  ap (λ (l : Turns). fold (onward request) (at_object [] request.root) l) h.0.4 ∙ mark_told request (at_object [] request.root) h.0.0 h.0.1 carried h.0.3 ∙ ap (λ (o : ℕ). at_object [] o) (sym h.1),
 )
 visit_told request (suc steps) turns object carried on (earlier, from, held, before, way, mark, visit, is_way, new, carries, turns_are, object_is, on_is) =
     let ih = visit_told request steps earlier from held before visit in
     let step = Free (Step way) in
     let path = ih.0 ++ but_named (request.nodes from way.place way.locus) in (
       path,
-      ap (λ (l : Turns). told (onward request) (at_object [] request.root) l) turns_are
+      ap (λ (l : Turns). fold (onward request) (at_object [] request.root) l) turns_are
           ∙ told_append request (at_object [] request.root) earlier (step ∷ mark)
-          ∙ ap (λ (x : Reached). told (onward request) x (step ∷ mark)) ih.1
+          ∙ ap (λ (x : Reached). fold (onward request) x (step ∷ mark)) ih.1
           ∙ mark_told request (at_object path way.target) (request.converted from way.place held) mark carried carries
           ∙ ap (λ (o : ℕ). at_object path o) (sym object_is),
     )
@@ -108,20 +109,20 @@ make_trace : (request : Request) (steps : ℕ) (visit : Turns) (object carried :
 make_trace request steps visit object carried on e v h = (steps, visit, object, carried, on, e, v, h, refl)
 
 -- the end of one object's turns: a failure, and what they lead to
-own_last : (request : Request) (x : Reached) (own : Own) (h : ℕ) (last : Turns) → OwnEnds own last → (before : Turns) × (f : LocalFailure) × (Free (Group h) ∷ last ≡ before ++ Free (Fail f) ∷ []) × (told (onward request) x (Free (Group h) ∷ last) ≡ onward request x (Free (Fail f)))
+own_last : (request : Request) (x : Reached) (own : Own) (h : ℕ) (last : Turns) → OwnEnds own last → (before : Turns) × (f : LocalFailure) × (Free (Group h) ∷ last ≡ before ++ Free (Fail f) ∷ []) × (fold (onward request) x (Free (Group h) ∷ last) ≡ onward request x (Free (Fail f)))
 own_last request x (Plain fails) h last e =
-    (Free (Group h) ∷ [], e.0, ap (λ (l : Turns). Free (Group h) ∷ l) e.2, ap (λ (l : Turns). told (onward request) x l) e.2)
+    (Free (Group h) ∷ [], e.0, ap (λ (l : Turns). Free (Group h) ∷ l) e.2, ap (λ (l : Turns). fold (onward request) x l) e.2)
 own_last request x (InRanks lists) h last e =
-    (Free (Group h) ∷ Rank e.0 ∷ [], e.2, ap (λ (l : Turns). Free (Group h) ∷ l) e.5, ap (λ (l : Turns). told (onward request) x l) e.5)
+    (Free (Group h) ∷ Rank e.0 ∷ [], e.2, ap (λ (l : Turns). Free (Group h) ∷ l) e.5, ap (λ (l : Turns). fold (onward request) x l) e.5)
 
-pub end_last : (request : Request) (x : Reached) (object carried : ℕ) (e : Turns) → IsOwnEnd request object carried e → (before : Turns) × (f : LocalFailure) × (e ≡ before ++ Free (Fail f) ∷ []) × (told (onward request) x e ≡ onward request x (Free (Fail f)))
+pub end_last : (request : Request) (x : Reached) (object carried : ℕ) (e : Turns) → IsOwnEnd request object carried e → (before : Turns) × (f : LocalFailure) × (e ≡ before ++ Free (Fail f) ∷ []) × (fold (onward request) x e ≡ onward request x (Free (Fail f)))
 end_last request x object carried e (h, last, is_below, ends, e_is) =
     let l = own_last request x (request.own object h) h last ends in
-    (l.0, l.1, e_is ∙ l.2, ap (λ (z : Turns). told (onward request) x z) e_is ∙ l.3)
+    (l.0, l.1, e_is ∙ l.2, ap (λ (z : Turns). fold (onward request) x z) e_is ∙ l.3)
 
 to_listed : (request : Request) (t : Violation) → IsViolation request t → IsListed request t
 to_listed request t (r, (steps, visit, object, carried, on, own, v, end, r_is), free, t_is) =
-    let x = told (onward request) (at_object [] request.root) visit in
+    let x = fold (onward request) (at_object [] request.root) visit in
     let l = end_last request x object carried own end in (
       steps,
       visit,
@@ -143,7 +144,7 @@ to_listed request t (r, (steps, visit, object, carried, on, own, v, end, r_is), 
             (from_recursion (visit ++ other) r (subst (λ (z : Turns). ShadowsByRecursion (visit ++ other) z) (sym r_is) (past_common visit other own (by_recursion other own s)))),
         l.2,
       ),
-      t_is ∙ ap (λ (z : Turns). violation (told (onward request) (at_object [] request.root) z)) r_is
+      t_is ∙ ap (λ (z : Turns). violation (fold (onward request) (at_object [] request.root) z)) r_is
           ∙ ap (λ (y : Reached). violation y) (told_append request (at_object [] request.root) visit own ∙ l.3),
     )
 
@@ -185,7 +186,7 @@ from_listed request n tidy t (steps, visit, object, carried, on, f, v, free, loc
     let e = local.0 in
     let end = local.2 in
     let root = at_object [] request.root in
-    let x = told (onward request) root visit in
+    let x = fold (onward request) root visit in
     let l = end_last request x object carried e end in
     let same = last_fail l.0 local.1 l.1 f (sym l.2 ∙ local.4) in (
       visit ++ e,

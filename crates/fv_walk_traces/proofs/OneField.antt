@@ -1,14 +1,15 @@
 -- A request for one field is the narrowed request.
-use Rattle.std.proofs.Common.{◌≡◌, ℕ, zero, suc, List, [], ◌∷◌, ◌++◌, filter, ◌⊎◌, inl, inr, ◌↔◌, refl, sym, ap, ◌∙◌, subst, Bool, true, false, cond, append_assoc}
+use Rattle.std.proofs.Common.{◌≡◌, ℕ, zero, suc, List, [], ◌∷◌, ◌++◌, filter, ◌⊎◌, inl, inr, ◌↔◌, refl, sym, ap, ◌∙◌, subst, Bool, true, false, cond, append_assoc, fold}
 use Rattle.fv_graph.specs.Graph.{IsIn, AllDiffer}
 use Rattle.fv_graph.proofs.Lists.{in_left, in_right, in_cases}
 use Rattle.fv_datum.specs.Data.{Data}
 use Rattle.fv_path.specs.Nodes.{PathNode}
 use Rattle.fv_walk_traces.specs.Turns.{Spot, of_object, at, LocalFailure, Way, FreeTurn, Ask, Step, Group, Fail, Turn, Free, Rank, Turns}
+use Rattle.fv_walk_traces.specs.Reaching.{at_object, violation}
 use Rattle.fv_walk_traces.specs.Requests.{Own, Plain, InRanks, Request}
 use Rattle.fv_walk_traces.specs.Traces.{Asks, Carried, OwnEnds, IsTrace, IsVisit, IsEntered}
-use Rattle.fv_walk_traces.specs.Violations.{Violation, Reached, onward, told, at_object, violation, violation_of, IsViolation, nodes_to, value_at}
-use Rattle.fv_walk_traces.specs.OneField.{begins_with, IsTraceOfField, IsVisitOfField, IsEnteredOfField, IsViolationOfField, own_of_field, narrowed}
+use Rattle.fv_walk_traces.specs.Violations.{Violation, Reached, onward, violation_of, IsViolation, nodes_to, value_at}
+use Rattle.fv_walk_traces.specs.OneField.{is_in_field, IsTraceOfField, IsVisitOfField, IsEnteredOfField, IsViolationOfField, own_of_field, narrowed}
 use Rattle.fv_walk_traces.specs.Finite.{IsTidy, IsProperOwn}
 use Rattle.fv_walk_traces.proofs.Parts.{get_map}
 use Rattle.fv_datum.proofs.Lists.{map_get}
@@ -47,21 +48,21 @@ last_of_own : (own : Own) (last : Turns) → OwnEnds own last → (before : Turn
 last_of_own (Plain fails) last o = ([], o.0, o.2)
 last_of_own (InRanks lists) last o = (Rank o.0 ∷ [], o.2, o.5)
 
-to_own : (field : ℕ) (own : Own) (last before : Turns) (f : LocalFailure) → OwnEnds own last → last ≡ before ++ Free (Fail f) ∷ [] → begins_with field f ≡ true → OwnEnds (own_of_field field own) last
+to_own : (field : ℕ) (own : Own) (last before : Turns) (f : LocalFailure) → OwnEnds own last → last ≡ before ++ Free (Fail f) ∷ [] → is_in_field field f ≡ true → OwnEnds (own_of_field field own) last
 to_own field (Plain fails) last before f o e b =
     let q = last_fail before [] f o.0 (sym e ∙ o.2) in
-    (o.0, to_filter (begins_with field) fails o.0 o.1 (subst (λ (g : LocalFailure). begins_with field g ≡ true) q b), o.2)
+    (o.0, to_filter (is_in_field field) fails o.0 o.1 (subst (λ (g : LocalFailure). is_in_field field g ≡ true) q b), o.2)
 to_own field (InRanks lists) last before f o e b =
     let q = last_fail before (Rank o.0 ∷ []) f o.2 (sym e ∙ o.5) in
-    (o.0, filter (begins_with field) o.1, o.2, get_map (filter (begins_with field)) lists o.0 o.1 o.3, to_filter (begins_with field) o.1 o.2 o.4 (subst (λ (g : LocalFailure). begins_with field g ≡ true) q b), o.5)
+    (o.0, filter (is_in_field field) o.1, o.2, get_map (filter (is_in_field field)) lists o.0 o.1 o.3, to_filter (is_in_field field) o.1 o.2 o.4 (subst (λ (g : LocalFailure). is_in_field field g ≡ true) q b), o.5)
 
-from_own : (field : ℕ) (own : Own) (last : Turns) → OwnEnds (own_of_field field own) last → OwnEnds own last × ((before : Turns) × (f : LocalFailure) × (last ≡ before ++ Free (Fail f) ∷ []) × (begins_with field f ≡ true))
+from_own : (field : ℕ) (own : Own) (last : Turns) → OwnEnds (own_of_field field own) last → OwnEnds own last × ((before : Turns) × (f : LocalFailure) × (last ≡ before ++ Free (Fail f) ∷ []) × (is_in_field field f ≡ true))
 from_own field (Plain fails) last o =
-    let k = from_filter (begins_with field) fails o.0 o.1 in
+    let k = from_filter (is_in_field field) fails o.0 o.1 in
     ((o.0, k.0, o.2), ([], o.0, o.2, k.1))
 from_own field (InRanks lists) last o =
-    let m = map_get (filter (begins_with field)) lists o.0 o.1 o.3 in
-    let k = from_filter (begins_with field) m.0 o.2 (subst (λ (l : List LocalFailure). IsIn l o.2) m.2 o.4) in
+    let m = map_get (filter (is_in_field field)) lists o.0 o.1 o.3 in
+    let k = from_filter (is_in_field field) m.0 o.2 (subst (λ (l : List LocalFailure). IsIn l o.2) m.2 o.4) in
     ((o.0, m.0, o.2, m.1, k.0, o.5), (Rank o.0 ∷ [], o.2, o.5, k.1))
 
 own_turns : (own : Own) (last : Turns) → OwnEnds own last → (way : Way) → IsIn last (Free (Step way)) → ⊥
@@ -102,7 +103,7 @@ to_narrowed request field turns ((zero, first, object, carried, on, own, v, (h, 
     let l = last_of_own (request.own object h) last ends in
     let m = longer_end (first ++ Free (Group h) ∷ []) last l.0 l.1 turns (turns_are ∙ ap (λ (z : Turns). first ++ z) own_is ∙ split first) l.2 in
     let same = last_fail m.0 before l.1 f (sym m.1 ∙ end) in
-    (0, first, object, carried, on, own, v, (h, last, is_below, to_own field (request.own object h) last l.0 l.1 ends l.2 (subst (λ (g : LocalFailure). begins_with field g ≡ true) (sym same) begins), own_is), turns_are)
+    (0, first, object, carried, on, own, v, (h, last, is_below, to_own field (request.own object h) last l.0 l.1 ends l.2 (subst (λ (g : LocalFailure). is_in_field field g ≡ true) (sym same) begins), own_is), turns_are)
   where
     split : (xs : Turns) → xs ++ Free (Group h) ∷ last ≡ (xs ++ Free (Group h) ∷ []) ++ last
     split [] = refl
@@ -163,10 +164,10 @@ same_turn request field x (Free (Fail f)) =
     ∙ ap (λ (d : Data). failed x f.node (nodes_to request x.object f.spot) d) (same_value request field x.object f.spot)
 same_turn request field x (Rank i) = refl
 
-same_told : (request : Request) (field : ℕ) (x : Reached) (turns : Turns) → told (onward (narrowed field request)) x turns ≡ told (onward request) x turns
+same_told : (request : Request) (field : ℕ) (x : Reached) (turns : Turns) → fold (onward (narrowed field request)) x turns ≡ fold (onward request) x turns
 same_told request field x [] = refl
 same_told request field x (turn ∷ turns) =
-    ap (λ (y : Reached). told (onward (narrowed field request)) y turns) (same_turn request field x turn)
+    ap (λ (y : Reached). fold (onward (narrowed field request)) y turns) (same_turn request field x turn)
     ∙ same_told request field (onward request x turn) turns
 
 same_violation : (request : Request) (field : ℕ) (turns : Turns) → violation_of (narrowed field request) turns ≡ violation_of request turns
@@ -195,10 +196,10 @@ field_entered request field turns = (
 )
 
 proper_own : (field : ℕ) (own : Own) → IsProperOwn own → IsProperOwn (own_of_field field own)
-proper_own field (Plain fails) p = filter_differs (begins_with field) fails p
+proper_own field (Plain fails) p = filter_differs (is_in_field field) fails p
 proper_own field (InRanks lists) p = λ xs h.
-    (let m = from_map (filter (begins_with field)) lists xs h in
-    subst (λ (l : List LocalFailure). AllDiffer l) (sym m.1) (filter_differs (begins_with field) m.0 (p m.0 m.2)))
+    (let m = from_map (filter (is_in_field field)) lists xs h in
+    subst (λ (l : List LocalFailure). AllDiffer l) (sym m.1) (filter_differs (is_in_field field) m.0 (p m.0 m.2)))
 
 pub narrowed_tidy : (request : Request) (field n : ℕ) → IsTidy request n → IsTidy (narrowed field request) n
 narrowed_tidy request field n tidy = record {

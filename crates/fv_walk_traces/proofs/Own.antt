@@ -1,12 +1,13 @@
 -- What the log finds of one object are its local failures.
-use Rattle.std.proofs.Common.{◌≡◌, ℕ, suc, List, [], ◌∷◌, map, length, inl, ◌↔◌, refl, sym, ap, ◌∙◌, subst, arith, false}
+use Rattle.std.proofs.Common.{◌≡◌, ℕ, suc, List, [], ◌∷◌, map, length, inl, ◌↔◌, refl, sym, ap, ◌∙◌, subst, arith, false, fold}
 use Rattle.fv_graph.specs.Graph.{IsIn}
 use Rattle.fv_path.specs.Nodes.{PathNode}
 use Rattle.fv_walk_traces.specs.Turns.{LocalFailure, FreeTurn, Group, Fail, Turn, Free, Rank, Turns, Shadows}
+use Rattle.fv_walk_traces.specs.Reaching.{at_object}
 use Rattle.fv_walk_traces.specs.Requests.{Request}
 use Rattle.fv_walk_traces.specs.Traces.{IsOwnEnd}
 use Rattle.fv_walk_traces.specs.OneObject.{IsLocal}
-use Rattle.fv_walk_traces.specs.Violations.{Reached, onward, told, at_object}
+use Rattle.fv_walk_traces.specs.Violations.{Reached, onward}
 use Rattle.fv_walk_traces.specs.Tree.{Open, IsTraceOfChoices, IsProper, failures_of_choices, entered}
 use Rattle.fv_walk_traces.specs.Unfold.{LeadsTo, Any, TraceFrom, choices_of}
 use Rattle.fv_walk_traces.specs.Points.{Point, Within, next}
@@ -77,7 +78,7 @@ own_finds request n tidy path object carried y =
     let fs = failures_of_choices (own_choices request n object carried) in
     let e = finds_choices (onward request) x (own_choices request n object carried) in (
       λ h.
-          (let m = from_map (λ (r : Turns). told (onward request) x r) fs y (subst (λ (l : List Reached). IsIn l y) e h) in
+          (let m = from_map (λ (r : Turns). fold (onward request) x r) fs y (subst (λ (l : List Reached). IsIn l y) e h) in
           let k = (own_failures request n tidy object carried m.0).0 m.2 in
           let l = end_last request x object carried m.0 k.0 in
           (l.1, (m.0, l.0, k.0, k.1, l.2), m.1 ∙ l.3)),
@@ -85,9 +86,9 @@ own_finds request n tidy path object carried y =
           (let r = h.1.0 in
           let l = end_last request x object carried r h.1.2 in
           let same = last_fail l.0 h.1.1 l.1 h.0 (sym l.2 ∙ h.1.4) in
-          let k = in_map (λ (r : Turns). told (onward request) x r) fs r ((own_failures request n tidy object carried r).1 (h.1.2, h.1.3)) in
-          let d : told (onward request) x r ≡ y = l.3 ∙ ap (λ (f : LocalFailure). onward request x (Free (Fail f))) same ∙ sym h.2 in
-          subst (λ (l : List Reached). IsIn l y) (sym e) (subst (λ (z : Reached). IsIn (map (λ (r : Turns). told (onward request) x r) fs) z) d k)),
+          let k = in_map (λ (r : Turns). fold (onward request) x r) fs r ((own_failures request n tidy object carried r).1 (h.1.2, h.1.3)) in
+          let d : fold (onward request) x r ≡ y = l.3 ∙ ap (λ (f : LocalFailure). onward request x (Free (Fail f))) same ∙ sym h.2 in
+          subst (λ (l : List Reached). IsIn l y) (sym e) (subst (λ (z : Reached). IsIn (map (λ (r : Turns). fold (onward request) x r) fs) z) d k)),
     )
 
 pub same_some : {X Y : Type 0} (xs : List X) (ys : List Y) → ((x : X) → IsIn xs x → (y : Y) × IsIn ys y) → ((y : Y) → IsIn ys y → (x : X) × IsIn xs x) → some xs ≡ some ys
@@ -104,11 +105,11 @@ own_some request n tidy object carried fails is =
     let e = finds_choices (onward request) x (own_choices request n object carried) in
     same_some fs fails
     (λ r h.
-    (let k = (own_finds request n tidy [] object carried (told (onward request) x r)).0 (subst (λ (l : List Reached). IsIn l (told (onward request) x r)) (sym e) (in_map (λ (r : Turns). told (onward request) x r) fs r h)) in
+    (let k = (own_finds request n tidy [] object carried (fold (onward request) x r)).0 (subst (λ (l : List Reached). IsIn l (fold (onward request) x r)) (sym e) (in_map (λ (r : Turns). fold (onward request) x r) fs r h)) in
     (k.0, (is k.0).1 k.1)))
     (λ f h.
     (let k = (own_finds request n tidy [] object carried (onward request x (Free (Fail f)))).1 (f, (is f).0 h, refl) in
-    let m = from_map (λ (r : Turns). told (onward request) x r) fs (onward request x (Free (Fail f))) (subst (λ (l : List Reached). IsIn l (onward request x (Free (Fail f)))) e k) in
+    let m = from_map (λ (r : Turns). fold (onward request) x r) fs (onward request x (Free (Fail f))) (subst (λ (l : List Reached). IsIn l (onward request x (Free (Fail f)))) e k) in
     (m.0, m.2)))
 
 -- no visit is entered among one object's constraints

@@ -1,12 +1,12 @@
 -- The traces in parts are those of the walk of points.
 use Rattle.std.proofs.Common.{◌≡◌, ℕ, zero, suc, ◌≤◌, List, [], ◌∷◌, ◌++◌, map, length, ◌⊎◌, inl, inr, refl, sym, ap, ◌∙◌, subst, arith, Bool, true, false, cond, Some, slice_get, append_assoc, length-append}
 use Rattle.fv_graph.proofs.Lists.{in_left, in_right, in_cases}
-use Rattle.fv_graph.specs.Graph.{IsIn}
+use Rattle.fv_graph.specs.Graph.{IsIn, mem}
 use Rattle.fv_graph.proofs.Images.{in_map, from_map}
 use Rattle.fv_walk_traces.proofs.Prefix.{Path', join_at}
 use Rattle.fv_walk_traces.specs.Points.{Point, Start, Choosing, Standing, Within, Failed, handed, step_options, next}
 use Rattle.fv_walk_traces.specs.Requests.{Own, Plain, InRanks, Request}
-use Rattle.fv_walk_traces.specs.Traces.{is_among, Carried, Arrives, OwnEnds, IsTrace}
+use Rattle.fv_walk_traces.specs.Traces.{Carried, Arrives, OwnEnds, IsTrace}
 use Rattle.fv_walk_traces.specs.Turns.{Free, Rank, FreeTurn, LocalFailure, Fail, Ask, Step, Group, Turns, Way}
 use Rattle.fv_walk_traces.specs.Unfold.{TraceFrom}
 use Rattle.fv_datum.proofs.Lists.{map_get}
@@ -30,21 +30,21 @@ hand_on request object g carried on mark (inr h) =
     (subst (λ (s : Point). Path' (next request) s (Rank h.0 ∷ []) (Standing object carried on)) (sym (ap (λ b. cond b (Choosing object g on) (Standing object g on)) h.1))
     (Standing object carried on, get_map (λ m. Standing object m on) (request.ranks g) h.0 carried h.3, refl))
 
-to_option : (request : Request) (object carried : ℕ) (on : List ℕ) (ways : List Way) (way : Way) → IsIn ways way → is_among on way.target ≡ false → IsIn (step_options request object carried on ways) (Step way, handed request way.target (request.converted object way.place carried) (way.target ∷ on))
+to_option : (request : Request) (object carried : ℕ) (on : List ℕ) (ways : List Way) (way : Way) → IsIn ways way → mem on way.target ≡ false → IsIn (step_options request object carried on ways) (Step way, handed request way.target (request.converted object way.place carried) (way.target ∷ on))
 to_option request object carried on [] way h new = absurd h
-to_option request object carried on (w ∷ ways) way h new = go (to_option request object carried on ways way) (is_among on w.target) refl h
+to_option request object carried on (w ∷ ways) way h new = go (to_option request object carried on ways way) (mem on w.target) refl h
   where
-    go : (IsIn ways way → is_among on way.target ≡ false → IsIn (step_options request object carried on ways) (Step way, handed request way.target (request.converted object way.place carried) (way.target ∷ on))) → (b : Bool) → is_among on w.target ≡ b → (w ≡ way) ⊎ IsIn ways way → IsIn (cond b (step_options request object carried on ways) ((Step w, handed request w.target (request.converted object w.place carried) (w.target ∷ on)) ∷ step_options request object carried on ways)) (Step way, handed request way.target (request.converted object way.place carried) (way.target ∷ on))
-    go ih true e (inl d) = (let q : is_among on w.target ≡ false = subst (λ (x : Way). is_among on x.target ≡ false) (sym d) new in cc)
+    go : (IsIn ways way → mem on way.target ≡ false → IsIn (step_options request object carried on ways) (Step way, handed request way.target (request.converted object way.place carried) (way.target ∷ on))) → (b : Bool) → mem on w.target ≡ b → (w ≡ way) ⊎ IsIn ways way → IsIn (cond b (step_options request object carried on ways) ((Step w, handed request w.target (request.converted object w.place carried) (w.target ∷ on)) ∷ step_options request object carried on ways)) (Step way, handed request way.target (request.converted object way.place carried) (way.target ∷ on))
+    go ih true e (inl d) = (let q : mem on w.target ≡ false = subst (λ (x : Way). mem on x.target ≡ false) (sym d) new in cc)
     go ih true e (inr k) = ih k new
     go ih false e (inl d) = inl (ap (λ (x : Way). (Step x, handed request x.target (request.converted object x.place carried) (x.target ∷ on))) d)
     go ih false e (inr k) = inr (ih k new)
 
-pub from_option : (request : Request) (object carried : ℕ) (on : List ℕ) (ways : List Way) (turn : FreeTurn) (after : Point) → IsIn (step_options request object carried on ways) (turn, after) → (way : Way) × IsIn ways way × (is_among on way.target ≡ false) × (turn ≡ Step way) × (after ≡ handed request way.target (request.converted object way.place carried) (way.target ∷ on))
+pub from_option : (request : Request) (object carried : ℕ) (on : List ℕ) (ways : List Way) (turn : FreeTurn) (after : Point) → IsIn (step_options request object carried on ways) (turn, after) → (way : Way) × IsIn ways way × (mem on way.target ≡ false) × (turn ≡ Step way) × (after ≡ handed request way.target (request.converted object way.place carried) (way.target ∷ on))
 from_option request object carried on [] turn after h = absurd h
-from_option request object carried on (w ∷ ways) turn after h = go (from_option request object carried on ways turn after) (is_among on w.target) refl h
+from_option request object carried on (w ∷ ways) turn after h = go (from_option request object carried on ways turn after) (mem on w.target) refl h
   where
-    go : (IsIn (step_options request object carried on ways) (turn, after) → (way : Way) × IsIn ways way × (is_among on way.target ≡ false) × (turn ≡ Step way) × (after ≡ handed request way.target (request.converted object way.place carried) (way.target ∷ on))) → (b : Bool) → is_among on w.target ≡ b → IsIn (cond b (step_options request object carried on ways) ((Step w, handed request w.target (request.converted object w.place carried) (w.target ∷ on)) ∷ step_options request object carried on ways)) (turn, after) → (way : Way) × IsIn (w ∷ ways) way × (is_among on way.target ≡ false) × (turn ≡ Step way) × (after ≡ handed request way.target (request.converted object way.place carried) (way.target ∷ on))
+    go : (IsIn (step_options request object carried on ways) (turn, after) → (way : Way) × IsIn ways way × (mem on way.target ≡ false) × (turn ≡ Step way) × (after ≡ handed request way.target (request.converted object way.place carried) (way.target ∷ on))) → (b : Bool) → mem on w.target ≡ b → IsIn (cond b (step_options request object carried on ways) ((Step w, handed request w.target (request.converted object w.place carried) (w.target ∷ on)) ∷ step_options request object carried on ways)) (turn, after) → (way : Way) × IsIn (w ∷ ways) way × (mem on way.target ≡ false) × (turn ≡ Step way) × (after ≡ handed request way.target (request.converted object way.place carried) (way.target ∷ on))
     go ih true e k = let m = ih k in (m.0, inr m.1, m.2, m.3, m.4)
     go ih false e (inl d) = (w, inl refl, e, sym (ap (λ (x : FreeTurn × Point). x.0) d), sym (ap (λ (x : FreeTurn × Point). x.1) d))
     go ih false e (inr k) = let m = ih k in (m.0, inr m.1, m.2, m.3, m.4)

@@ -1,7 +1,7 @@
 -- A tidy request: each turn leaves fewer, and none stands twice.
 use Rattle.std.proofs.Common.{◌≡◌, ◌≢◌, ℕ, zero, suc, ◌+◌, ◌*◌, ◌<◌, ◌≤◌, List, [], ◌∷◌, ◌++◌, map, inl, inr, refl, sym, ap, ◌∙◌, subst, arith, Bool, true, false, cond, ◌||◌, nat_eq, Some, slice_get}
 use Rattle.fv_graph.proofs.Lists.{in_cases, AllDiffer-append}
-use Rattle.fv_graph.specs.Graph.{IsIn, AllDiffer}
+use Rattle.fv_graph.specs.Graph.{IsIn, AllDiffer, mem}
 use Rattle.fv_graph.proofs.Images.{from_map}
 use Rattle.fv_walk_traces.proofs.Parts.{from_option}
 use Rattle.fv_datum.proofs.Lists.{map_get}
@@ -9,7 +9,6 @@ use Rattle.fv_walk_traces.proofs.Unfolded.{proper_reached}
 use Rattle.fv_walk_traces.specs.Finite.{unseen, size, IsTidy, IsProperOwn}
 use Rattle.fv_walk_traces.specs.Points.{Point, Start, Choosing, Standing, Within, Failed, handed, step_options, next}
 use Rattle.fv_walk_traces.specs.Requests.{Own, Plain, InRanks, Request}
-use Rattle.fv_walk_traces.specs.Traces.{is_among}
 use Rattle.fv_walk_traces.specs.Tree.{IsProper}
 use Rattle.fv_walk_traces.specs.Turns.{Turn, Free, Rank, FreeTurn, LocalFailure, Fail, Ask, Step, Group, Way}
 use Rattle.fv_walk_traces.specs.Unfold.{LeadsTo, Falls, NoTurnTwice, tree_of}
@@ -18,7 +17,7 @@ less_seen : (n t : ℕ) (on : List ℕ) → unseen n (t ∷ on) ≤ unseen n on
 less_seen zero t on = omega arith
 less_seen (suc k) t on =
     let ih = less_seen k t on in
-    go (nat_eq t k) (is_among on k) ih
+    go (nat_eq t k) (mem on k) ih
   where
     go : (a b : Bool) → unseen k (t ∷ on) ≤ unseen k on → cond (a || b) 0 1 + unseen k (t ∷ on) ≤ cond b 0 1 + unseen k on
     go true true h = omega arith
@@ -28,7 +27,7 @@ less_seen (suc k) t on =
 
 unseen_within : (n : ℕ) (on : List ℕ) → unseen n on ≤ n
 unseen_within zero on = omega arith
-unseen_within (suc k) on = go (is_among on k) (unseen_within k on)
+unseen_within (suc k) on = go (mem on k) (unseen_within k on)
   where
     go : (b : Bool) → unseen k on ≤ k → cond b 0 1 + unseen k on ≤ suc k
     go true h = omega arith
@@ -50,18 +49,18 @@ no_more true b u v e h = cc
 no_more false true u v e h = omega arith
 no_more false false u v e h = omega arith
 
-one_less : (n t : ℕ) (on : List ℕ) → is_among on t ≡ false → t < n → unseen n (t ∷ on) + 1 ≤ unseen n on
+one_less : (n t : ℕ) (on : List ℕ) → mem on t ≡ false → t < n → unseen n (t ∷ on) + 1 ≤ unseen n on
 one_less zero t on new less = absurd (omega arith)
 one_less (suc k) t on new less = go (λ h. one_less k t on new h) (nat_eq t k) refl
   where
-    go : (t < k → unseen k (t ∷ on) + 1 ≤ unseen k on) → (a : Bool) → nat_eq t k ≡ a → cond (nat_eq t k || is_among on k) 0 1 + unseen k (t ∷ on) + 1 ≤ cond (is_among on k) 0 1 + unseen k on
+    go : (t < k → unseen k (t ∷ on) + 1 ≤ unseen k on) → (a : Bool) → nat_eq t k ≡ a → cond (nat_eq t k || mem on k) 0 1 + unseen k (t ∷ on) + 1 ≤ cond (mem on k) 0 1 + unseen k on
     go ih true e =
         let q : t ≡ k = eq_of t k e in
-        one_more (nat_eq t k) (is_among on k) (unseen k (t ∷ on)) (unseen k on) e (subst (λ (x : ℕ). is_among on x ≡ false) q new) (less_seen k t on)
+        one_more (nat_eq t k) (mem on k) (unseen k (t ∷ on)) (unseen k on) e (subst (λ (x : ℕ). mem on x ≡ false) q new) (less_seen k t on)
     go ih false e =
         let q : t ≢ k = λ d. (let r : nat_eq t k ≡ true = subst (λ (x : ℕ). nat_eq t x ≡ true) d (eq_refl t) in cc) in
         let less' : t < k = omega arith in
-        no_more (nat_eq t k) (is_among on k) (unseen k (t ∷ on)) (unseen k on) e (ih less')
+        no_more (nat_eq t k) (mem on k) (unseen k (t ∷ on)) (unseen k on) e (ih less')
 
 handed_size : (request : Request) (n object g : ℕ) (on : List ℕ) → size n (handed request object g on) ≤ 4 + 2 * unseen n on
 handed_size request n object g on = go (request.is_sequence g)
@@ -145,7 +144,7 @@ step_label request object carried on ways turn h =
 
 steps_differ : (request : Request) (object carried : ℕ) (on : List ℕ) (ways : List Way) → AllDiffer ways → AllDiffer (map (λ c. c.0) (step_options request object carried on ways))
 steps_differ request object carried on [] d = tt
-steps_differ request object carried on (way ∷ ways) d = go (steps_differ request object carried on ways d.1) (is_among on way.target)
+steps_differ request object carried on (way ∷ ways) d = go (steps_differ request object carried on ways d.1) (mem on way.target)
   where
     go : AllDiffer (map (λ (c : FreeTurn × Point). c.0) (step_options request object carried on ways)) → (b : Bool) → AllDiffer (map (λ (c : FreeTurn × Point). c.0) (cond b (step_options request object carried on ways) ((Step way, handed request way.target (request.converted object way.place carried) (way.target ∷ on)) ∷ step_options request object carried on ways)))
     go ih true = ih

@@ -5,6 +5,7 @@ pub mod Log
 pub mod OneField
 pub mod OneObject
 pub mod Points
+pub mod Reaching
 pub mod Requests
 pub mod Traces
 pub mod Tree

@@ -1,10 +1,11 @@
 -- The violations by a list of the visits: each visit with the failures of its object, but for the visits that a failing visit shadows.
-use Rattle.std.specs.Prelude.{◌≡◌, ℕ, List, []}
+use Rattle.std.specs.Prelude.{◌≡◌, ℕ, List, [], fold}
 use Rattle.fv_walk_traces.specs.Turns.{LocalFailure, Fail, Free, Turns, Shadows}
+use Rattle.fv_walk_traces.specs.Reaching.{at_object, violation}
 use Rattle.fv_walk_traces.specs.Requests.{Request}
 use Rattle.fv_walk_traces.specs.Traces.{Arrives}
 use Rattle.fv_walk_traces.specs.OneObject.{IsLocal}
-use Rattle.fv_walk_traces.specs.Violations.{Violation, told, onward, at_object, violation}
+use Rattle.fv_walk_traces.specs.Violations.{Violation, onward}
 
 -- a visit at whose object something fails
 abbrev pub IsFailing : Request → Turns → Type 0
@@ -14,7 +15,7 @@ IsFailing request visit =
 
 -- the violation that a failure at the object of a visit is
 abbrev pub violation_at : Request → Turns → LocalFailure → Violation
-violation_at request visit f = violation (onward request (told (onward request) (at_object [] request.root) visit) (Free (Fail f)))
+violation_at request visit f = violation (onward request (fold (onward request) (at_object [] request.root) visit) (Free (Fail f)))
 
 -- a failure at the object of a visit that no failing visit shadows
 abbrev pub IsListed : Request → Violation → Type 0

@@ -6,20 +6,17 @@ use Rattle.fv_walk_traces.specs.Requests.{Own, Plain, InRanks, Request}
 use Rattle.fv_walk_traces.specs.Traces.{Asks, IsTrace}
 use Rattle.fv_walk_traces.specs.Violations.{Violation, violation_of}
 
--- the failure's place begins with the field
-abbrev pub begins_with : ℕ → LocalFailure → Bool
-begins_with field f = is_of f.spot
-  where
-    is_of : Spot → Bool
-    is_of of_object = false
-    is_of (at place locus) = nat_eq place.field field
+-- a spot at a place that begins with the field
+abbrev pub begins_with : ℕ → Spot → Bool
+begins_with field of_object = false
+begins_with field (at place locus) = nat_eq place.field field
 
 -- a trace without steps, whose failure's place begins with the field
 abbrev pub IsTraceOfField : Request → ℕ → Turns → Type 0
 IsTraceOfField request field turns =
     IsTrace request turns
     × ((way : Way) → IsIn turns (Free (Step way)) → ⊥)
-    × ((before : Turns) × (f : LocalFailure) × (turns ≡ before ++ Free (Fail f) ∷ []) × (begins_with field f ≡ true))
+    × ((before : Turns) × (f : LocalFailure) × (turns ≡ before ++ Free (Fail f) ∷ []) × (begins_with field f.spot ≡ true))
 
 -- a visit: part 1 alone
 abbrev pub IsVisitOfField : Request → Turns → Type 0
@@ -38,10 +35,14 @@ abbrev pub IsViolationOfField : Request → ℕ → Violation → Type 0
 IsViolationOfField request field v =
     (r : Turns) × IsTraceOfField request field r × IsSparedOfField request field r × (v ≡ violation_of request r)
 
+-- the failure's place begins with the field
+abbrev pub is_in_field : ℕ → LocalFailure → Bool
+is_in_field field f = begins_with field f.spot
+
 -- what fails at places that begin with the field
 abbrev pub own_of_field : ℕ → Own → Own
-own_of_field field (Plain fails) = Plain (filter (begins_with field) fails)
-own_of_field field (InRanks lists) = InRanks (map (filter (begins_with field)) lists)
+own_of_field field (Plain fails) = Plain (filter (is_in_field field) fails)
+own_of_field field (InRanks lists) = InRanks (map (filter (is_in_field field)) lists)
 
 -- the request in which objects hold no reference that is valid, and fail at places that begin with the field alone
 abbrev pub narrowed : ℕ → Request → Request

@@ -1,8 +1,8 @@
 -- The points that a request passes, turn by turn, and what may come next at each.
 use Rattle.std.specs.Prelude.{ℕ, List, [], ◌∷◌, ◌++◌, map, true, false, cond}
+use Rattle.fv_graph.specs.Graph.{mem}
 use Rattle.fv_walk_traces.specs.Turns.{Way, FreeTurn, Ask, Step, Group, Fail}
 use Rattle.fv_walk_traces.specs.Requests.{Own, Plain, InRanks, Request}
-use Rattle.fv_walk_traces.specs.Traces.{is_among}
 use Rattle.fv_walk_traces.specs.Unfold.{Options, Fails, Any, InOrder}
 
 -- before the first turn; at an object where a sequence was handed on; at an object where a group is carried; among an object's own
@@ -22,7 +22,7 @@ handed request object g on = cond (request.is_sequence g) (Choosing object g on)
 abbrev pub step_options : Request → ℕ → ℕ → List ℕ → List Way → List (FreeTurn × Point)
 step_options request object carried on [] = []
 step_options request object carried on (way ∷ ways) =
-    cond (is_among on way.target) (step_options request object carried on ways)
+    cond (mem on way.target) (step_options request object carried on ways)
     ((Step way, handed request way.target (request.converted object way.place carried) (way.target ∷ on)) ∷ step_options request object carried on ways)
 
 -- what may come next at a point

@@ -1,5 +1,5 @@
 -- The violations of a request: the paths, nodes and values of the traces that none shadows.
-use Rattle.std.specs.Prelude.{◌≡◌, ℕ, List, [], ◌∷◌, ◌++◌, cond}
+use Rattle.std.specs.Prelude.{◌≡◌, ℕ, List, [], ◌∷◌, ◌++◌, cond, fold}
 use Rattle.fv_datum.specs.Data.{Data, null, reference}
 use Rattle.fv_path.specs.Nodes.{PathNode, is_part}
 use Rattle.fv_walk_traces.specs.Turns.{Spot, of_object, at, FreeTurn, Ask, Step, Group, Fail, Turn, Free, Rank, Turns}
@@ -45,22 +45,11 @@ onward request x (Free (Fail f)) =
     record { path = x.path ++ nodes_to request x.object f.spot; object = x.object; node = f.node; value = value_at request x.object f.spot }
 onward request x (Rank i) = x
 
--- what some turns lead to from x, one after the other
-abbrev pub told : {A X : Type 0} → (X → Turn A → X) → X → List (Turn A) → X
-told on x [] = x
-told on x (turn ∷ turns) = told on (on x turn) turns
-
--- an object at the end of a path, before anything has failed
-abbrev pub at_object : List PathNode → ℕ → Reached
-at_object path object = record { path = path; object = object; node = 0; value = null }
-
--- the violation that a failure reached is
-abbrev pub violation : Reached → Violation
-violation x = record { path = x.path; node = x.node; value = x.value }
-
--- the path, the node and the value of a trace
+-- the path, the node and the value of a trace: what its turns lead to, one after the other, from the root on
 abbrev pub violation_of : Request → Turns → Violation
-violation_of request turns = violation (told (onward request) (at_object [] request.root) turns)
+violation_of request turns =
+    let x : Reached = fold (onward request) (record { path = []; object = request.root; node = 0; value = null }) turns in
+    record { path = x.path; node = x.node; value = x.value }
 
 -- a violation of the request: that of a trace which no trace shadows
 abbrev pub IsViolation : Request → Violation → Type 0

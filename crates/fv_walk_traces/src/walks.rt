@@ -3,9 +3,10 @@
 
 ghost use Rattle.std.specs.Prelude.{◌↔◌, ℕ, length, map};
 ghost use Rattle.fv_graph.specs.Graph.{IsIn};
+ghost use Rattle.fv_walk_traces.specs.Reaching.{violation};
 ghost use Rattle.fv_walk_traces.specs.Requests.{Request};
 ghost use Rattle.fv_walk_traces.specs.Traces.{IsVisit, IsEntered};
-ghost use Rattle.fv_walk_traces.specs.Violations.{Violation, violation, IsViolation};
+ghost use Rattle.fv_walk_traces.specs.Violations.{Violation, IsViolation};
 ghost use Rattle.fv_walk_traces.specs.Tree.{visits_of_choices};
 ghost use Rattle.fv_walk_traces.specs.Finite.{IsTidy, AreSoMany};
 ghost use Rattle.fv_walk_traces.specs.Log.{finds, entries};

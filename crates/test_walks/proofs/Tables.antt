@@ -1,10 +1,9 @@
 -- The requests of the worked examples are tidy: their tables are checked.
 use Rattle.std.proofs.Common.{◌≡◌, ◌<◌, ℕ, zero, suc, ◌+◌, ◌*◌, List, [], ◌∷◌, map, inl, inr, refl, ap, ◌∙◌, subst, Bool, true, false, cond, not, nat_eq, nat_lt, ◌&&◌, ◌||◌, slice_index_or, arith}
 use Rattle.std.specs.List.{list_all}
-use Rattle.fv_graph.specs.Graph.{IsIn, AllDiffer}
+use Rattle.fv_graph.specs.Graph.{IsIn, AllDiffer, mem}
 use Rattle.fv_walk_traces.specs.Turns.{LocalFailure, Way}
 use Rattle.fv_walk_traces.specs.Requests.{Own, Plain, InRanks}
-use Rattle.fv_walk_traces.specs.Traces.{is_among}
 use Rattle.fv_walk_traces.specs.Finite.{IsTidy, IsProperOwn, AllOf}
 use Rattle.test_walks.specs.Rows.{Tables, row, refers, element_refers, object_refused, chain, trip}
 
@@ -19,15 +18,15 @@ and_right false b h = cc
 -- no number comes again later
 abbrev pub are_distinct : List ℕ → Bool
 are_distinct [] = true
-are_distinct (x ∷ xs) = not (is_among xs x) && are_distinct xs
+are_distinct (x ∷ xs) = not (mem xs x) && are_distinct xs
 
-was_among : (xs : List ℕ) (x : ℕ) → IsIn xs x → is_among xs x ≡ true
+was_among : (xs : List ℕ) (x : ℕ) → IsIn xs x → mem xs x ≡ true
 was_among [] x h = absurd h
 was_among (y ∷ xs) x (inl e) = let q : nat_eq y x ≡ true = subst (λ (z : ℕ). nat_eq y z ≡ true) e (same y) in cc
   where
     same : (n : ℕ) → nat_eq n n ≡ true
     same n = grind arith
-was_among (y ∷ xs) x (inr h) = either (nat_eq y x) (is_among xs x) (was_among xs x h)
+was_among (y ∷ xs) x (inr h) = either (nat_eq y x) (mem xs x) (was_among xs x h)
   where
     either : (a b : Bool) → b ≡ true → (a || b) ≡ true
     either true b e = refl
@@ -44,9 +43,9 @@ differ f [] h = tt
 differ f (x ∷ xs) h = (
   λ k.
       (let a = was_among (map f xs) (f x) (mapped f xs x k) in
-      let b = and_left (not (is_among (map f xs) (f x))) (are_distinct (map f xs)) h in
+      let b = and_left (not (mem (map f xs) (f x))) (are_distinct (map f xs)) h in
       cc),
-  differ f xs (and_right (not (is_among (map f xs) (f x))) (are_distinct (map f xs)) h),
+  differ f xs (and_right (not (mem (map f xs) (f x))) (are_distinct (map f xs)) h),
 )
 
 -- what is so of each thing in a list and of what stands where there is none

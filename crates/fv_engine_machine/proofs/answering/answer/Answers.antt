@@ -1,10 +1,11 @@
 use Rattle.std.proofs.Common.{◌≡◌, Option, None, refl, sym, subst, ◌∙◌, ap}
 use Rattle.std.proofs.lemmas.Int.{to_z-of_z}
+use Rattle.std.specs.Option.{unwrap_or}
 use mir.Syntax.{w64}
 use Rattle.sqlite.specs.Held.{state}
 use Rattle.fv_json.specs.Documents.{view as json_view}
 use Rattle.fv_declare_schema.specs.Declarations.{Declarations}
-use Rattle.fv_engine_command.specs.Commands.{Request, shape, command_of, or_shape}
+use Rattle.fv_engine_command.specs.Commands.{Request, shape, command_of}
 use Rattle.fv_engine_machine.specs.Causes.{Handles}
 use Rattle.fv_engine_reply.specs.Answers.{refused}
 use Rattle.fv_engine_reply.specs.declared.answer.Refusal.TheVariants.{Shape}
@@ -19,7 +20,7 @@ returns-in-Err g c =
 pub returns-in-Ok-None : goal.returns-in-Ok-None
 returns-in-Ok-None g c =
     let none : None ≡ command_of (json_view c.args.value.now) = rw c.in-Ok-None.field-0-is at c.in-Ok-None.ensures in
-    rests (state g.S.Store) _ _ (λ x. subst (λ (o : Option Request). Handles g.R.RuleSet.meaning c.args.now (or_shape o) x (refused Shape) x) none (refused_at_once g.R.RuleSet.meaning c.args.now shape x Shape refl tt refl))
+    rests (state g.S.Store) _ _ (λ x. subst (λ (o : Option Request). Handles g.R.RuleSet.meaning c.args.now (unwrap_or o shape) x (refused Shape) x) none (refused_at_once g.R.RuleSet.meaning c.args.now shape x Shape refl tt refl))
 
 pub returns-in-Ok-Some-Alone : goal.returns-in-Ok-Some-Alone
 returns-in-Ok-Some-Alone g c = asked_of (state g.S.Store) _ _ g.R.RuleSet.meaning c.args.now _ _ _ (rw (c.in-Ok-Some-Alone.field-0-is, c.in-Ok-Some-Alone.field-0-0-is) at c.in-Ok-Some-Alone.ensures)

@@ -4,7 +4,7 @@ use Rattle.std.proofs.lemmas.List.Elements.{All-get_or}
 use Rattle.fv_local.specs.FailureView as local
 use Rattle.fv_local.specs.declared.failure.LocalFailure.{LocalFailure}
 use Rattle.fv_model.specs.Views.{object_view}
-use Rattle.fv_walk_traces.specs.OneField.{begins_with}
+use Rattle.fv_walk_traces.specs.OneField.{is_in_field}
 use Rattle.fv_walk.specs.FailureView.{failure_view}
 use Rattle.fv_walk.proofs.Tellings.{told_further}
 use Rattle.fv_walk.specs.Ranks.{violation_in}
@@ -17,7 +17,7 @@ failure_of-requires-clause-found c =
 
 pub failure_of-requires-clause-field : goal.failure_of-requires-clause-field
 failure_of-requires-clause-field c =
-    let in_field = λ (f : LocalFailure). (n : ℕ) × (begins_with n (local.failure_view f) ≡ true) in
+    let in_field = λ (f : LocalFailure). (n : ℕ) × (is_in_field n (local.failure_view f) ≡ true) in
     subst in_field (sym c.failure-item.is) (All-get_or in_field c.args.found.now c.loop-failure.failure-index c.failure-item.result c.loop-failure-test.true c.requires.field)
 
 pub loop-failure-preserved : goal.loop-failure-preserved

@@ -10,7 +10,7 @@ use Rattle.fv_groups.specs.declared.declared.GroupId.{GroupId}
 use Rattle.fv_local.specs.FailureView as local
 use Rattle.fv_local.specs.declared.failure.LocalFailure as code
 use Rattle.fv_model.specs.Views.{object_view}
-use Rattle.fv_walk_traces.specs.OneField.{begins_with}
+use Rattle.fv_walk_traces.specs.OneField.{is_in_field}
 use Rattle.fv_walk_traces.specs.Turns.{LocalFailure}
 use Rattle.fv_walk_traces.specs.Violations.{Violation}
 use Rattle.fv_walk.proofs.Moves.{same_count, index_at}
@@ -30,10 +30,10 @@ add_failures-requires-clause-field g c =
     let zero : GroupId = record { index = 0 } in
     let group = (get_or c.args.asked.now c.loop-group.group-index zero).index in
     let exact : (f : LocalFailure) → IsIn (map local.failure_view found) f ↔ FailsFirst (FailsIn m ds c.args.now object n) (ranks ds.groups group) f = rw (to_z-of_z w64 c.args.now c.ranges.now) at c.in_ok-found.ensures.exact in
-    let each : All (λ (f : code.LocalFailure). (k : ℕ) × (begins_with k (local.failure_view f) ≡ true)) found =
-    all_seen local.failure_view (λ (f : LocalFailure). (k : ℕ) × (begins_with k f ≡ true)) found
+    let each : All (λ (f : code.LocalFailure). (k : ℕ) × (is_in_field k (local.failure_view f) ≡ true)) found =
+    all_seen local.failure_view (λ (f : LocalFailure). (k : ℕ) × (is_in_field k f ≡ true)) found
     (λ f h. let first = (exact f).0 h in (n, (in_field m ds c.args.now object n first.1 f first.3).1)) in
-    subst (All (λ (f : code.LocalFailure). (k : ℕ) × (begins_with k (local.failure_view f) ≡ true))) (sym c.deref.ensures.value) each
+    subst (All (λ (f : code.LocalFailure). (k : ℕ) × (is_in_field k (local.failure_view f) ≡ true))) (sym c.deref.ensures.value) each
 
 pub loop-group-preserved : goal.loop-group-preserved
 loop-group-preserved g c =

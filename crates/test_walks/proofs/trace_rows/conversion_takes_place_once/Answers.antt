@@ -1,5 +1,5 @@
 use Rattle.std.proofs.Common.{[], ◌∷◌, refl}
-use Rattle.fv_walk_traces.proofs.Told.{tells}
+use Rattle.test_walks.proofs.Turns.{tells}
 use Rattle.test_walks.specs.Rows.{kid, row}
 use Rattle.test_walks.proofs.Tables.{row_tidy}
 use Rattle.test_walks.proofs.trace_rows.conversion_takes_place_once.Goals as goal

@@ -1,6 +1,6 @@
 use Rattle.std.proofs.Common.{[], ◌∷◌, refl}
 use Rattle.fv_walk_traces.specs.Finite.{all_visits, entered_visits}
-use Rattle.fv_walk_traces.proofs.Told.{arrives, enters, tells}
+use Rattle.test_walks.proofs.Turns.{arrives, enters, tells}
 use Rattle.test_walks.specs.Rows.{row, unset_account}
 use Rattle.test_walks.proofs.Tables.{row_tidy}
 use Rattle.test_walks.proofs.trace_rows.group_asked_for_beside_default.Goals as goal

@@ -1,4 +1,4 @@
-use Rattle.fv_walk_traces.proofs.Told.{tells}
+use Rattle.test_walks.proofs.Turns.{tells}
 use Rattle.test_walks.specs.Rows.{trip}
 use Rattle.test_walks.proofs.Tables.{trip_tidy}
 use Rattle.test_walks.proofs.trace_rows.object_fails_at_its_own_path.Goals as goal

@@ -1,6 +1,6 @@
 use Rattle.std.proofs.Common.{[], ◌∷◌, refl}
 use Rattle.fv_walk_traces.specs.Finite.{all_visits}
-use Rattle.fv_walk_traces.proofs.Told.{arrives, tells}
+use Rattle.test_walks.proofs.Turns.{arrives, tells}
 use Rattle.test_walks.specs.Rows.{row, two_nodes}
 use Rattle.test_walks.proofs.Tables.{row_tidy}
 use Rattle.test_walks.proofs.trace_rows.object_on_the_way_is_left_out.Goals as goal

@@ -1,7 +1,7 @@
 use Rattle.std.proofs.Common.{[], ◌∷◌, refl}
 use Rattle.fv_walk_traces.specs.OneField.{narrowed}
 use Rattle.fv_walk_traces.proofs.OneField.{field_violation, narrowed_tidy}
-use Rattle.fv_walk_traces.proofs.Told.{tells}
+use Rattle.test_walks.proofs.Turns.{tells}
 use Rattle.test_walks.specs.Rows.{row, unset_account}
 use Rattle.test_walks.proofs.Tables.{row_tidy}
 use Rattle.test_walks.proofs.trace_rows.other_fields_stop_nothing.Goals as goal

@@ -1,5 +1,5 @@
 use Rattle.std.proofs.Common.{[], ◌∷◌, refl}
-use Rattle.fv_walk_traces.proofs.Told.{tells}
+use Rattle.test_walks.proofs.Turns.{tells}
 use Rattle.test_walks.specs.Rows.{half_account, row, unset_account}
 use Rattle.test_walks.proofs.Tables.{row_tidy}
 use Rattle.test_walks.proofs.trace_rows.sequence_of_a_type_is_its_own.Goals as goal

@@ -1,6 +1,6 @@
 use Rattle.std.proofs.Common.{refl}
 use Rattle.fv_walk_traces.specs.Finite.{all_visits}
-use Rattle.fv_walk_traces.proofs.Told.{arrives}
+use Rattle.test_walks.proofs.Turns.{arrives}
 use Rattle.test_walks.specs.Rows.{chain}
 use Rattle.test_walks.proofs.Tables.{chain_tidy}
 use Rattle.test_walks.proofs.trace_rows.visits_of_a_chain.Goals as goal

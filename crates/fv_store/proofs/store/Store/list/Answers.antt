@@ -1,21 +1,21 @@
 use Rattle.std.proofs.Common.{◌≡◌, ℕ, List, [], Option, Some, None, Bor, option_map, map, string_bytes, unwrap_or, refl, ap, subst, ◌∙◌, not}
 use Rattle.sqlite.specs.Held.{state}
 use Rattle.fv_store.specs.Faults.{fault_of}
-use Rattle.fv_store.specs.Lists.{Lists, beginning}
+use Rattle.fv_store.specs.Lists.{Lists}
 use Rattle.fv_store.proofs.Openings.{keeps_of, holds_still}
 use Rattle.fv_store.proofs.Holdings.{is_refusal}
 use Rattle.fv_store.proofs.Refusals.{handed_on}
 use Rattle.fv_store.proofs.store.Store.list.Goals as goal
 
 -- where a list begins
-begins : (after : Option (Bor (List ℕ))) (none : Bor (List ℕ)) → none.now ≡ [] → (unwrap_or after none).now ≡ beginning (option_map (λ s. s.now) after)
+begins : (after : Option (Bor (List ℕ))) (none : Bor (List ℕ)) → none.now ≡ [] → (unwrap_or after none).now ≡ unwrap_or (option_map (λ s. s.now) after) []
 begins None none is = is
 begins (Some s) none is = refl
 
 pub returns-clause-found : goal.returns-clause-found
 returns-clause-found g c clean k holds =
     let found = rw c.self.view_is at (c.in_ok-find_ids.ensures.found clean) in
-    let start : c.unwrap_or-above.result.now ≡ beginning (option_map (λ s. s.now) c.args.after) = ap (λ (s : Bor (List ℕ)). s.now) c.unwrap_or-above.ensures ∙ begins c.args.after _ refl in
+    let start : c.unwrap_or-above.result.now ≡ unwrap_or (option_map (λ s. s.now) c.args.after) [] = ap (λ (s : Bor (List ℕ)). s.now) c.unwrap_or-above.ensures ∙ begins c.args.after _ refl in
     subst (λ (above : List ℕ). Lists k.records c.args.form.now above c.args.limit (map string_bytes c.in_ok-find_ids.field-0.items)) start
     (found.1 k.bytes k.records (keeps_of (state g.S.Store c.args.self.now) k holds))
 
