@@ -9,17 +9,17 @@
 In a hundred commands 60 are puts, 12 sets, 12 gets, 8 checks, 3 lists of 100 ids, and 5 batches of ten puts, of the shapes of `shapes.py`. Each set
 and put has other data than the one before it of its id. All three commit each change by itself, durably (WAL, synchronous FULL). Python parses
 each line, checks the same constraints (by pydantic where it is installed) and makes the texts; its replies have to be those of formd. The loop in C
-(`mix.c`, needs gcc and SQLite's header) gets the statements' values ready-made and runs the same SQL.
+(`mix.c`, needs gcc and SQLite's header) gets the statements' values ready-made and runs the same SQL. All three have to leave the same rows (`tables.py`).
 """
 
 import argparse
 import json
-import sqlite3
 import subprocess
 import sys
 import tempfile
 from pathlib import Path
 
+import tables
 from bench import FORMD, HERE, spent, timed, total
 from shapes import SHAPES, checks, compact, item
 
@@ -69,33 +69,31 @@ def lines_of(shape, count):
     return "".join(compact(command) + "\n" for command in commands(shape, count)).encode()
 
 
-UPDATE = "UPDATE record SET form = ?2, bundle = ?3 WHERE id = ?1"
-INSERT = "INSERT INTO record (id, form, bundle) VALUES (?1, ?2, ?3)"
-FIND = "SELECT form, bundle FROM record WHERE id = ?1"
 LIST = "SELECT id FROM record WHERE form = ?1 AND id > ?2 ORDER BY id LIMIT ?3"
 
 
 def baseline(file, shape, lines):
     """The same in Python, as a service would: it runs in a process of its own."""
-    base = sqlite3.connect(file, isolation_level=None)
-    base.execute("PRAGMA journal_mode = WAL")
-    base.execute("PRAGMA synchronous = FULL")
-    base.execute("CREATE TABLE record (id TEXT NOT NULL PRIMARY KEY, form TEXT NOT NULL, bundle TEXT NOT NULL)")
-
+    base = tables.opened(file)
     holds = checks(shape)
 
-    def found(key):
-        form, text = base.execute(FIND, (key,)).fetchone()
-        return form, json.loads(text)
+    def judge(bundle):
+        if not holds(bundle):
+            raise SystemExit("the lines are meant to be taken")
 
-    def keep(changes):
+    def keep(puts):
         base.execute("BEGIN IMMEDIATE")
-        for key, form, bundle in changes:
-            if not holds(bundle):
-                raise SystemExit("the lines are meant to be taken")
-            row = (key, form, compact(bundle))
-            if base.execute(UPDATE, row).rowcount == 0:
-                base.execute(INSERT, row)
+        for put in puts:
+            judge(put["bundle"])
+            tables.put(base, put["id"], put["form"], put["bundle"])
+        base.execute("COMMIT")
+
+    def change(bundle, key, name, field, value):
+        made = bundle["objects"][name]
+        made["fields"][field] = value
+        judge(bundle)
+        base.execute("BEGIN IMMEDIATE")
+        tables.set_object(base, key, name, made)
         base.execute("COMMIT")
 
     for line in lines:
@@ -103,16 +101,15 @@ def baseline(file, shape, lines):
         what = command["do"]
         reply = {"ok": what}
         if what == "put":
-            keep([(command["id"], command["form"], command["bundle"])])
+            keep([command])
         elif what == "batch":
-            keep([(part["id"], part["form"], part["bundle"]) for part in command["parts"]])
+            keep(command["parts"])
         elif what == "list":
             reply["ids"] = [key for (key,) in base.execute(LIST, (command["form"], command["after"], 100))]
         else:
-            form, bundle = found(command["id"])
+            form, bundle = tables.get(base, command["id"])
             if what == "set":
-                bundle["objects"][command["object"]]["fields"][command["field"]] = command["value"]
-                keep([(command["id"], form, bundle)])
+                change(bundle, command["id"], command["object"], command["field"], command["value"])
             elif what == "get":
                 reply = {"bundle": bundle, "form": form, "id": command["id"], "ok": "get"}
             elif holds(bundle):
@@ -138,11 +135,13 @@ def statements(shape, count):
         yield f"B\t{len(parts)}\n"
         for part in parts:
             if part["do"] == "set":
+                made = kept[part["id"]]["objects"][part["object"]]
+                made["fields"][part["field"]] = part["value"]
                 yield f"G\t{part['id']}\n"
-                kept[part["id"]]["objects"][part["object"]]["fields"][part["field"]] = part["value"]
+                yield "\t".join(["S", part["id"], *tables.object_row(part["object"], made)]) + "\n"
             else:
                 kept[part["id"]] = part["bundle"]
-            yield f"P\t{part['id']}\t{form}\t{compact(kept[part['id']])}\n"
+                yield f"P\t{tables.line(part['id'], form, part['bundle'])}\n"
 
 
 def words_of(program, folder, shape):
@@ -163,10 +162,12 @@ def seconds(program, count):
                     with tempfile.TemporaryDirectory(dir=where) as name:
                         folder = Path(name)
                         words = (words_of(program, folder, shape), [sys.executable, __file__, "--shape", shape, "--baseline", folder / "g.db"], [loop, folder / "g.db"])[at]
-                        found.append(timed(words, rows if at == 2 else lines))
-                (ours, our_peak, output), (python, python_peak, wanted), (bare, bare_peak, _) = found
+                        found.append((*timed(words, rows if at == 2 else lines), tables.rows_in(folder / "g.db")))
+                (ours, our_peak, output, held), (python, python_peak, wanted, their), (bare, bare_peak, _, given) = found
                 if output != wanted:
                     raise SystemExit("the outputs differ")
+                if not held == their == given:
+                    raise SystemExit(f"the rows differ: {held}, {their}, {given}")
                 print(
                     f"{shape:<13}{count:>10,}  {place:<7}{ours:>8.2f}{python:>10.2f}{bare:>8.2f}{python / ours:>11.2f}{bare / ours:>9.2f}{our_peak:>17.0f}{python_peak:>8.0f}{bare_peak:>6.0f}",
                     flush=True,

@@ -4,11 +4,12 @@
     tests/kills.py             the program that `make` leaves
     tests/kills.py PROGRAM     another build of formd
 
-Each run of the program is sent puts, some at a time, and killed (SIGKILL) after some microseconds or
-once a number of them is answered. Then the file has to hold what a front of the commands leaves that
-has all answered ones: no answered put may be missing, and nothing else may be there. SQLite looks at
-a copy of the file and its log, with its integrity check; the next run of the program looks again, by
-gets. Prints the seed of its random numbers, which is its only other argument.
+Each run of the program is sent puts, of some objects each, and a few removes, some at a time, and
+killed (SIGKILL) after some microseconds or once a number of them is answered. Then the file has to
+hold what a front of the commands leaves that has all answered ones: no answered change may be missing,
+and nothing else may be there. SQLite looks at a copy of the file and its log, with its checks of
+integrity and of keys; the next run of the program looks again, by gets. Prints the seed of its random
+numbers, which is its only other argument.
 """
 
 import json
@@ -33,8 +34,11 @@ def compact(value):
     return json.dumps(value, separators=(",", ":"), sort_keys=True)
 
 
-def bundle(number, length):
-    return {"root": "a", "objects": {"a": {"type": "Item", "fields": {"count": number, "text": "x" * length}}}}
+def bundle(chance, number):
+    """One object to four, the root with a text that may be long."""
+    objects = {name: {"type": "Item", "fields": {"count": number}} for name in ["a", *chance.sample("bcdef", chance.randrange(4))]}
+    objects["a"]["fields"]["text"] = "x" * chance.choice((0, 10, 3000, 20000))
+    return {"root": "a", "objects": objects}
 
 
 def served(folder):
@@ -48,6 +52,14 @@ def ask(program, line):
     return program.stdout.readline().decode()
 
 
+def records_in(base):
+    """The records that the rows of both tables spell, each with the text that a get shows."""
+    objects = {}
+    for key, name, kind, fields in base.execute("SELECT rec, name, kind, fields FROM object ORDER BY rec, name"):
+        objects.setdefault(key, []).append(f'"{name}":{{"fields":{fields},"type":"{kind}"}}')
+    return {key: (form, f'{{"objects":{{{",".join(objects.get(key, ()))}}},"root":"{root}"}}') for key, form, root in base.execute("SELECT id, form, root FROM record")}
+
+
 def found_by_sqlite(folder):
     """The records in a copy of the files, which SQLite holds sound."""
     with tempfile.TemporaryDirectory() as room:
@@ -58,8 +70,10 @@ def found_by_sqlite(folder):
         (verdict,) = base.execute("PRAGMA integrity_check").fetchone()
         if verdict != "ok":
             raise SystemExit(f"integrity_check: {verdict}")
-        tables = [text for (text,) in base.execute("SELECT sql FROM sqlite_schema WHERE type = 'table' ORDER BY name")]
-        records = {key: (form, text) for key, form, text in base.execute("SELECT id, form, bundle FROM record")} if tables else {}
+        if base.execute("PRAGMA foreign_key_check").fetchone():
+            raise SystemExit("foreign_key_check: an object has no record")
+        tables = base.execute("SELECT sql FROM sqlite_schema WHERE type = 'table'").fetchall()
+        records = records_in(base) if tables else {}
         base.close()
         return records
 
@@ -79,33 +93,57 @@ def found_by_formd(folder):
     return records
 
 
-def killed_run(folder, chance, number):
-    """Sends puts and kills the program: the commands that were sent, and how many were answered."""
+def line_of(key, record):
+    """The command that makes this the record of an id, or takes it out."""
+    if record is None:
+        return f'{{"do":"remove","id":"{key}"}}\n'
+    form, text = record
+    return f'{{"do":"put","id":"{key}","form":"{form}","bundle":{text}}}\n'
+
+
+def reply_of(record):
+    return b'{"ok":"remove"}\n' if record is None else b'{"ok":"put"}\n'
+
+
+def changes(chance, number, there):
+    """Some puts, the first of this number, and removes of ids that are there; `there` is then what is there behind them."""
+    batch = []
+    for at in range(chance.randrange(1, 8)):
+        key = f"r{chance.randrange(IDS)}"
+        if key in there and chance.randrange(6) == 0:
+            batch.append((key, None))
+            there.remove(key)
+        else:
+            batch.append((key, ("item", compact(bundle(chance, number + at)))))
+            there.add(key)
+    return batch
+
+
+def killed_run(folder, chance, number, there):
+    """Sends commands and kills the program: the changes that were sent, and how many were answered."""
     program = served(folder)
     if ask(program, '{"do":"get","id":"none"}') != '{"error":"C6","name":"NoRecord"}\n':
         raise SystemExit("the first get isn't answered")
     sent, answered = [], 0
     for _ in range(chance.randrange(1, 6)):
-        batch = []
-        for _ in range(chance.randrange(1, 8)):
-            number += 1
-            batch.append((f"r{chance.randrange(IDS)}", ("item", compact(bundle(number, chance.choice((0, 10, 3000, 20000)))))))
-        lines = [f'{{"do":"put","id":"{key}","form":"{form}","bundle":{text}}}\n' for key, (form, text) in batch]
+        batch = changes(chance, number + len(sent) + 1, there)
         sent += batch
-        program.stdin.write("".join(lines).encode())
+        program.stdin.write("".join(line_of(*change) for change in batch).encode())
         program.stdin.flush()
         for _ in range(chance.randrange(0, len(batch) + 1)):
-            if program.stdout.readline() != b'{"ok":"put"}\n':
-                raise SystemExit("a put isn't taken")
+            if program.stdout.readline() != reply_of(sent[answered][1]):
+                raise SystemExit("a change isn't made")
             answered += 1
     time.sleep(chance.choice((0, chance.random() / 2000, chance.random() / 200)))
     program.kill()
-    rest = program.stdout.read().split(b"\n")[:-1]
-    if any(line != b'{"ok":"put"}' for line in rest):
-        raise SystemExit(f"a reply is {rest}")
+    rest = program.stdout.read().splitlines(keepends=True)
+    if rest and not rest[-1].endswith(b"\n"):
+        rest.pop()
+    if rest != [reply_of(record) for _, record in sent[answered : answered + len(rest)]]:
+        raise SystemExit(f"the replies are {rest}")
     program.wait()
     program.stdin.close()
-    return sent, answered + len(rest), number
+    return sent, answered + len(rest)
 
 
 def main():
@@ -118,7 +156,8 @@ def main():
         (folder / "d.json").write_text(DECLARATIONS)
         records = {}
         for kill in range(KILLS):
-            sent, answered, number = killed_run(folder, chance, number)
+            sent, answered = killed_run(folder, chance, number, set(records))
+            number += len(sent)
             during += answered < len(sent)
             may_be = []
             for count in range(len(sent) + 1):
@@ -126,14 +165,17 @@ def main():
                     may_be.append(dict(records))
                 if count < len(sent):
                     key, record = sent[count]
-                    records[key] = record
+                    if record is None:
+                        del records[key]
+                    else:
+                        records[key] = record
             found = found_by_sqlite(folder)
             if found not in may_be:
                 raise SystemExit(f"kill {kill}: the file doesn't hold what was answered")
             if found_by_formd(folder) != found:
                 raise SystemExit(f"kill {kill}: formd finds other records than SQLite")
             records = found
-        print(f"seed {SEED}: {KILLS} kills, {during} of them with commands unanswered, {number} puts: every answered put was there, and no other change")
+        print(f"seed {SEED}: {KILLS} kills, {during} of them with commands unanswered, {number} puts and removes: every answered change was there, and no other")
     return 0
 
 

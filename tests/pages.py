@@ -61,7 +61,10 @@ def pages(service, form, limit, change):
 
 def main():
     chosen = random.Random(20261126)
-    ids = sorted({"".join(chosen.choice(LETTERS) for _ in range(chosen.randint(1, 12))) for _ in range(10400)})
+    ids = set()
+    while len(ids) < 10400:
+        ids.add("".join(chosen.choice(LETTERS) for _ in range(chosen.randint(1, 12))))
+    ids = sorted(ids)
     chosen.shuffle(ids)
     ids, spare = ids[:10000], ids[10000:]
     forms = {key: chosen.choice("ffffg") for key in ids}

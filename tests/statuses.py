@@ -5,9 +5,9 @@
     tests/statuses.py PROGRAM    with another build of formd
 
 A folder, a missing file, garbage, a file in use, one that may not be written, a disk that is full when
-the database is made or in the middle of puts, a pipe that nobody reads. Behind a full disk every put
-that was answered has to be in the file. And what SQLite finds in the file of a run that ended in order:
-the tables of docs/FORMATS.md, their rows, and no fault.
+the database is made or in the middle of puts, a pipe that nobody reads, tables of version 1. Behind a
+full disk every put that was answered has to be in the file. And what SQLite finds in the file of a run
+that ended in order: the tables of docs/FORMATS.md, their rows behind each kind of change, and no fault.
 """
 
 import json
@@ -23,10 +23,19 @@ from pathlib import Path
 ROOT = Path(__file__).resolve().parent.parent
 PROGRAM = Path(sys.argv[1] if len(sys.argv) > 1 else ROOT / "crates" / "formd" / "out" / "formd").resolve()
 DECLARATIONS = '{"types":{"T":{"fields":{"t":{"type":"text"}}}},"forms":{"f":{"root":"T"}}}'
-TABLES = [
-    "CREATE TABLE about (one INTEGER PRIMARY KEY CHECK (one = 1), version INTEGER NOT NULL, declarations BLOB NOT NULL)",
-    "CREATE TABLE record (id TEXT NOT NULL PRIMARY KEY, form TEXT NOT NULL, bundle TEXT NOT NULL)",
-]
+ABOUT = "CREATE TABLE about (one INTEGER PRIMARY KEY CHECK (one = 1), version INTEGER NOT NULL, declarations BLOB NOT NULL)"
+OBJECT = (
+    "CREATE TABLE object (rec TEXT NOT NULL REFERENCES record (id) ON DELETE CASCADE, name TEXT NOT NULL, kind TEXT NOT NULL, fields TEXT NOT NULL,"
+    " PRIMARY KEY (rec, name))"
+)
+RECORD = "CREATE TABLE record (id TEXT NOT NULL PRIMARY KEY, form TEXT NOT NULL, root TEXT NOT NULL)"
+FIRST_RECORD = "CREATE TABLE record (id TEXT NOT NULL PRIMARY KEY, form TEXT NOT NULL, bundle TEXT NOT NULL)"
+# An order refers to a note and to a chain of lines, which may be null.
+ORDERS = """{"types":{
+    "Order":{"fields":{"number":{"type":"integer"},"buyer":{"type":"text"},"first":{"type":{"ref":"Line"}},"note":{"type":{"ref":"Note"}}}},
+    "Line":{"fields":{"price":{"type":"decimal"},"what":{"type":"text"},"next":{"type":{"ref":"Line"}}}},
+    "Note":{"fields":{"words":{"type":{"list":{"type":"text"}}}}}
+    },"forms":{"order":{"root":"Order"},"line":{"root":"Line"}}}"""
 NOBODY = 65534
 failed = count = 0
 
@@ -62,6 +71,24 @@ def ended(name, ran, status, error):
     look(name, (ran.returncode, ran.stderr), (status, error))
 
 
+def selected(file, query):
+    """What a query shows of a file that SQLite holds sound."""
+    base = sqlite3.connect(file)
+    look("integrity_check", base.execute("PRAGMA integrity_check").fetchall(), [("ok",)])
+    look("foreign_key_check", base.execute("PRAGMA foreign_key_check").fetchall(), [])
+    found = base.execute(query).fetchall()
+    base.close()
+    return found
+
+
+def tables(file):
+    return [text for (text,) in selected(file, "SELECT sql FROM sqlite_schema WHERE sql IS NOT NULL ORDER BY name")]
+
+
+def rows(file, table):
+    return selected(file, f"SELECT * FROM {table} ORDER BY 1, 2")
+
+
 def files(folder):
     good = folder / "d.json"
     good.write_text(DECLARATIONS)
@@ -83,19 +110,128 @@ def files(folder):
         look("the first", first.stdout.readline(), '{"ok":"put"}\n')
         ended("in use", serve(good, folder / "b.db"), 4, cannot_open)
         look("the first, again", first.communicate(put(2) + "\n")[0], '{"ok":"put"}\n')
-    base = sqlite3.connect(folder / "b.db")
-    look("integrity_check", base.execute("PRAGMA integrity_check").fetchall(), [("ok",)])
-    look("tables", [text for (text,) in base.execute("SELECT sql FROM sqlite_schema WHERE sql IS NOT NULL ORDER BY name")], TABLES)
-    look("about", base.execute("SELECT * FROM about").fetchall(), [(1, 1, DECLARATIONS.encode())])
-    text = '{"objects":{"a":{"fields":{"t":""},"type":"T"}},"root":"a"}'
-    look("record", base.execute("SELECT * FROM record ORDER BY id").fetchall(), [("r1", "f", text), ("r2", "f", text)])
-    base.close()
+    look("tables", tables(folder / "b.db"), [ABOUT, OBJECT, RECORD])
+    look("about", rows(folder / "b.db", "about"), [(1, 2, DECLARATIONS.encode())])
+    look("record", rows(folder / "b.db", "record"), [("r1", "f", "a"), ("r2", "f", "a")])
+    look("object", rows(folder / "b.db", "object"), [("r1", "a", "T", '{"t":""}'), ("r2", "a", "T", '{"t":""}')])
     if os.getuid() == 0:
         for file in folder.iterdir():
             file.chmod(0o444)
         folder.chmod(0o555)
         ended("read-only", serve(good, folder / "b.db", user=NOBODY, group=NOBODY, extra_groups=[]), 4, cannot_open)
         folder.chmod(0o755)
+
+
+def made(kind, **fields):
+    return {"type": kind, "fields": fields}
+
+
+def put_of(key, form, root, **objects):
+    return {"do": "put", "id": key, "form": form, "bundle": {"root": root, "objects": objects}}
+
+
+def set_of(key, name, field, value):
+    return {"do": "set", "id": key, "object": name, "field": field, "value": value}
+
+
+def changes(folder):
+    """The rows of both tables behind each kind of change: each is a run of its own over what the one before it left."""
+    good, file = folder / "orders.json", folder / "orders.db"
+    good.write_text(ORDERS)
+
+    def behind(name, commands, records, objects):
+        ran = serve(good, file, "".join(json.dumps(command) + "\n" for command in commands))
+        ended(name, ran, 0, "")
+        look(f"{name}, replies", [json.loads(reply) for reply in ran.stdout.splitlines()], [{"ok": command["do"]} for command in commands])
+        look(f"{name}, record", rows(file, "record"), records)
+        look(f"{name}, object", rows(file, "object"), objects)
+
+    order = made("Order", number=7, buyer='\u00fc "B"\n', first="l1", note=None)
+    loop = made("Line", next="l1")
+    behind(
+        "a put",
+        [
+            put_of("b", "order", "o", o=order, l1=made("Line", what="Mug", price="1.50", next="l2"), l2=made("Line"), n=made("Note", words=["x", None, ""])),
+            put_of("a", "line", "l1", l1=loop),
+        ],
+        [("a", "line", "l1"), ("b", "order", "o")],
+        [
+            ("a", "l1", "Line", '{"next":"l1"}'),
+            ("b", "l1", "Line", '{"next":"l2","price":"1.50","what":"Mug"}'),
+            ("b", "l2", "Line", "{}"),
+            ("b", "n", "Note", '{"words":["x",null,""]}'),
+            ("b", "o", "Order", '{"buyer":"\u00fc \\"B\\"\\n","first":"l1","number":7}'),
+        ],
+    )
+    behind(
+        "a put with fewer objects",
+        [put_of("b", "order", "o", o=made("Order", first="l2"), l2=made("Line"))],
+        [("a", "line", "l1"), ("b", "order", "o")],
+        [("a", "l1", "Line", '{"next":"l1"}'), ("b", "l2", "Line", "{}"), ("b", "o", "Order", '{"first":"l2"}')],
+    )
+    behind(
+        "a put with other objects",
+        [put_of("b", "line", "l3", l3=made("Line"), n=made("Note"), o=made("Line", what="Cup"))],
+        [("a", "line", "l1"), ("b", "line", "l3")],
+        [("a", "l1", "Line", '{"next":"l1"}'), ("b", "l3", "Line", "{}"), ("b", "n", "Note", "{}"), ("b", "o", "Line", '{"what":"Cup"}')],
+    )
+    behind(
+        "a set",
+        [set_of("b", "l3", "next", "o"), set_of("b", "o", "price", "0.10"), set_of("b", "o", "what", None)],
+        [("a", "line", "l1"), ("b", "line", "l3")],
+        [("a", "l1", "Line", '{"next":"l1"}'), ("b", "l3", "Line", '{"next":"o"}'), ("b", "n", "Note", "{}"), ("b", "o", "Line", '{"price":"0.10"}')],
+    )
+    behind(
+        "a remove",
+        [{"do": "remove", "id": "b"}],
+        [("a", "line", "l1")],
+        [("a", "l1", "Line", '{"next":"l1"}')],
+    )
+    parts = [
+        put_of("c", "order", "o", o=made("Order"), n=made("Note")),
+        set_of("a", "l1", "what", "Pot"),
+        put_of("d", "line", "m", m=made("Line")),
+        set_of("c", "o", "note", "n"),
+        {"do": "remove", "id": "d"},
+        put_of("a", "line", "l2", l2=made("Line", next="l1"), l1=made("Line", what="Jug")),
+        set_of("a", "l2", "price", "3"),
+    ]
+    records = [("a", "line", "l2"), ("c", "order", "o")]
+    objects = [
+        ("a", "l1", "Line", '{"what":"Jug"}'),
+        ("a", "l2", "Line", '{"next":"l1","price":"3"}'),
+        ("c", "n", "Note", "{}"),
+        ("c", "o", "Order", '{"note":"n"}'),
+    ]
+    behind("a batch", [{"do": "batch", "parts": parts}], records, objects)
+    refused = {"do": "batch", "parts": [{"do": "remove", "id": "a"}, set_of("c", "o", "number", 1), {"do": "remove", "id": "d"}]}
+    ran = serve(good, file, json.dumps(refused) + "\n")
+    look("a batch that isn't made", ran.stdout, '{"error":"C6","name":"NoRecord","part":2}\n')
+    look("a batch that isn't made, record", rows(file, "record"), records)
+    look("a batch that isn't made, object", rows(file, "object"), objects)
+
+
+def first_version(folder):
+    """Tables of version 1, which kept each bundle in one text, are refused and stay as they are."""
+    good, file = folder / "first.json", folder / "first.db"
+    good.write_text(DECLARATIONS)
+    base = sqlite3.connect(file)
+    base.execute(ABOUT)
+    base.execute(FIRST_RECORD)
+    base.execute("INSERT INTO about VALUES (1, 1, ?)", (DECLARATIONS.encode(),))
+    records = [(f"r{number}", "f", '{"objects":{"a":{"fields":{"t":"x"},"type":"T"}},"root":"a"}') for number in range(3)]
+    base.executemany("INSERT INTO record VALUES (?, ?, ?)", records)
+    base.commit()
+    base.close()
+    for name in ("version 1", "version 1, again"):
+        ran = serve(good, file, put(1) + "\n")
+        ended(name, ran, 4, "formd: store: OtherVersion\n")
+        look(f"{name}, replies", ran.stdout, "")
+        look(f"{name}, tables", tables(file), [ABOUT, FIRST_RECORD])
+        look(f"{name}, about", rows(file, "about"), [(1, 1, DECLARATIONS.encode())])
+        look(f"{name}, record", rows(file, "record"), records)
+    good.write_text(DECLARATIONS + "\n")
+    ended("version 1 under other declarations", serve(good, file), 4, "formd: store: OtherVersion\n")
 
 
 def pipes(folder):
@@ -131,6 +267,8 @@ def main():
         folder = Path(name)
         folder.chmod(0o755)
         files(folder)
+        changes(folder)
+        first_version(folder)
         pipes(folder)
         full(folder)
     print(f"{count} looked at, {failed} differ")

@@ -12,8 +12,8 @@ pub data Subject : Type 0 where
   of_datum : Data → Subject
   of_object : Thing → Subject
 
--- a test with attributes holds of a subject at a moment. Nothing is true of all, and so is a test of the other sort of subject: where a
--- constraint stands at subjects of that sort, its declarations are refused before anything is judged
+-- A test with attributes holds of a subject at a moment. `nothing`, the test of a constraint that only has parts, holds of every subject, and so
+-- does a test of the other sort of subject: where a constraint stands at subjects of that sort, its declarations are refused before that.
 abbrev pub says : Meanings → ℤ → Attributes → Test → Subject → Bool
 says m now attributes (built_in b) (of_datum d) = builtin.says b d now
 says m now attributes (by_rule rule) (of_datum d) = m.decides rule d attributes

@@ -4,7 +4,7 @@ ghost use Rattle.sqlite.specs.Held.{state};
 ghost use Rattle.fv_datum.specs.Moments.{IsMoment};
 ghost use Rattle.fv_store.specs.Faults.{about_fault, IsAboutFault};
 ghost use Rattle.fv_store.specs.Causes.{HasFailed, IsShortAbout};
-ghost use Rattle.fv_store.specs.Stands.{Frame, Holds, HasTables, IsBlank, IsLive, Opens, Stays};
+ghost use Rattle.fv_store.specs.Stands.{Frame, Holds, IsBlank, IsLive, Opens, Stays, TellsAbout};
 ghost use Rattle.fv_declare.specs.Declares.{Declares};
 ghost use Rattle.fv_engine.specs.Laws.{ShowsWhatWasPut, ChangesNoGet, ListsSome, MayChangePlaces, LeavesNothingToList, FailsWhereShut, FailsForRoomAlone};
 ghost use Rattle.fv_engine_machine.specs.Machines.{contents, StandsFor, Becomes};
@@ -135,7 +135,7 @@ impl<R: RuleSet + Drop, S: Alter + Drop> Engine<R, S> {
             → Opens (state S.Store connection) (contents declarations.now e.declared m)
             → StandsFor (state S.Store) declarations.now e m) }
         ensures taken { IfOk result (λ e. HasCleanDisk (state S.Store e.records) → (version : _) (d : _)
-            → HasTables (state S.Store connection).now version d → about_fault version d declarations.now ≡ None) }
+            → TellsAbout version d (state S.Store connection).now → about_fault version d declarations.now ≡ None) }
         ensures same { IfOk result (λ e. HasCleanDisk (state S.Store e.records) → (c : _)
             → Holds (state S.Store connection) c → c.bytes ≡ declarations.now) }
         // The declarations come first, by their first fault.
@@ -145,7 +145,7 @@ impl<R: RuleSet + Drop, S: Alter + Drop> Engine<R, S> {
             × (Declares (R.known rules) declarations.now (Ok ds))) }
         ensures cause { IfErr result (λ r. (fault : _) → r.0 ≡ OpenFault.Store fault → IsAboutFault fault
             → HasCleanDisk (state S.Store r.1) → (version : _) (d : _)
-            → HasTables (state S.Store connection).now version d → about_fault version d declarations.now
+            → TellsAbout version d (state S.Store connection).now → about_fault version d declarations.now
             ≡ Some fault) }
         ensures other_version { IfErr result (λ r. r.0 ≡ OpenFault.Store OpenStoreFault.OtherVersion
             → HasCleanDisk (state S.Store r.1) → (c : _) → Opens (state S.Store connection) c → ⊥) }
@@ -154,10 +154,10 @@ impl<R: RuleSet + Drop, S: Alter + Drop> Engine<R, S> {
             → c.bytes ≢ declarations.now) }
         // Want of memory below is told as such.
         ensures memory { IfErr result (λ r. r.0 ≢ OpenFault.Store OpenStoreFault.Memory) }
-        // The store fails with a cause, over tables of this form and over an empty database.
+        // The store fails with a cause, over tables of either version and over an empty database.
         ensures store_known { IfErr result (λ r. r.0 ≡ OpenFault.Store OpenStoreFault.Store
             → HasCleanDisk (state S.Store r.1) → connection.in_transaction ≡ false → (version : _) (d : _)
-            → HasTables (state S.Store connection).now version d
+            → TellsAbout version d (state S.Store connection).now
             → HasFailed (state S.Store connection) (state S.Store r.1)) }
         ensures store_blank { IfErr result (λ r. r.0 ≡ OpenFault.Store OpenStoreFault.Store
             → HasCleanDisk (state S.Store r.1) → connection.in_transaction ≡ false

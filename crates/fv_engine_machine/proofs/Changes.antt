@@ -1,7 +1,8 @@
 -- What a command that changes records makes of the machine.
-use Rattle.std.proofs.Common.{◌≡◌, ◌≢◌, ◌+◌, ◌≤◌, ◌⊎◌, ℕ, ℤ, IsTrue, length, List, [], ◌∷◌, Bool, true, false, Option, Some, None, Result, Ok, Err, inl, inr, refl, sym, ap, subst, ◌∙◌, arith}
-use Rattle.std.specs.List.{list_any}
+use Rattle.std.proofs.Common.{◌≡◌, ◌≢◌, ◌+◌, ◌*◌, ◌≤◌, ◌⊎◌, map, IfOk, Vec, ℕ, ℤ, IsTrue, length, List, [], ◌∷◌, Bool, true, false, Option, Some, None, Result, Ok, Err, inl, inr, refl, sym, ap, subst, ◌∙◌, arith}
+use Rattle.std.specs.List.{AllByRecursion, list_any}
 use Rattle.std.specs.Map.{keys_of}
+use Rattle.std.specs.declared.alloc.Global.{Global}
 use Rattle.sqlite.specs.State.{State, HasCleanDisk}
 use Rattle.fv_engine_command.specs.Commands.{Part, put, set, remove, Request, alone, batch}
 use Rattle.fv_datum.specs.Lookup.{at_name}
@@ -10,16 +11,19 @@ use Rattle.fv_engine_machine.specs.Judging.{OneIsOverVisited, AreListings}
 use Rattle.fv_engine_machine.specs.Records.{AreJudged, IsOfJudging, OneIsOver, with_some}
 use Rattle.fv_engine_machine.proofs.Listings.{listings, one_over}
 use Rattle.fv_engine_machine.specs.Causes.{StoreHasFailed, HasRoomFor, Handles}
-use Rattle.fv_engine_machine.specs.Keeping.{Unchanged, Takes, TakesOrTells, Fails, Moves, FitsWhereHeld, HasRoomOn, Keeps, Settles, told_part, IsCommand, ChangesSo, unjudged}
+use Rattle.fv_engine_machine.specs.Keeping.{Unchanged, Takes, TakesOrTells, Fails, Moves, FitsWhereHeld, HasRoomOn, IsOneSet, set_object, Keeps, Settles, told_part, IsCommand, ChangesSo, unjudged}
 use Rattle.fv_engine_machine.specs.Machines.{Machine, over, with_map, contents, room_in}
 use Rattle.fv_engine_machine.specs.Refusals.{first_of, made, part_refusal, refusal, told_fault, when}
 use Rattle.fv_engine_machine.specs.Step.{done_by, Answers, IsTaken, LooksUp}
 use Rattle.fv_engine_machine.proofs.Becoming.{fails_by, stays_itself, IsOther, still, out_of_memory, unstored}
 use Rattle.fv_engine_machine.proofs.Rooms.{room_left}
-use Rattle.fv_engine_pending.specs.Fits.{AreFitting}
+use Rattle.fv_engine_pending.specs.Altering.{IsOneObject, most_rows}
+use Rattle.fv_engine_pending.specs.Fits.{Agrees, AreFitting, Covers}
 use Rattle.fv_engine_pending.specs.Parts.{are_misshapen}
-use Rattle.fv_engine_pending.specs.Touched.{IsTouched, needs_record}
+use Rattle.fv_engine_pending.specs.Steps.{staged, steps_made}
+use Rattle.fv_engine_pending.specs.Touched.{IsTouched, count_needed, needs_record}
 use Rattle.fv_engine_pending.specs.Ways.{Way, overlay, standing}
+use Rattle.fv_engine_pending.proofs.OneObject.{set_alone}
 use Rattle.fv_engine_pending.specs.declared.fault.PartFault.{PartFault}
 use Rattle.fv_engine_pending.specs.declared.fault.PartFault.TheVariants as part
 use Rattle.fv_registry.specs.Meanings.{Meanings}
@@ -28,12 +32,13 @@ use Rattle.fv_engine_reply.specs.declared.answer.Done.{Done}
 use Rattle.fv_engine_reply.specs.declared.answer.Done.TheVariants as what
 use Rattle.fv_engine_reply.specs.declared.answer.Refusal.{Refusal}
 use Rattle.fv_engine_reply.specs.declared.answer.Refusal.TheVariants.{Shape, TooManyVisits, Memory}
-use Rattle.fv_store.specs.Causes.{LeavesRoom}
+use Rattle.fv_store.specs.Causes.{LeavesRoom, rows_of_all}
 use Rattle.fv_store.specs.Changes.{after_all, changed, ChangesFit}
-use Rattle.fv_store.specs.Records.{Contents, Kept, Records}
+use Rattle.fv_store.specs.Records.{Contents, Kept, Records, Roots}
 use Rattle.fv_store.specs.Stands.{Frame, Holds, Stays}
 use Rattle.fv_store.specs.declared.change.Change.{Change}
 use Rattle.fv_datum.specs.Ascending.{IsAscending}
+use Rattle.fv_model_types.specs.Types.{Declared}
 use Rattle.fv_validate.specs.declared.fault.ValidateFault.{ValidateFault}
 use Rattle.fv_validate.specs.declared.fault.ValidateFault.TheVariants as validate
 
@@ -95,16 +100,17 @@ module _ {H : Type 0} (held : H → State) (ds : Declarations) (bytes : List ℕ
 
   -- what stands on the way was written
   pub moves_on : (way : Way) (what : Done) (changes : List Change) → Frame (held old) (held new) → (HasCleanDisk (held new) → IsTrue (held new).is_open)
-      → ((c : Contents) → ChangesFit c.types c.roots changes → Holds (held old) c → Holds (held new) (changed changes c)) → after_all changes m ≡ overlay way m
-      → length changes ≡ length way
-      → (HasCleanDisk (held new) → (c : Contents) → Holds (held old) c → LeavesRoom (length changes) (held old).now (held new).now)
-      → (AreFitting ds.types ds.forms way → ChangesFit ds.types ds.forms changes) → FitsWhereHeld (held old) (contents bytes ds m) way
+      → ((c : Contents) → ChangesFit c.types c.roots changes c.records → Holds (held old) c → Holds (held new) (changed changes c)) → after_all changes m ≡ overlay way m
+      → rows_of_all changes ≤ most_rows * length way
+      → (HasCleanDisk (held new) → (c : Contents) → Holds (held old) c → LeavesRoom (rows_of_all changes) (held old).now (held new).now)
+      → (AreFitting ds.types ds.forms way → ChangesFit ds.types ds.forms changes m) → FitsWhereHeld (held old) (contents bytes ds m) way
       → Moves held ds bytes m old new (λ x y. Keeps way what x (done what) y)
-  moves_on way what changes frame live stored after count leaves fitting fits = λ clean holds.
+  moves_on way what changes frame live stored after rows leaves fitting fits = λ clean holds.
       let now_live = live clean in
-      let was = frame.was_open clean now_live in (
+      let was = frame.was_open clean now_live in
+      let left = room_left (rows_of_all changes) (held old).now (held new).now (leaves clean (contents bytes ds m) holds) in (
         overlay way m,
-        inl (refl, record { declared = refl; records = refl; was_open = was; is_open = now_live; counts = frame.counts; room = room_left (length way) (held old).now (held new).now (subst (λ (k : ℕ). LeavesRoom k (held old).now (held new).now) count (leaves clean (contents bytes ds m) holds)) }),
+        inl (refl, record { declared = refl; records = refl; was_open = was; is_open = now_live; counts = frame.counts; room = omega (arith, left, rows) }),
         subst (λ (n : Records). Holds (held new) (contents bytes ds n)) after
             (stored (contents bytes ds m) (fitting (fits (frame.clean clean) was holds)) holds),
       )
@@ -114,7 +120,7 @@ module _ {H : Type 0} (held : H → State) (ds : Declarations) (bytes : List ℕ
 module _ (means : Meanings) (now : ℤ) (way : Way) (what : Done) (x y : Machine Records) where
   -- nothing of what stands on the way has a violation
   pub settled_none : (answer : Answer) (ls : List Judged) → AreJudged means x.declared now (standing way) ls → with_some ls ≡ [] → Keeps way what x answer y → Settles means now way what x answer y
-  settled_none answer ls judged none (inl took) = inr (inl (ls, judged, subst (λ (rs : List Judged). TakesOrTells what (length way) rs (overlay way x.records) x answer y) (sym none) took))
+  settled_none answer ls judged none (inl took) = inr (inl (ls, judged, subst (λ (rs : List Judged). TakesOrTells what (most_rows * length way) rs (overlay way x.records) x answer y) (sym none) took))
   settled_none answer ls judged none (inr failed) = inr (inr (
     failed.0,
     fails_by (λ (why : Refusal). Fails why ((ls : List Judged) × AreJudged means x.declared now (standing way) ls × (with_some ls ≡ []) × (HasRoomOn way x → StoreHasFailed x y)))
@@ -127,7 +133,7 @@ module _ (means : Meanings) (now : ℤ) (way : Way) (what : Done) (x y : Machine
   pub settled_some : (ls rs : List Judged) → AreJudged means x.declared now (standing way) ls → rs ≡ with_some ls → (rs ≡ [] → ⊥) → Unchanged x y → Settles means now way what x (violated rs) y
   settled_some ls rs judged are some stay = inr (inl (ls, judged, decided (with_some ls) are))
     where
-      decided : (ws : List Judged) → rs ≡ ws → TakesOrTells what (length way) ws (overlay way x.records) x (violated rs) y
+      decided : (ws : List Judged) → rs ≡ ws → TakesOrTells what (most_rows * length way) ws (overlay way x.records) x (violated rs) y
       decided [] e = absurd (some e)
       decided (w ∷ ws) e = (ap violated e, stay)
 
@@ -225,7 +231,7 @@ module _ (means : Meanings) (now : ℤ) (parts : List Part) (what : Done) (x : M
         taken_so : AreListings means x.declared now parts (overlay way x.records) [] → IsTaken means x.declared now r x.records (overlay way x.records)
         taken_so none = (what, serves (done what) (overlay way x.records) (inr (inl (none, refl, refl))))
 
-        taken : AreListings means x.declared now parts (overlay way x.records) [] → Takes (overlay way x.records) (length parts) x y → Handles means now r x (done what) y
+        taken : AreListings means x.declared now parts (overlay way x.records) [] → Takes (overlay way x.records) (most_rows * length parts) x y → Handles means now r x (done what) y
         taken none takes = (
           inl (serves (done what) y.records (inr (inl (none, refl, takes.records)))),
           record {
@@ -233,16 +239,17 @@ module _ (means : Meanings) (now : ℤ) (parts : List Part) (what : Done) (x : M
             counts = takes.counts;
             was_open = λ after. takes.was_open;
             closes = λ before. inl takes.is_open;
-            gives = (takes.was_open, takes.is_open, subst (λ (ps : List Part). x.room ≤ y.room + length ps) (sym command.parts_are) takes.room);
+            gives = (takes.was_open, takes.is_open, subst (λ (ps : List Part). x.room ≤ y.room + most_rows * length ps) (sym command.parts_are) takes.room);
             finds = λ looks. inl takes.was_open;
             cause = λ e. cc;
           },
         )
 
-        decided : (ls : List Judged) → AreListings means x.declared now parts (overlay way x.records) ls → (answer : Answer) → TakesOrTells what (length way) ls (overlay way mid.records) mid answer y
+        decided : (ls : List Judged) → AreListings means x.declared now parts (overlay way x.records) ls → (answer : Answer) → TakesOrTells what (most_rows * length way) ls (overlay way mid.records) mid answer y
             → Handles means now r x answer y
         decided [] none answer d = subst (λ (a : Answer). Handles means now r x a y) (sym d.0)
-            (taken none (then_takes (overlay way x.records) (length way) (length parts) x mid y few stay (subst (λ (m : Records). Takes m (length way) mid y) same_records d.1)))
+            (taken none (then_takes (overlay way x.records) (most_rows * length way) (most_rows * length parts) x mid y (omega (arith, few)) stay
+            (subst (λ (m : Records). Takes m (most_rows * length way) mid y) same_records d.1)))
         decided (l ∷ ls) are answer d =
             let stays = still_unchanged x mid y stay d.1 in
             subst (λ (a : Answer). Handles means now r x a y) (sym d.0)
@@ -269,6 +276,31 @@ module _ (means : Meanings) (now : ℤ) (parts : List Part) (what : Done) (x : M
 
       pub change_settled : (answer : Answer) → Settles means now way what mid answer y → ChangesSo means now parts what x answer y
       change_settled answer settles = λ r command. settled r command answer settles
+
+-- ---- one set
+
+-- where the parts are one set, one object was set in the one record on the way
+pub one_set : (types : Declared) (forms : Roots) (parts : List Part) (start way : Way) (m : Records) → Agrees start m → AllByRecursion (Covers start) parts → length start ≤ count_needed parts
+    → steps_made types 0 (map (staged types forms) parts) start ≡ Ok way → IsOneSet (set_object parts) way m
+one_set types forms [] start way m agrees covers few made = tt
+one_set types forms (put id form j ∷ ps) start way m agrees covers few made = tt
+one_set types forms (remove id ∷ ps) start way m agrees covers few made = tt
+one_set types forms (set id object field j ∷ p ∷ ps) start way m agrees covers few made = tt
+one_set types forms (set id object field j ∷ []) start way m agrees covers few made =
+    (id, set_alone types id object field j start way m agrees (covers.0 id refl) (omega (arith, few)) made)
+
+-- the changes of it serve for what a set leaves
+module _ {E : Type 0} (object : List ℕ) (way : Way) where
+  pub set_after : (r : Result (Vec Change Global) E) → IfOk r (λ v. (id : List ℕ) (m : Records) → IsOneObject id object way m → after_all v.items m ≡ overlay way m)
+      → IfOk r (λ v. (m : Records) → IsOneSet (Some object) way m → after_all v.items m ≡ overlay way m)
+  set_after (Ok v) after = λ m one. after one.0 m one.1
+  set_after (Err e) after = tt
+
+  pub set_fit : (r : Result (Vec Change Global) E)
+      → IfOk r (λ v. (types : Declared) (forms : Roots) (id : List ℕ) (m : Records) → IsOneObject id object way m → AreFitting types forms way → ChangesFit types forms v.items m)
+      → IfOk r (λ v. (types : Declared) (forms : Roots) (m : Records) → IsOneSet (Some object) way m → AreFitting types forms way → ChangesFit types forms v.items m)
+  set_fit (Ok v) fit = λ types forms m one fitting. fit types forms one.0 m one.1 fitting
+  set_fit (Err e) fit = tt
 
 -- ---- a part by itself, and a batch
 

@@ -1,4 +1,4 @@
--- Room for so many more rows.
+-- Room for so many more rows of each table.
 use Rattle.std.proofs.Common.{◌≡◌, ◌<◌, ◌+◌, ◌-◌, ◌^◌, ◌≤◌, ◌≤ℤ◌, ◌<ℤ◌, ℕ, ℤ, pos, negsuc, ◌+ℤ◌, nat_lt, min, if◌then◌else◌, List, [], ◌∷◌, Bool, true, false, inl, inr, refl, sym, subst, arith}
 use Rattle.std.proofs.lemmas.Bool.{cases_lt}
 use Rattle.std.proofs.lemmas.Bool.Decides.{nat_tests}
@@ -8,7 +8,8 @@ use Rattle.sqlite.specs.Effect.{Database}
 use Rattle.sqlite.specs.Order.{Row}
 use Rattle.sqlite.specs.Tree.{rowid}
 use Rattle.sqlite_rules.specs.Lists.{Has}
-use Rattle.fv_store.specs.Causes.{HasRoom, LeavesRoom}
+use Rattle.fv_tables.specs.Causes.{HasRoom}
+use Rattle.fv_store.specs.Causes.{HasRooms, LeavesRoom}
 use Rattle.fv_engine_machine.specs.Machines.{rowids_from, room_above, room_in}
 
 -- fewer than there are rowids from one on leave it a rowid, and the one so many further
@@ -32,11 +33,16 @@ each_below [] n less row has = absurd has
 each_below (r ∷ rows) n less row (inl here) = subst (λ (q : Row). n < rowids_from (id_in (rowid q))) (sym here) (fewer_than_both n (rowids_from (id_in (rowid r))) (room_above rows) less).0
 each_below (r ∷ rows) n less row (inr later) = each_below rows n (fewer_than_both n (rowids_from (id_in (rowid r))) (room_above rows) less).1 row later
 
-pub room_for : (db : Database) (n : ℕ) → n < room_in db → HasRoom n db
-room_for db n less = record {
-  few = at_most (db.trees 1) n less;
-  below = λ row has. below_so_many (id_in (rowid row)) n (each_below (db.trees 1) n less row has);
+rows_for : (rows : List Row) (n : ℕ) → n < room_above rows → HasRoom n rows
+rows_for rows n less = record {
+  few = at_most rows n less;
+  below = λ row has. below_so_many (id_in (rowid row)) n (each_below rows n less row has);
 }
+
+pub room_for : (db : Database) (n : ℕ) → n < room_in db → HasRooms n db
+room_for db n less =
+    let both = fewer_than_both n (room_above (db.trees 1)) (room_above (db.trees 3)) less in
+    (rows_for (db.trees 1) n both.0, rows_for (db.trees 3) n both.1)
 
 -- ---- and back
 
@@ -55,8 +61,11 @@ below_each : (rows : List Row) (n : ℕ) → n < 2 ^ 63 → ((row : Row) → Has
 below_each [] n few each = few
 below_each (row ∷ rows) n few each = fewer_than_least n (rowids_from (id_in (rowid row))) (room_above rows) (each row (inl refl)) (below_each rows n few (λ r there. each r (inr there)))
 
-room_of : (db : Database) (n : ℕ) → HasRoom n db → n < room_in db
-room_of db n room = below_each (db.trees 1) n room.few (λ row has. so_many_below (id_in (rowid row)) n room.few (room.below row has))
+rows_of : (rows : List Row) (n : ℕ) → HasRoom n rows → n < room_above rows
+rows_of rows n room = below_each rows n room.few (λ row has. so_many_below (id_in (rowid row)) n room.few (room.below row has))
+
+room_of : (db : Database) (n : ℕ) → HasRooms n db → n < room_in db
+room_of db n room = fewer_than_least n (room_above (db.trees 1)) (room_above (db.trees 3)) (rows_of (db.trees 1) n room.0) (rows_of (db.trees 3) n room.1)
 
 at_most_fewer : (given before after : ℕ) → ((n : ℕ) → n + given < before → n < after) → before ≤ after + given
 at_most_fewer given before after h = elim (cases_lt given before) [

@@ -1,10 +1,11 @@
 -- What the connection to the database, which keeps the records, has to do with a step.
-use Rattle.std.specs.Prelude.{◌≡◌, ◌+◌, ◌≤◌, ◌<◌, ◌⊎◌, ℕ, ℤ, IsTrue, false, List, length}
+use Rattle.std.specs.Prelude.{◌≡◌, ◌+◌, ◌*◌, ◌≤◌, ◌<◌, ◌⊎◌, ℕ, ℤ, IsTrue, false, List, length}
 use Rattle.sqlite.specs.Disk.{MoreFaults}
 use Rattle.fv_engine_machine.specs.Machines.{Machine}
 use Rattle.fv_engine_machine.specs.Refusals.{parts_of}
 use Rattle.fv_engine_machine.specs.Step.{IsTaken, LooksUp, Step}
 use Rattle.fv_engine_command.specs.Commands.{Part, Request, asked}
+use Rattle.fv_engine_pending.specs.Altering.{most_rows}
 use Rattle.fv_engine_pending.specs.Touched.{IsTouched}
 use Rattle.fv_registry.specs.Meanings.{Meanings}
 use Rattle.fv_engine_reply.specs.Answers.{Answer, done, refused}
@@ -17,18 +18,20 @@ use Rattle.fv_store.specs.Records.{Kept, Records}
 abbrev pub StoreHasFailed : Machine Records → Machine Records → Type 0
 StoreHasFailed old new = MoreFaults old.faults new.faults ⊎ (old.is_open ≡ false)
 
--- the database has room for what parts leave: a rowid is left for each part, and no row is too long
+-- the database has room for what parts leave: for each part rowids are left for a record with as many objects as one may have, and no row is
+-- too long
 abbrev pub HasRoomFor : List Part → Records → Machine Records → Type 0
-HasRoomFor parts m old = (length parts < old.room) × ((id : List ℕ) (k : Kept) → IsTouched parts m id k → IsShort id k)
+HasRoomFor parts m old = (most_rows * length parts < old.room) × ((id : List ℕ) (k : Kept) → IsTouched parts m id k → IsShort id k)
 
 -- why the store refuses a request: it has failed, or that is a command that would be taken, and so it has where the database has room
 abbrev pub HasCause : Meanings → ℤ → Request → Machine Records → Machine Records → Type 0
 HasCause means now r old new = StoreHasFailed old new
     ⊎ ((m : Records) × IsTaken means old.declared now r old.records m × (HasRoomFor (parts_of r) m old → StoreHasFailed old new))
 
--- A taken command of so many parts goes by an open connection, which stays open, and gives out so many rowids, at most. Else none is given out.
+-- A taken command of so many parts goes by an open connection, which stays open, and gives out the rowids of so many records with the most
+-- objects, at most. Else none is given out.
 abbrev pub GivesOut : Answer → ℕ → Machine Records → Machine Records → Type 0
-GivesOut (done what) count old new = IsTrue old.is_open × IsTrue new.is_open × (old.room ≤ new.room + count)
+GivesOut (done what) count old new = IsTrue old.is_open × IsTrue new.is_open × (old.room ≤ new.room + most_rows * count)
 GivesOut _ count old new = IsTrue new.is_open → new.room ≡ old.room
 
 -- What a step leaves of a connection: what is declared stays, and no failure of the disk is forgotten. A connection that is shut stays shut,

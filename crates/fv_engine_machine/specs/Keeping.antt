@@ -1,5 +1,5 @@
 -- For private clauses: what a request is replied, and what a command that changes records and a check do on their way.
-use Rattle.std.specs.Prelude.{◌≡◌, ◌≢◌, ◌<◌, ◌+◌, ◌≤◌, ◌⊎◌, ℕ, ℤ, IsTrue, List, [], ◌∷◌, length, true, false, Option, Some, None, IsSome, option_map, Ok, Err}
+use Rattle.std.specs.Prelude.{◌≡◌, ◌≢◌, ◌<◌, ◌+◌, ◌*◌, ◌≤◌, ◌⊎◌, ℕ, ℤ, IsTrue, List, [], ◌∷◌, length, true, false, Option, Some, None, IsSome, option_map, Ok, Err}
 use Rattle.std.specs.List.{list_any}
 use Rattle.sqlite.specs.Disk.{MoreFaults}
 use Rattle.serde_json.specs.Data as json
@@ -7,10 +7,11 @@ use Rattle.fv_datum.specs.Data.{Data}
 use Rattle.fv_declare_schema.specs.Declarations.{Declarations}
 use Rattle.fv_engine_machine.specs.Causes.{StoreHasFailed, Handles}
 use Rattle.fv_engine_machine.specs.Machines.{Machine, contents, over, with_map}
-use Rattle.fv_engine_command.specs.Commands.{Part, Request}
+use Rattle.fv_engine_command.specs.Commands.{Part, set, Request}
 use Rattle.fv_engine_machine.specs.Refusals.{first_of, is_too_long, made, parts_of, refusal, told_fault, when}
 use Rattle.fv_engine_machine.specs.Step.{Changes, Checked, FieldChecked, LooksUp, Serves}
 use Rattle.fv_engine_machine.specs.Records.{AreJudged, OneIsOver, with_some}
+use Rattle.fv_engine_pending.specs.Altering.{IsOneObject, most_rows}
 use Rattle.fv_engine_pending.specs.Fits.{AreFitting, AreShort}
 use Rattle.fv_engine_pending.specs.Parts.{are_misshapen}
 use Rattle.fv_engine_pending.specs.Touched.{needs_record}
@@ -80,25 +81,35 @@ FitsWhereHeld s c way = HasCleanDisk s → IsTrue s.is_open → Holds s c → Ar
 
 -- the database has room for what stands on the way
 abbrev pub HasRoomOn : Way → Machine Records → Type 0
-HasRoomOn way old = (length way < old.room) × AreShort way
+HasRoomOn way old = (most_rows * length way < old.room) × AreShort way
+
+-- the name of the object that is set, where the parts are one set
+abbrev pub set_object : List Part → Option (List ℕ)
+set_object (set id object field j ∷ []) = Some object
+set_object _ = None
+
+-- where there is a name, one object of that name was set in the records, and nothing else stands on the way
+abbrev pub IsOneSet : Option (List ℕ) → Way → Records → Type 0
+IsOneSet None way m = Unit {0}
+IsOneSet (Some object) way m = (id : List ℕ) × IsOneObject id object way m
 
 -- what stands on the way is stored
 abbrev pub Keeps : Way → Done → Machine Records → Answer → Machine Records → Type 0
 Keeps way what old answer new =
-    ((answer ≡ done what) × Takes (overlay way old.records) (length way) old new)
+    ((answer ≡ done what) × Takes (overlay way old.records) (most_rows * length way) old new)
     ⊎ ((why : Refusal) × Fails why (HasRoomOn way old → StoreHasFailed old new) × (answer ≡ refused why) × Unchanged old new)
 
--- where no record has a violation, so many parts are taken and these are the records, and else all that have some are told
+-- where no record has a violation, these are the records, with so many rowids given out at most, and else all that have some are told
 abbrev pub TakesOrTells : Done → ℕ → List Judged → Records → Machine Records → Answer → Machine Records → Type 0
-TakesOrTells what count [] m old answer new = (answer ≡ done what) × Takes m count old new
-TakesOrTells what count (l ∷ ls) m old answer new = (answer ≡ violated (l ∷ ls)) × Unchanged old new
+TakesOrTells what given [] m old answer new = (answer ≡ done what) × Takes m given old new
+TakesOrTells what given (l ∷ ls) m old answer new = (answer ≡ violated (l ∷ ls)) × Unchanged old new
 
 -- what stands on the way is judged, and stored where nothing of it has a violation
 abbrev pub Settles : Meanings → ℤ → Way → Done → Machine Records → Answer → Machine Records → Type 0
 Settles means now way what old answer new =
     (OneIsOver old.declared (standing way) × (answer ≡ refused TooManyVisits) × Unchanged old new)
     ⊎ (((ls : List Judged) × AreJudged means old.declared now (standing way) ls
-    × TakesOrTells what (length way) (with_some ls) (overlay way old.records) old answer new)
+    × TakesOrTells what (most_rows * length way) (with_some ls) (overlay way old.records) old answer new)
     ⊎ ((why : Refusal) × Fails why ((ls : List Judged) × AreJudged means old.declared now (standing way) ls
     × (with_some ls ≡ []) × (HasRoomOn way old → StoreHasFailed old new))
     × (answer ≡ refused why) × Unchanged old new))

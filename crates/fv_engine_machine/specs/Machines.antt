@@ -10,8 +10,9 @@ use Rattle.fv_store.specs.Records.{Records, Contents}
 use Rattle.fv_store.specs.Stands.{Holds}
 
 -- What is declared and the records, as a map or as the connection to the database that keeps them; whether the connection is open, which a
--- failure of the disk may shut; how often the disk has failed; how many rowids are left: rowids end at 2 ^ 63 - 1, and these are counted from
--- the highest rowid of a record on, which counts too.
+-- failure of the disk may shut; how often the disk has failed; and the room for more rows. The rows of records are in one table and those of
+-- their objects in another. Each row of a table has a number there, its rowid, which is 2 ^ 63 - 1 at most. Room is how many rowids there are
+-- from the highest of a row on, which counts too, in the table that has fewer.
 pub record Machine (R : Type 0) : Type 0 where
   pub declared : Declarations
   pub records : R
@@ -29,9 +30,9 @@ abbrev pub room_above : List Row → ℕ
 room_above [] = 2 ^ 63
 room_above (row ∷ rows) = min (rowids_from (id_in (rowid row))) (room_above rows)
 
--- the same in the table of records
+-- the same in the table of records and in that of objects, whichever has fewer
 abbrev pub room_in : Database → ℕ
-room_in db = room_above (db.trees 1)
+room_in db = min (room_above (db.trees 1)) (room_above (db.trees 3))
 
 -- the machine over a connection
 abbrev pub over : {H : Type 0} → (H → State) → Declarations → H → Machine H

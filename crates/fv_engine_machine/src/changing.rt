@@ -1,17 +1,22 @@
 //! The parts of a command that changes records are made, judged at the end, and stored all together.
-ghost use Rattle.std.specs.Prelude.{◌≡◌, ◌≢◌, map};
+ghost use Rattle.std.specs.Prelude.{◌≡◌, ◌≢◌, ◌≤◌, ◌*◌, IfOk, length, map, option_map};
 ghost use Rattle.std.specs.Map.{keys_of};
 ghost use Rattle.fv_engine_command.specs.CommandView.{part_view};
 ghost use Rattle.fv_datum.specs.Moments.{IsMoment};
 ghost use Rattle.fv_declare_schema.specs.Declarations.{Declarations};
-ghost use Rattle.fv_engine_machine.specs.Keeping.{ChangesSo, FitsWhereHeld, Keeps, Moves, Settles, told_part};
+ghost use Rattle.fv_engine_machine.specs.Keeping.{ChangesSo, FitsWhereHeld, IsOneSet, Keeps, Moves, Settles, set_object, told_part};
 ghost use Rattle.fv_engine_machine.specs.Machines.{Becomes, contents, over};
 ghost use Rattle.fv_engine_machine.specs.Refusals.{part_refusal};
 ghost use Rattle.fv_engine_machine.specs.Step.{done_by};
-ghost use Rattle.fv_engine_pending.specs.Fits.{AreTyped};
-ghost use Rattle.fv_engine_pending.specs.Ways.{pending_view};
+ghost use Rattle.fv_engine_pending.specs.Altering.{most_rows};
+ghost use Rattle.fv_engine_pending.specs.Fits.{AreFitting, AreShort, AreTyped};
+ghost use Rattle.fv_engine_pending.specs.Ways.{overlay, pending_view};
 ghost use Rattle.fv_engine_reply.specs.Answers.{refused};
 ghost use Rattle.fv_engine_reply.specs.AnswerView.{answer_view};
+ghost use Rattle.fv_model_types.specs.Types.{Declared};
+ghost use Rattle.fv_store.specs.Causes.{AreShort as ChangesShort, rows_of_all};
+ghost use Rattle.fv_store.specs.Changes.{after_all, ChangesFit};
+ghost use Rattle.fv_store.specs.Records.{Records, Roots};
 ghost use Rattle.fv_store.specs.Stands.{Frame};
 ghost use Rattle.fv_datum.specs.Ascending.{IsAscending};
 ghost use Rattle.sqlite.specs.Held.{state};
@@ -23,9 +28,9 @@ use fv_engine_pending::{PartFault, Pending, apply_all, find_records, read_parts}
 use fv_engine_reply::{Answer, Done, Refusal};
 use fv_local::Rulebook;
 use fv_registry::RuleSet;
-use fv_store::Store;
+use fv_store::{Change, Store};
 use sqlite::Alter;
-use std::alloc::Global;
+use std::alloc::{AllocError, Global};
 
 /// What a part by itself does, as it is told.
 pub(crate) fn done_by(part: &Part) -> Done
@@ -59,19 +64,57 @@ fn unmade<'a>(done: Done, part: usize, fault: PartFault) -> Answer<'a>
     }
 }
 
-/// Stores what stands on the way.
+/// The name of the object that is set, where the parts are one set.
+fn set_object<'a>(parts: &[Part<'_, 'a>]) -> Option<&'a str>
+    ensures { option_map (λ s. s.now) result ≡ set_object (map part_view parts.now) }
+{
+    let [part] = parts else {
+        return None;
+    };
+    match part {
+        Part::Set { object, .. } => Some(*object),
+        _ => None,
+    }
+}
+
+/// The changes that leave the records as they are on the way; the change of one object alone, where
+/// its name is given.
+fn changes_of(
+    alloc: Global,
+    pending: Pending<'_>,
+    object: Option<&str>,
+) -> Result<Vec<Change>, AllocError>
+    ensures after { IfOk result (λ v. (m : Records)
+        → IsOneSet (option_map (λ s. s.now) object.entry) (pending_view pending.entry) m
+        → after_all v.items m ≡ overlay (pending_view pending.entry) m) }
+    ensures fit { IfOk result (λ v. (types : Declared) (forms : Roots) (m : Records)
+        → IsOneSet (option_map (λ s. s.now) object.entry) (pending_view pending.entry) m
+        → AreFitting types forms (pending_view pending.entry) → ChangesFit types forms v.items m) }
+    ensures short { IfOk result (λ v. AreShort (pending_view pending.entry) → ChangesShort v.items) }
+    ensures rows { IfOk result (λ v. (types : Declared) → AreTyped types (pending_view pending.entry)
+        → rows_of_all v.items ≤ most_rows * length (pending_view pending.entry)) }
+{
+    match object {
+        Some(object) => pending.into_object(alloc, object),
+        None => pending.into_changes(alloc),
+    }
+}
+
+/// Stores what stands on the way: one object alone, where its name is given.
 fn keep<'a, 'b, S: Alter>(
     store: &mut Store<S>,
     alloc: Global,
     pending: Pending<'b>,
+    object: Option<&str>,
     done: Done,
 ) -> Answer<'a>
     ensures frame { Frame (state S.Store store.old) (state S.Store store.new) }
-    ensures moves { (ds : Declarations) (bytes : _) (m : _)
+    ensures moves { (ds : Declarations) (bytes : _) (m : _) → AreTyped ds.types (pending_view pending.entry)
         → FitsWhereHeld (state S.Store store.old) (contents bytes ds m) (pending_view pending.entry)
+        → IsOneSet (option_map (λ s. s.now) object.entry) (pending_view pending.entry) m
         → Moves (state S.Store) ds bytes m store.old store.new (λ x y. Keeps (pending_view pending.entry) done x (answer_view result) y) }
 {
-    match pending.into_changes(alloc) {
+    match changes_of(alloc, pending, object) {
         Err(_) => Answer::Refused(Refusal::Memory),
         Ok(changes) => match store.commit(alloc, &changes) {
             Ok(()) => Answer::Done(done),
@@ -80,12 +123,14 @@ fn keep<'a, 'b, S: Alter>(
     }
 }
 
-/// Judges what stands on the way, and stores it where nothing of it has a violation.
+/// Judges what stands on the way, and stores it where nothing of it has a violation: one object alone,
+/// where its name is given.
 fn settle<'a, R: RuleSet, S: Alter>(
     store: &mut Store<S>,
     alloc: Global,
     book: &Rulebook<R>,
     pending: Pending<'a>,
+    object: Option<&str>,
     done: Done,
     now: i64,
 ) -> Answer<'a>
@@ -94,13 +139,14 @@ fn settle<'a, R: RuleSet, S: Alter>(
     ensures frame { Frame (state S.Store store.old) (state S.Store store.new) }
     ensures ascending { IsAscending (keys_of (pending_view pending.entry)) }
     ensures moves { (bytes : _) (m : _) → FitsWhereHeld (state S.Store store.old) (contents bytes book.now m) (pending_view pending.entry)
+        → IsOneSet (option_map (λ s. s.now) object.entry) (pending_view pending.entry) m
         → Moves (state S.Store) book.now bytes m store.old store.new
         (λ x y. Settles R.meaning now (pending_view pending.entry) done x (answer_view result) y) }
 {
     match judge(alloc, book, &pending, now) {
         Err(fault) => Answer::Refused(unjudged(fault)),
         Ok(records) => if records.is_empty() {
-            keep(store, alloc, pending, done)
+            keep(store, alloc, pending, object, done)
         } else {
             Answer::Violated { records }
         },
@@ -135,6 +181,6 @@ pub(crate) fn change<'a, R: RuleSet, S: Alter>(
     };
     match apply_all(&mut pending, alloc, schema.types(), steps) {
         Err((part, fault)) => unmade(done, part, fault),
-        Ok(()) => settle(store, alloc, book, pending, done, now),
+        Ok(()) => settle(store, alloc, book, pending, set_object(parts), done, now),
     }
 }

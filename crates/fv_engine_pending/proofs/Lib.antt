@@ -4,6 +4,7 @@ pub mod Entries
 pub mod Fitting
 pub mod Found
 pub mod Made
+pub mod OneObject
 pub mod Readings
 pub mod Stepping
 pub mod Touching

@@ -1,4 +1,5 @@
 pub mod Again
+pub mod Altering
 pub mod FaultNames
 pub mod Fits
 pub mod Parts

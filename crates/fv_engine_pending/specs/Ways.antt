@@ -1,5 +1,5 @@
 -- Records on the way: what stands at the ids that a command names, and nothing at those that have no record, before anything is written.
-use Rattle.std.specs.Prelude.{ℕ, List, [], ◌∷◌, ◌++◌, map, IsSome, Option, Some, None, option_map, unwrap_or, string_bytes}
+use Rattle.std.specs.Prelude.{ℕ, List, [], ◌∷◌, ◌++◌, map, IsSome, Option, Some, None, option_map, option_and_then, unwrap_or}
 use Rattle.std.specs.Borrow.{Bor}
 use Rattle.std.specs.BTreeMap.{insert_entry}
 use Rattle.std.specs.Cmp.Lexicographic.{slice_cmp}
@@ -7,12 +7,10 @@ use Rattle.std.specs.Map.{remove_entry}
 use Rattle.std.specs.Ordering.{nat_cmp}
 use Rattle.std.specs.Str.{bytes_eq}
 use Rattle.fv_datum.specs.Lookup.{at_name}
-use Rattle.fv_model.specs.Views.{bundle_view}
+use Rattle.fv_model.specs.Bundles.{Thing}
 use Rattle.fv_engine_pending.specs.declared.pending.Pending.{Pending}
 use Rattle.fv_store.specs.Records.{Kept, Records}
 use Rattle.fv_store.specs.Stored.{stored_view}
-use Rattle.fv_store.specs.declared.change.Change.{Change}
-use Rattle.fv_store.specs.declared.change.Change.TheVariants.{Put, Remove}
 use Rattle.fv_store.specs.declared.stored.Stored.{Stored}
 
 -- ids, each with the record that stands there, if there is one
@@ -57,7 +55,11 @@ abbrev pub standing : Way → List (List ℕ × Kept)
 standing [] = []
 standing (e ∷ es) = standing_entry e.0 e.1 ++ standing es
 
--- what a change leaves at its id
-abbrev pub change_entry : Change → List ℕ × Option Kept
-change_entry (Put id form bundle) = (string_bytes id, Some (record { form = string_bytes form; bundle = bundle_view bundle }))
-change_entry (Remove id) = (string_bytes id, None)
+-- the record of the one entry, with its id; none where there are more entries, or no record stands there
+abbrev pub only_standing : Way → Option (List ℕ × Kept)
+only_standing (e ∷ []) = option_map (λ k. (e.0, k)) e.1
+only_standing _ = None
+
+-- its object of that name, with the id
+abbrev pub lone_object : List ℕ → Way → Option (List ℕ × Thing)
+lone_object object way = option_and_then (λ e. option_map (λ t. (e.0, t)) (at_name object e.1.bundle.objects)) (only_standing way)

@@ -1,14 +1,17 @@
 //! Records on the way.
-ghost use Rattle.std.specs.Prelude.{◌≡◌, [], is_some, length, map, option_map, IfOk, OnOk};
+ghost use Rattle.std.specs.Prelude.{◌≡◌, ◌≤◌, ◌*◌, [], is_some, length, map, option_map, IfOk, OnOk};
 ghost use Rattle.fv_datum.specs.Lookup.{at_name};
-ghost use Rattle.fv_engine_pending.specs.Fits.{AreFitting, AreShort};
-ghost use Rattle.fv_engine_pending.specs.Ways.{way_entry, pending_view, change_entry, overlay, standing_at, left_at, without_id};
-ghost use Rattle.fv_store.specs.Causes.{AreShort as ChangesShort};
+ghost use Rattle.fv_engine_pending.specs.Altering.{IsOneObject, altered, leaves, most_rows, sets};
+ghost use Rattle.fv_engine_pending.specs.Fits.{AreFitting, AreShort, AreTyped};
+ghost use Rattle.fv_engine_pending.specs.Ways.{way_entry, pending_view, overlay, standing_at, left_at, lone_object, without_id};
+ghost use Rattle.fv_model.specs.Views.{object_view};
+ghost use Rattle.fv_store.specs.Causes.{AreShort as ChangesShort, rows_of_all};
 ghost use Rattle.fv_store.specs.Changes.{after_all, ChangesFit};
 ghost use Rattle.fv_store.specs.Records.{Records, Roots};
 ghost use Rattle.fv_store.specs.Stored.{stored_view};
 ghost use Rattle.fv_model_types.specs.Types.{Declared};
 
+use fv_model::Object;
 use fv_store::{Change, Stored};
 use std::alloc::{AllocError, Global};
 use std::collections::BTreeMap;
@@ -67,10 +70,11 @@ impl<'a> Pending<'a> {
     /// The changes that leave the records so.
     pub fn into_changes(self, alloc: Global) -> Result<Vec<Change>, AllocError>
         ensures after { IfOk result (λ v. (m : Records) → after_all v.items m ≡ overlay (pending_view self.entry) m) }
-        ensures fit { IfOk result (λ v. (types : Declared) (forms : Roots) → AreFitting types forms (pending_view self.entry)
-            → ChangesFit types forms v.items) }
+        ensures fit { IfOk result (λ v. (types : Declared) (forms : Roots) (m : Records)
+            → AreFitting types forms (pending_view self.entry) → ChangesFit types forms v.items m) }
         ensures short { IfOk result (λ v. AreShort (pending_view self.entry) → ChangesShort v.items) }
-        ensures count { IfOk result (λ v. length v.items ≡ length (pending_view self.entry)) }
+        ensures rows { IfOk result (λ v. (types : Declared) → AreTyped types (pending_view self.entry)
+            → rows_of_all v.items ≤ most_rows * length (pending_view self.entry)) }
     {
         let Pending { records } = self;
         let mut changes = Vec::with_capacity(alloc, records.len())?;
@@ -79,15 +83,63 @@ impl<'a> Pending<'a> {
         }
         Ok(changes)
     }
+
+    /// The change of the object of that name in the one record on the way, for a command that has set
+    /// it and nothing else: its row alone is written. Where there is no such object, or more than one
+    /// entry, these are the changes that leave the records so.
+    pub fn into_object(self, alloc: Global, object: &str) -> Result<Vec<Change>, AllocError>
+        ensures after { IfOk result (λ v. (id : _) (m : Records) → IsOneObject id object.now (pending_view self.entry) m
+            → after_all v.items m ≡ overlay (pending_view self.entry) m) }
+        ensures fit { IfOk result (λ v. (types : Declared) (forms : Roots) (id : _) (m : Records)
+            → IsOneObject id object.now (pending_view self.entry) m → AreFitting types forms (pending_view self.entry)
+            → ChangesFit types forms v.items m) }
+        ensures short { IfOk result (λ v. AreShort (pending_view self.entry) → ChangesShort v.items) }
+        ensures rows { IfOk result (λ v. (types : Declared) → AreTyped types (pending_view self.entry)
+            → rows_of_all v.items ≤ most_rows * length (pending_view self.entry)) }
+        ensures none { IfOk result (λ v. (id : _) (m : Records) → IsOneObject id object.now (pending_view self.entry) m
+            → rows_of_all v.items ≡ 0) }
+    {
+        let Some((id, there)) = self.lone_object(object) else {
+            return self.into_changes(alloc);
+        };
+        let mut changes = Vec::with_capacity(alloc, 1)?;
+        changes.push(object_change(alloc, id, object, there)?)?;
+        Ok(changes)
+    }
+
+    /// The object of that name of the record of the one entry, with its id; none where there are more
+    /// entries, or where no record or no such object stands there.
+    fn lone_object(&self, object: &str) -> Option<(&'a str, &Object)>
+        ensures { option_map (λ p. (p.0.now, object_view p.1.now)) result
+            ≡ lone_object object.now (pending_view self.now) }
+    {
+        if self.records.len() != 1 {
+            return None;
+        }
+        let (id, stored) = self.records.first_key_value()?;
+        let there = stored.as_ref()?.bundle.object(object)?;
+        Some((*id, there))
+    }
 }
 
 /// The change that leaves a record at an id, or none.
 fn change_of(alloc: Global, id: &str, stored: Option<Stored>) -> Result<Change, AllocError>
-    ensures { IfOk result (λ c. change_entry c ≡ (id.now, option_map stored_view stored)) }
+    ensures { IfOk result (λ c. altered c ≡ leaves id.now (option_map stored_view stored)) }
 {
     let id = String::from_str(alloc, id)?;
     match stored {
         Some(Stored { form, bundle }) => Ok(Change::Put { id, form, bundle }),
         None => Ok(Change::Remove { id }),
     }
+}
+
+/// The change that puts a copy of an object in the place of the one of that name of an id's record.
+fn object_change(alloc: Global, id: &str, name: &str, object: &Object) -> Result<Change, AllocError>
+    ensures { IfOk result (λ c. altered c ≡ sets id.now name.now (object_view object.now)) }
+{
+    Ok(Change::Object {
+        id: String::from_str(alloc, id)?,
+        name: String::from_str(alloc, name)?,
+        object: object.copy(alloc)?,
+    })
 }

@@ -7,7 +7,6 @@ ghost use Rattle.fv_engine_reply.specs.AnswerView.{judged_view};
 ghost use Rattle.fv_engine_reply.specs.Answers.{violated, shown, ids as ids_told};
 ghost use Rattle.fv_engine_reply.specs.Texts.{violation_json, judged_json, listing_json, refused_json, answer_json, answer_text};
 ghost use Rattle.fv_validate.specs.ViolationView.{violation_view};
-ghost use Rattle.json.specs.Print.{quoted};
 ghost use Rattle.serde_json.specs.Data as json;
 ghost use Rattle.serde_json.specs.View.{items_of, view as json_view};
 ghost use Rattle.serde_json.specs.Written.{compact_text, has_float};
@@ -16,7 +15,7 @@ use crate::answer::{Judged, Refusal};
 use crate::reply::Reply;
 use fv_datum::{DatumFault, write_datum};
 use fv_model::{Bundle, BundleFault};
-use fv_model_text::write_text;
+use fv_model_text::{quoted, write_text};
 use fv_validate::Violation;
 use serde_json::{Value, json, push};
 use std::alloc::{AllocError, Global};
@@ -191,13 +190,6 @@ pub(crate) fn part_refused(alloc: Global, part: usize, why: Refusal) -> Result<R
 {
     let value = part_refused_value(alloc, part, why)?;
     text_of(alloc, &value)
-}
-
-/// The JSON of a text.
-fn quoted(alloc: Global, text: &str) -> Result<String, AllocError>
-    ensures { IfOk result (λ s. string_bytes s ≡ quoted text.now) }
-{
-    Value::String(String::from_str(alloc, text)?).to_string(alloc)
 }
 
 /// `{"bundle":..,"form":..,"id":..,"ok":"get"}`.

@@ -19,7 +19,7 @@ use Rattle.fv_graph.proofs.Images.{from_flat_map, from_map, from_filter}
 use Rattle.fv_model_types.specs.Types.{number_of}
 use Rattle.fv_declare_schema.specs.Places.{Place, whole, field}
 use Rattle.fv_local.specs.Failures.{Standing, standing_at, failures_of}
-use Rattle.fv_local.proofs.Standings.{part_at, failures_at}
+use Rattle.fv_local.specs.Standings.{part_at, failures_at}
 use Rattle.fv_local.specs.Fields.{is_at, stands_in, is_of_field}
 use Rattle.fv_local.specs.Own.{own_in}
 use Rattle.fv_local.specs.Told.{AreRanksIn}

@@ -15,5 +15,4 @@ pub mod Reports
 pub mod Rows
 pub mod Sets
 pub mod Spans
-pub mod Standings
 pub mod Steps

@@ -27,7 +27,7 @@ use Rattle.fv_model_types.specs.Types.{number_of}
 use Rattle.fv_declare_schema.specs.Places.{Place, whole, field}
 use Rattle.fv_local.specs.FailureView.{failure_view}
 use Rattle.fv_local.specs.Failures.{Standing, standing_at, failures_of}
-use Rattle.fv_local.proofs.Standings.{part_at, failures_at}
+use Rattle.fv_local.specs.Standings.{part_at, failures_at}
 use Rattle.fv_local.specs.Own.{own_at, own_in}
 use Rattle.fv_local.specs.Told.{Told, datum_of, told_view, numbers_of, told_part, part_told, object_told, told_at, IsTold, IsToldFirst, IsToldIn}
 use Rattle.fv_local.specs.declared.failure.LocalFailure as code

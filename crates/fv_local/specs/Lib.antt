@@ -6,5 +6,6 @@ pub mod Judges
 pub mod Own
 pub mod Reached
 pub mod Spans
+pub mod Standings
 pub mod TableView
 pub mod Told

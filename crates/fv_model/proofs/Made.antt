@@ -1,9 +1,9 @@
 -- An object: names with its data.
-use Rattle.std.proofs.Common.{◌≡◌, ℕ, List, [], ◌∷◌, map, zip, false, Some, Ok, String, string_bytes, slice_get, length, refl, sym, ap, arith}
+use Rattle.std.proofs.Common.{◌≡◌, ℕ, List, [], ◌∷◌, map, zip, false, Some, Ok, String, string_bytes, slice_get, length, refl, sym, ap, subst, arith}
 use Rattle.std.specs.List.{All, AllByRecursion, list_any}
 use Rattle.std.specs.Map.{keys_of}
 use Rattle.std.specs.declared.alloc.Global.{Global}
-use Rattle.std.proofs.lemmas.List.Elements.{All-head, All-tail}
+use Rattle.std.proofs.lemmas.List.Elements.{All-nil, All-cons, All-head, All-tail}
 use Rattle.fv_datum.specs.Data.{Data}
 use Rattle.fv_datum.specs.Lookup.{at_name}
 use Rattle.fv_datum.specs.View.{view}
@@ -41,11 +41,24 @@ none_left [] ds none = refl
 none_left (n ∷ ns) [] none = refl
 none_left (n ∷ ns) (d ∷ ds) none = absurd (omega arith)
 
+-- a datum that can be written
+abbrev CanBeWritten : Datum → Type 0
+CanBeWritten d = IsWritten (view d)
+
 -- data that can be written, with their names
-pub written_fields : (ns : List (List ℕ)) (ds : List Datum) → All (λ d. IsWritten (view d)) ds → AllByRecursion (λ f. IsWritten f.1) (zip ns (map view ds))
+pub written_fields : (ns : List (List ℕ)) (ds : List Datum) → All CanBeWritten ds → AllByRecursion (λ f. IsWritten f.1) (zip ns (map view ds))
 written_fields [] ds all = tt
 written_fields (n ∷ ns) [] all = tt
-written_fields (n ∷ ns) (d ∷ ds) all = (All-head (λ x. IsWritten (view x)) d ds all, written_fields ns ds (All-tail (λ x. IsWritten (view x)) d ds all))
+written_fields (n ∷ ns) (d ∷ ds) all = (All-head CanBeWritten d ds all, written_fields ns ds (All-tail CanBeWritten d ds all))
+
+-- data of the same values as data that can be written
+pub written_alike : (xs ys : List Datum) → map view xs ≡ map view ys → All CanBeWritten ys → All CanBeWritten xs
+written_alike [] ys same all = All-nil CanBeWritten
+written_alike (x ∷ xs) [] same all = cc
+written_alike (x ∷ xs) (y ∷ ys) same all =
+    let head : view y ≡ view x = cc in
+    let tail : map view xs ≡ map view ys = cc in
+    All-cons CanBeWritten x xs (subst IsWritten head (All-head CanBeWritten y ys all)) (written_alike xs ys tail (All-tail CanBeWritten y ys all))
 
 -- an object, with its name, whose data can be written
 abbrev pub AreWritten : List ℕ × Thing → Type 0

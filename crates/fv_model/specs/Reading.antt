@@ -43,7 +43,7 @@ conditions ts asked d =
     ∷ (list_any (has_flaw misfits ts) d.objects, WrongKind)  -- B5: a datum isn't of its field's type use
     ∷ (list_any (has_flaw (dangles (object_types d.objects)) ts) d.objects, DanglingRef)  -- B6: a reference names no object
     ∷ (list_any (has_flaw (strays (object_types d.objects)) ts) d.objects, RefType)  -- B7: it names an object of another type than declared
-    ∷ (nat_lt most_objects (length d.objects) || list_any (has_flaw is_large ts) d.objects, TooLarge)  -- B8: more than 256 objects, or a datum that is too large
+    ∷ (nat_lt most_objects (length d.objects) || list_any (has_flaw is_large ts) d.objects, TooLarge)  -- B8: more than 256 objects, or too large a datum
     ∷ (option_map_or (λ type. is_other type (at_name d.root (object_types d.objects))) asked false, RootType)  -- B9: the root is of another type than asked
     ∷ []
 

@@ -24,14 +24,14 @@ use_of ts field t = at_name field (fields_of ts t.type_name)
 abbrev pub is_flawed : Flaw → Declared → List ℕ → json.Data → Option Thing → Bool
 is_flawed flaw ts field j there = option_map_or (λ t. flaw (use_of ts field t) j) there false
 
--- what can be wrong, in the order in which it is answered: a reference names an object of this bundle, of the declared type
+-- what can be wrong, in the order in which it is answered
 abbrev pub conditions : Declared → ObjectTypes → List ℕ → json.Data → Option Thing → List (Bool × BundleFault)
 conditions ts types field j there =
-    (is_flawed undeclared ts field j there, UnknownField)  -- B4
-    ∷ (is_flawed misfits ts field j there, WrongKind)  -- B5
-    ∷ (is_flawed (dangles types) ts field j there, DanglingRef)  -- B6
-    ∷ (is_flawed (strays types) ts field j there, RefType)  -- B7
-    ∷ (is_flawed is_large ts field j there, TooLarge)  -- B8
+    (is_flawed undeclared ts field j there, UnknownField)  -- B4: the object's type doesn't have the field
+    ∷ (is_flawed misfits ts field j there, WrongKind)  -- B5: the datum isn't of the field's type use
+    ∷ (is_flawed (dangles types) ts field j there, DanglingRef)  -- B6: a reference names no object of this bundle
+    ∷ (is_flawed (strays types) ts field j there, RefType)  -- B7: it names an object of another type than declared
+    ∷ (is_flawed is_large ts field j there, TooLarge)  -- B8: the datum is too large
     ∷ (not (is_some there), NoObject)  -- B10: there is no such object
     ∷ []
 

@@ -1,4 +1,4 @@
-ghost use Rattle.std.specs.Prelude.{◌≡◌, All, IsSome, map, option_map, slice_get};
+ghost use Rattle.std.specs.Prelude.{◌≡◌, All, IfOk, IsSome, map, option_map, slice_get};
 ghost use Rattle.std.proofs.Props.{props};
 ghost use Rattle.fv_datum.specs.Lookup.{at_name};
 ghost use Rattle.fv_datum.specs.View.{view};
@@ -12,6 +12,7 @@ use crate::typing::object_in;
 use fv_datum::Datum;
 use fv_model_types::{Fields, TypeId, Types};
 use indexmap::IndexMap;
+use std::alloc::{AllocError, Global};
 
 /// An object: its type, and a datum for each field of the type, in the fields' order.
 ///
@@ -22,11 +23,33 @@ pub struct Object {
     pub(crate) type_id: TypeId,
     pub(crate) data: Vec<Datum>,
     ghost typed: { IsSome (slice_get (types_view types) type_id.index) },
-    ghost written: { All (λ d. IsWritten (view d)) data.items },
+    pub ghost written: { All (λ d. IsWritten (view d)) data.items },
+}
+
+/// Copies of data.
+fn copied(alloc: Global, data: &[Datum]) -> Result<Vec<Datum>, AllocError>
+    ensures { IfOk result (λ v. map view v.items ≡ map view data.now) }
+{
+    let mut copies = Vec::with_capacity(alloc, data.len())?;
+    for datum in data {
+        copies.push(datum.copy(alloc)?)?;
+    }
+    Ok(copies)
 }
 
 impl Object {
     ghost use Rattle.fv_model.specs.Views.{object_view};
+
+    /// A copy of the object, which shares its types.
+    pub fn copy(&self, alloc: Global) -> Result<Object, AllocError>
+        ensures { IfOk result (λ o. object_view o ≡ object_view self.now) }
+    {
+        Ok(Object {
+            types: self.types.share()?,
+            type_id: self.type_id,
+            data: copied(alloc, &self.data)?,
+        })
+    }
 
     /// The name of the object's type.
     pub fn type_name(&self) -> &str

@@ -1,5 +1,5 @@
-//! Bundles: named objects of declared types, read from JSON and written as JSON; data by themselves; and
-//! one datum of a bundle changed.
+//! Bundles: named objects of declared types, read from JSON; data by themselves; and one datum of a
+//! bundle changed.
 #![tactic(auto)]
 
 mod build;
@@ -17,7 +17,7 @@ mod setting;
 mod singles;
 mod typing;
 mod value;
-mod writing;
+mod writable;
 
 pub use bundle::{Bundle, Object, Objects};
 pub use fault::BundleFault;
@@ -28,4 +28,3 @@ pub use setting::set_field;
 pub use singles::single;
 pub use typing::is_of_use;
 pub use value::read_value;
-pub use writing::write_bundle;

@@ -9,7 +9,7 @@ ghost use Rattle.fv_model.specs.Writing.{IsWritten};
 ghost use Rattle.fv_model_types.specs.Types.{fields_view};
 
 use crate::bundle::Object;
-use crate::writing::is_writable;
+use crate::writable::is_writable;
 use fv_datum::Datum;
 use fv_model_types::{Fields, TypeId, Types, use_in};
 use std::alloc::{AllocError, Global};

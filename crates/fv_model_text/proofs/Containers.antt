@@ -12,7 +12,7 @@ use Rattle.fv_datum.specs.Data.{Data, items_of, entries_of}
 use Rattle.fv_datum.specs.Written.{key_of, keys_fit, written, entries_written}
 use Rattle.fv_model.specs.Writing.{IsWritten, datum_json}
 use Rattle.fv_model_types.proofs.Back.{some_json, items_json}
-use Rattle.fv_model_text.proofs.InOrder.{Named, members_of, rises, put_all, put_all-member, put_all-in_order}
+use Rattle.fv_model_text.proofs.InOrder.{Named, members_of, rises, put_all, put_all-first}
 
 -- ---- lists
 
@@ -43,9 +43,7 @@ fit_rises e (f ∷ es) h =
 
 put_members : (es : List (Data × Data)) → keys_fit (entries_of es) ≡ true → put_all json.no_members (map entry_named es) ≡ members_of (map entry_named es)
 put_members [] h = refl
-put_members (e ∷ es) h =
-    let above = fit_rises e es h in
-    put_all-member (key_of e.0) (datum_json e.1) json.no_members (map entry_named es) above ∙ ap (json.member (key_of e.0) (datum_json e.1)) (put_all-in_order (key_of e.0) (map entry_named es) above)
+put_members (e ∷ es) h = put_all-first (entry_named e) (map entry_named es) (fit_rises e es h)
 
 pub map_written : (es : List (Data × Data)) → keys_fit (entries_of es) ≡ true → AllByRecursion (λ e. IsWritten e.1) es → written (datum.map (entries_of es)) ≡ Some (json.object (members_of (map entry_named es)))
 map_written es fit all = rw fit (ap (option_map json.object) (entries_put json.no_members es all) ∙ ap (λ ms. Some (json.object ms)) (put_members es fit))

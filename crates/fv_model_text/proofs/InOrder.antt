@@ -1,6 +1,8 @@
 -- Members that are written as their names come.
 use Rattle.std.proofs.Common.{◌≡◌, ◌&&◌, ℕ, List, [], ◌∷◌, ◌++◌, Bool, true, false, cond, if◌then◌else◌, Ordering, Less, Equal, Greater, nat_cmp, map, refl, sym, ap, ◌∙◌, append_assoc}
 use Rattle.std.specs.List.{fold}
+use Rattle.std.specs.List.Sorted.{IsStrictlySortedBy}
+use Rattle.std.specs.Map.{keys_of}
 use Rattle.std.specs.Ordering.{is_lt, ordering_reverse}
 use Rattle.std.specs.Cmp.Lexicographic.{slice_cmp}
 use Rattle.std.proofs.lemmas.Bool.{and_parts, and_from}
@@ -11,7 +13,7 @@ use Rattle.serde_json.specs.Data as json
 use Rattle.serde_json.specs.Written.{members_outline}
 use Rattle.fv_datum.specs.Data.{Data}
 use Rattle.fv_datum.specs.Written.{is_null}
-use Rattle.fv_model.specs.Bundles.{Thing}
+use Rattle.fv_model.specs.Bundles.{IsAscending, Thing, Things}
 use Rattle.fv_model.specs.Writing.{datum_json, thing_json}
 
 abbrev pub Named : Type 0
@@ -88,6 +90,20 @@ added-in_order fs h = added-put_all json.no_members fs ∙ put_all-in_order [] (
 
 pub objects_added-in_order : (os : List (List ℕ × Thing)) → rises [] (map named os) ≡ true → objects_added json.no_members os ≡ members_of (map named os)
 objects_added-in_order os h = objects_added-put_all json.no_members os ∙ put_all-in_order [] (map named os) h
+
+-- the first name may be any
+pub put_all-first : (e : Named) (es : List Named) → rises e.0 es ≡ true → put_all json.no_members (e ∷ es) ≡ members_of (e ∷ es)
+put_all-first e es h = put_all-member e.0 e.1 json.no_members es h ∙ ap (json.member e.0 e.1) (put_all-in_order e.0 es h)
+
+ascending_rises : (k : List ℕ) (os : Things) → IsAscending (k ∷ keys_of os) → rises k (map named os) ≡ true
+unfolding IsStrictlySortedBy
+ascending_rises k [] h = refl
+ascending_rises k (o ∷ os) h = and_from _ _ (ap is_lt h.0.0) (ascending_rises o.0 os h.1)
+
+-- objects whose names ascend are the members in their order
+pub objects_in_order : (os : Things) → IsAscending (keys_of os) → objects_added json.no_members os ≡ members_of (map named os)
+objects_in_order [] h = refl
+objects_in_order (o ∷ os) h = objects_added-put_all json.no_members (o ∷ os) ∙ put_all-first (named o) (map named os) (ascending_rises o.0 os h)
 
 -- ---- their tokens
 

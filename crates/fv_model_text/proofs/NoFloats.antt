@@ -101,8 +101,11 @@ added_float : (ms : json.Members) (fs : List (List ℕ × Data)) → members_hav
 added_float ms [] h = h
 added_float ms (f ∷ fs) h = added_float (cond (is_null f.1) ms (json.put f.0 (datum_json f.1) ms)) fs (unless (is_null f.1) _ _ h (put_float f.0 (datum_json f.1) ms (datum_json_float f.1) h))
 
+pub fields_float : (fs : List (List ℕ × Data)) → has_float (json.object (added json.no_members fs)) ≡ false
+fields_float fs = added_float json.no_members fs refl
+
 thing_float : (t : Thing) → has_float (thing_json t) ≡ false
-thing_float t = neither (members_have_float (added json.no_members t.fields)) false (added_float json.no_members t.fields refl) refl
+thing_float t = neither (members_have_float (added json.no_members t.fields)) false (fields_float t.fields) refl
 
 objects_float : (ms : json.Members) (os : List (List ℕ × Thing)) → members_have_float ms ≡ false → members_have_float (objects_added ms os) ≡ false
 objects_float ms [] h = h

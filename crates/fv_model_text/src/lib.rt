@@ -1,8 +1,10 @@
-//! The texts of bundles, written straight from the bundles.
+//! Bundles and the fields of objects as JSON, and as texts that are written straight from them.
 #![tactic(auto)]
 
 mod data;
 mod halt;
 mod text;
+mod tree;
 
-pub use text::write_text;
+pub use text::{fields_text, quoted, write_text};
+pub use tree::{write_bundle, write_fields};

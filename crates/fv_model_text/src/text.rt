@@ -1,7 +1,8 @@
-//! A bundle whose names ascend, as those of a bundle that was read do, is written as it comes. Of
-//! any other a tree of JSON is made first, which puts the names in order.
-ghost use Rattle.std.specs.Prelude.{◌≡◌, IfOk, string_bytes};
+//! A bundle or an object whose names ascend, as those of a bundle that was read do, is written as it
+//! comes. Of any other a tree of JSON is made first, which puts the names in order.
+ghost use Rattle.std.specs.Prelude.{◌≡◌, IfOk, [], string_bytes};
 ghost use Rattle.std.specs.List.{fold};
+ghost use Rattle.json.specs.Print.{print, quoted};
 ghost use Rattle.serde_json.specs.Data as json;
 ghost use Rattle.serde_json.specs.Written.{compact_text};
 ghost use Rattle.fv_model.specs.Views.{object_view, objects_view, bundle_view};
@@ -10,13 +11,14 @@ ghost use Rattle.fv_model_text.specs.Puts.{Puts};
 
 use crate::data::write_datum;
 use crate::halt::Halt;
+use crate::tree::{write_bundle, write_fields};
 use fv_datum::is_null;
-use fv_model::{Bundle, Object, Objects, write_bundle};
+use fv_model::{Bundle, Object, Objects};
 use json::Writer;
 use std::alloc::{AllocError, Global};
 
 /// An object of the fields that aren't null.
-fn write_fields(out: &mut Writer, object: &Object) -> Result<(), Halt>
+fn put_fields(out: &mut Writer, object: &Object) -> Result<(), Halt>
     ensures { Puts result out.old out.new (json.object (fields_json (object_view object.now).fields)) }
 {
     out.begin_object()?;
@@ -41,7 +43,7 @@ fn write_object(out: &mut Writer, object: &Object) -> Result<(), Halt>
 {
     out.begin_object()?;
     out.key("fields")?;
-    write_fields(out, object)?;
+    put_fields(out, object)?;
     out.key("type")?;
     out.string(object.type_name())?;
     out.end_object()?;
@@ -80,16 +82,24 @@ fn write_members(out: &mut Writer, bundle: &Bundle) -> Result<(), Halt>
     Ok(())
 }
 
+/// The text that a writer, which began with nothing, has written.
+fn text_of(out: Writer) -> String
+    requires { out.before ≡ [] }
+    ensures { string_bytes result ≡ print out.tokens }
+{
+    match String::from_utf8(out.into_inner()) {
+        Ok(text) => text,
+        Err(_) => unreachable!(),
+    }
+}
+
 /// The text of a bundle that can be written as it comes.
 fn text_in_order(alloc: Global, bundle: &Bundle) -> Result<String, Halt>
     ensures { IfOk result (λ s. string_bytes s ≡ compact_text (bundle_json (bundle_view bundle.now))) }
 {
     let mut out = Writer::new(Vec::with_capacity(alloc, 512)?);
     write_members(&mut out, bundle)?;
-    match String::from_utf8(out.into_inner()) {
-        Ok(text) => Ok(text),
-        Err(_) => unreachable!(),
-    }
+    Ok(text_of(out))
 }
 
 /// The text of a bundle: its JSON with no space, and members ascending by the bytes of their names.
@@ -101,4 +111,36 @@ pub fn write_text(alloc: Global, bundle: &Bundle) -> Result<String, AllocError>
         Err(Halt::Memory) => Err(AllocError),
         Err(Halt::NotPlain) => write_bundle(alloc, bundle)?.to_string(alloc),
     }
+}
+
+/// The text of an object's fields that can be written as they come.
+fn fields_in_order(alloc: Global, object: &Object) -> Result<String, Halt>
+    ensures { IfOk result (λ s. string_bytes s
+        ≡ compact_text (json.object (fields_json (object_view object.now).fields))) }
+{
+    let mut out = Writer::new(Vec::with_capacity(alloc, 512)?);
+    put_fields(&mut out, object)?;
+    Ok(text_of(out))
+}
+
+/// The text of an object's fields that aren't null: their JSON with no space, and members ascending by
+/// the bytes of their names.
+pub fn fields_text(alloc: Global, object: &Object) -> Result<String, AllocError>
+    ensures { IfOk result (λ s. string_bytes s
+        ≡ compact_text (json.object (fields_json (object_view object.now).fields))) }
+{
+    match fields_in_order(alloc, object) {
+        Ok(text) => Ok(text),
+        Err(Halt::Memory) => Err(AllocError),
+        Err(Halt::NotPlain) => write_fields(alloc, object)?.to_string(alloc),
+    }
+}
+
+/// A text as JSON: in quotes, with the shortest escapes.
+pub fn quoted(alloc: Global, text: &str) -> Result<String, AllocError>
+    ensures { IfOk result (λ s. string_bytes s ≡ quoted text.now) }
+{
+    let mut out = Writer::new(Vec::with_capacity(alloc, text.len() + 2)?);
+    out.string(text)?;
+    Ok(text_of(out))
 }

@@ -8,7 +8,7 @@ use Rattle.fv_datum.specs.Outcomes.{Gives}
 use Rattle.fv_model.specs.declared.fault.BundleFault.{BundleFault}
 use Rattle.fv_model.specs.declared.fault.BundleFault.TheVariants as bundle
 use Rattle.fv_store.specs.declared.fault.StoreFault.{StoreFault}
-use Rattle.fv_store.specs.declared.fault.StoreFault.TheVariants.{Memory}
+use Rattle.fv_store.specs.declared.fault.StoreFault.TheVariants.{Store, Memory}
 use Rattle.fv_store.specs.Faults.{json_fault, bundle_fault}
 
 -- a text that reads as some value is JSON
@@ -41,3 +41,11 @@ same_bundle a b e = let same : a ≡ b = cc in ap Ok same
 
 pub same_value : {X : Type 0} (a b : X) → Some a ≡ Some b → a ≡ b
 same_value a b e = cc
+
+-- a fault of the store is want of memory, where there is something to give
+pub store_memory : (e : StoreFault) (b : Bundled) → (e ≢ Memory → ◌≡◌ {A = Result Bundled StoreFault} (Ok b) (Err e)) → e ≡ Memory
+store_memory Memory b h = refl
+store_memory Store b h = absurd (let never = h (λ e. cc) in cc)
+
+pub same_ok : (a b : Bundled) → ◌≡◌ {A = Result Bundled StoreFault} (Ok a) (Ok b) → a ≡ b
+same_ok a b e = cc

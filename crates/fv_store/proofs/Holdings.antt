@@ -1,23 +1,34 @@
 -- What a store that holds records hands out, and holds after changes.
-use Rattle.std.proofs.Common.{◌≡◌, ℕ, Bool, true, false, cond, List, [], ◌∷◌, bytes_eq, string_bytes, Option, Some, None, option_map, Result, Ok, Err, OnErr, IfErr, IfOk, IsTrue, sym, ap, subst, ◌∙◌}
+use Rattle.std.proofs.Common.{◌≡◌, ℕ, Bool, true, false, cond, List, [], ◌∷◌, bytes_eq, string_bytes, Option, Some, None, option_map, Result, Ok, Err, OnErr, IfErr, IfOk, IsTrue, inl, inr, refl, sym, ap, subst, ◌∙◌}
+use Rattle.std.proofs.lemmas.Bool.{cases_Bool}
+use Rattle.std.proofs.lemmas.Slice.Eq.{bytes_eq-Decides}
+use Rattle.fv_model.specs.Bundles.{Thing}
+use Rattle.fv_model.specs.Views.{object_view}
 use Rattle.std.specs.Option.{ForSome}
 use Rattle.sqlite.specs.State.{State, HasCleanDisk}
 use Rattle.fv_datum.specs.Outcomes.{Gives}
 use Rattle.fv_model_types.specs.Types.{Declared}
 use Rattle.fv_model.specs.WellTyped.{IsWellTyped}
 use Rattle.fv_store.specs.declared.change.Change.{Change}
-use Rattle.fv_store.specs.declared.change.Change.TheVariants.{Put, Remove}
+use Rattle.fv_store.specs.declared.change.Change.TheVariants.{Put, Object, Remove}
 use Rattle.fv_store.specs.declared.fault.StoreFault.{StoreFault}
 use Rattle.fv_store.specs.declared.fault.StoreFault.TheVariants.{Store, Memory}
-use Rattle.fv_store.specs.declared.shown.Shown.{Shown}
+use Rattle.fv_tables.specs.declared.entry.RecordRows.{RecordRows}
 use Rattle.fv_store.specs.declared.stored.Stored.{Stored}
 use Rattle.sqlite.specs.declared.error.Error.{Error}
 use Rattle.fv_store.specs.Faults.{fault_of}
 use Rattle.fv_store.specs.Changes.{after, after_all, changed, ChangeFits, ChangesFit}
-use Rattle.fv_store.specs.Records.{Kept, Records, Contents, Fits, AllFit, with_record, without_record, with_records}
+use Rattle.fv_store.specs.Records.{Kept, Records, Contents, Fits, AllFit, with_record, without_record, with_thing, with_object, with_records}
 use Rattle.fv_store.specs.Steps.{Keeps, IsRefusal}
-use Rattle.fv_store.specs.Showing.{kept_text, shown_view}
-use Rattle.fv_store.specs.Stands.{Frame, Holds}
+use Rattle.fv_store.specs.Written.{entry_of, written_of}
+use Rattle.fv_store.proofs.Kept.{all_kept}
+use Rattle.fv_store.proofs.Named.{all_named}
+use Rattle.fv_tables.specs.Changes.{AllNamed}
+use Rattle.fv_tables.specs.Stands as tables
+use Rattle.fv_tables.specs.Stored.{rows_view}
+use Rattle.fv_store.specs.Stands.{Frame, Holds, about_rows}
+use Rattle.sqlite.specs.Order.{Row}
+use Rattle.fv_tables.specs.Stands.{Entries}
 use Rattle.fv_store.specs.Stored.{stored_view}
 use Rattle.fv_store.proofs.Openings.{keeps_of, holds_after}
 
@@ -27,12 +38,12 @@ given_is : (r : Result (Option Stored) StoreFault) (o : Option Kept) → Gives M
 given_is (Err e) o h = tt
 given_is (Ok x) o h = cc
 
-module _ (s : State) (types : Declared) (id : List ℕ) (found : Option Shown) (r : Result (Option Stored) StoreFault) (clean : HasCleanDisk s) (live : IsTrue s.is_open)
-    (shown : (d : List ℕ) (m : Records) → Keeps s d m → option_map shown_view found ≡ option_map kept_text (m id))
-    (gives : (o : Option Kept) → ForSome o (λ k. IsWellTyped types k.bundle) → option_map shown_view found ≡ option_map kept_text o → Gives Memory (option_map stored_view) r (Ok o)) where
+module _ (s : State) (types : Declared) (id : List ℕ) (found : Option RecordRows) (r : Result (Option Stored) StoreFault) (clean : HasCleanDisk s) (live : IsTrue s.is_open)
+    (shown : (d : List Row) (m : Entries) → tables.Keeps s d m → AllNamed m → option_map rows_view found ≡ m id)
+    (gives : (o : Option Kept) → ForSome o (λ k. IsWellTyped types k.bundle) → option_map rows_view found ≡ option_map entry_of (option_map written_of o) → Gives Memory (option_map stored_view) r (Ok o)) where
   handed : (c : Contents) → c.types ≡ types → Holds s c → Gives Memory (option_map stored_view) r (Ok (c.records id))
   handed c same holds = gives (c.records id) (λ k known. subst (λ (ts : Declared). IsWellTyped ts k.bundle) same ((holds clean live).0.fit id k known).typed)
-      (shown c.bytes c.records (keeps_of s c holds))
+      (shown (about_rows c.bytes) (all_kept c.records) (keeps_of s c holds) (all_named c (holds clean live).0.fit))
 
   pub handed_out : IfOk r (λ o. (c : Contents) → c.types ≡ types → Holds s c → option_map stored_view o ≡ c.records id)
   handed_out = go r handed
@@ -70,11 +81,26 @@ fits_without k id fit other e known = go (bytes_eq other id) (k.records other) (
     go true o were is = cc
     go false o were is = were is
 
-fits_after : (k : Contents) (c : Change) → ChangeFits k.types k.roots c → AllFit k → AllFit (with_records (after c k.records) k)
+fits_with_object : (k : Contents) (id name : List ℕ) (t : Thing) → ((kept : Kept) → k.records id ≡ Some kept → Fits k.types k.roots (with_thing name t kept)) → AllFit k
+    → AllFit (with_records (with_object id name t k.records) k)
+fits_with_object k id name t fits fit other e known = elim (cases_Bool (bytes_eq other id)) [
+  | inl same ↦
+      let is = (bytes_eq-Decides other id).0 same in
+      let from = changed_from (k.records other) (rw same at known) in
+      subst (Fits k.types k.roots) from.2 (fits from.0 (subst (λ i. k.records i ≡ Some from.0) is from.1))
+  | inr apart ↦ fit other e (rw apart at known)
+]
+  where
+    changed_from : (o : Option Kept) → option_map (with_thing name t) o ≡ Some e → (was : Kept) × (o ≡ Some was) × (with_thing name t was ≡ e)
+    changed_from None is = cc
+    changed_from (Some was) is = (was, refl, cc)
+
+fits_after : (k : Contents) (c : Change) → ChangeFits k.types k.roots c k.records → AllFit k → AllFit (with_records (after c k.records) k)
 fits_after k (Put id form bundle) fits fit = fits_with k (string_bytes id) _ fits fit
+fits_after k (Object id name object) fits fit = fits_with_object k (string_bytes id) (string_bytes name) (object_view object) fits fit
 fits_after k (Remove id) fits fit = fits_without k (string_bytes id) fit
 
-pub fits_after_all : (cs : List Change) (k : Contents) → ChangesFit k.types k.roots cs → AllFit k → AllFit (changed cs k)
+pub fits_after_all : (cs : List Change) (k : Contents) → ChangesFit k.types k.roots cs k.records → AllFit k → AllFit (changed cs k)
 fits_after_all [] k fits fit = fit
 fits_after_all (c ∷ cs) k fits fit = fits_after_all cs (with_records (after c k.records) k) fits.1 (fits_after k c fits.0 fit)
 
@@ -84,7 +110,7 @@ module _ (old new : State) (frame : Frame old new) where
   commit_made cs h k fit = holds_after old new k (after_all cs k.records) frame (h k.bytes k.records) (λ _. fit)
 
   pub commit_done : (cs : List Change) → ((d : List ℕ) (m : Records) → Keeps old d m → Keeps new d (after_all cs m))
-      → (k : Contents) → ChangesFit k.types k.roots cs → Holds old k → Holds new (changed cs k)
+      → (k : Contents) → ChangesFit k.types k.roots cs k.records → Holds old k → Holds new (changed cs k)
   commit_done cs h k fits = holds_after old new k (after_all cs k.records) frame (h k.bytes k.records) (fits_after_all cs k fits)
 
   pub commit_undone : {X E : Type 0} (q : Result X E) → ((d : List ℕ) (m : Records) → Keeps old d m → Keeps new d m)

@@ -1,18 +1,20 @@
 -- What an open finds and leaves.
-use Rattle.std.proofs.Common.{◌≡◌, ◌≢◌, ◌==◌, ℕ, Bool, true, false, not, cond, length, List, bytes_eq, Option, Some, None, Result, Ok, Err, OnOk, IfErr, IsTrue, inl, inr, refl, sym, ap, subst, ◌∙◌}
+use Rattle.std.proofs.Common.{◌≡◌, ◌≢◌, ◌==◌, ℕ, Bool, true, false, not, cond, length, List, [], ◌∷◌, slice_get, bytes_eq, Option, Some, None, Result, Ok, Err, OnOk, IfErr, IsTrue, inl, inr, refl, sym, ap, subst, ◌∙◌}
 use Rattle.std.proofs.lemmas.Slice.Eq.{bytes_eq-Decides}
 use Rattle.std.proofs.lemmas.Bool.{cases_Bool}
 use Rattle.sqlite.specs.Schema.{Schema}
 use Rattle.sqlite.specs.declared.error.Error.{Error}
 use Rattle.sqlite.specs.Effect.{Database}
+use Rattle.sqlite.specs.Order.{Row}
 use Rattle.sqlite.specs.State.{State, HasCleanDisk}
 use Rattle.fv_datum.specs.Outcomes.{Gives, unless_fault}
 use Rattle.fv_store.specs.declared.fault.OpenStoreFault.{OpenStoreFault}
 use Rattle.fv_store.specs.declared.fault.OpenStoreFault.TheVariants.{OtherVersion, OtherDeclarations, Store, Memory}
 use Rattle.fv_store.specs.Faults.{about_fault, open_fault_of, IsAboutFault}
 use Rattle.fv_store.specs.Records.{Kept, Records, Contents, AllFit, no_records, with_records}
-use Rattle.fv_store.specs.Tables.{store_schema}
-use Rattle.fv_store.specs.Stands.{Frame, HasTables, Stands, Holds, Opens, IsBlank, Stays}
+use Rattle.fv_tables.specs.About.{ShowsAbout, shown_about}
+use Rattle.fv_tables.specs.Tables.{store_schema}
+use Rattle.fv_store.specs.Stands.{Frame, Stands, Holds, Opens, IsBlank, Stays, TellsAbout, tables_version}
 use Rattle.fv_store.specs.Steps.{Keeps, IsTaken, IsCaused, IsRefusal, IsOpenExcused}
 
 -- a frame says nothing of the limit on steps
@@ -26,6 +28,14 @@ abbrev Judges : Answer → Option OpenStoreFault → Type 0
 Judges r o = Gives Memory (λ u. u) r (unless_fault o tt)
 
 -- ---- the row of `about`
+
+pub about_first : (rows : List Row) (version : ℕ) (d : List ℕ) (row : Row) → Some row ≡ slice_get rows 0 → ShowsAbout rows version d → row ≡ shown_about version d
+about_first [] version d row some h = absurd cc
+about_first (r ∷ rows) version d row some h = let same : row ≡ r = cc in same ∙ h
+
+pub about_never : (rows : List Row) (version : ℕ) (d : List ℕ) → None ≡ slice_get rows 0 → ShowsAbout rows version d → ⊥
+about_never [] version d none h = h
+about_never (row ∷ rows) version d none h = absurd cc
 
 judges_ok : (r : Answer) (o : Option OpenStoreFault) → Judges r o → OnOk r (o ≡ None)
 judges_ok (Err e) o h = tt
@@ -42,16 +52,16 @@ is_fault : (e : OpenStoreFault) (o : Option OpenStoreFault) → ◌≡◌ {A = A
 is_fault e None h = absurd cc
 is_fault e (Some f) h = let same : f ≡ e = cc in ap Some same
 
-pub taken_all : (s : State) (r : Answer) (given : List ℕ) → ((version : ℕ) (d : List ℕ) → HasTables s.now version d → Judges r (about_fault version d given)) → OnOk r (IsTaken s given)
+pub taken_all : (s : State) (r : Answer) (given : List ℕ) → ((version : ℕ) (d : List ℕ) → TellsAbout version d s.now → Judges r (about_fault version d given)) → OnOk r (IsTaken s given)
 taken_all s (Err e) given h = tt
 taken_all s (Ok u) given h = λ version d tells. judges_ok (Ok u) (about_fault version d given) (h version d tells)
 
-pub caused_all : (s : State) (r : Answer) (given : List ℕ) → IsTrue s.is_open → (IsBlank s.now → ⊥) → ((version : ℕ) (d : List ℕ) → HasTables s.now version d → Judges r (about_fault version d given)) → IfErr r (IsCaused s given)
+pub caused_all : (s : State) (r : Answer) (given : List ℕ) → IsTrue s.is_open → (IsBlank s.now → ⊥) → ((version : ℕ) (d : List ℕ) → TellsAbout version d s.now → Judges r (about_fault version d given)) → IfErr r (IsCaused s given)
 caused_all s (Ok u) given live filled h = tt
 caused_all s (Err e) given live filled h = λ fault. (live, filled, λ version d tells. is_fault e (about_fault version d given) (h version d tells (is_not_memory e fault)))
 
 never_store : (version : ℕ) (d given : List ℕ) → about_fault version d given ≡ Some Store → ⊥
-never_store version d given = go (not (version == 1)) (not (bytes_eq d given))
+never_store version d given = go (not (version == tables_version)) (not (bytes_eq d given))
   where
     go : (a b : Bool) → ◌≡◌ {A = Option OpenStoreFault} (cond a (Some OtherVersion) (cond b (Some OtherDeclarations) None)) (Some Store) → ⊥
     go true b h = cc
@@ -59,8 +69,8 @@ never_store version d given = go (not (version == 1)) (not (bytes_eq d given))
     go false false h = cc
 
 -- the row of `about` is no cause for `Store`
-pub excused_all : (old new : State) (r : Answer) (given : List ℕ) → ((version : ℕ) (d : List ℕ) → HasTables old.now version d → Judges r (about_fault version d given))
-    → IfErr r (λ e. (version : ℕ) (d : List ℕ) → HasTables old.now version d → IsOpenExcused old new e)
+pub excused_all : (old new : State) (r : Answer) (given : List ℕ) → ((version : ℕ) (d : List ℕ) → TellsAbout version d old.now → Judges r (about_fault version d given))
+    → IfErr r (λ e. (version : ℕ) (d : List ℕ) → TellsAbout version d old.now → IsOpenExcused old new e)
 excused_all old new (Ok u) given h = tt
 excused_all old new (Err e) given h = λ version d tells is.
     absurd (never_store version d given (is_fault e (about_fault version d given) (h version d tells (λ memory. let wrong : Store ≡ Memory = sym is ∙ memory in cc)) ∙ ap Some is))
@@ -69,21 +79,21 @@ excused_all old new (Err e) given h = λ version d tells is.
 pub is_refusal : (e : Error) → open_fault_of e ≡ Store → IsRefusal e
 is_refusal e is memory = let wrong : Memory ≡ Store = sym (ap open_fault_of memory) ∙ is in cc
 
--- of version 1 the declarations alone are judged
-fault_is : (d given : List ℕ) → about_fault 1 d given ≡ cond (bytes_eq d given) None (Some OtherDeclarations)
+-- of the version of these tables the declarations alone are judged
+fault_is : (d given : List ℕ) → about_fault tables_version d given ≡ cond (bytes_eq d given) None (Some OtherDeclarations)
 fault_is d given = go (bytes_eq d given)
   where
     go : (b : Bool) → ◌≡◌ {A = Option OpenStoreFault} (cond (not b) (Some OtherDeclarations) None) (cond b None (Some OtherDeclarations))
     go true = refl
     go false = refl
 
-none_is_same : (d given : List ℕ) → about_fault 1 d given ≡ None → d ≡ given
+none_is_same : (d given : List ℕ) → about_fault tables_version d given ≡ None → d ≡ given
 none_is_same d given none = elim (cases_Bool (bytes_eq d given)) [
   | inl same ↦ (bytes_eq-Decides d given).0 same
   | inr other ↦ absurd (let is = sym (fault_is d given) ∙ none in let never : ◌≡◌ {A = Option OpenStoreFault} (Some OtherDeclarations) None = rw other at is in cc)
 ]
 
-no_version : (d given : List ℕ) → about_fault 1 d given ≡ Some OtherVersion → ⊥
+no_version : (d given : List ℕ) → about_fault tables_version d given ≡ Some OtherVersion → ⊥
 no_version d given h =
     let is = sym (fault_is d given) ∙ h in
     elim (cases_Bool (bytes_eq d given)) [
@@ -91,7 +101,7 @@ no_version d given h =
       | inr other ↦ let never : ◌≡◌ {A = Option OpenStoreFault} (Some OtherDeclarations) (Some OtherVersion) = rw other at is in cc
     ]
 
-are_other : (d given : List ℕ) → about_fault 1 d given ≡ Some OtherDeclarations → d ≢ given
+are_other : (d given : List ℕ) → about_fault tables_version d given ≡ Some OtherDeclarations → d ≢ given
 are_other d given h same =
     let is = sym (fault_is d given) ∙ h in
     let never : ◌≡◌ {A = Option OpenStoreFault} None (Some OtherDeclarations) = rw ((bytes_eq-Decides d given).1 same) at is in
@@ -99,11 +109,11 @@ are_other d given h same =
 
 -- ---- a blank database
 
-zero_is_not_two : ◌≢◌ {A = ℕ} 0 2
-zero_is_not_two e = cc
+zero_is_not_three : ◌≢◌ {A = ℕ} 0 3
+zero_is_not_three e = cc
 
 pub never_blank : (db : Database) → IsBlank db → db.schema ≡ store_schema → ⊥
-never_blank db blank is = zero_is_not_two (ap (λ (s : Schema). length s.tables) (sym blank ∙ is))
+never_blank db blank is = zero_is_not_three (ap (λ (s : Schema). length s.tables) (sym blank ∙ is))
 
 -- ---- what stands
 
@@ -128,7 +138,7 @@ module _ (old new : State) (frame : Frame old new) where
   holds_stays : (old.now.schema ≡ store_schema → Stays old new) → (k : Contents) → Holds old k → Holds new k
   holds_stays stays k holds sure live =
       let was = holds (frame.clean sure) (frame.was_open sure live) in
-      let it = stays was.0.spells.tables.schema sure live in
+      let it = stays was.0.spells.schema sure live in
       (subst (λ db. Stands db k) (sym it.2) was.0, subst (λ db. Stands db k) (sym it.3) was.1)
 
   pub opens_ok : (given : List ℕ) → (IsBlank old.now → Keeps new given no_records) → (old.now.schema ≡ store_schema → Stays old new)
@@ -149,14 +159,18 @@ module _ (old new : State) (frame : Frame old new) where
 
 -- ---- what a refusal says of a database that is blank or stands
 
+-- what stands tells its version and its declarations
+told : {db : Database} (k : Contents) → Stands db k → TellsAbout tables_version k.bytes db
+told k stands = (inr stands.spells.schema, stands.spells.about)
+
 pub opens_version : (s : State) (given : List ℕ) (k : Contents) → HasCleanDisk s → IsCaused s given OtherVersion → Opens s k → ⊥
 opens_version s given k clean cause (inl blank) = let is = cause tt in is.1 (blank clean is.0).0
-opens_version s given k clean cause (inr holds) = let is = cause tt in no_version k.bytes given (is.2 1 k.bytes (holds clean is.0).0.spells.tables)
+opens_version s given k clean cause (inr holds) = let is = cause tt in no_version k.bytes given (is.2 tables_version k.bytes (told k (holds clean is.0).0))
 
 pub opens_declarations : (s : State) (given : List ℕ) (k : Contents) → HasCleanDisk s → IsCaused s given OtherDeclarations → Opens s k → k.bytes ≢ given
 opens_declarations s given k clean cause (inl blank) = let is = cause tt in absurd (is.1 (blank clean is.0).0)
-opens_declarations s given k clean cause (inr holds) = let is = cause tt in are_other k.bytes given (is.2 1 k.bytes (holds clean is.0).0.spells.tables)
+opens_declarations s given k clean cause (inr holds) = let is = cause tt in are_other k.bytes given (is.2 tables_version k.bytes (told k (holds clean is.0).0))
 
 -- what was taken has these declarations
 pub taken_same : (s : State) (given : List ℕ) (k : Contents) → HasCleanDisk s → IsTrue s.is_open → IsTaken s given → Holds s k → k.bytes ≡ given
-taken_same s given k clean live taken holds = none_is_same k.bytes given (taken 1 k.bytes (holds clean live).0.spells.tables)
+taken_same s given k clean live taken holds = none_is_same k.bytes given (taken tables_version k.bytes (told k (holds clean live).0))

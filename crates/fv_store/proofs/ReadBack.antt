@@ -28,7 +28,7 @@ use Rattle.fv_model.specs.Bundles.{Thing, Things, Bundled}
 use Rattle.fv_model.specs.WellTyped.{NamesObject, FitsUse, FieldsAre, FitsType, IsWellTyped}
 use Rattle.fv_model_types.specs.Writing.{datum_json}
 use Rattle.fv_model.specs.Writing.{thing_json, bundle_json}
-use Rattle.fv_store.specs.Records.{bundle_text}
+use Rattle.fv_store.specs.Texts.{bundle_text}
 
 -- ---- data that are read back
 

@@ -1,14 +1,15 @@
 -- What changes make of the records.
-use Rattle.std.specs.Prelude.{List, [], ◌∷◌, string_bytes}
+use Rattle.std.specs.Prelude.{◌≡◌, List, [], ◌∷◌, Some, string_bytes}
 use Rattle.fv_model_types.specs.Types.{Declared}
-use Rattle.fv_model.specs.Views.{bundle_view}
+use Rattle.fv_model.specs.Views.{object_view, bundle_view}
 use Rattle.fv_store.specs.declared.change.Change.{Change}
-use Rattle.fv_store.specs.declared.change.Change.TheVariants.{Put, Remove}
-use Rattle.fv_store.specs.Records.{Records, Roots, Fits, Contents, with_record, without_record, with_records}
+use Rattle.fv_store.specs.declared.change.Change.TheVariants.{Put, Object, Remove}
+use Rattle.fv_store.specs.Records.{Kept, Records, Roots, Fits, Contents, with_record, without_record, with_thing, with_object, with_records}
 
--- after one change: what is put is the record of its id, and what is removed is gone
+-- after one change: what is put is the record of its id, an object is the one of its name in its record, and what is removed is gone
 abbrev pub after : Change → Records → Records
 after (Put id form bundle) m = with_record (string_bytes id) (record { form = string_bytes form; bundle = bundle_view bundle }) m
+after (Object id name object) m = with_object (string_bytes id) (string_bytes name) (object_view object) m
 after (Remove id) m = without_record (string_bytes id) m
 
 -- the changes in order
@@ -20,12 +21,14 @@ after_all (c ∷ cs) m = after_all cs (after c m)
 abbrev pub changed : List Change → Contents → Contents
 changed cs c = with_records (after_all cs c.records) c
 
--- what is put fits
-abbrev pub ChangeFits : Declared → Roots → Change → Type 0
-ChangeFits types roots (Put id form bundle) = Fits types roots (record { form = string_bytes form; bundle = bundle_view bundle })
-ChangeFits types roots (Remove id) = Unit {0}
+-- what is put fits, and so does the record with an object in it
+abbrev pub ChangeFits : Declared → Roots → Change → Records → Type 0
+ChangeFits types roots (Put id form bundle) m = Fits types roots (record { form = string_bytes form; bundle = bundle_view bundle })
+ChangeFits types roots (Object id name object) m =
+    (k : Kept) → m (string_bytes id) ≡ Some k → Fits types roots (with_thing (string_bytes name) (object_view object) k)
+ChangeFits types roots (Remove id) m = Unit {0}
 
--- the same of each change
-abbrev pub ChangesFit : Declared → Roots → List Change → Type 0
-ChangesFit types roots [] = Unit {0}
-ChangesFit types roots (c ∷ cs) = ChangeFits types roots c × ChangesFit types roots cs
+-- the same of each change, made of the records that those before it leave
+abbrev pub ChangesFit : Declared → Roots → List Change → Records → Type 0
+ChangesFit types roots [] m = Unit {0}
+ChangesFit types roots (c ∷ cs) m = ChangeFits types roots c m × ChangesFit types roots cs (after c m)

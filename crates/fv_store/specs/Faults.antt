@@ -13,6 +13,7 @@ use Rattle.fv_store.specs.declared.fault.OpenStoreFault.{OpenStoreFault}
 use Rattle.fv_store.specs.declared.fault.OpenStoreFault.TheVariants as refusal
 use Rattle.fv_store.specs.declared.fault.StoreFault.{StoreFault}
 use Rattle.fv_store.specs.declared.fault.StoreFault.TheVariants.{Store, Memory}
+use Rattle.fv_store.specs.Stands.{tables_version}
 
 -- of an error of the database
 abbrev pub fault_of : Error → StoreFault
@@ -42,4 +43,5 @@ IsAboutFault _ = ⊥
 
 -- of the row of `about`: the version first, and then the declarations
 abbrev pub about_fault : ℕ → List ℕ → List ℕ → Option OpenStoreFault
-about_fault version stored given = first ((not (version == 1), refusal.OtherVersion) ∷ (not (bytes_eq stored given), refusal.OtherDeclarations) ∷ [])
+about_fault version stored given =
+    first ((not (version == tables_version), refusal.OtherVersion) ∷ (not (bytes_eq stored given), refusal.OtherDeclarations) ∷ [])

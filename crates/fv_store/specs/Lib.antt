@@ -1,16 +1,13 @@
 pub mod Again
 pub mod Causes
 pub mod Changes
-pub mod Excuses
 pub mod FaultNames
 pub mod Faults
-pub mod Keeping
 pub mod Lists
 pub mod Pages
 pub mod Records
-pub mod Showing
 pub mod Stands
 pub mod Steps
 pub mod Stored
-pub mod Tables
+pub mod Texts
 pub mod Written

@@ -1,10 +1,8 @@
 -- The ids of the records of a form.
-use Rattle.std.specs.Prelude.{◌≡◌, ℕ, List, [], ◌∷◌, take, Some}
+use Rattle.std.specs.Prelude.{◌≡◌, ℕ, List, take, Some}
 use Rattle.std.specs.Ordering.{nat_cmp}
 use Rattle.std.specs.declared.cmp.Ordering.TheVariants.{Less}
 use Rattle.std.specs.Cmp.Lexicographic.{slice_cmp}
-use Rattle.sqlite.specs.declared.types.Value.TheVariants.{Text as Words}
-use Rattle.sqlite.specs.Order.{Row}
 use Rattle.sqlite_rules.specs.Lists.{Has}
 use Rattle.fv_datum.specs.Ascending.{IsAscending}
 use Rattle.fv_store.specs.Records.{Kept, Records}
@@ -25,7 +23,3 @@ pub record AreListed (m : Records) (form above : List ℕ) (ids : List (List ℕ
 -- the first of them, so many at most
 abbrev pub Lists : Records → List ℕ → List ℕ → ℕ → List (List ℕ) → Type 0
 Lists m form above limit ids = (all : List (List ℕ)) × AreListed m form above all × (ids ≡ take limit all)
-
--- the row that shows an id
-abbrev pub id_row : List ℕ → Row
-id_row id = Words id ∷ []

@@ -1,12 +1,11 @@
 -- Records by their ids.
-use Rattle.std.specs.Prelude.{◌≡◌, ℕ, List, Option, Some, None, if◌then◌else◌}
+use Rattle.std.specs.Prelude.{◌≡◌, ℕ, List, Option, Some, None, option_map, if◌then◌else◌}
 use Rattle.std.specs.Str.{bytes_eq}
-use Rattle.serde_json.specs.Written.{compact_text}
 use Rattle.fv_datum.specs.Lookup.{at_name}
 use Rattle.fv_model_types.specs.Types.{Declared}
-use Rattle.fv_model.specs.Bundles.{Bundled}
+use Rattle.fv_model.specs.Bundles.{Bundled, Thing}
+use Rattle.fv_model.specs.Replaced.{changed_at}
 use Rattle.fv_model.specs.WellTyped.{IsWellTyped, HasRootType}
-use Rattle.fv_model.specs.Writing.{bundle_json}
 
 -- a record: the name of its form, and its bundle
 pub record Kept : Type 0 where
@@ -29,9 +28,13 @@ with_record id k m other = if bytes_eq other id then Some k else m other
 abbrev pub without_record : List ℕ → Records → Records
 without_record id m other = if bytes_eq other id then None else m other
 
--- the text that a bundle is kept as: its JSON with no space
-unfoldable pub bundle_text : Bundled → List ℕ
-bundle_text b = compact_text (bundle_json b)
+-- the record with this object in the place of that of its name; the same where there is none
+abbrev pub with_thing : List ℕ → Thing → Kept → Kept
+with_thing name t k = record { form = k.form; bundle = record { root = k.bundle.root; objects = changed_at name (λ _. t) k.bundle.objects } }
+
+-- the id's record, where there is one, has this object, and the others are as before
+abbrev pub with_object : List ℕ → List ℕ → Thing → Records → Records
+with_object id name t m other = if bytes_eq other id then option_map (with_thing name t) (m other) else m other
 
 -- the type of each form's root
 abbrev pub Roots : Type 0

@@ -1,8 +1,10 @@
--- What is written of records.
+-- What is written of records, and the rows that keep it.
 use Rattle.std.specs.Prelude.{ℕ, List, Option, Some, None, map, option_map, if◌then◌else◌}
 use Rattle.std.specs.Str.{bytes_eq}
 use Rattle.serde_json.specs.Data as json
+use Rattle.serde_json.specs.Written.{compact_text}
 use Rattle.fv_model.specs.Writing.{named_written}
+use Rattle.fv_tables.specs.Stands.{Part, Entry, Entries}
 use Rattle.fv_store.specs.Records.{Kept, Records}
 
 -- what is written of a record: its form, its root's name, and its objects by their names, each with its type's name and its fields' JSON
@@ -28,3 +30,21 @@ with_written id w ws other = if bytes_eq other id then Some w else ws other
 -- the id has no record, and of the others the same is written as before
 abbrev pub without_written : List ℕ → Writings → Writings
 without_written id ws other = if bytes_eq other id then None else ws other
+
+-- ---- the rows
+
+-- the text that an object's fields are kept as: their JSON with no space
+unfoldable pub fields_text : json.Members → List ℕ
+fields_text fields = compact_text (json.object fields)
+
+-- what the row of an object keeps beside its record's id: its name, its type's name and its fields' text
+abbrev pub object_kept : List ℕ × (List ℕ × json.Members) → List ℕ × Part
+object_kept o = (o.0, record { kind = o.1.0; fields = fields_text o.1.1 })
+
+-- what the rows of a record keep beside its id
+abbrev pub entry_of : Written → Entry
+entry_of w = record { form = w.form; root = w.root; objects = map object_kept w.objects }
+
+-- the same of each record
+abbrev pub entries : Writings → Entries
+entries ws id = option_map entry_of (ws id)

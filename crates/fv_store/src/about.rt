@@ -2,13 +2,13 @@
 ghost use Rattle.std.specs.Prelude.{◌≡◌, ℕ, List};
 ghost use Rattle.fv_datum.specs.Outcomes.{Gives, unless_fault};
 ghost use Rattle.fv_store.specs.Faults.{about_fault};
-ghost use Rattle.fv_store.specs.Showing.{shown_about};
+ghost use Rattle.fv_tables.specs.About.{shown_about};
 
 use crate::fault::OpenStoreFault;
 use sqlite::Row;
 
 /// The version of the tables.
-const VERSION: i64 = 1;
+const VERSION: i64 = 2;
 
 /// Takes a row that shows this version and these declarations.
 ///

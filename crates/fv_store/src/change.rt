@@ -1,6 +1,6 @@
 //! Changes of the records.
 
-use fv_model::Bundle;
+use fv_model::{Bundle, Object};
 
 /// A change of the records.
 #[derive(Drop)]
@@ -10,6 +10,13 @@ pub enum Change {
         id: String,
         form: String,
         bundle: Bundle,
+    },
+    /// The object of that name of the id's record is this one from now on, where there is one. Its row
+    /// alone is written.
+    Object {
+        id: String,
+        name: String,
+        object: Object,
     },
     /// The id has no record from now on, whether or not there was one.
     Remove {

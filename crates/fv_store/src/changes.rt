@@ -1,38 +1,100 @@
 //! Changes are made in one transaction.
-ghost use Rattle.std.specs.Prelude.{◌≡◌, false, length, IfErr, None, OnOk, OnErr};
+ghost use Rattle.std.specs.Prelude.{◌≡◌, ◌+◌, false, length, IfErr, None, OnOk, OnErr};
 ghost use Rattle.sqlite.specs.State.{HasCleanDisk, KeepsCommit};
-ghost use Rattle.fv_store.specs.Stands.{Frame, IsLive, Spells, Stays};
 ghost use Rattle.sqlite.specs.Held.{state};
-ghost use Rattle.fv_store.specs.Causes.{AreShort, HasRoom, LeavesRoom, PutsShort};
+ghost use Rattle.fv_model.specs.Views.{object_view, bundle_view};
+ghost use Rattle.fv_store.specs.Causes.{AreShort, HasRooms, IsShort, IsShortObject, LeavesRoom, WritesShort, rows_of, rows_of_all};
 ghost use Rattle.fv_store.specs.Changes.{after, after_all};
-ghost use Rattle.fv_store.specs.Steps.{Advances, Always, Inside, IsExcused, IsSettled, Keeps, Makes, MakesAll};
+ghost use Rattle.fv_store.specs.Records.{with_object, with_record, without_record};
+ghost use Rattle.fv_store.specs.Stands.{Frame, IsLive, Spells, Stays};
+ghost use Rattle.fv_store.specs.Steps.{Advances, Inside, IsExcused, IsSettled, Keeps, Makes, MakesAll};
+ghost use Rattle.fv_store.specs.Written.{writings};
 
 use crate::change::Change;
-use crate::records::{put_record, remove_record};
+use crate::object_rows::{fields_of, object_rows};
+use fv_model::{Bundle, Object};
+use fv_tables::{put_record, remove_record, set_object};
 use sqlite::{Alter, Connection, Error, Transaction};
 use std::alloc::Global;
 
-/// Makes one change.
-fn apply<S: Alter>(
+/// Writes a record, in place of the one that is there.
+fn put<S: Alter>(
     tx: &mut Transaction<'_, S>,
     alloc: Global,
-    change: &Change,
-) -> Result<usize, Error>
+    id: &str,
+    form: &str,
+    bundle: &Bundle,
+) -> Result<(), Error>
+    ensures same_reference { tx.new.conn.ghost_name ≡ tx.old.conn.ghost_name }
+    ensures frame { Frame (state S.Store tx.old.conn.now) (state S.Store tx.new.conn.now) }
+    ensures limit { tx.new.conn.now.step_limit ≡ tx.old.conn.now.step_limit }
+    ensures kept { Inside S.Store tx.old.conn.now tx.new.conn.now KeepsCommit }
+    ensures done { Inside S.Store tx.old.conn.now tx.new.conn.now (λ old new. OnOk result (Advances old new
+        (Makes (1 + length (bundle_view bundle.now).objects)
+        (with_record id.now (record { form = form.now; bundle = bundle_view bundle.now }))))) }
+    ensures cause { Inside S.Store tx.old.conn.now tx.new.conn.now (λ old new. tx.old.conn.now.step_limit ≡ None
+        → IfErr result (λ e. (d : _) (m : _) → Spells old.now d (writings m)
+        → HasRooms (1 + length (bundle_view bundle.now).objects) old.now
+        → IsShort id.now (record { form = form.now; bundle = bundle_view bundle.now }) → IsExcused old new e)) }
+{
+    let objects = object_rows(alloc, bundle)?;
+    put_record(tx, id, form, bundle.root(), &objects)
+}
+
+/// Writes an object of a record in place of the one of that name, where there is one.
+fn set<S: Alter>(
+    tx: &mut Transaction<'_, S>,
+    alloc: Global,
+    id: &str,
+    name: &str,
+    object: &Object,
+) -> Result<(), Error>
     ensures same_reference { tx.new.conn.ghost_name ≡ tx.old.conn.ghost_name }
     ensures frame { Frame (state S.Store tx.old.conn.now) (state S.Store tx.new.conn.now) }
     ensures limit { tx.new.conn.now.step_limit ≡ tx.old.conn.now.step_limit }
     ensures kept { Inside S.Store tx.old.conn.now tx.new.conn.now KeepsCommit }
     ensures done { Inside S.Store tx.old.conn.now tx.new.conn.now
-        (λ old new. OnOk result (Advances old new (Makes 1 Always (after change.now)))) }
+        (λ old new. OnOk result (Advances old new (Makes 0 (with_object id.now name.now (object_view object.now))))) }
     ensures cause { Inside S.Store tx.old.conn.now tx.new.conn.now (λ old new. tx.old.conn.now.step_limit ≡ None
-        → IfErr result (λ e. (d : _) (m : _) → Spells old.now d m → HasRoom 1 old.now → PutsShort change.now
-        → IsExcused old new e)) }
+        → IfErr result (λ e. (d : _) (m : _) → Spells old.now d (writings m) → HasRooms 0 old.now
+        → IsShortObject id.now (name.now, object_view object.now) → IsExcused old new e)) }
+{
+    let fields = fields_of(alloc, object)?;
+    set_object(tx, id, name, object.type_name(), fields.as_str())?;
+    Ok(())
+}
+
+/// Takes a record out, where there is one.
+fn remove<S: Alter>(tx: &mut Transaction<'_, S>, id: &str) -> Result<(), Error>
+    ensures same_reference { tx.new.conn.ghost_name ≡ tx.old.conn.ghost_name }
+    ensures frame { Frame (state S.Store tx.old.conn.now) (state S.Store tx.new.conn.now) }
+    ensures limit { tx.new.conn.now.step_limit ≡ tx.old.conn.now.step_limit }
+    ensures kept { Inside S.Store tx.old.conn.now tx.new.conn.now KeepsCommit }
+    ensures done { Inside S.Store tx.old.conn.now tx.new.conn.now
+        (λ old new. OnOk result (Advances old new (Makes 0 (without_record id.now)))) }
+    ensures cause { Inside S.Store tx.old.conn.now tx.new.conn.now (λ old new. tx.old.conn.now.step_limit ≡ None
+        → IfErr result (λ e. (d : _) (m : _) → Spells old.now d (writings m) → IsExcused old new e)) }
+{
+    remove_record(tx, id)?;
+    Ok(())
+}
+
+/// Makes one change.
+fn apply<S: Alter>(tx: &mut Transaction<'_, S>, alloc: Global, change: &Change) -> Result<(), Error>
+    ensures same_reference { tx.new.conn.ghost_name ≡ tx.old.conn.ghost_name }
+    ensures frame { Frame (state S.Store tx.old.conn.now) (state S.Store tx.new.conn.now) }
+    ensures limit { tx.new.conn.now.step_limit ≡ tx.old.conn.now.step_limit }
+    ensures kept { Inside S.Store tx.old.conn.now tx.new.conn.now KeepsCommit }
+    ensures done { Inside S.Store tx.old.conn.now tx.new.conn.now
+        (λ old new. OnOk result (Advances old new (Makes (rows_of change.now) (after change.now)))) }
+    ensures cause { Inside S.Store tx.old.conn.now tx.new.conn.now (λ old new. tx.old.conn.now.step_limit ≡ None
+        → IfErr result (λ e. (d : _) (m : _) → Spells old.now d (writings m) → HasRooms (rows_of change.now) old.now
+        → WritesShort change.now → IsExcused old new e)) }
 {
     match change {
-        Change::Put { id, form, bundle } => {
-            put_record(tx, alloc, id.as_str(), form.as_str(), bundle)
-        }
-        Change::Remove { id } => remove_record(tx, id.as_str()),
+        Change::Put { id, form, bundle } => put(tx, alloc, id.as_str(), form.as_str(), bundle),
+        Change::Object { id, name, object } => set(tx, alloc, id.as_str(), name.as_str(), object),
+        Change::Remove { id } => remove(tx, id.as_str()),
     }
 }
 
@@ -49,7 +111,7 @@ fn apply_all<S: Alter>(
     ensures done { Inside S.Store tx.old.conn.now tx.new.conn.now
         (λ old new. OnOk result (Advances old new (MakesAll changes.now))) }
     ensures cause { Inside S.Store tx.old.conn.now tx.new.conn.now (λ old new. tx.old.conn.now.step_limit ≡ None
-        → IfErr result (λ e. (d : _) (m : _) → Spells old.now d m → HasRoom (length changes.now) old.now
+        → IfErr result (λ e. (d : _) (m : _) → Spells old.now d (writings m) → HasRooms (rows_of_all changes.now) old.now
         → AreShort changes.now → IsExcused old new e)) }
 {
     'changes: for change in changes {
@@ -74,13 +136,14 @@ pub(crate) fn commit<S: Alter>(
         → Keeps (state S.Store conn.new) d (after_all changes.now m)) }
     ensures room { HasCleanDisk (state S.Store conn.new) → OnOk result ((d : _) (m : _)
         → Keeps (state S.Store conn.old) d m
-        → LeavesRoom (length changes.now) (state S.Store conn.old).now (state S.Store conn.new).now) }
+        → LeavesRoom (rows_of_all changes.now) (state S.Store conn.old).now (state S.Store conn.new).now) }
     ensures undone { OnErr result ((d : _) (m : _) → Keeps (state S.Store conn.old) d m
         → Keeps (state S.Store conn.new) d m) }
     ensures untouched { OnErr result (Stays (state S.Store conn.old) (state S.Store conn.new)) }
     ensures cause { HasCleanDisk (state S.Store conn.new) → conn.old.step_limit ≡ None → IfErr result (λ e.
-        (d : _) (m : _) → Keeps (state S.Store conn.old) d m → HasRoom (length changes.now) (state S.Store conn.old).now
-        → AreShort changes.now → IsExcused (state S.Store conn.old) (state S.Store conn.new) e) }
+        (d : _) (m : _) → Keeps (state S.Store conn.old) d m
+        → HasRooms (rows_of_all changes.now) (state S.Store conn.old).now → AreShort changes.now
+        → IsExcused (state S.Store conn.old) (state S.Store conn.new) e) }
 {
     let mut tx = conn.transaction();
     apply_all(&mut tx, alloc, changes)?;

@@ -43,6 +43,14 @@ impl From<Error> for StoreFault {
     }
 }
 
+impl From<AllocError> for StoreFault {
+    ghost from_gives = { λ _ fault. fault ≡ Memory };
+
+    fn from(_error: AllocError) -> StoreFault {
+        StoreFault::Memory
+    }
+}
+
 impl From<Refused> for StoreFault {
     ghost from_gives = { λ e fault. fault ≡ json_fault e };
 

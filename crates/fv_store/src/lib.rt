@@ -1,20 +1,16 @@
-//! The records of a service, kept in a database: the tables, what their rows show of the records, and
-//! how records are changed.
+//! The records of a service, kept in a database: what its rows spell of the records, and how records are
+//! read, listed and changed.
 #![tactic(auto)]
 
 mod about;
-mod about_rows;
 mod change;
 mod changes;
 mod fault;
-mod finding;
-mod listing;
+mod joining;
+mod object_rows;
 mod opening;
-mod records;
-mod shown;
 mod store;
 mod stored;
-mod tables;
 mod text;
 
 pub use change::Change;

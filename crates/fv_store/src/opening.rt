@@ -4,14 +4,13 @@ ghost use Rattle.sqlite.specs.State.{HasCleanDisk};
 ghost use Rattle.sqlite.specs.Held.{state};
 ghost use Rattle.fv_store.specs.Causes.{IsShortAbout};
 ghost use Rattle.fv_store.specs.Records.{no_records};
-ghost use Rattle.fv_store.specs.Stands.{HasTables, IsBlank, Stays, Frame, IsLive};
+ghost use Rattle.fv_store.specs.Stands.{Frame, IsBlank, IsLive, Stays, TellsAbout};
 ghost use Rattle.fv_store.specs.Steps.{Keeps, IsSettled, IsTaken, IsCaused, IsExcused, IsOpenExcused};
-ghost use Rattle.fv_store.specs.Tables.{store_schema};
+ghost use Rattle.fv_tables.specs.Tables.{store_schema};
 
 use crate::about::agrees;
-use crate::about_rows::read_about;
 use crate::fault::OpenStoreFault;
-use crate::tables::create_tables;
+use fv_tables::{create_tables, read_about};
 use sqlite::{Alter, Connection, Error};
 
 /// Whether the database has no table, index or view.
@@ -55,7 +54,7 @@ fn compare<S: Alter>(conn: &mut Connection<S>, declarations: &[u8]) -> Result<()
     ensures cause { HasCleanDisk (state S.Store conn.new) → (IsBlank (state S.Store conn.old).now → ⊥)
         → IfErr result (IsCaused (state S.Store conn.old) declarations.now) }
     ensures store_known { HasCleanDisk (state S.Store conn.new) → conn.old.step_limit ≡ None
-        → IfErr result (λ e. (version : _) (d : _) → HasTables (state S.Store conn.old).now version d
+        → IfErr result (λ e. (version : _) (d : _) → TellsAbout version d (state S.Store conn.old).now
         → IsOpenExcused (state S.Store conn.old) (state S.Store conn.new) e) }
 {
     let rows = read_about(conn)?;
@@ -86,7 +85,7 @@ pub(crate) fn settle<S: Alter>(
         → IfErr result (IsCaused (state S.Store conn.old) declarations.now) }
     ensures store_known { HasCleanDisk (state S.Store conn.new) → conn.old.in_transaction ≡ false
         → conn.old.step_limit ≡ None → IfErr result (λ e. (version : _) (d : _)
-        → HasTables (state S.Store conn.old).now version d
+        → TellsAbout version d (state S.Store conn.old).now
         → IsOpenExcused (state S.Store conn.old) (state S.Store conn.new) e) }
     ensures store_blank { HasCleanDisk (state S.Store conn.new) → conn.old.in_transaction ≡ false
         → conn.old.step_limit ≡ None → IfErr result (λ e. IsBlank (state S.Store conn.old).now

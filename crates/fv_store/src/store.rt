@@ -1,13 +1,13 @@
 //! The store.
-ghost use Rattle.std.specs.Prelude.{◌≡◌, ◌≢◌, false, length, IfOk, IfErr, IfSome, OnOk, OnErr, MatchResult, map, option_map, string_bytes, Some, None, unwrap_or, []};
+ghost use Rattle.std.specs.Prelude.{◌≡◌, ◌≢◌, false, IfOk, IfErr, IfSome, OnOk, OnErr, MatchResult, map, option_map, string_bytes, Some, None, unwrap_or, []};
 ghost use Rattle.sqlite.specs.State.{HasCleanDisk};
 ghost use Rattle.sqlite.specs.Held.{state};
 ghost use Rattle.fv_model_types.specs.TypesView.{types_view};
 ghost use Rattle.fv_model.specs.Views.{bundle_view};
 ghost use Rattle.fv_model.specs.WellTyped.{IsWellTyped};
-ghost use Rattle.fv_store.specs.Causes.{AreShort, HasFailed, HasRoom, IsShortAbout, LeavesRoom};
+ghost use Rattle.fv_store.specs.Causes.{AreShort, HasFailed, HasRooms, IsShortAbout, LeavesRoom, rows_of_all};
 ghost use Rattle.fv_store.specs.Changes.{changed, ChangesFit};
-ghost use Rattle.fv_store.specs.Stands.{Frame, Holds, HasTables, IsBlank, IsLive, Opens, Stays};
+ghost use Rattle.fv_store.specs.Stands.{Frame, Holds, IsBlank, IsLive, Opens, Stays, TellsAbout};
 ghost use Rattle.fv_store.specs.Faults.{about_fault, IsAboutFault};
 ghost use Rattle.fv_store.specs.Lists.{Lists};
 ghost use Rattle.fv_store.specs.Records.{AllFit};
@@ -16,11 +16,10 @@ ghost use Rattle.fv_store.specs.Stored.{stored_view};
 use crate::change::Change;
 use crate::changes;
 use crate::fault::{OpenStoreFault, StoreFault};
-use crate::finding::find;
-use crate::listing::find_ids;
 use crate::opening::settle;
 use crate::stored::{Stored, stored_if};
 use fv_model::Types;
+use fv_tables::{find, find_ids};
 use sqlite::{Alter, Connection};
 use std::alloc::Global;
 use std::marker::Model;
@@ -59,7 +58,7 @@ impl<S: Alter + Drop> Store<S> {
     /// the declarations that are stored are others; by `Memory` at any place; and by `Store` where the
     /// connection is inside a transaction or was shut before, where the disk has failed during the
     /// call, where the declarations are too long, and where the database has other tables and no row of
-    /// declarations, or one of another form. Whether the table of records is of its form isn't looked at.
+    /// declarations, or one of another form. Whether the tables of records are of their form isn't looked at.
     /// A refusal hands the connection back, its database as it was.
     pub fn open(
         mut connection: Connection<S>,
@@ -71,11 +70,11 @@ impl<S: Alter + Drop> Store<S> {
         ensures opened { IfOk result (λ s. (c : _) → c.bytes ≡ declarations.now → Opens (state S.Store connection) c
             → Holds (state S.Store s) c) }
         ensures taken { IfOk result (λ s. HasCleanDisk (state S.Store s) → (version : _) (d : _)
-            → HasTables (state S.Store connection).now version d → about_fault version d declarations.now ≡ None) }
+            → TellsAbout version d (state S.Store connection).now → about_fault version d declarations.now ≡ None) }
         ensures same { IfOk result (λ s. HasCleanDisk (state S.Store s) → (c : _) → Holds (state S.Store connection) c
             → c.bytes ≡ declarations.now) }
         ensures refused { IfErr result (λ e. IsAboutFault e.0 → HasCleanDisk (state S.Store e.1)
-            → (version : _) (d : _) → HasTables (state S.Store connection).now version d
+            → (version : _) (d : _) → TellsAbout version d (state S.Store connection).now
             → about_fault version d declarations.now ≡ Some e.0) }
         ensures other_version { IfErr result (λ e. e.0 ≡ OpenStoreFault.OtherVersion → HasCleanDisk (state S.Store e.1)
             → (c : _) → Opens (state S.Store connection) c → ⊥) }
@@ -84,7 +83,7 @@ impl<S: Alter + Drop> Store<S> {
             → c.bytes ≢ declarations.now) }
         ensures store_known { IfErr result (λ e. e.0 ≡ OpenStoreFault.Store → HasCleanDisk (state S.Store e.1)
             → connection.in_transaction ≡ false → (version : _) (d : _)
-            → HasTables (state S.Store connection).now version d
+            → TellsAbout version d (state S.Store connection).now
             → HasFailed (state S.Store connection) (state S.Store e.1)) }
         ensures store_blank { IfErr result (λ e. e.0 ≡ OpenStoreFault.Store → HasCleanDisk (state S.Store e.1)
             → connection.in_transaction ≡ false → IsBlank (state S.Store connection).now
@@ -127,8 +126,8 @@ impl<S: Alter> Store<S> {
             → Stays (state S.Store self.old) (state S.Store self.new) }
     {
         prove!(self.connection.is_autocommit());
-        let shown = find(&mut self.connection, id)?;
-        stored_if(alloc, types, shown)
+        let found = find(&mut self.connection, alloc, id)?;
+        stored_if(alloc, types, found)
     }
 
     /// The ids of the records of a form above one, ascending by their bytes, so many at most; above the
@@ -161,24 +160,24 @@ impl<S: Alter> Store<S> {
     }
 
     /// Makes the changes in order, all of them or none. The records after all of them have to fit;
-    /// they do where each change fits.
+    /// they do where each change fits what those before it leave.
     ///
     /// Refused by `Memory` at any place, and by `Store` only where the disk has failed during the call
-    /// or the connection was shut before, where fewer rowids are left than there are changes, or where a record is too long, if
-    /// the store holds records.
+    /// or the connection was shut before, where a table has fewer rowids left than there are records and
+    /// objects that are put, or where a row is too long, if the store holds records.
     pub fn commit(&mut self, alloc: Global, changes: &[Change]) -> Result<(), StoreFault>
         ensures frame { Frame (state S.Store self.old) (state S.Store self.new) }
         ensures open { OnOk result (IsLive (state S.Store self.new)) }
         ensures made { OnOk result ((c : _) → AllFit (changed changes.now c) → Holds (state S.Store self.old) c
             → Holds (state S.Store self.new) (changed changes.now c)) }
-        ensures done { OnOk result ((c : _) → ChangesFit c.types c.roots changes.now → Holds (state S.Store self.old) c
+        ensures done { OnOk result ((c : _) → ChangesFit c.types c.roots changes.now c.records → Holds (state S.Store self.old) c
             → Holds (state S.Store self.new) (changed changes.now c)) }
         ensures room { HasCleanDisk (state S.Store self.new) → OnOk result ((c : _) → Holds (state S.Store self.old) c
-            → LeavesRoom (length changes.now) (state S.Store self.old).now (state S.Store self.new).now) }
+            → LeavesRoom (rows_of_all changes.now) (state S.Store self.old).now (state S.Store self.new).now) }
         ensures undone { OnErr result ((c : _) → Holds (state S.Store self.old) c → Holds (state S.Store self.new) c) }
         ensures untouched { OnErr result (Stays (state S.Store self.old) (state S.Store self.new)) }
         ensures cause { HasCleanDisk (state S.Store self.new) → IfErr result (λ e. e ≡ StoreFault.Store → (c : _)
-            → Holds (state S.Store self.old) c → HasRoom (length changes.now) (state S.Store self.old).now
+            → Holds (state S.Store self.old) c → HasRooms (rows_of_all changes.now) (state S.Store self.old).now
             → AreShort changes.now → HasFailed (state S.Store self.old) (state S.Store self.new)) }
     {
         prove!(self.connection.is_autocommit());

@@ -6,13 +6,15 @@ ghost use Rattle.fv_model_types.specs.TypesView.{types_view};
 ghost use Rattle.fv_model.specs.Views.{bundle_view};
 ghost use Rattle.fv_model.specs.WellTyped.{IsWellTyped};
 ghost use Rattle.fv_store.specs.Records.{Kept};
-ghost use Rattle.fv_store.specs.Showing.{kept_text, shown_view};
 ghost use Rattle.fv_store.specs.Stored.{stored_view};
+ghost use Rattle.fv_store.specs.Written.{entry_of, written_of};
+ghost use Rattle.fv_tables.specs.Stored.{rows_view};
 
 use crate::fault::StoreFault;
-use crate::shown::Shown;
+use crate::joining::joined;
 use crate::text::bundle_of;
 use fv_model::{Bundle, Types};
+use fv_tables::RecordRows;
 use std::alloc::Global;
 
 /// A record: the name of its form, and its bundle.
@@ -22,33 +24,33 @@ pub struct Stored {
     pub bundle: Bundle,
 }
 
-/// The record that a row shows, its bundle read under these types. `Store` where its text spells
-/// no bundle.
-fn stored_from(alloc: Global, types: &Types, shown: Shown) -> Result<Stored, StoreFault>
-    ensures read { (k : Kept) → IsWellTyped (types_view types.now) k.bundle → shown_view shown ≡ kept_text k
+/// The record that rows keep, its bundle read under these types. `Store` where they spell no bundle.
+fn stored_from(alloc: Global, types: &Types, rows: RecordRows) -> Result<Stored, StoreFault>
+    ensures read { (k : Kept) → IsWellTyped (types_view types.now) k.bundle → rows_view rows ≡ entry_of (written_of k)
         → Gives StoreFault.Memory stored_view result (Ok k) }
     ensures typed { IfOk result (λ s. IsWellTyped (types_view types.now) (bundle_view s.bundle)) }
 {
-    let bundle = bundle_of(alloc, types, shown.text.as_str())?;
+    let text = joined(alloc, &rows)?;
+    let bundle = bundle_of(alloc, types, text.as_str())?;
     Ok(Stored {
-        form: shown.form,
+        form: rows.form,
         bundle,
     })
 }
 
-/// The record that is shown, where one is.
+/// The record whose rows were found, where there are some.
 pub(crate) fn stored_if(
     alloc: Global,
     types: &Types,
-    shown: Option<Shown>,
+    found: Option<RecordRows>,
 ) -> Result<Option<Stored>, StoreFault>
     ensures read { (o : Option Kept) → ForSome o (λ k. IsWellTyped (types_view types.now) k.bundle)
-        → option_map shown_view shown ≡ option_map kept_text o
+        → option_map rows_view found ≡ option_map entry_of (option_map written_of o)
         → Gives StoreFault.Memory (option_map stored_view) result (Ok o) }
     ensures typed { IfOk result (λ o. IfSome o (λ s. IsWellTyped (types_view types.now) (bundle_view s.bundle))) }
 {
-    match shown {
-        Some(shown) => Ok(Some(stored_from(alloc, types, shown)?)),
+    match found {
+        Some(rows) => Ok(Some(stored_from(alloc, types, rows)?)),
         None => Ok(None),
     }
 }

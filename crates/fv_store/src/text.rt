@@ -1,26 +1,17 @@
-//! Bundles as texts.
-ghost use Rattle.std.specs.Prelude.{◌≡◌, IfOk, Ok, string_bytes};
+//! The bundle that a text spells.
+ghost use Rattle.std.specs.Prelude.{◌≡◌, IfOk, Ok};
 ghost use Rattle.fv_datum.specs.Outcomes.{Gives};
 ghost use Rattle.fv_model_types.specs.TypesView.{types_view};
 ghost use Rattle.fv_model.specs.Views.{bundle_view};
 ghost use Rattle.fv_model.specs.Bundles.{Bundled};
 ghost use Rattle.fv_model.specs.WellTyped.{IsWellTyped};
-ghost use Rattle.fv_store.specs.Records.{bundle_text};
+ghost use Rattle.fv_store.specs.Texts.{bundle_text};
 
 use crate::fault::StoreFault;
 use fv_json::Document;
 use fv_model::{Bundle, Types, read_bundle};
-use fv_model_text::write_text;
 use json::Scratch;
-use std::alloc::{AllocError, Global};
-
-/// The text that a bundle is kept as.
-#[tactic(auto, unfolding(crate::specs::Records::bundle_text))]
-pub(crate) fn text_of(alloc: Global, bundle: &Bundle) -> Result<String, AllocError>
-    ensures { IfOk result (λ s. string_bytes s ≡ bundle_text (bundle_view bundle.now)) }
-{
-    write_text(alloc, bundle)
-}
+use std::alloc::Global;
 
 /// The bundle that a text spells, well-typed. `Store` where it spells none.
 pub(crate) fn bundle_of(alloc: Global, types: &Types, text: &str) -> Result<Bundle, StoreFault>

@@ -10,7 +10,7 @@ use Rattle.fv_walk_traces.specs.OneField.{IsViolationOfField}
 use Rattle.fv_walk_traces.specs.Violations.{Violation}
 use Rattle.fv_model_types.specs.Types.{Declared}
 
--- the bundle with an object alone, which is its root; a name that nothing tells
+-- the bundle of this object alone, which is its root, under the empty name: no path tells a root's name
 abbrev pub alone : Thing → Bundled
 alone object = record { root = []; objects = ([], object) ∷ [] }
 

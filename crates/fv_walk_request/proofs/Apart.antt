@@ -9,7 +9,7 @@ use Rattle.fv_extract.specs.Parts.{Locus, parts_at}
 use Rattle.fv_extract.specs.Places as at
 use Rattle.fv_graph.specs.Graph.{IsIn}
 use Rattle.fv_local.specs.Failures.{Standing, standing_at, failures_of, failures_in}
-use Rattle.fv_local.proofs.Standings.{part_at, failures_at}
+use Rattle.fv_local.specs.Standings.{part_at, failures_at}
 use Rattle.fv_local.specs.Own.{own_at, own_in}
 use Rattle.fv_model.specs.Bundles.{Thing, Bundled}
 use Rattle.fv_model.specs.WellTyped.{IsWellTyped}

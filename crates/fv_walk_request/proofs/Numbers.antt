@@ -6,7 +6,7 @@ use Rattle.fv_extract.specs.Pairs.{Pairwise}
 use Rattle.fv_graph.specs.Graph.{IsIn, AllDiffer}
 use Rattle.fv_graph.proofs.Lists.{AllDiffer-append}
 use Rattle.fv_local.specs.Failures.{Standing}
-use Rattle.fv_local.proofs.Standings.{failures_at}
+use Rattle.fv_local.specs.Standings.{failures_at}
 use Rattle.fv_local.proofs.Reports.{Rise, rises, rise_map, rise_from, rise_end}
 use Rattle.fv_constraint_tree.specs.Reports.{violated}
 use Rattle.fv_constraint_tree.specs.Trees.{size}

@@ -100,10 +100,12 @@ fn records_stay_in_the_file(rt: HostRuntime) -> Result<(), Fail> {
     check(&rt, &rt, same, PUT, (0, TAKEN, ""))?;
     check(&rt, &rt, other, GET, (4, "", OTHER_DECLARATIONS))?;
     check(&rt, &rt, same, GET, (0, SHOWN, ""))?;
-    change(&rt, "formd_kept.db", "UPDATE about SET version = 2")?;
+    change(&rt, "formd_kept.db", "UPDATE about SET version = 3")?;
     check(&rt, &rt, same, GET, (4, "", OTHER_VERSION))?;
     check(&rt, &rt, other, GET, (4, "", OTHER_VERSION))?;
     change(&rt, "formd_kept.db", "UPDATE about SET version = 1")?;
+    check(&rt, &rt, same, GET, (4, "", OTHER_VERSION))?;
+    change(&rt, "formd_kept.db", "UPDATE about SET version = 2")?;
     check(&rt, &rt, same, GET, (0, SHOWN, ""))?;
     fs::remove_file(&rt, "formd_kept.json")?;
     fs::remove_file(&rt, "formd_kept_others.json")?;

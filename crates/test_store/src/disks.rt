@@ -93,7 +93,7 @@ get r10
 get r2
 = item <3>
 
-UPDATE about SET version = 2
+UPDATE about SET version = 3
 ";
 
 #[test]

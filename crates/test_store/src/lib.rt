@@ -15,6 +15,8 @@ mod refusals;
 #[cfg(test)]
 mod storing;
 #[cfg(test)]
+mod tables;
+#[cfg(test)]
 mod telling;
 #[cfg(test)]
 mod texts;

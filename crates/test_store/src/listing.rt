@@ -9,7 +9,7 @@ fn a_removed_record_is_gone(rt: HostRuntime) -> Result<(), Fail> {
     check(
         &rt,
         rt.alloc(),
-        "
+        r#"
 open [declarations]
 commit; r1 item <1>; r10 item <2>; r2 item <3>
 commit; r1
@@ -35,10 +35,14 @@ get r3
 = none
 
 {show records}
-= r1 item <4>
-= r10 item <2>
-= r2 item <6>
-",
+= r1 item a
+= r10 item a
+= r2 item a
+{show objects}
+= r1 a Item {"count":4}
+= r10 a Item {"count":2}
+= r2 a Item {"count":6}
+"#,
     )
 }
 

@@ -2,42 +2,42 @@
 use crate::transcripts::{check, check_each};
 use std::test::Fail;
 
-/// Other declarations or not, the version is asked first.
+/// The tables of version 1, which kept each bundle in one text. Other declarations or not, the version is
+/// asked first.
 #[test]
-fn later_tables_are_of_another_version(rt: HostRuntime) -> Result<(), Fail> {
+fn the_first_tables_are_of_another_version(rt: HostRuntime) -> Result<(), Fail> {
     check_each(
         &rt,
         rt.alloc(),
         "{given} := declarations\n\n{given} := others",
         r#"
-CREATE TABLE about (one INTEGER PRIMARY KEY CHECK (one = 1), version INTEGER NOT NULL, declarations BLOB NOT NULL)
-CREATE TABLE record (id TEXT NOT NULL PRIMARY KEY, form TEXT NOT NULL, root TEXT NOT NULL)
-CREATE TABLE object (rec TEXT NOT NULL REFERENCES record (id) ON DELETE CASCADE, name TEXT NOT NULL, kind TEXT NOT NULL, fields TEXT NOT NULL, PRIMARY KEY (rec, name))
-INSERT INTO about VALUES (1, 2, x'6465636c61726174696f6e73')
-INSERT INTO record VALUES ('r1', 'item', 'a')
-INSERT INTO object VALUES ('r1', 'a', 'Item', '{"count":1}')
+{about}
+CREATE TABLE record (id TEXT NOT NULL PRIMARY KEY, form TEXT NOT NULL, bundle TEXT NOT NULL)
+INSERT INTO about VALUES (1, 1, x'6465636c61726174696f6e73')
+INSERT INTO record VALUES ('r1', 'item', '<1>')
 
 open [{given}]
 = OtherVersion
 
 {show tables}
 = {about}
-= CREATE TABLE object (rec TEXT NOT NULL REFERENCES record (id) ON DELETE CASCADE, name TEXT NOT NULL, kind TEXT NOT NULL, fields TEXT NOT NULL, PRIMARY KEY (rec, name))
-= CREATE TABLE record (id TEXT NOT NULL PRIMARY KEY, form TEXT NOT NULL, root TEXT NOT NULL)
+= CREATE TABLE record (id TEXT NOT NULL PRIMARY KEY, form TEXT NOT NULL, bundle TEXT NOT NULL)
 {show about}
-= 1 2 [6465636C61726174696F6E73]
-SELECT id || ' ' || form || ' ' || root FROM record
-= r1 item a
-SELECT rec || ' ' || name || ' ' || kind || ' ' || fields FROM object
-= r1 a Item {"count":1}
+= 1 1 [6465636C61726174696F6E73]
+SELECT id || ' ' || form || ' ' || bundle FROM record
+= r1 item <1>
 "#,
     )
 }
 
 /// Statements that make the row of `about` another, the fault of each, and the row.
-const CHANGES: &str = "{change} := UPDATE about SET version = 2
+const CHANGES: &str = "{change} := UPDATE about SET version = 3
 {fault} := OtherVersion
-{row} := 1 2 [6465636C61726174696F6E73]
+{row} := 1 3 [6465636C61726174696F6E73]
+
+{change} := UPDATE about SET version = 1
+{fault} := OtherVersion
+{row} := 1 1 [6465636C61726174696F6E73]
 
 {change} := UPDATE about SET version = 0
 {fault} := OtherVersion
@@ -51,29 +51,29 @@ const CHANGES: &str = "{change} := UPDATE about SET version = 2
 {fault} := OtherVersion
 {row} := 1 7 [6465636C61726174696F6E73]
 
-{change} := UPDATE about SET version = 2, declarations = x''
+{change} := UPDATE about SET version = 3, declarations = x''
 {fault} := OtherVersion
-{row} := 1 2 []
+{row} := 1 3 []
 
 {change} := UPDATE about SET declarations = x'6465636c61726174696f6e7320'
 {fault} := OtherDeclarations
-{row} := 1 1 [6465636C61726174696F6E7320]
+{row} := 1 2 [6465636C61726174696F6E7320]
 
 {change} := UPDATE about SET declarations = x'4465636c61726174696f6e73'
 {fault} := OtherDeclarations
-{row} := 1 1 [4465636C61726174696F6E73]
+{row} := 1 2 [4465636C61726174696F6E73]
 
 {change} := UPDATE about SET declarations = x'6465636c61726174696f6e'
 {fault} := OtherDeclarations
-{row} := 1 1 [6465636C61726174696F6E]
+{row} := 1 2 [6465636C61726174696F6E]
 
 {change} := UPDATE about SET declarations = x'6f7468657273'
 {fault} := OtherDeclarations
-{row} := 1 1 [6F7468657273]
+{row} := 1 2 [6F7468657273]
 
 {change} := UPDATE about SET declarations = x''
 {fault} := OtherDeclarations
-{row} := 1 1 []
+{row} := 1 2 []
 
 {change} := UPDATE about SET version = 'first'
 {fault} := Store
@@ -81,7 +81,7 @@ const CHANGES: &str = "{change} := UPDATE about SET version = 2
 
 {change} := UPDATE about SET declarations = 'declarations'
 {fault} := Store
-{row} := 1 1 [6465636C61726174696F6E73]";
+{row} := 1 2 [6465636C61726174696F6E73]";
 
 #[test]
 fn other_rows_are_refused(rt: HostRuntime) -> Result<(), Fail> {
@@ -89,10 +89,9 @@ fn other_rows_are_refused(rt: HostRuntime) -> Result<(), Fail> {
         &rt,
         rt.alloc(),
         CHANGES,
-        "
-{about}; {record}
-{first}
-INSERT INTO record VALUES ('r1', 'item', '<1>')
+        r#"
+{about}; {record}; {object}
+{first}; {put r1}
 {change}
 
 open [declarations]
@@ -100,12 +99,15 @@ open [declarations]
 
 {show tables}
 = {about}
+= {object}
 = {record}
 {show about}
 = {row}
 {show records}
-= r1 item <1>
-",
+= r1 item a
+{show objects}
+= r1 a Item {"count":1}
+"#,
     )
 }
 
@@ -115,10 +117,9 @@ fn no_row_and_no_table_are_refused(rt: HostRuntime) -> Result<(), Fail> {
     check(
         &rt,
         rt.alloc(),
-        "
-{about}; {record}
-{first}
-INSERT INTO record VALUES ('r1', 'item', '<1>')
+        r#"
+{about}; {record}; {object}
+{first}; {put r1}
 DELETE FROM about
 
 open [declarations]
@@ -126,20 +127,26 @@ open [declarations]
 
 {show tables}
 = {about}
+= {object}
 = {record}
 {show about}
 {show records}
-= r1 item <1>
+= r1 item a
+{show objects}
+= r1 a Item {"count":1}
 DROP TABLE about
 
 open [declarations]
 = Store
 
 {show tables}
+= {object}
 = {record}
 {show records}
-= r1 item <1>
-",
+= r1 item a
+{show objects}
+= r1 a Item {"count":1}
+"#,
     )
 }
 
@@ -194,15 +201,15 @@ fn a_connection_inside_a_transaction_is_refused(rt: HostRuntime) -> Result<(), F
         &rt,
         rt.alloc(),
         "
-{about}; {record}
-{first}
-INSERT INTO record VALUES ('r1', 'item', '<1>')
+{about}; {record}; {object}
+{first}; {put r1}
 BEGIN; DELETE FROM record
 
 open [declarations]
 = Store
 
 {show records}
+{show objects}
 ROLLBACK
 
 open [declarations]

@@ -1,15 +1,25 @@
 //! What a store and a database answer to a line.
 use crate::texts::add;
 use fv_json::Document;
-use fv_model::{Types, read_bundle, write_bundle};
+use fv_model::{Bundle, Types, read_bundle};
+use fv_model_text::write_bundle;
 use fv_store::{Change, Store, Stored};
 use json::Scratch;
 use sqlite::{Alter, Connection, Row};
 use std::alloc::Global;
 use std::test::Fail;
 
-/// The change of a record: its put, by its id, its form, and its bundle as JSON; or its removal, by its
-/// id alone.
+/// The change of one object: the one of that name of a bundle as JSON.
+fn object_of(alloc: Global, id: &str, name: &str, bundle: &Bundle) -> Result<Change, Fail> {
+    Ok(Change::Object {
+        id: String::from_str(alloc, id)?,
+        name: String::from_str(alloc, name)?,
+        object: bundle.object(name).ok_or("an object")?.copy(alloc)?,
+    })
+}
+
+/// The change of a record: its put, by its id, its form, and its bundle as JSON; that of one object, by
+/// the id, a point with the object's name, and a bundle that has it; or its removal, by its id alone.
 fn change_of(alloc: Global, types: &Types, record: &str) -> Result<Change, Fail> {
     let Some((id, rest)) = record.split_once(' ') else {
         return Ok(Change::Remove {
@@ -19,10 +29,14 @@ fn change_of(alloc: Global, types: &Types, record: &str) -> Result<Change, Fail>
     let (form, bundle) = rest.split_once(' ').ok_or("a form")?;
     let mut scratch = Scratch::new(alloc);
     let document = Document::read(alloc, bundle, &mut scratch)?;
+    let bundle = read_bundle(alloc, types, None, &document.root())?;
+    if let Some(name) = form.strip_prefix(".") {
+        return object_of(alloc, id, name, &bundle);
+    }
     Ok(Change::Put {
         id: String::from_str(alloc, id)?,
         form: String::from_str(alloc, form)?,
-        bundle: read_bundle(alloc, types, None, &document.root())?,
+        bundle,
     })
 }
 

@@ -14,11 +14,14 @@ use std::test::Fail;
 /// Names in transcripts. An `Item` of the count 1 is written `<1>`, as JSON with its keys in order.
 const NAMES: &str = r#"
 {about} := CREATE TABLE about (one INTEGER PRIMARY KEY CHECK (one = 1), version INTEGER NOT NULL, declarations BLOB NOT NULL)
-{record} := CREATE TABLE record (id TEXT NOT NULL PRIMARY KEY, form TEXT NOT NULL, bundle TEXT NOT NULL)
-{first} := INSERT INTO about VALUES (1, 1, x'6465636c61726174696f6e73')
+{record} := CREATE TABLE record (id TEXT NOT NULL PRIMARY KEY, form TEXT NOT NULL, root TEXT NOT NULL)
+{object} := CREATE TABLE object (rec TEXT NOT NULL REFERENCES record (id) ON DELETE CASCADE, name TEXT NOT NULL, kind TEXT NOT NULL, fields TEXT NOT NULL, PRIMARY KEY (rec, name))
+{first} := INSERT INTO about VALUES (1, 2, x'6465636c61726174696f6e73')
+{put r1} := INSERT INTO record VALUES ('r1', 'item', 'a'); INSERT INTO object VALUES ('r1', 'a', 'Item', '{"count":1}')
 {show tables} := SELECT sql FROM sqlite_schema WHERE type = 'table' ORDER BY name
 {show about} := SELECT one || ' ' || version || ' [' || hex(declarations) || ']' FROM about
-{show records} := SELECT id || ' ' || form || ' ' || bundle FROM record ORDER BY id COLLATE BINARY
+{show records} := SELECT id || ' ' || form || ' ' || root FROM record ORDER BY id COLLATE BINARY
+{show objects} := SELECT rec || ' ' || name || ' ' || kind || ' ' || fields FROM object ORDER BY rec, name
 < := {"objects":{"a":{"fields":{"count":
 > := },"type":"Item"}},"root":"a"}
 "#;

@@ -1,9 +1,9 @@
 //! What a bundle holds, bundles whose root may be of any type, and bundles written again.
 use crate::given::{Rows, built, check, check_rows, numbered};
-use fv_datum::Datum;
+use fv_datum::{Datum, is_null};
 use fv_json::Document;
-use fv_model::{Bundle, BundleFault, Object, Types, read_bundle, write_bundle};
-use fv_model_text::write_text;
+use fv_model::{Bundle, BundleFault, Object, Types, read_bundle};
+use fv_model_text::{fields_text, write_bundle, write_fields, write_text};
 use json::Scratch;
 use std::alloc::Global;
 use std::test::Fail;
@@ -18,28 +18,32 @@ fn written(alloc: Global, bundle: &Bundle) -> Result<String, Fail> {
     Ok(format!(in alloc; "{json} but {text}")?)
 }
 
-/// The names of an object's fields, `0` before one that is null.
+/// The names of an object's fields, `0` before one that is null, and the others as JSON, which is their
+/// text too.
 fn fields_shown(alloc: Global, object: &Object) -> Result<String, Fail> {
     let mut text = String::new(alloc);
     for (name, datum) in object.fields() {
-        let mark = if matches!(datum, Datum::Null) {
-            " 0"
-        } else {
-            " "
-        };
+        let mark = if is_null(datum) { " 0" } else { " " };
         write!(text, "{mark}{name}")?;
+    }
+    let json = write_fields(alloc, object)?.to_string(alloc)?;
+    write!(text, " {json}")?;
+    let fields = fields_text(alloc, object)?;
+    if json.as_str() != fields.as_str() {
+        write!(text, " but {fields}")?;
     }
     Ok(text)
 }
 
-/// A bundle as a text: its root, its objects with their types and with the names of their fields, `0`
-/// before one that is null, and the bundle as JSON.
+/// A bundle as a text: its root, copies of its objects with their types and with the names of their
+/// fields, `0` before one that is null, the fields as JSON, and the bundle as JSON.
 fn shown(alloc: Global, bundle: &Bundle) -> Result<String, Fail> {
     let root = bundle.root();
     let mut text = format!(in alloc; "root {root}")?;
     for (name, object) in bundle.objects().iter() {
-        let type_name = object.type_name();
-        let fields = fields_shown(alloc, object)?;
+        let copy = object.copy(alloc)?;
+        let type_name = copy.type_name();
+        let fields = fields_shown(alloc, &copy)?;
         write!(text, "; {name} {type_name}{fields}")?;
     }
     let json = written(alloc, bundle)?;
@@ -68,10 +72,11 @@ const BUNDLES: &str = r#"
 {"root":"a","objects":{"a":{"type":"P","fields":{"q":1}}}} => B5 WrongKind
 {"root":"a","objects":{"a":{"type":"P","fields":{"q":"b"}}}} => B6 DanglingRef
 {"root":"a","objects":{"a":{"type":"P","fields":{"q":"a"}}}} => B7 RefType
-{"root":"a","objects":{"a":{"type":"P"}}} => root a; a P 0to 0q => {"objects":{"a":{"fields":{},"type":"P"}},"root":"a"}
-{"root":"b","objects":{"b":{"type":"Q"},"a":{"type":"P","fields":{"q":"b"}}}} => root b; a P 0to q; b Q => {"objects":{"a":{"fields":{"q":"b"},"type":"P"},"b":{"fields":{},"type":"Q"}},"root":"b"}
-{"root":"a","objects":{"a":{"type":"Item","fields":{"count":-3}}}} => root a; a Item 0name count => {"objects":{"a":{"fields":{"count":-3},"type":"Item"}},"root":"a"}
-{"root":"a","objects":{"a":{"type":"Item","fields":{"name":"\ud83d\ude00bc\u0000"}}}} => root a; a Item name 0count => {"objects":{"a":{"fields":{"name":"😀bc\u0000"},"type":"Item"}},"root":"a"}
+{"root":"a","objects":{"a":{"type":"P"}}} => root a; a P 0to 0q {} => {"objects":{"a":{"fields":{},"type":"P"}},"root":"a"}
+{"root":"b","objects":{"b":{"type":"Q"},"a":{"type":"P","fields":{"q":"b"}}}} => root b; a P 0to q {"q":"b"}; b Q {} => {"objects":{"a":{"fields":{"q":"b"},"type":"P"},"b":{"fields":{},"type":"Q"}},"root":"b"}
+{"root":"a","objects":{"a":{"type":"Item","fields":{"count":-3}}}} => root a; a Item 0name count {"count":-3} => {"objects":{"a":{"fields":{"count":-3},"type":"Item"}},"root":"a"}
+{"root":"a","objects":{"a":{"type":"Item","fields":{"name":"\ud83d\ude00bc\u0000"}}}} => root a; a Item name 0count {"name":"😀bc\u0000"} => {"objects":{"a":{"fields":{"name":"😀bc\u0000"},"type":"Item"}},"root":"a"}
+{"root":"a","objects":{"a":{"type":"Item","fields":{"name":"x","count":1}}}} => root a; a Item name count {"count":1,"name":"x"} => {"objects":{"a":{"fields":{"count":1,"name":"x"},"type":"Item"}},"root":"a"}
 "#;
 
 struct AnyRoot;
@@ -127,19 +132,16 @@ c q => no object
 ";
 
 /// What a field of an object of the pair is.
-fn field_shown(alloc: Global, bundle: &Bundle, name: &str, field: &str) -> Result<String, Fail> {
+fn field_shown<'a>(bundle: &'a Bundle, name: &str, field: &str) -> &'a str {
     let Some(object) = bundle.object(name) else {
-        return Ok(String::from_str(alloc, "no object")?);
+        return "no object";
     };
-    Ok(String::from_str(
-        alloc,
-        match object.field(field) {
-            Some(Datum::Ref(name)) => name.as_str(),
-            Some(Datum::Null) => "null",
-            Some(_) => "another datum",
-            None => "nothing",
-        },
-    )?)
+    match object.field(field) {
+        Some(Datum::Ref(name)) => name.as_str(),
+        Some(Datum::Null) => "null",
+        Some(_) => "another datum",
+        None => "nothing",
+    }
 }
 
 struct Named;
@@ -148,7 +150,7 @@ impl Rows for Named {
     fn found(alloc: Global, given: &str) -> Result<String, Fail> {
         let (name, field) = given.split_once(' ').ok_or("a field")?;
         let bundle = bundle_of(alloc, &built(alloc, TYPES)?, "Q", PAIR)?;
-        field_shown(alloc, &bundle, name, field)
+        Ok(String::from_str(alloc, field_shown(&bundle, name, field))?)
     }
 }
 

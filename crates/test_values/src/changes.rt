@@ -2,7 +2,8 @@
 use crate::bundles::{bundle_of, told};
 use crate::given::{Rows, built, check_rows};
 use fv_json::Document;
-use fv_model::{Bundle, BundleFault, set_field, write_bundle};
+use fv_model::{Bundle, BundleFault, set_field};
+use fv_model_text::write_bundle;
 use json::Scratch;
 use std::alloc::Global;
 use std::test::Fail;

@@ -1,13 +1,13 @@
-use Rattle.std.proofs.Common.{◌≡◌, map, Ok, Err, inl, inr, refl, sym, ap, subst, ◌∙◌}
+use Rattle.std.proofs.Common.{◌≡◌, ℕ, List, Option, map, Ok, Err, inl, inr, refl, sym, ap, subst, ◌∙◌}
 use Rattle.std.proofs.lemmas.Int.{to_z-of_z}
 use mir.Syntax.{w64}
 use Rattle.sqlite.specs.Held.{state}
 use Rattle.fv_engine_command.specs.CommandView.{part_view}
 use Rattle.fv_declare_schema.specs.Declarations.{Declarations}
-use Rattle.fv_engine_machine.specs.Keeping.{Unchanged, ChangesSo, FitsWhereHeld}
+use Rattle.fv_engine_machine.specs.Keeping.{Unchanged, ChangesSo, FitsWhereHeld, IsOneSet}
 use Rattle.fv_engine_machine.specs.Machines.{contents, with_map, over, room_in}
 use Rattle.fv_engine_machine.proofs.Becoming.{rests, unmoved, unchanged, stays_itself, fails_so}
-use Rattle.fv_engine_machine.proofs.Changes.{is_part_memory, change_memory, change_misshapen, change_unfound, change_unmade, change_settled}
+use Rattle.fv_engine_machine.proofs.Changes.{is_part_memory, change_memory, change_misshapen, change_unfound, change_unmade, change_settled, one_set}
 use Rattle.fv_engine_pending.specs.Fits.{AreTyped, Keeps}
 use Rattle.fv_engine_pending.specs.Steps.{staged, step_view, steps_made}
 use Rattle.fv_engine_pending.specs.Ways.{pending_view}
@@ -99,7 +99,8 @@ returns g c =
           let mid = with_map held (over held ds c.find_records.new.store) m in
           let stay : Unchanged before mid = record { declared = refl; records = refl; was_open = e.frame.was_open mid_clean; counts = e.frame.counts; closes = e.frame.closes mid_clean; room = λ live. ap room_in (e.untouched (contents bytes ds m) holds mid_clean live).2 } in
           let fit : FitsWhereHeld (held c.find_records.new.store) (contents bytes ds m) way = λ now_clean live stands. (keeps ds.forms fits).1 (agreeing_fit ds.types ds.forms start m agrees (stands now_clean live).0.fit) in
-          let t = settles bytes m fit clean (e.stays (contents bytes ds m) holds) in (
+          let one = one_set ds.types ds.forms parts start way m agrees e.covers e.count goes in
+          let t = settles bytes m fit (subst (λ (o : Option (List ℕ)). IsOneSet o way m) (sym c.set_object.ensures) one) clean (e.stays (contents bytes ds m) holds) in (
             t.0,
             change_settled g.R.RuleSet.meaning c.args.now parts c.args.done before read.0 way mid (with_map held (over held ds c.settle.new.store) t.0)
                 (made ds.types ds.forms 0 parts start way m agrees e.covers goes) stay

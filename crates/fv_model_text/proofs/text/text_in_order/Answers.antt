@@ -10,5 +10,5 @@ use Rattle.fv_model_text.proofs.text.text_in_order.Goals as goal
 pub returns : goal.returns
 returns c =
     let json = bundle_json (bundle_view c.args.bundle.now) in
-    let same : string_bytes c.in-Ok.text ≡ print (json_tokens (outline json)) = search rules in
+    let same : string_bytes c.text_of.result ≡ print (json_tokens (outline json)) = search rules in
     same ∙ print-outline json

@@ -2,7 +2,7 @@ use Rattle.std.proofs.Common.{take, subst, sym, ap, ◌∷◌, ◌++◌, [], ◌
 use Rattle.std.proofs.lemmas.List.{take_more}
 use Rattle.sqlite.specs.Held.{state}
 use Rattle.fv_store.specs.Steps.{Advances, MakesAll}
-use Rattle.fv_store.proofs.Steps.{then, one_more, keeps_then, frame_then, step_cause}
+use Rattle.fv_store.proofs.Steps.{next_step, one_more, keeps_then, frame_then, step_cause}
 use Rattle.fv_store.proofs.Refusals.{handed_on}
 use Rattle.fv_store.proofs.changes.apply_all.Goals as goal
 
@@ -21,7 +21,7 @@ changes-preserved g c =
       done = λ now inside.
           let before = was.done (c.apply.ensures.frame.clean now) inside in
           subst (λ xs. Advances begin new (MakesAll xs)) (sym more)
-          (then begin mid new (one_more (take c.changes.change-index c.args.changes.now) c.change-item.result) before (c.in_ok-apply.ensures.done now before.mode));
+          (next_step begin mid new (one_more (take c.changes.change-index c.args.changes.now) c.change-item.result) before (c.in_ok-apply.ensures.done now before.mode));
     }
 
 pub returns-in_err-apply-clause-cause : goal.returns-in_err-apply-clause-cause

@@ -1,7 +1,6 @@
 use Rattle.sqlite.specs.Held.{state}
 use Rattle.fv_store.specs.Faults.{open_fault_of}
-use Rattle.fv_store.proofs.Queries.{about_first, about_never}
-use Rattle.fv_store.proofs.Openings.{taken_all, caused_all, excused_all, is_refusal}
+use Rattle.fv_store.proofs.Openings.{about_first, about_never, taken_all, caused_all, excused_all, is_refusal}
 use Rattle.fv_store.proofs.Refusals.{handed_on}
 use Rattle.fv_store.proofs.opening.compare.Goals as goal
 
@@ -18,7 +17,7 @@ returns-in-Some-clause-cause g c clean filled =
 pub returns-in_err-rows-clause-store_known : goal.returns-in_err-rows-clause-store_known
 returns-in_err-rows-clause-store_known g c clean none =
     handed_on _ c.from_residual.result (open_fault_of c.in_err-rows.field-0.0) c.from_residual.ensures.1
-    (λ version d tells is. c.in_err-rows.ensures.cause clean none tells.schema (is_refusal c.in_err-rows.field-0.0 is))
+    (λ version d tells is. c.in_err-rows.ensures.cause clean none tells.0 (is_refusal c.in_err-rows.field-0.0 is))
 
 pub returns-in-Some-clause-store_known : goal.returns-in-Some-clause-store_known
 returns-in-Some-clause-store_known g c clean none =

@@ -1,0 +1,9 @@
+use Rattle.fv_engine_pending.specs.Ways.{pending_view}
+use Rattle.fv_engine_machine.proofs.Changes.{set_after, set_fit}
+use Rattle.fv_engine_machine.proofs.changing.changes_of.Goals as goal
+
+pub returns-in-Some-clause-after : goal.returns-in-Some-clause-after
+returns-in-Some-clause-after c = rw c.in-Some.is (set_after c.in-Some.object.now (pending_view c.args.pending) c.into_object.result c.into_object.ensures.after)
+
+pub returns-in-Some-clause-fit : goal.returns-in-Some-clause-fit
+returns-in-Some-clause-fit c = rw c.in-Some.is (set_fit c.in-Some.object.now (pending_view c.args.pending) c.into_object.result c.into_object.ensures.fit)

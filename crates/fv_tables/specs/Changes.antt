@@ -1,0 +1,108 @@
+-- What changes make of the records, and of the tables.
+use Rattle.std.specs.Prelude.{◌≡◌, ◌&&◌, ◌||◌, ℕ, Bool, false, List, [], ◌∷◌, map, bytes_eq, string_bytes, if◌then◌else◌, Option, Some, None}
+use Rattle.std.specs.Cmp.Lexicographic.{slice_cmp}
+use Rattle.std.specs.List.Sorted.{IsStrictlySortedBy}
+use Rattle.std.specs.Ordering.{nat_cmp}
+use Rattle.fv_tables.specs.Stands.{Head, Part, Maps, Entry, Entries, IsOwned, without_parts, put, added, dropped, removed}
+use Rattle.fv_tables.specs.declared.entry.ObjectRow.{ObjectRow}
+
+-- an object with its name
+abbrev pub Thing : Type 0
+Thing = List ℕ × Part
+
+-- objects by their names
+abbrev pub Things : Type 0
+Things = List Thing
+
+-- the names ascend by their bytes
+abbrev pub IsNamed : Things → Type 0
+IsNamed os = IsStrictlySortedBy (slice_cmp nat_cmp) (map (λ (o : List ℕ × Part). o.0) os)
+
+-- ---- the tables
+
+-- these objects of a record, one after another
+abbrev pub all_added : List ℕ → Things → Maps → Maps
+all_added id [] t = t
+all_added id (o ∷ os) t = all_added id os (added (id, o.0) o.1 t)
+
+-- an object of that name is among these
+abbrev pub has_name : List ℕ → Things → Bool
+has_name name [] = false
+has_name name (o ∷ os) = bytes_eq o.0 name || has_name name os
+
+-- the same name, the same type's name and the same fields
+abbrev pub same_object : Thing → Thing → Bool
+same_object a b = bytes_eq a.0 b.0 && (bytes_eq a.1.kind b.1.kind && bytes_eq a.1.fields b.1.fields)
+
+-- the same object is among these
+abbrev pub has_object : Thing → Things → Bool
+has_object o [] = false
+has_object o (x ∷ os) = same_object x o || has_object o os
+
+-- the names of these
+abbrev pub names_of : Things → List (List ℕ)
+names_of os = map (λ (o : List ℕ × Part). o.0) os
+
+-- no two have one name
+abbrev pub AreApart : Things → Type 0
+AreApart [] = Unit {0}
+AreApart (o ∷ os) = (has_name o.0 os ≡ false) × AreApart os
+
+-- an object of a record is taken out, unless one of its name is among these
+abbrev pub spared : List ℕ → Things → List ℕ → Maps → Maps
+spared id os name t = if has_name name os then t else dropped (id, name) t
+
+-- the same of each of these names
+abbrev pub all_spared : List ℕ → Things → List (List ℕ) → Maps → Maps
+all_spared id os [] t = t
+all_spared id os (name ∷ names) t = all_spared id os names (spared id os name t)
+
+-- the objects of the record are these, one written after another where all others have gone
+abbrev pub replaced : List ℕ → Things → Maps → Maps
+replaced id os t = all_added id os (record { heads = t.heads; parts = without_parts id t.parts })
+
+-- the record of that id is this one, whatever was there
+abbrev pub written : List ℕ → Head → Things → Maps → Maps
+written id h os t = all_added id os (put id h (removed id t))
+
+-- no object of that record, and no two of these have one name
+abbrev pub IsFree : List ℕ → Things → Maps → Type 0
+IsFree id os t = AreApart os × ((name : List ℕ) → t.parts (id, name) ≡ None)
+
+-- each object has its record, and no two of these have one name
+abbrev pub IsReady : Things → Maps → Type 0
+IsReady os t = AreApart os × IsOwned t
+
+-- and there is no record of that id
+abbrev pub IsNew : List ℕ → Things → Maps → Type 0
+IsNew id os t = IsReady os t × (t.heads id ≡ None)
+
+-- ---- the records
+
+-- the object of that name is this one, if there is one
+abbrev pub with_object : List ℕ → Part → Things → Things
+with_object name p [] = []
+with_object name p (o ∷ os) = if bytes_eq name o.0 then (o.0, p) ∷ os else o ∷ with_object name p os
+
+-- the same of the objects of a record, if it is there
+abbrev pub changed : List ℕ → Part → Option Entry → Option Entry
+changed name p None = None
+changed name p (Some k) = Some (record { form = k.form; root = k.root; objects = with_object name p k.objects })
+
+-- the object of that name of a record is this one, if there is one
+abbrev pub with_part_of : List ℕ → List ℕ → Part → Entries → Entries
+with_part_of id name p m other = if bytes_eq other id then changed name p (m other) else m other
+
+-- ---- as the code has them
+
+-- an object with its name
+abbrev pub object_view : ObjectRow → List ℕ × Part
+object_view o = (string_bytes o.name, record { kind = string_bytes o.kind; fields = string_bytes o.fields })
+
+-- objects with their names
+abbrev pub objects_view : List ObjectRow → Things
+objects_view os = map object_view os
+
+-- the objects of each record are named
+abbrev pub AllNamed : Entries → Type 0
+AllNamed m = (id : List ℕ) (k : Entry) → m id ≡ Some k → IsNamed k.objects

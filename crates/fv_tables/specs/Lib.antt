@@ -1,0 +1,11 @@
+pub mod Tables
+pub mod FirstTables
+pub mod Rows
+pub mod Stands
+pub mod Steps
+pub mod Changes
+pub mod Stored
+pub mod Causes
+pub mod Lists
+pub mod Creating
+pub mod About
