@@ -1,5 +1,5 @@
 #!/usr/bin/env python3
-"""Refuses each of formd's requests for memory in turn, on the demonstration's lines.
+"""Refuses each of formd's requests for memory in turn, on the demonstration's lines and some more.
 
 Run it behind `make`, which leaves the program as crates/formd/out/formd. A run has one request
 refused: the first, the second, and so on, until a run asks for less. Each run must end well: every
@@ -22,6 +22,31 @@ FORMD = HERE.parent / "crates" / "formd"
 MEMORY = {"error": "C12", "name": "Memory"}
 
 
+def item(**fields):
+    return {"type": "Item", "fields": fields}
+
+
+def put(key, root, **objects):
+    return {"do": "put", "id": key, "form": "item", "bundle": {"root": root, "objects": objects}}
+
+
+def change(key, name, field, value):
+    return {"do": "set", "id": key, "object": name, "field": field, "value": value}
+
+
+# Behind the demonstration's lines: objects come, change and go. Where one of these is refused, the others find what was there before it.
+MORE = [
+    put("r1", "a", a=item(count=2, name="ab"), b=item()),
+    put("r1", "c", a=item(count=3, name="a"), c=item(count=1, name="c")),
+    change("r1", "a", "count", 4),
+    {"do": "get", "id": "r1"},
+    {"do": "batch", "parts": [put("r2", "a", a=item(name="x")), change("r1", "a", "name", "abcd")]},
+    {"do": "get", "id": "r2"},
+    {"do": "remove", "id": "r1"},
+    {"do": "get", "id": "r1"},
+]
+
+
 def violations(fields):
     """The violations of an Item: Min 1 of count, NotNull and Size 1 to 3 of name."""
     count, name = fields.get("count"), fields.get("name")
@@ -39,19 +64,37 @@ def violations(fields):
     return found
 
 
+def changed(records, part):
+    """The records behind a put, a set or a remove."""
+    key = part["id"]
+    if part["do"] == "put":
+        return {**records, key: (part["form"], part["bundle"])}
+    if part["do"] == "remove":
+        return {other: record for other, record in records.items() if other != key}
+    form, bundle = records[key]
+    made = bundle["objects"][part["object"]]
+    made = {**made, "fields": {**made["fields"], part["field"]: part["value"]}}
+    return {**records, key: (form, {**bundle, "objects": {**bundle["objects"], part["object"]: made}})}
+
+
 def wanted(records, command):
     """The reply that a command calls for, and the records behind it."""
-    key = command["id"]
     if command["do"] == "get":
+        key = command["id"]
         if key not in records:
             return {"error": "C6", "name": "NoRecord"}, records
         return {"ok": "get", "id": key, "form": records[key][0], "bundle": records[key][1]}, records
-    bundle = command["bundle"]
-    (root,) = bundle["objects"].values()
-    found = violations(root["fields"])
+    parts, after, found = command.get("parts", [command]), records, []
+    for part in parts:
+        after = changed(after, part)
+    for key in sorted({part["id"] for part in parts} & set(after)):
+        _, bundle = after[key]
+        reasons = violations(bundle["objects"][bundle["root"]]["fields"])
+        if reasons:
+            found.append({"id": key, "violations": reasons})
     if found:
-        return {"error": "C10", "name": "Violations", "records": [{"id": key, "violations": found}]}, records
-    return {"ok": "put"}, {**records, key: (command["form"], bundle)}
+        return {"error": "C10", "name": "Violations", "records": found}, records
+    return {"ok": command["do"]}, after
 
 
 def fault(commands, status, output, errors):
@@ -75,7 +118,7 @@ def fault(commands, status, output, errors):
 
 
 def main():
-    lines = (FORMD / "stdin").read_bytes()
+    lines = (FORMD / "stdin").read_bytes() + "".join(json.dumps(command) + "\n" for command in MORE).encode()
     commands = [json.loads(line) for line in lines.decode().splitlines()]
     with tempfile.TemporaryDirectory() as folder:
         library, counted = Path(folder) / "refuse.so", Path(folder) / "count"

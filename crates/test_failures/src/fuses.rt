@@ -12,30 +12,35 @@ const DECLARATIONS: &str =
 
 /// The records that stand at first.
 const PUTS: &str =
-    r#"{"do":"put","id":"r1","form":"item","bundle":{"root":"a","objects":{"a":{"type":"Item","fields":{"name":"one"}}}}}
-{"do":"put","id":"r2","form":"item","bundle":{"root":"a","objects":{"a":{"type":"Item","fields":{"name":"two"}}}}}"#;
+    r#"{"do":"put","id":"r1","form":"item","bundle":{"root":"a","objects":{"a":{"type":"Item","fields":{"name":"one"}},"b":{"type":"Item"}}}}
+{"do":"put","id":"r2","form":"item","bundle":{"root":"a","objects":{"a":{"type":"Item","fields":{"name":"two"}}}}}
+{"do":"put","id":"r3","form":"item","bundle":{"root":"a","objects":{"a":{"type":"Item"},"b":{"type":"Item"}}}}"#;
 
-const PUTS_TAKEN: &str = "{\"ok\":\"put\"}\n{\"ok\":\"put\"}\n";
+const PUTS_TAKEN: &str = "{\"ok\":\"put\"}\n{\"ok\":\"put\"}\n{\"ok\":\"put\"}\n";
 
-/// A put in the place of the first, and a field of the second.
+/// A put in the place of the first, with one object that was there and one that wasn't; a field of the
+/// second; and the third is removed.
 const CHANGE: &str =
-    r#"{"do":"batch","parts":[{"do":"put","id":"r1","form":"item","bundle":{"root":"a","objects":{"a":{"type":"Item","fields":{"name":"three"}}}}},{"do":"set","id":"r2","object":"a","field":"name","value":"four"}]}"#;
+    r#"{"do":"batch","parts":[{"do":"put","id":"r1","form":"item","bundle":{"root":"c","objects":{"a":{"type":"Item","fields":{"name":"three"}},"c":{"type":"Item"}}}},{"do":"set","id":"r2","object":"a","field":"name","value":"four"},{"do":"remove","id":"r3"}]}"#;
 
 const TAKEN: &str = "{\"ok\":\"batch\"}\n";
 
 const REFUSED: &str = "{\"error\":\"C11\",\"name\":\"Store\"}\n";
 
 const GETS: &str = r#"{"do":"get","id":"r1"}
-{"do":"get","id":"r2"}"#;
+{"do":"get","id":"r2"}
+{"do":"get","id":"r3"}"#;
 
 const BEFORE: &str =
-    r#"{"bundle":{"objects":{"a":{"fields":{"name":"one"},"type":"Item"}},"root":"a"},"form":"item","id":"r1","ok":"get"}
+    r#"{"bundle":{"objects":{"a":{"fields":{"name":"one"},"type":"Item"},"b":{"fields":{},"type":"Item"}},"root":"a"},"form":"item","id":"r1","ok":"get"}
 {"bundle":{"objects":{"a":{"fields":{"name":"two"},"type":"Item"}},"root":"a"},"form":"item","id":"r2","ok":"get"}
+{"bundle":{"objects":{"a":{"fields":{},"type":"Item"},"b":{"fields":{},"type":"Item"}},"root":"a"},"form":"item","id":"r3","ok":"get"}
 "#;
 
 const AFTER: &str =
-    r#"{"bundle":{"objects":{"a":{"fields":{"name":"three"},"type":"Item"}},"root":"a"},"form":"item","id":"r1","ok":"get"}
+    r#"{"bundle":{"objects":{"a":{"fields":{"name":"three"},"type":"Item"},"c":{"fields":{},"type":"Item"}},"root":"c"},"form":"item","id":"r1","ok":"get"}
 {"bundle":{"objects":{"a":{"fields":{"name":"four"},"type":"Item"}},"root":"a"},"form":"item","id":"r2","ok":"get"}
+{"error":"C6","name":"NoRecord"}
 "#;
 
 /// The files of a database, all of it written there if the disk lets it.
@@ -178,17 +183,28 @@ fn a_log_fails_while_it_is_opened(rt: HostRuntime) -> Result<(), Fail> {
     Ok(())
 }
 
-/// At some of these calls the put is refused.
+/// At some of these calls the batch is refused.
 #[test]
-fn a_log_fails_while_a_put_is_written(rt: HostRuntime) -> Result<(), Fail> {
+fn a_log_fails_while_a_batch_is_written(rt: HostRuntime) -> Result<(), Fail> {
     let table = [
+        (26, NEVER),
         (28, NEVER),
-        (29, NEVER),
         (30, NEVER),
-        (31, NEVER),
         (32, NEVER),
-        (33, NEVER),
         (34, NEVER),
+        (36, NEVER),
+        (38, NEVER),
+        (40, NEVER),
+        (42, NEVER),
+        (44, NEVER),
+        (46, NEVER),
+        (48, NEVER),
+        (50, NEVER),
+        (52, NEVER),
+        (54, NEVER),
+        (56, NEVER),
+        (58, NEVER),
+        (60, NEVER),
     ];
     let outcomes = outcomes(&rt, rt.alloc(), &table)?;
     assert!(rt; outcomes.contains('r'), "{outcomes}");
@@ -196,8 +212,8 @@ fn a_log_fails_while_a_put_is_written(rt: HostRuntime) -> Result<(), Fail> {
 }
 
 #[test]
-fn a_log_fails_once_a_put_is_taken(rt: HostRuntime) -> Result<(), Fail> {
-    let table = [(35, NEVER), (36, NEVER), (40, NEVER), (48, NEVER)];
+fn a_log_fails_once_a_batch_is_taken(rt: HostRuntime) -> Result<(), Fail> {
+    let table = [(48, NEVER), (56, NEVER), (64, NEVER), (200, NEVER)];
     let outcomes = outcomes(&rt, rt.alloc(), &table)?;
     assert!(rt; outcomes.ends_with('t'), "{outcomes}");
     Ok(())
@@ -212,7 +228,10 @@ fn a_database_file_fails(rt: HostRuntime) -> Result<(), Fail> {
         (NEVER, 22),
         (NEVER, 23),
         (NEVER, 24),
+        (NEVER, 28),
+        (NEVER, 32),
         (NEVER, 48),
+        (NEVER, 200),
     ];
     let outcomes = outcomes(&rt, rt.alloc(), &table)?;
     assert!(rt; outcomes.starts_with('-'), "{outcomes}");
