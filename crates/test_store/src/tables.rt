@@ -115,10 +115,10 @@ commit; r2; r2 .a <7>; r1 .b {"root":"b","objects":{"b":{"type":"Item","fields":
     )
 }
 
-/// A bundle of so many notes, the first of which is the root.
-fn notes(alloc: Global, count: u32) -> Result<String, Fail> {
+/// A bundle of notes numbered from 100 up to this number, the first of which is the root.
+fn notes(alloc: Global, end: u32) -> Result<String, Fail> {
     let mut text = String::from_str(alloc, r#"{"root":"n100","objects":{"#)?;
-    for number in 100..100 + count {
+    for number in 100..end {
         if number > 100 {
             text.push(',')?;
         }
@@ -129,9 +129,9 @@ fn notes(alloc: Global, count: u32) -> Result<String, Fail> {
 }
 
 /// Their names, each as an answer.
-fn names(alloc: Global, count: u32) -> Result<String, Fail> {
+fn names(alloc: Global, end: u32) -> Result<String, Fail> {
     let mut text = String::new(alloc);
-    for number in 100..100 + count {
+    for number in 100..end {
         write!(text, "\n= n{number}")?;
     }
     Ok(text)
@@ -141,8 +141,8 @@ fn names(alloc: Global, count: u32) -> Result<String, Fail> {
 #[test]
 fn a_record_may_have_256_objects(rt: HostRuntime) -> Result<(), Fail> {
     let alloc = rt.alloc();
-    let (all, few) = (notes(alloc, 256)?, notes(alloc, 3)?);
-    let (all_names, few_names) = (names(alloc, 256)?, names(alloc, 3)?);
+    let (all, few) = (notes(alloc, 356)?, notes(alloc, 103)?);
+    let (all_names, few_names) = (names(alloc, 356)?, names(alloc, 103)?);
     let text = format!(in alloc;
         "
 open [declarations]
