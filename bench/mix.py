@@ -4,6 +4,7 @@
     mix.py                   seconds of 20,000 commands of each shape, and peak memory
     mix.py --pages           instructions of a list of 100 among 1,000 and among 100,000 ids, by callgrind (needs valgrind)
     mix.py --long            peak memory of a million commands beside that of ten thousand
+    mix.py --redeclares      seconds of a redeclare over 1,000 and 10,000 records of each shape, and peak memory
     mix.py --program FILE    with another build of formd than the one that `make` leaves
 
 In a hundred commands 60 are puts, 12 sets, 12 gets, 8 checks, 3 lists of 100 ids, and 5 batches of ten puts, of the shapes of `shapes.py`. Each set
@@ -201,10 +202,30 @@ def long(program):
         print(f"{count:>9,}{peak:>11.1f}", flush=True)
 
 
+def redeclares(program):
+    """The declarations that are in force, written once more: each record is read and judged."""
+    print("shape          records   seconds a redeclare   peak MB  without a redeclare")
+    for shape in SHAPES:
+        declarations, form, make, _ = SHAPES[shape]
+        again = (compact({"do": "redeclare", "text": compact(declarations)}) + "\n").encode()
+        for count in (1000, 10000):
+            with tempfile.TemporaryDirectory(dir="/dev/shm") as name:
+                words = words_of(program, Path(name), shape)
+                parts = [{"do": "put", "id": f"r{number:06}", "form": form, "bundle": make(number)} for number in range(count)]
+                batches = "".join(compact({"do": "batch", "parts": parts[at : at + 50]}) + "\n" for at in range(0, count, 50)).encode()
+                subprocess.run(words, input=batches, capture_output=True, check=True)
+                nothing, least, _ = timed(words, b"")
+                some, peak, output = timed(words, again * 10)
+            if output != b'{"ok":"redeclare"}\n' * 10:
+                raise SystemExit(f"not taken: {output[:200]}")
+            print(f"{shape:<13}{count:>9,}{(some - nothing) / 10:>22.4f}{peak:>10.1f}{least:>22.1f}", flush=True)
+
+
 def main():
     words = argparse.ArgumentParser()
     words.add_argument("--pages", action="store_true")
     words.add_argument("--long", action="store_true")
+    words.add_argument("--redeclares", action="store_true")
     words.add_argument("--count", type=int, default=20000)
     words.add_argument("--program", type=Path, default=FORMD)
     words.add_argument("--baseline")
@@ -216,6 +237,8 @@ def main():
         pages(given.program.resolve())
     elif given.long:
         long(given.program.resolve())
+    elif given.redeclares:
+        redeclares(given.program.resolve())
     else:
         seconds(given.program.resolve(), given.count)
 

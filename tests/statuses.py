@@ -5,9 +5,10 @@
     tests/statuses.py PROGRAM    with another build of formd
 
 A folder, a missing file, garbage, a file in use, one that may not be written, a disk that is full when
-the database is made or in the middle of puts, a pipe that nobody reads, tables of version 1. Behind a
-full disk every put that was answered has to be in the file. And what SQLite finds in the file of a run
-that ended in order: the tables of docs/FORMATS.md, their rows behind each kind of change, and no fault.
+the database is made or in the middle of puts, a pipe that nobody reads, tables of version 1, and a file
+whose own declarations aren't taken. Behind a full disk every put that was answered has to be in the file.
+And what SQLite finds in the file of a run that ended in order: the tables of docs/FORMATS.md, their rows
+behind each kind of change, the declarations behind a redeclare, and no fault.
 """
 
 import json
@@ -234,6 +235,55 @@ def first_version(folder):
     ended("version 1 under other declarations", serve(good, file), 4, "formd: store: OtherVersion\n")
 
 
+def redeclare(text):
+    return json.dumps({"do": "redeclare", "text": text})
+
+
+def declared(folder):
+    """The declarations that a file keeps are in force, whatever is handed in, until a line changes them."""
+    good, other, file = folder / "kept.json", folder / "other.json", folder / "kept.db"
+    good.write_text(DECLARATIONS)
+    other.write_text('{"types":{},"forms":{}}')
+    records, objects = [("r1", "f", "a"), ("r2", "f", "a")], [("r1", "a", "T", '{"t":"x"}'), ("r2", "a", "T", '{"t":""}')]
+    get = '{"do":"get","id":"r1"}'
+    shown = '{"bundle":{"objects":{"a":{"fields":{"t":"x"},"type":"T"}},"root":"a"},"form":"f","id":"r1","ok":"get"}'
+
+    def behind(name, given, lines, replies, text):
+        ran = serve(given, file, "".join(line + "\n" for line in lines))
+        ended(name, ran, 0, "")
+        look(f"{name}, replies", ran.stdout.splitlines(), replies)
+        look(f"{name}, tables", tables(file), [ABOUT, OBJECT, RECORD])
+        look(f"{name}, about", rows(file, "about"), [(1, 2, text.encode())])
+        look(f"{name}, record", rows(file, "record"), records)
+        look(f"{name}, object", rows(file, "object"), objects)
+
+    behind("declarations of the first run", good, [put(1, 1), put(2)], ['{"ok":"put"}'] * 2, DECLARATIONS)
+    behind("others handed in", other, [get], [shown], DECLARATIONS)
+    more = '{"types":{"T":{"fields":{"n":{"type":"integer"},"t":{"type":"text"}}},"U":{"fields":{}}},"forms":{"f":{"root":"T"}}}'
+    behind("a redeclare", other, [redeclare(more + " "), get], ['{"ok":"redeclare"}', shown], more + " ")
+    behind("the first handed in again", good, [get], [shown], more + " ")
+    refused = {
+        "{": '{"error":"C13","fault":"F1","name":"Declarations"}',
+        '{"types":{},"forms":{}}': '{"error":"C14","fault":"C4","id":"r1","name":"Unfit"}',
+        '{"types":{"T":{"fields":{}}},"forms":{"f":{"root":"T"}}}': '{"error":"C14","fault":"B4","id":"r1","name":"Unfit"}',
+        '{"types":{"T":{"fields":{"t":{"type":"text","constraints":[{"constraint":"NotEmpty"}]}}}},"forms":{"f":{"root":"T"}}}': '{"error":"C10","name":"Violations","records":[{"id":"r2",'
+        '"violations":[{"constraint":"NotEmpty","message":"must not be empty","occurrence":0,"path":"t","value":""}]}]}',
+    }
+    behind("refused redeclares", good, [redeclare(text) for text in refused], list(refused.values()), more + " ")
+    behind("redeclares in turn", good, [redeclare(text) for text in (DECLARATIONS, more, more, DECLARATIONS)], ['{"ok":"redeclare"}'] * 4, DECLARATIONS)
+    base = sqlite3.connect(file)
+    base.execute("UPDATE about SET declarations = ?", (b"{",))
+    base.commit()
+    base.close()
+    for name in ("no JSON of its own", "no JSON of its own, again"):
+        ended(name, serve(good, file, get + "\n"), 3, "formd: declarations refused: F1 NotJson\n")
+        look(f"{name}, about", rows(file, "about"), [(1, 2, b"{")])
+        look(f"{name}, record", rows(file, "record"), records)
+        look(f"{name}, object", rows(file, "object"), objects)
+    (folder / "list.json").write_text("[]")
+    ended("no declarations handed in", serve(folder / "list.json", file, get + "\n"), 3, "formd: declarations refused: F2 Shape\n")
+
+
 def pipes(folder):
     (folder / "p.json").write_text(DECLARATIONS)
     words = [PROGRAM, "serve", "--declarations", folder / "p.json", "--database", folder / "p.db"]
@@ -269,6 +319,7 @@ def main():
         files(folder)
         changes(folder)
         first_version(folder)
+        declared(folder)
         pipes(folder)
         full(folder)
     print(f"{count} looked at, {failed} differ")

@@ -39,8 +39,8 @@ fn run_task<R: RuleSet + Drop, I: Read, W: Write, C: Clock>(
 /// Does what the words ask, without the program's name: without words it serves the demonstration's
 /// declarations over a database in memory at the moment 0, the reader to the output writer;
 /// `declarations F` prints `ok` where the declarations of the file F are taken;
-/// `serve --declarations F --database G [--now N]` serves those of the file F over the database at
-/// the path G, at the moment N or at those of the clock.
+/// `serve --declarations F --database G [--now N]` serves the database at the path G, at the moment N
+/// or at those of the clock, under its own declarations; under those of the file F where it is empty.
 ///
 /// Gives the exit status: 0 done; 2 the words weren't understood, or call for help, with a text on
 /// the error writer; 3 where the declarations are refused and 4 for any other failure, with a line

@@ -38,11 +38,12 @@ fn open_database(rt: &HostRuntime, path: &str) -> Result<Connection<FileStore<Fi
     }
 }
 
-/// Serves the declarations of one file over the database at another path, until the reader's end.
+/// Serves the database at a path, until the reader's end: under its own declarations, or under those
+/// of the file where it is empty.
 ///
 /// Refused as declarations not readable, then as a database not opened, then by the fault of the
-/// declarations, then by that of the database, then as not read or not written; for want of memory
-/// at any place. What was answered as stored is kept, also where the database isn't closed in order:
+/// file's declarations, then by that of the database, then by the fault of those that it keeps, then as
+/// not read or not written; for want of memory at any place. What was answered as stored is kept, also where the database isn't closed in order:
 /// the next opening finds it.
 pub(crate) fn serve_files<R: RuleSet + Drop, I: Read, W: Write, C: Clock>(
     rt: &HostRuntime,

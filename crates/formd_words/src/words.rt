@@ -45,7 +45,7 @@ fn serve_command<'a>(alloc: Global) -> Result<Command<'a>, Error> {
         .long("declarations")
         .value_name("FILE")
         .required(true)
-        .help("The file with the declarations");
+        .help("The declarations for a database that is empty; any other keeps its own");
     let database = Arg::new(alloc, "database")
         .long("database")
         .value_name("FILE")

@@ -1,3 +1,4 @@
+pub mod DeclaredOnce
 pub mod InMemory
 pub mod Laws
 pub mod Lifts

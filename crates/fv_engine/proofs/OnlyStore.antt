@@ -3,7 +3,7 @@ use Rattle.std.proofs.Common.{codes, slice_index_or, ◌==◌, ◌≡◌, ℕ, L
 use Rattle.json.specs.Print.{escape_byte}
 use Rattle.serde_json.specs.Data as json
 use Rattle.serde_json.specs.Written.{compact_text}
-use Rattle.fv_engine_reply.specs.Answers.{Answer, done, shown, violated, checked, field_checked, value_checked, ids, refused, part_refused}
+use Rattle.fv_engine_reply.specs.Answers.{Answer, done, shown, violated, checked, field_checked, value_checked, ids, refused, part_refused, redeclared, misdeclared, unfit}
 use Rattle.fv_engine_reply.specs.Texts.{refused_json, answer_json, answer_text}
 use Rattle.fv_engine_reply.specs.declared.answer.Refusal.{Refusal}
 use Rattle.fv_engine_reply.specs.declared.answer.Refusal.TheVariants.{LineTooLong, NotJson, Shape, UnknownForm, Bundle, NoRecord, UnknownGroup, NoSuchField, TooManyVisits, Store, Memory}
@@ -56,6 +56,22 @@ violations_other : (j : json.Data) (ms : json.Members) → j ≡ json.object (js
     → compact_text j ≡ answer_text (refused Store) → ⊥
 violations_other j ms is e = differs 12 (compact_text j) refl (ap (λ (k : json.Data). agrees_at 12 (compact_text k)) is ∙ violations_differ ms) e
 
+misdeclared_differ : (ms : json.Members) → agrees_at 12 (compact_text (json.object (json.member (codes "error") (json.string (codes "C13")) ms))) ≡ false
+unfolding escape_byte
+misdeclared_differ ms = refl
+
+misdeclared_other : (j : json.Data) (ms : json.Members) → j ≡ json.object (json.member (codes "error") (json.string (codes "C13")) ms)
+    → compact_text j ≡ answer_text (refused Store) → ⊥
+misdeclared_other j ms is e = differs 12 (compact_text j) refl (ap (λ (k : json.Data). agrees_at 12 (compact_text k)) is ∙ misdeclared_differ ms) e
+
+unfit_differs : (ms : json.Members) → agrees_at 12 (compact_text (json.object (json.member (codes "error") (json.string (codes "C14")) ms))) ≡ false
+unfolding escape_byte
+unfit_differs ms = refl
+
+unfit_other : (j : json.Data) (ms : json.Members) → j ≡ json.object (json.member (codes "error") (json.string (codes "C14")) ms)
+    → compact_text j ≡ answer_text (refused Store) → ⊥
+unfit_other j ms is e = differs 12 (compact_text j) refl (ap (λ (k : json.Data). agrees_at 12 (compact_text k)) is ∙ unfit_differs ms) e
+
 part_differs : (n : ℕ) → agrees_at 29 (compact_text (refused_json (Some n) Store)) ≡ false
 unfolding escape_byte
 part_differs n = refl
@@ -85,3 +101,6 @@ only_store (value_checked vs) e = absurd (ok_other (answer_json (value_checked v
 only_store (ids ts) e = absurd (ids_other (answer_json (ids ts)) _ _ refl e)
 only_store (refused why) e = ap refused (refusal_is None why e).1
 only_store (part_refused n why) e = let never : Some n ≡ None = (refusal_is (Some n) why e).0 in cc
+only_store redeclared e = absurd (ok_other (answer_json redeclared) _ _ refl e)
+only_store (misdeclared fault) e = absurd (misdeclared_other (answer_json (misdeclared fault)) _ refl e)
+only_store (unfit id why) e = absurd (unfit_other (answer_json (unfit id why)) _ refl e)

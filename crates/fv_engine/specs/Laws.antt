@@ -6,7 +6,14 @@ use Rattle.sqlite.specs.Disk.{MoreFaults}
 use Rattle.fv_declare_schema.specs.Declarations.{Declarations}
 use Rattle.fv_engine_machine.specs.Causes.{HasRoomFor}
 use Rattle.fv_engine_machine.specs.Machines.{Machine}
-use Rattle.fv_engine_command.specs.Commands.{put, Request, alone, get, check, check_field, asked}
+use Rattle.fv_engine_command.specs.Commands.{put, Request, alone, get, check, check_field, asked, redeclare, asks}
+use Rattle.fv_datum.specs.Lookup.{at_name}
+use Rattle.fv_declare.specs.Declares.{Declares}
+use Rattle.fv_engine_machine.specs.Redeclaring.{Reign}
+use Rattle.fv_engine_machine.specs.Rejudging.{HasFewIds}
+use Rattle.fv_model.specs.Extends.{Extends}
+use Rattle.fv_registry.specs.Rules.{Known}
+use Rattle.fv_store.specs.Causes.{IsShortAbout}
 use Rattle.fv_engine_machine.specs.Refusals.{parts_of}
 use Rattle.fv_engine_machine.specs.Step.{IsTaken, Told}
 use Rattle.fv_groups.specs.Groups.{numbers_of}
@@ -16,7 +23,7 @@ use Rattle.fv_engine_machine.specs.Judging.{groups_of}
 use Rattle.fv_engine_pending.specs.Parts.{bundle_under}
 use Rattle.fv_engine_pending.specs.Touched.{IsTouched, needed_id}
 use Rattle.fv_registry.specs.Meanings.{Meanings}
-use Rattle.fv_engine_reply.specs.Answers.{Answer, done, shown, violated, checked, refused}
+use Rattle.fv_engine_reply.specs.Answers.{Answer, done, shown, violated, checked, refused, redeclared, unfit}
 use Rattle.fv_engine_reply.specs.Texts.{answer_text}
 use Rattle.fv_engine_reply.specs.declared.answer.Done.{Done}
 use Rattle.fv_engine_reply.specs.declared.answer.Done.TheVariants.{Put}
@@ -27,6 +34,10 @@ use Rattle.fv_store.specs.Records.{Kept, Records}
 -- the reply tells that a command that changes records was taken
 abbrev pub IsDone : Done → List ℕ → Type 0
 IsDone what reply = reply ≡ answer_text (done what)
+
+-- the reply tells that declarations were changed
+abbrev pub IsRedeclared : List ℕ → Type 0
+IsRedeclared reply = reply ≡ answer_text redeclared
 
 -- the reply tells that the store or memory failed
 abbrev pub IsFailure : List ℕ → Type 0
@@ -39,9 +50,10 @@ ShowsWhatWasPut means ds line reply new = (id form : List ℕ) (bundle : json.Da
     × ((next : List ℕ) (later : ℤ) (shows : List ℕ) (last : Records) → asked next ≡ get id → Told means ds new next later shows last
     → (shows ≡ answer_text (shown id form b)) ⊎ IsFailure shows)
 
--- A refusal changes no get, as it changes no record; nor does any other reply but that a command that changes records was taken.
-abbrev pub ChangesNoGet : List ℕ → Records → Records → Type 0
-ChangesNoGet reply old new = ((what : Done) → IsDone what reply → ⊥) → new ≡ old
+-- A refusal changes no get, as it changes neither a record nor the declarations. Only a reply that tells that a command was taken may change
+-- one.
+abbrev pub ChangesNoGet : List ℕ → Reign → Reign → Type 0
+ChangesNoGet reply old new = ((what : Done) → IsDone what reply → ⊥) → (IsRedeclared reply → ⊥) → new ≡ old
 
 -- no refusal for violations without one, nor of a record that has none
 abbrev pub HasSome : Answer → Type 0
@@ -77,10 +89,15 @@ abbrev pub LacksRoom : Meanings → List ℕ → ℤ → Machine Records → Typ
 LacksRoom means line now old =
     (m : Records) × IsTaken means old.declared now (asked line) old.records m × (HasRoomFor (parts_of (asked line)) m old → ⊥)
 
--- Over an open connection whose disk doesn't fail, the store fails a line for want of room alone.
+-- a line asks for other declarations, and these are too long for a row, or there are more ids than are looked at
+abbrev pub LacksRoomForAll : List ℕ → Machine Records → Type 0
+LacksRoomForAll line old = (given : List ℕ) × (asks line ≡ redeclare given) × (IsShortAbout given → HasFewIds old.records → ⊥)
+
+-- Over an open connection whose disk doesn't fail, the store fails a line for want of room alone, or for more ids than a redeclare looks at.
 abbrev pub FailsForRoomAlone : Meanings → List ℕ → ℤ → List ℕ → Machine Records → Machine Records → Type 0
 FailsForRoomAlone means line now reply old new =
-    reply ≡ answer_text (refused Store) → IsTrue old.is_open → (MoreFaults old.faults new.faults → ⊥) → LacksRoom means line now old
+    reply ≡ answer_text (refused Store) → IsTrue old.is_open → (MoreFaults old.faults new.faults → ⊥)
+    → LacksRoom means line now old ⊎ LacksRoomForAll line old
 
 -- these are names of the form's groups, in order; each counts where it stands first, and none stand for `Default`
 abbrev pub AreNamesOf : Declarations → List ℕ → List (List ℕ) → Type 0
@@ -94,3 +111,37 @@ LeavesNothingToList means ds line now reply new = (what : Done) → IsDone what 
     → (next : List ℕ) (names : List (List ℕ)) (lists : List ℕ) (last : Records) → asked next ≡ check id names
     → AreNamesOf ds kept.form names → Told means ds new next now lists last
     → (lists ≡ answer_text (checked [])) ⊎ IsFailure lists
+
+-- ---- changed declarations
+
+-- A taken redeclare changes no get: a get on the next line shows what one of the same id showed before it, unless one of both fails.
+abbrev pub ShowsTheSame : Meanings → List ℕ → Reign → Reign → Type 0
+ShowsTheSame means reply old new = IsRedeclared reply
+    → (id next : List ℕ) → asked next ≡ get id
+    → (before later : ℤ) (showed shows : List ℕ) (first last : Records)
+    → Told means old.declared old.records next before showed first → Told means new.declared new.records next later shows last
+    → (shows ≡ showed) ⊎ (IsFailure showed ⊎ IsFailure shows)
+
+-- A taken redeclare leaves nothing to list: a check of any record for the groups of its form, on the next line and at the same moment, finds
+-- no violation, unless that check fails.
+abbrev pub LeavesNothingAtAll : Meanings → ℤ → List ℕ → Reign → Type 0
+LeavesNothingAtAll means now reply new = IsRedeclared reply
+    → (id : List ℕ) (kept : Kept) → new.records id ≡ Some kept
+    → (next : List ℕ) (names : List (List ℕ)) (lists : List ℕ) (last : Records) → asked next ≡ check id names
+    → AreNamesOf new.declared kept.form names → Told means new.declared new.records next now lists last
+    → (lists ≡ answer_text (checked [])) ⊎ IsFailure lists
+
+-- declarations have each type of others, with each of its fields, and each form with the same root; they may have more
+abbrev pub OnlyAdd : Declarations → Declarations → Type 0
+OnlyAdd old ds = Extends old.types ds.types × ((form root : List ℕ) → at_name form old.forms ≡ Some root → at_name form ds.forms ≡ Some root)
+
+-- no record is told not to fit
+abbrev pub IsNoMisfit : Answer → Type 0
+IsNoMisfit (unfit id why) = ⊥
+IsNoMisfit _ = Unit {0}
+
+-- Where all that a text declares only adds to what is in force, no record is told not to fit it.
+abbrev pub FitsWhereAdded : Known → List ℕ → List ℕ → Reign → Type 0
+FitsWhereAdded known line reply old = (given : List ℕ) → asks line ≡ redeclare given
+    → ((ds : Declarations) → Declares known given (Ok ds) → OnlyAdd old.declared ds)
+    → (answer : Answer) × (reply ≡ answer_text answer) × IsNoMisfit answer

@@ -1,24 +1,28 @@
-ghost use Rattle.std.specs.Prelude.{◌≡◌, ◌≢◌, false, IfOk, IfErr, MatchResult, Ok, Err, Some, None};
+ghost use Rattle.std.specs.Prelude.{◌≡◌, ◌≢◌, ◌⊎◌, false, IfOk, IfErr, MatchResult, Ok, Err, Some, None};
 ghost use Rattle.sqlite.specs.State.{HasCleanDisk};
 ghost use Rattle.sqlite.specs.Held.{state};
 ghost use Rattle.fv_datum.specs.Moments.{IsMoment};
 ghost use Rattle.fv_store.specs.Faults.{about_fault, IsAboutFault};
 ghost use Rattle.fv_store.specs.Causes.{HasFailed, IsShortAbout};
 ghost use Rattle.fv_store.specs.Stands.{Frame, Holds, IsBlank, IsLive, Opens, Stays, TellsAbout};
+ghost use Rattle.fv_store.specs.Stock.{stock_state};
 ghost use Rattle.fv_declare.specs.Declares.{Declares};
-ghost use Rattle.fv_engine.specs.Laws.{ShowsWhatWasPut, ChangesNoGet, ListsSome, MayChangePlaces, LeavesNothingToList, FailsWhereShut, FailsForRoomAlone};
-ghost use Rattle.fv_engine_machine.specs.Machines.{contents, StandsFor, Becomes};
-ghost use Rattle.fv_engine_machine.specs.Causes.{Caused};
-ghost use Rattle.fv_engine_machine.specs.Step.{Told};
+ghost use Rattle.fv_engine.specs.Laws.{ShowsWhatWasPut, ChangesNoGet, ListsSome, MayChangePlaces, LeavesNothingToList, FailsWhereShut, FailsForRoomAlone, ShowsTheSame, LeavesNothingAtAll, FitsWhereAdded};
+ghost use Rattle.fv_engine.specs.Openings.{DeclaresSome, IsInForce, IsMisdeclared};
+ghost use Rattle.fv_engine_machine.specs.Machines.{contents};
+ghost use Rattle.fv_engine_machine.specs.Services.{GoesOn, Keeps, Responds, Turned, reign_of};
+ghost use Rattle.fv_model_types.specs.Types.{FieldsApart};
+ghost use Rattle.fv_model_types.specs.TypesView.{types_view};
 ghost use Rattle.fv_engine.specs.FaultNames.{open_fault_name};
 ghost use Rattle.fv_engine_reply.specs.Answers.{refused};
 ghost use Rattle.fv_engine_reply.specs.Texts.{answer_text};
 
-use fv_declare::{DeclFault, read_schema};
+use fv_declare::DeclFault;
 use fv_engine_lines::{LIMIT, Responder};
-use fv_engine_machine::reply_to_line;
+use fv_engine_machine::{SharedRules, read_rulebook, reply_to_line};
 use fv_engine_reply::{Refusal, Reply};
 use fv_local::Rulebook;
+use fv_model::Types;
 use fv_registry::RuleSet;
 use fv_store::{OpenStoreFault, Store};
 use json::Scratch;
@@ -30,7 +34,7 @@ use thiserror::Error;
 /// Why an engine wasn't opened.
 #[derive(Clone, Copy, Debug, PartialEq, Eq, Error)]
 pub enum OpenFault {
-    /// The declarations aren't taken.
+    /// The declarations handed in, or those that the database keeps, aren't taken.
     #[error("declarations refused")]
     Declarations(DeclFault),
     /// The database isn't taken.
@@ -54,12 +58,14 @@ impl OpenFault {
     }
 }
 
-/// The record machine: declarations with the rules that they use, and the records that a database
-/// keeps. Contracts see it as a machine whose records are the connection to the database, which is outside a
-/// transaction. The scratch is the memory that the JSON of a line is read with: it is kept from
-/// line to line, so that no line asks for it anew, and contracts leave it out.
+/// The record service: the declarations in force with the rules that they use, and the records that a
+/// database keeps. Contracts see it as the rules that are there, the text of the declarations in force,
+/// and a machine whose records are the store, outside of a transaction. The scratch is the memory that
+/// the JSON of a line is read with: it is kept from line to line, so that no line asks for it anew, and
+/// contracts leave it out.
 pub struct Engine<R: RuleSet, S: Alter> {
-    book: Rulebook<R>,
+    rules: SharedRules<R>,
+    book: Rulebook<SharedRules<R>>,
     store: Store<S>,
     scratch: Scratch,
 }
@@ -67,6 +73,7 @@ pub struct Engine<R: RuleSet, S: Alter> {
 impl<R: RuleSet + Drop, S: Alter + Drop> Drop for Engine<R, S> {
     fn drop(self) {
         let Engine {
+            rules: _,
             book: _,
             store: _,
             scratch: _,
@@ -76,18 +83,18 @@ impl<R: RuleSet + Drop, S: Alter + Drop> Drop for Engine<R, S> {
 
 impl<R: RuleSet, S: Alter> Model for Engine<R, S> {
     ghost use Rattle.std.specs.Coded.{codes};
-    ghost use Rattle.sqlite.specs.Held.{Held, held_code, state};
     ghost use Rattle.fv_builtin.specs.Codes.{pattern_code};
-    ghost use Rattle.fv_declare_schema.specs.Codes.{type_use_code};
-    ghost use Rattle.fv_engine_machine.specs.Machines.{Machine, over};
     ghost use Rattle.fv_constraint_tree.specs.Codes.{tree_code};
     ghost use Rattle.fv_constraint_tree.specs.Nodes.{Node};
+    ghost use Rattle.fv_declare_schema.specs.Codes.{type_use_code};
+    ghost use Rattle.fv_engine_machine.specs.Services.{Service, serving};
+    ghost use Rattle.fv_store.specs.Stock.{Stock, stock_code, stock_state};
 
-    ghost Value = { Machine (Held S) };
+    ghost Value = { Service (Stock S) };
 
-    ghost coded = { Prim.hlevel (codes, type_use_code, tree_code {N = Node} (Prim.hlevel (codes, pattern_code)), held_code S.code) };
+    ghost coded = { Prim.hlevel (codes, type_use_code, tree_code {N = Node} (Prim.hlevel (codes, pattern_code)), stock_code S.code) };
 
-    ghost view = { λ e. over (state S.Store) e.book e.store };
+    ghost view = { λ e. serving (stock_state S.Store) (R.known e.rules) e.book e.store };
 }
 
 /// The fault of an engine whose declarations aren't taken.
@@ -112,13 +119,36 @@ fn store_fault(fault: OpenStoreFault) -> OpenFault
     }
 }
 
+/// The rulebook of the declarations in force: that of those handed in, where they are the same text.
+fn in_force<R: RuleSet + Drop>(
+    alloc: Global,
+    rules: &SharedRules<R>,
+    given: Rulebook<SharedRules<R>>,
+    declarations: &[u8],
+    text: &[u8],
+) -> Result<Rulebook<SharedRules<R>>, OpenFault>
+    requires { Declares (R.known rules.now) declarations.now (Ok given) }
+    ensures taken { IfOk result (λ b. Declares (R.known rules.now) text.now (Ok b)) }
+    ensures refused { IfErr result (λ f. (text.now ≢ declarations.now) × (f ≡ OpenFault.Memory
+        ⊎ ((fault : DeclFault) × (f ≡ OpenFault.Declarations fault) × Declares (R.known rules.now) text.now (Err fault)))) }
+{
+    if text == declarations {
+        return Ok(given);
+    }
+    match read_rulebook(alloc, rules, text) {
+        Ok(book) => Ok(book),
+        Err(fault) => Err(declarations_fault(fault)),
+    }
+}
+
 impl<R: RuleSet + Drop, S: Alter + Drop> Engine<R, S> {
-    /// An engine over a database: an empty one is made ready for these declarations, and one that
-    /// was made by them is taken with its records. The rules are those that declared constraints use.
+    /// An engine over a database: an empty one is made ready for these declarations; any other is taken
+    /// with its records, and its own declarations are in force. The rules are those that declared
+    /// constraints use.
     ///
-    /// `Declarations` with the fault of the declarations, then `Store` with that of the database;
-    /// `Memory` at any place. A refusal hands the connection back, its database as it was, and drops
-    /// the rules.
+    /// `Declarations` with the fault of the declarations handed in, then `Store` with that of the
+    /// database, then `Declarations` with the fault of those that the database keeps; `Memory` at any
+    /// place. A refusal hands the connection back, its database as it was, and drops the rules.
     pub fn open(
         alloc: Global,
         rules: R,
@@ -126,32 +156,33 @@ impl<R: RuleSet + Drop, S: Alter + Drop> Engine<R, S> {
         connection: Connection<S>,
     ) -> Result<Engine<R, S>, (OpenFault, Connection<S>)>
         requires { R.means rules }
-        ensures declared { IfOk result (λ e. Declares (R.known rules) declarations.now (Ok e.declared)) }
-        ensures frame { MatchResult result (λ e. Frame (state S.Store connection) (state S.Store e.records))
+        ensures rules { IfOk result (λ e. e.known ≡ R.known rules) }
+        ensures declared { IfOk result (λ e. Declares e.known e.text (Ok e.machine.declared)) }
+        // Those handed in declare something, also where others are in force.
+        ensures given { IfOk result (λ e. DeclaresSome (R.known rules) declarations.now) }
+        // Those of the database are in force, and those handed in over an empty one.
+        ensures in_force { IfOk result (λ e. IsInForce (state S.Store connection)
+            (stock_state S.Store e.machine.records) declarations.now e.text) }
+        ensures frame { MatchResult result (λ e. Frame (state S.Store connection) (stock_state S.Store e.machine.records))
             (λ r. Frame (state S.Store connection) (state S.Store r.1)) }
-        ensures open { IfOk result (λ e. IsLive (state S.Store e.records)) }
-        // The records are those that the database handed over.
-        ensures opened { IfOk result (λ e. (m : _)
-            → Opens (state S.Store connection) (contents declarations.now e.declared m)
-            → StandsFor (state S.Store) declarations.now e m) }
-        ensures taken { IfOk result (λ e. HasCleanDisk (state S.Store e.records) → (version : _) (d : _)
-            → TellsAbout version d (state S.Store connection).now → about_fault version d declarations.now ≡ None) }
-        ensures same { IfOk result (λ e. HasCleanDisk (state S.Store e.records) → (c : _)
-            → Holds (state S.Store connection) c → c.bytes ≡ declarations.now) }
-        // The declarations come first, by their first fault.
+        ensures open { IfOk result (λ e. IsLive (stock_state S.Store e.machine.records)) }
+        // The records are those that the database handed over, whatever engine kept them there under the same text.
+        ensures opened { IfOk result (λ e. (known : _) (ds : _) (m : _) → Declares known e.text (Ok ds)
+            → Opens (state S.Store connection) declarations.now (contents e.text ds m)
+            → Keeps (stock_state S.Store) e m) }
+        // A database that isn't empty is left as it was.
+        ensures still { IfOk result (λ e. (IsBlank (state S.Store connection).now → ⊥)
+            → Stays (state S.Store connection) (stock_state S.Store e.machine.records)) }
+        // Declarations are told by their first fault; those handed in come first.
         ensures refused { IfErr result (λ r. (fault : _) → r.0 ≡ OpenFault.Declarations fault
-            → Declares (R.known rules) declarations.now (Err fault)) }
-        ensures after { IfErr result (λ r. (fault : _) → r.0 ≡ OpenFault.Store fault → (ds : _)
-            × (Declares (R.known rules) declarations.now (Ok ds))) }
+            → IsMisdeclared (R.known rules) (state S.Store connection) (state S.Store r.1) declarations.now fault) }
+        ensures after { IfErr result (λ r. (fault : _) → r.0 ≡ OpenFault.Store fault
+            → DeclaresSome (R.known rules) declarations.now) }
         ensures cause { IfErr result (λ r. (fault : _) → r.0 ≡ OpenFault.Store fault → IsAboutFault fault
             → HasCleanDisk (state S.Store r.1) → (version : _) (d : _)
-            → TellsAbout version d (state S.Store connection).now → about_fault version d declarations.now
-            ≡ Some fault) }
+            → TellsAbout version d (state S.Store connection).now → about_fault version ≡ Some fault) }
         ensures other_version { IfErr result (λ r. r.0 ≡ OpenFault.Store OpenStoreFault.OtherVersion
-            → HasCleanDisk (state S.Store r.1) → (c : _) → Opens (state S.Store connection) c → ⊥) }
-        ensures other_declarations { IfErr result (λ r. r.0 ≡ OpenFault.Store OpenStoreFault.OtherDeclarations
-            → HasCleanDisk (state S.Store r.1) → (c : _) → Opens (state S.Store connection) c
-            → c.bytes ≢ declarations.now) }
+            → HasCleanDisk (state S.Store r.1) → (c : _) → Opens (state S.Store connection) declarations.now c → ⊥) }
         // Want of memory below is told as such.
         ensures memory { IfErr result (λ r. r.0 ≢ OpenFault.Store OpenStoreFault.Memory) }
         // The store fails with a cause, over tables of either version and over an empty database.
@@ -165,61 +196,88 @@ impl<R: RuleSet + Drop, S: Alter + Drop> Engine<R, S> {
             → HasFailed (state S.Store connection) (state S.Store r.1)) }
         // A refusal hands the database back as it was.
         ensures untouched { IfErr result (λ r. Stays (state S.Store connection) (state S.Store r.1)) }
-        ensures stays { IfErr result (λ r. (c : _) → Opens (state S.Store connection) c → Opens (state S.Store r.1) c) }
+        ensures stays { IfErr result (λ r. (c : _) → Opens (state S.Store connection) declarations.now c
+            → Opens (state S.Store r.1) declarations.now c) }
     {
-        let schema = match read_schema(alloc, &rules, declarations) {
-            Ok(schema) => schema,
-            Err(fault) => return Err((declarations_fault(fault), connection)),
-        };
-        let book = match Rulebook::new(alloc, rules, schema) {
-            Ok(book) => book,
+        let rules = match SharedRules::new(alloc, rules) {
+            Ok(rules) => rules,
             Err(_) => return Err((OpenFault::Memory, connection)),
         };
-        match Store::open(connection, declarations) {
-            Ok(store) => Ok(Engine {
+        let given = match read_rulebook(alloc, &rules, declarations) {
+            Ok(given) => given,
+            Err(fault) => return Err((declarations_fault(fault), connection)),
+        };
+        let store = match Store::open(alloc, connection, declarations) {
+            Ok(store) => store,
+            Err((fault, connection)) => return Err((store_fault(fault), connection)),
+        };
+        match in_force(alloc, &rules, given, declarations, store.declarations()) {
+            Ok(book) => Ok(Engine {
+                rules,
                 book,
                 store,
                 scratch: Scratch::new(alloc),
             }),
-            Err((fault, connection)) => Err((store_fault(fault), connection)),
+            Err(fault) => Err((fault, store.into_connection())),
         }
     }
 }
 
-impl<R: RuleSet, S: Alter> Engine<R, S> {
+/// Each field of a type has a name of its own.
+fn are_apart(types: &Types)
+    ensures { FieldsApart (types_view types.now) }
+{
+    let _types = types;
+}
+
+impl<R: RuleSet + Drop, S: Alter> Engine<R, S> {
     /// The reply to a line at a moment, in whole seconds since 1970-01-01T00:00:00Z: one step of
-    /// the record machine.
+    /// the service.
     pub fn run(&mut self, alloc: Global, line: &[u8], now: i64) -> Reply
         requires { IsMoment now }
-        ensures step { Becomes (state S.Store) self.old self.new
-            (λ x y. Told R.meaning x.declared x.records line.now now result y.records) }
+        // A step of the declarations in force and of the map.
+        ensures step { GoesOn (stock_state S.Store) self.old self.new
+            (λ x y. Turned x.known R.meaning (reign_of x) line.now now result (reign_of y)) }
         // The same step, with what the connection to the database has to do with it.
-        ensures causes { Becomes (state S.Store) self.old self.new (λ x y. Caused R.meaning x line.now now result y) }
+        ensures causes { GoesOn (stock_state S.Store) self.old self.new (λ x y. Responds R.meaning x line.now now result y) }
         // What a taken put stored is what a get on the next line shows.
-        ensures shows { Becomes (state S.Store) self.old self.new
-            (λ x y. ShowsWhatWasPut R.meaning x.declared line.now result y.records) }
-        // A refusal changes no record, and so no get.
-        ensures unchanged { Becomes (state S.Store) self.old self.new (λ x y. ChangesNoGet result x.records y.records) }
+        ensures shows { GoesOn (stock_state S.Store) self.old self.new
+            (λ x y. ShowsWhatWasPut R.meaning x.machine.declared line.now result y.machine.records) }
+        // A refusal changes no record and no declarations, and so no get.
+        ensures unchanged { GoesOn (stock_state S.Store) self.old self.new
+            (λ x y. ChangesNoGet result (reign_of x) (reign_of y)) }
         // A refusal for violations lists at least one, of each of its records.
-        ensures lists { Becomes (state S.Store) self.old self.new (λ x y. ListsSome result) }
+        ensures lists { GoesOn (stock_state S.Store) self.old self.new (λ x y. ListsSome result) }
         // Two taken puts of different ids may change places.
-        ensures places { Becomes (state S.Store) self.old self.new
-            (λ x y. MayChangePlaces R.meaning x.declared line.now now result x.records y.records) }
+        ensures places { GoesOn (stock_state S.Store) self.old self.new
+            (λ x y. MayChangePlaces R.meaning x.machine.declared line.now now result x.machine.records y.machine.records) }
         // A taken command leaves nothing to list, of what it put or set.
-        ensures nothing { Becomes (state S.Store) self.old self.new
-            (λ x y. LeavesNothingToList R.meaning x.declared line.now now result y.records) }
+        ensures nothing { GoesOn (stock_state S.Store) self.old self.new
+            (λ x y. LeavesNothingToList R.meaning x.machine.declared line.now now result y.machine.records) }
         // A command that looks for the record of an id fails over a connection that is shut.
-        ensures shut { Becomes (state S.Store) self.old self.new (λ x y. FailsWhereShut line.now result x) }
+        ensures shut { GoesOn (stock_state S.Store) self.old self.new (λ x y. FailsWhereShut line.now result x.machine) }
         // Over an open connection whose disk doesn't fail, as in memory, the store fails for want of room alone.
-        ensures room { Becomes (state S.Store) self.old self.new (FailsForRoomAlone R.meaning line.now now result) }
+        ensures room { GoesOn (stock_state S.Store) self.old self.new
+            (λ x y. FailsForRoomAlone R.meaning line.now now result x.machine y.machine) }
+        // Behind a taken redeclare each get shows what it showed.
+        ensures same { GoesOn (stock_state S.Store) self.old self.new
+            (λ x y. ShowsTheSame R.meaning result (reign_of x) (reign_of y)) }
+        // A taken redeclare leaves nothing to list, of any record.
+        ensures all { GoesOn (stock_state S.Store) self.old self.new
+            (λ x y. LeavesNothingAtAll R.meaning now result (reign_of y)) }
+        // Declarations that only add to those in force fit each record.
+        ensures added { GoesOn (stock_state S.Store) self.old self.new
+            (λ x y. FitsWhereAdded x.known line.now result (reign_of x)) }
     {
+        are_apart(self.book.schema().types());
         if line.len() > LIMIT {
             return self.refuse_long();
         }
         reply_to_line(
             &mut self.store,
             alloc,
-            &self.book,
+            &self.rules,
+            &mut self.book,
             line,
             &mut self.scratch,
             now,
@@ -233,15 +291,14 @@ impl<R: RuleSet, S: Alter> Engine<R, S> {
     {
         Reply::line_too_long()
     }
-}
 
-impl<R: RuleSet + Drop, S: Alter> Engine<R, S> {
     /// The database, without the engine. It takes no memory.
     pub fn into_connection(self) -> Connection<S>
-        ensures same { result ≡ self.records }
-        ensures holds { (c : _) → Holds (state S.Store self.records) c → Holds (state S.Store result) c }
+        ensures same { result ≡ self.machine.records.connection }
+        ensures holds { (c : _) → Holds (stock_state S.Store self.machine.records) c → Holds (state S.Store result) c }
     {
         let Engine {
+            rules: _,
             book: _,
             store,
             scratch: _,
@@ -250,11 +307,11 @@ impl<R: RuleSet + Drop, S: Alter> Engine<R, S> {
     }
 }
 
-impl<R: RuleSet, S: Alter> Responder for Engine<R, S> {
+impl<R: RuleSet + Drop, S: Alter> Responder for Engine<R, S> {
     type Reply = Reply;
 
-    ghost step = { λ old line moment text new. Becomes (state S.Store) old new
-        (λ x y. Caused R.meaning x line moment text y) };
+    ghost step = { λ old line moment text new. GoesOn (stock_state S.Store) old new
+        (λ x y. Responds R.meaning x line moment text y) };
 
     fn answer_line(&mut self, alloc: Global, line: &[u8], now: i64) -> Reply {
         self.run(alloc, line, now)

@@ -1,4 +1,4 @@
-//! The record service: an engine over a database answers lines, each by one step of the record machine.
+//! The record service: an engine over a database answers lines, each by one step of the service.
 #![tactic(auto)]
 
 mod engine;

@@ -1,8 +1,6 @@
 ghost use Rattle.std.specs.Prelude.{◌≡◌, OnOk, IsErrOf};
-ghost use Rattle.sqlite.specs.Held.{state};
-ghost use Rattle.fv_engine_machine.specs.Machines.{Becomes};
-ghost use Rattle.fv_engine_machine.specs.Causes.{Caused};
-ghost use Rattle.fv_engine_machine.specs.Step.{Told};
+ghost use Rattle.fv_engine_machine.specs.Services.{GoesOn, Responds, Turned, reign_of};
+ghost use Rattle.fv_store.specs.Stock.{stock_state};
 ghost use Rattle.fv_engine_lines.specs.Lines.{WholeLines, AllLines};
 ghost use Rattle.fv_engine_lines.specs.Reads.{ReadAtMost};
 ghost use Rattle.fv_engine_lines.specs.Runs.{Served, Stopped};
@@ -18,13 +16,13 @@ use std::io::Write;
 /// last also without its end. The clock is asked once a line. Each reply is written whole, with its
 /// end, and flushed.
 ///
-/// The records are those of a map that each line turns by one step of the record machine. From the
-/// line on at which the disk fails and shuts the database, the map stays and no command that changes
-/// records is told as taken.
+/// The declarations in force and the records are those of a map beside declarations, which each line
+/// turns by one step. From the line on at which the disk fails and shuts the database, both stay and no
+/// command that changes records or declarations is told as taken.
 ///
 /// `Memory` where the room for a line was refused; `Read` where a read failed or there were 2^32
 /// reads; `Write` where a write or a flush failed or a write took nothing.
-pub fn serve<R: RuleSet, S: Alter, I: Input, W: Write, C: Clock>(
+pub fn serve<R: RuleSet + Drop, S: Alter, I: Input, W: Write, C: Clock>(
     alloc: Global,
     engine: &mut Engine<R, S>,
     reader: &mut I,
@@ -34,30 +32,30 @@ pub fn serve<R: RuleSet, S: Alter, I: Input, W: Write, C: Clock>(
     // It read at most 2^32 times, however it ended.
     ensures reads { ReadAtMost I.reads 4294967296 reader.old reader.new }
     // All lines of the input were answered, each reply written with its end.
-    ensures ok { OnOk result (Becomes (state S.Store) engine.old engine.new
-        (λ x y. Served (Told R.meaning x.declared) C.ticks (AllLines (I.remaining reader.old) (I.remaining reader.new))
-        (x.records, clock.old, W.contents writer.old) (y.records, clock.new, W.contents writer.new))) }
+    ensures ok { OnOk result (GoesOn (stock_state S.Store) engine.old engine.new
+        (λ x y. Served (Turned x.known R.meaning) C.ticks (AllLines (I.remaining reader.old) (I.remaining reader.new))
+        (reign_of x, clock.old, W.contents writer.old) (reign_of y, clock.new, W.contents writer.new))) }
     // The same for the whole lines that were read.
     ensures read { IsErrOf result ServeFault.Read
-        → Becomes (state S.Store) engine.old engine.new (λ x y. Served (Told R.meaning x.declared) C.ticks
-        (WholeLines (I.remaining reader.old) (I.remaining reader.new)) (x.records, clock.old, W.contents writer.old)
-        (y.records, clock.new, W.contents writer.new)) }
+        → GoesOn (stock_state S.Store) engine.old engine.new (λ x y. Served (Turned x.known R.meaning) C.ticks
+        (WholeLines (I.remaining reader.old) (I.remaining reader.new)) (reign_of x, clock.old, W.contents writer.old)
+        (reign_of y, clock.new, W.contents writer.new)) }
     // The same for some lines of these, the last reply whole, in part or missing.
     ensures write { IsErrOf result ServeFault.Write
-        → Becomes (state S.Store) engine.old engine.new (λ x y. Stopped (Told R.meaning x.declared) C.ticks
-        (I.remaining reader.old) (I.remaining reader.new) (x.records, clock.old, W.contents writer.old)
-        (y.records, clock.new, W.contents writer.new)) }
-    // The same runs, however they ended: each step of the map with what the connection to the database has to
+        → GoesOn (stock_state S.Store) engine.old engine.new (λ x y. Stopped (Turned x.known R.meaning) C.ticks
+        (I.remaining reader.old) (I.remaining reader.new) (reign_of x, clock.old, W.contents writer.old)
+        (reign_of y, clock.new, W.contents writer.new)) }
+    // The same runs, however they ended: each step with what the connection to the database has to
     // do with it.
-    ensures causes { OnOk result (Becomes (state S.Store) engine.old engine.new
-        (λ x y. Served (Caused R.meaning) C.ticks (AllLines (I.remaining reader.old) (I.remaining reader.new))
+    ensures causes { OnOk result (GoesOn (stock_state S.Store) engine.old engine.new
+        (λ x y. Served (Responds R.meaning) C.ticks (AllLines (I.remaining reader.old) (I.remaining reader.new))
         (x, clock.old, W.contents writer.old) (y, clock.new, W.contents writer.new))) }
     ensures read_causes { IsErrOf result ServeFault.Read
-        → Becomes (state S.Store) engine.old engine.new (λ x y. Served (Caused R.meaning) C.ticks
+        → GoesOn (stock_state S.Store) engine.old engine.new (λ x y. Served (Responds R.meaning) C.ticks
         (WholeLines (I.remaining reader.old) (I.remaining reader.new)) (x, clock.old, W.contents writer.old)
         (y, clock.new, W.contents writer.new)) }
     ensures write_causes { IsErrOf result ServeFault.Write
-        → Becomes (state S.Store) engine.old engine.new (λ x y. Stopped (Caused R.meaning) C.ticks
+        → GoesOn (stock_state S.Store) engine.old engine.new (λ x y. Stopped (Responds R.meaning) C.ticks
         (I.remaining reader.old) (I.remaining reader.new) (x, clock.old, W.contents writer.old)
         (y, clock.new, W.contents writer.new)) }
     // Nothing was read.

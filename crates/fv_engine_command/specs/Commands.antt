@@ -2,6 +2,8 @@
 use Rattle.std.specs.Prelude.{ℕ, ◌&&◌, ◌||◌, ◌==◌, List, [], ◌∷◌, length, Bool, nat_lt, nat_le, Option, Some, None, option_map, option_and_then, unwrap_or, if◌then◌else◌, codes}
 use Rattle.std.specs.Char.{is_ascii_alphanumeric}
 use Rattle.std.specs.List.{list_all}
+use Rattle.std.specs.Option.{option_map_or}
+use Rattle.std.specs.Str.{bytes_eq}
 use Rattle.serde_json.specs.Data as json
 use Rattle.serde_json.specs.Find.{as_number, as_str, as_u64, get as get_at}
 use Rattle.fv_datum.specs.Forms.{only, required, maybe, optional, each_item, map2, map3, map4}
@@ -141,3 +143,25 @@ of_json (Some j) = unwrap_or (command_of j) shape
 -- what a line asks for: one of more than 1,048,576 bytes nothing
 unfoldable pub asked : List ℕ → Request
 asked line = if nat_lt 1048576 (length line) then too_long else of_json (json_of line)
+
+-- ---- other declarations
+
+-- what a line asks of the service: other declarations, or something of the records under those in force
+pub data Asked : Type 0 where
+  -- the new declarations' text
+  redeclare : List ℕ → Asked
+  of_records : Request → Asked
+
+-- `{"do":"redeclare","text":STRING}`
+abbrev pub redeclare_of : json.Data → Option (List ℕ)
+redeclare_of = only (codes "do" ∷ codes "text" ∷ []) (λ j. option_and_then
+    (λ name. if bytes_eq name (codes "redeclare") then required as_str (codes "text") j else None) (required as_str (codes "do") j))
+
+-- what a JSON value asks for: what isn't of a redeclare's form is a command, or none
+abbrev pub asks_json : Option json.Data → Asked
+asks_json None = of_records not_json
+asks_json (Some j) = option_map_or redeclare (redeclare_of j) (of_records (of_json (Some j)))
+
+-- what a line asks for: one of more than 1,048,576 bytes nothing
+unfoldable pub asks : List ℕ → Asked
+asks line = if nat_lt 1048576 (length line) then of_records too_long else asks_json (json_of line)

@@ -4,6 +4,8 @@
 mod command;
 mod ids;
 mod part;
+mod redeclaring;
 
 pub use command::{Command, command_of};
 pub use part::Part;
+pub use redeclaring::redeclare_of;

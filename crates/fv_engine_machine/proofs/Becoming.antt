@@ -9,13 +9,12 @@ use Rattle.serde_json.specs.Find.{as_str, get as get_at}
 use Rattle.fv_datum.specs.Forms.{required, maybe, optional, map2, map3, map4}
 use Rattle.fv_datum.specs.Members.{has_only}
 use Rattle.fv_datum.specs.Lookup.{at_name}
-use Rattle.fv_datum.specs.Parsing.{json_of}
 use Rattle.fv_declare_schema.specs.Declarations.{Declarations}
-use Rattle.fv_engine_machine.specs.Causes.{StoreHasFailed, HasCause, GivesOut, Causes, Handles, Caused}
-use Rattle.fv_engine_machine.specs.Keeping.{Unchanged, Replies, Fails, Checks, unjudged}
+use Rattle.fv_engine_machine.specs.Causes.{StoreHasFailed, HasCause, GivesOut, Causes, Handles}
+use Rattle.fv_engine_machine.specs.Keeping.{Unchanged, Fails, Checks, unjudged}
 use Rattle.fv_engine_machine.specs.Machines.{Machine, over, with_map, contents, room_in, Becomes}
 use Rattle.fv_engine_machine.specs.Refusals.{when, first_of, is_too_long, parts_of, refusal}
-use Rattle.fv_engine_command.specs.Commands.{Part, Request, too_long, not_json, shape, alone, batch, get, check, check_field, check_value, list, id_in, id_at, put_of, set_of, remove_of, parts_in, batch_of, get_of, groups_at, check_of, check_field_of, check_value_of, limit_in, list_of, forms, command_of, of_json, asked}
+use Rattle.fv_engine_command.specs.Commands.{Part, Request, too_long, not_json, shape, alone, batch, get, check, check_field, check_value, list, id_in, id_at, put_of, set_of, remove_of, parts_in, batch_of, get_of, groups_at, check_of, check_field_of, check_value_of, limit_in, list_of, forms, command_of, of_json}
 use Rattle.fv_engine_machine.specs.Step.{done_by, Changes, Checked, Serves, Answers, IsTaken, looks_up, LooksUp, Step}
 use Rattle.fv_groups.specs.Groups.{numbers_of}
 use Rattle.fv_groups.specs.Judged.{unknown_in}
@@ -23,8 +22,8 @@ use Rattle.fv_model.specs.Bundles.{Bundled}
 use Rattle.fv_model.specs.declared.fault.BundleFault.{BundleFault}
 use Rattle.fv_model.specs.declared.fault.BundleFault.TheVariants as fault
 use Rattle.fv_registry.specs.Meanings.{Meanings}
-use Rattle.fv_engine_reply.specs.Answers.{Answer, done, shown, violated, checked, field_checked, value_checked, ids, refused, part_refused}
-use Rattle.fv_engine_reply.specs.Texts.{answer_text, TakesMemory, Tells}
+use Rattle.fv_engine_reply.specs.Answers.{Answer, done, shown, violated, checked, field_checked, value_checked, ids, refused, part_refused, redeclared, misdeclared, unfit}
+use Rattle.fv_engine_reply.specs.Texts.{TakesMemory}
 use Rattle.fv_engine_reply.specs.declared.answer.Done.{Done}
 use Rattle.fv_engine_reply.specs.declared.answer.Done.TheVariants.{Batch}
 use Rattle.fv_engine_reply.specs.declared.answer.Refusal.{Refusal}
@@ -124,28 +123,34 @@ IsOther (refused Store) = ⊥
 IsOther _ = Unit {0}
 
 -- where no command is taken, no rowid is given out
-gives_none : (answer : Answer) (count : ℕ) (x y : Machine Records) → ((what : Done) → answer ≡ done what → ⊥) → (IsTrue y.is_open → y.room ≡ x.room) → GivesOut answer count x y
-gives_none (done what) count x y other room = absurd (other what refl)
-gives_none (shown id form b) count x y other room = room
-gives_none (violated ls) count x y other room = room
-gives_none (checked vs) count x y other room = room
-gives_none (field_checked vs) count x y other room = room
-gives_none (value_checked vs) count x y other room = room
-gives_none (ids found) count x y other room = room
-gives_none (refused why) count x y other room = room
-gives_none (part_refused n why) count x y other room = room
+gives_none : (answer : Answer) (parts : List Part) (x y : Machine Records) → ((what : Done) → answer ≡ done what → ⊥) → (IsTrue y.is_open → y.room ≡ x.room) → GivesOut answer parts x y
+gives_none (done what) parts x y other room = absurd (other what refl)
+gives_none (shown id form b) parts x y other room = room
+gives_none (violated ls) parts x y other room = room
+gives_none (checked vs) parts x y other room = room
+gives_none (field_checked vs) parts x y other room = room
+gives_none (value_checked vs) parts x y other room = room
+gives_none (ids found) parts x y other room = room
+gives_none (refused why) parts x y other room = room
+gives_none (part_refused n why) parts x y other room = room
+gives_none redeclared parts x y other room = room
+gives_none (misdeclared fault) parts x y other room = room
+gives_none (unfit id why) parts x y other room = room
 
 -- and back
-none_given : (answer : Answer) (count : ℕ) (x y : Machine Records) → ((what : Done) → answer ≡ done what → ⊥) → GivesOut answer count x y → IsTrue y.is_open → y.room ≡ x.room
-none_given (done what) count x y other gives = absurd (other what refl)
-none_given (shown id form b) count x y other gives = gives
-none_given (violated ls) count x y other gives = gives
-none_given (checked vs) count x y other gives = gives
-none_given (field_checked vs) count x y other gives = gives
-none_given (value_checked vs) count x y other gives = gives
-none_given (ids found) count x y other gives = gives
-none_given (refused why) count x y other gives = gives
-none_given (part_refused n why) count x y other gives = gives
+none_given : (answer : Answer) (parts : List Part) (x y : Machine Records) → ((what : Done) → answer ≡ done what → ⊥) → GivesOut answer parts x y → IsTrue y.is_open → y.room ≡ x.room
+none_given (done what) parts x y other gives = absurd (other what refl)
+none_given (shown id form b) parts x y other gives = gives
+none_given (violated ls) parts x y other gives = gives
+none_given (checked vs) parts x y other gives = gives
+none_given (field_checked vs) parts x y other gives = gives
+none_given (value_checked vs) parts x y other gives = gives
+none_given (ids found) parts x y other gives = gives
+none_given (refused why) parts x y other gives = gives
+none_given (part_refused n why) parts x y other gives = gives
+none_given redeclared parts x y other gives = gives
+none_given (misdeclared fault) parts x y other gives = gives
+none_given (unfit id why) parts x y other gives = gives
 
 module _ (means : Meanings) (now : ℤ) (r : Request) (x y : Machine Records) (stay : Unchanged x y) where
   caused : (answer : Answer) → ((what : Done) → answer ≡ done what → ⊥) → (LooksUp x.declared r → IsTrue x.is_open ⊎ ((answer ≡ refused Store) ⊎ (answer ≡ refused Memory)))
@@ -155,7 +160,7 @@ module _ (means : Meanings) (now : ℤ) (r : Request) (x y : Machine Records) (s
     counts = stay.counts;
     was_open = stay.was_open;
     closes = stay.closes;
-    gives = gives_none answer (length (parts_of r)) x y other stay.room;
+    gives = gives_none answer (parts_of r) x y other stay.room;
     finds = finds;
     cause = cause;
   }
@@ -288,14 +293,13 @@ module _ (means : Meanings) (now : ℤ) where
     was_open = causes.was_open;
     counts = causes.counts;
     closes = causes.closes;
-    room = none_given answer (length (parts_of r)) x y other causes.gives;
+    room = none_given answer (parts_of r) x y other causes.gives;
   }
 
-  -- a text that tells an answer is a reply, also where memory was refused for it
-  pub told_answer : (r : Request) → is_too_long r ≡ false → (x y : Machine Records) (answer : Answer) (text : List ℕ) → Tells text answer → Handles means now r x answer y → Replies means now r x text y
-  told_answer r short x y answer text (inl is) answers = (answer, is, answers)
-  told_answer r short x y answer text (inr made) answers =
-      (refused Memory, made.1, out_of_memory means now r x y (not_done_stays r x y answer (λ what e. subst TakesMemory e made.0) answers) short)
+  -- where memory was refused for the text of an answer, that is the answer
+  pub told_memory : (r : Request) → is_too_long r ≡ false → (x y : Machine Records) (answer : Answer) → TakesMemory answer → Handles means now r x answer y → Handles means now r x (refused Memory) y
+  told_memory r short x y answer takes answers =
+      out_of_memory means now r x y (not_done_stays r x y answer (λ what e. subst TakesMemory e takes) answers) short
 
 -- ---- requests
 
@@ -394,31 +398,11 @@ asked_of held old new means now answer o r is becoming = subst (λ (p : Option R
 -- ---- lines
 
 -- a length within a limit, and one above it
-within : (n limit : ℕ) → n ≤ limit → nat_lt limit n ≡ false
+pub within : (n limit : ℕ) → n ≤ limit → nat_lt limit n ≡ false
 within n limit le = le-ltb limit n le
 
-above : (n limit : ℕ) → limit < n → nat_lt limit n ≡ true
+pub above : (n limit : ℕ) → limit < n → nat_lt limit n ≡ true
 above n limit lt = lt-ltb limit n lt
-
-asked_short : (line : List ℕ) → length line ≤ 1048576 → asked line ≡ of_json (json_of line)
-unfolding asked
-asked_short line short = ap (λ (b : Bool). if b then too_long else of_json (json_of line)) (within (length line) 1048576 short)
-
-asked_long : (line : List ℕ) → 1048576 < length line → asked line ≡ too_long
-unfolding asked
-asked_long line long = ap (λ (b : Bool). if b then too_long else of_json (json_of line)) (above (length line) 1048576 long)
-
--- a line that is over the limit is told so
-pub long_caused : (means : Meanings) (line : List ℕ) (moment : ℤ) (text : List ℕ) → 1048576 < length line → text ≡ answer_text (refused LineTooLong) → (x : Machine Records) → Caused means x line moment text x
-long_caused means line moment text long is x = (
-  refused LineTooLong,
-  is,
-  subst (λ (r : Request). Handles means moment r x (refused LineTooLong) x) (sym (asked_long line long)) (refused_at_once means moment too_long x LineTooLong refl tt refl),
-)
-
--- one that isn't, by its JSON
-pub short_caused : (means : Meanings) (line : List ℕ) (moment : ℤ) (text : List ℕ) → length line ≤ 1048576 → (x y : Machine Records) → Replies means moment (of_json (json_of line)) x text y → Caused means x line moment text y
-short_caused means line moment text short x y told = (told.0, told.1, subst (λ (r : Request). Handles means moment r x told.0 y) (sym (asked_short line short)) told.2)
 
 -- ---- lists that are empty or not
 

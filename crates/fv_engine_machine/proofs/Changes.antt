@@ -10,18 +10,18 @@ use Rattle.fv_declare_schema.specs.Declarations.{Declarations}
 use Rattle.fv_engine_machine.specs.Judging.{OneIsOverVisited, AreListings}
 use Rattle.fv_engine_machine.specs.Records.{AreJudged, IsOfJudging, OneIsOver, with_some}
 use Rattle.fv_engine_machine.proofs.Listings.{listings, one_over}
-use Rattle.fv_engine_machine.specs.Causes.{StoreHasFailed, HasRoomFor, Handles}
-use Rattle.fv_engine_machine.specs.Keeping.{Unchanged, Takes, TakesOrTells, Fails, Moves, FitsWhereHeld, HasRoomOn, IsOneSet, set_object, Keeps, Settles, told_part, IsCommand, ChangesSo, unjudged}
+use Rattle.fv_engine_machine.specs.Causes.{StoreHasFailed, HasRoomFor, Handles, rows_taken}
+use Rattle.fv_engine_machine.specs.Keeping.{Unchanged, Takes, TakesOrTells, Fails, Moves, FitsWhereHeld, HasRoomOn, IsOneSet, set_object, Keeps, Settles, told_part, IsCommand, ChangesSo, rows_on, unjudged}
 use Rattle.fv_engine_machine.specs.Machines.{Machine, over, with_map, contents, room_in}
 use Rattle.fv_engine_machine.specs.Refusals.{first_of, made, part_refusal, refusal, told_fault, when}
 use Rattle.fv_engine_machine.specs.Step.{done_by, Answers, IsTaken, LooksUp}
 use Rattle.fv_engine_machine.proofs.Becoming.{fails_by, stays_itself, IsOther, still, out_of_memory, unstored}
 use Rattle.fv_engine_machine.proofs.Rooms.{room_left}
 use Rattle.fv_engine_pending.specs.Altering.{IsOneObject, most_rows}
-use Rattle.fv_engine_pending.specs.Fits.{Agrees, AreFitting, Covers}
+use Rattle.fv_engine_pending.specs.Fits.{Agrees, AreFitting, AreTyped, Covers}
 use Rattle.fv_engine_pending.specs.Parts.{are_misshapen}
 use Rattle.fv_engine_pending.specs.Steps.{staged, steps_made}
-use Rattle.fv_engine_pending.specs.Touched.{IsTouched, count_needed, needs_record}
+use Rattle.fv_engine_pending.specs.Touched.{IsTouched, count_left, count_needed, needs_record}
 use Rattle.fv_engine_pending.specs.Ways.{Way, overlay, standing}
 use Rattle.fv_engine_pending.proofs.OneObject.{set_alone}
 use Rattle.fv_engine_pending.specs.declared.fault.PartFault.{PartFault}
@@ -99,13 +99,13 @@ module _ {H : Type 0} (held : H → State) (ds : Declarations) (bytes : List ℕ
   )
 
   -- what stands on the way was written
-  pub moves_on : (way : Way) (what : Done) (changes : List Change) → Frame (held old) (held new) → (HasCleanDisk (held new) → IsTrue (held new).is_open)
+  pub moves_on : (given : ℕ) (way : Way) (what : Done) (changes : List Change) → Frame (held old) (held new) → (HasCleanDisk (held new) → IsTrue (held new).is_open)
       → ((c : Contents) → ChangesFit c.types c.roots changes c.records → Holds (held old) c → Holds (held new) (changed changes c)) → after_all changes m ≡ overlay way m
-      → rows_of_all changes ≤ most_rows * length way
+      → rows_of_all changes ≤ given
       → (HasCleanDisk (held new) → (c : Contents) → Holds (held old) c → LeavesRoom (rows_of_all changes) (held old).now (held new).now)
       → (AreFitting ds.types ds.forms way → ChangesFit ds.types ds.forms changes m) → FitsWhereHeld (held old) (contents bytes ds m) way
-      → Moves held ds bytes m old new (λ x y. Keeps way what x (done what) y)
-  moves_on way what changes frame live stored after rows leaves fitting fits = λ clean holds.
+      → Moves held ds bytes m old new (λ x y. Keeps given way what x (done what) y)
+  moves_on given way what changes frame live stored after rows leaves fitting fits = λ clean holds.
       let now_live = live clean in
       let was = frame.was_open clean now_live in
       let left = room_left (rows_of_all changes) (held old).now (held new).now (leaves clean (contents bytes ds m) holds) in (
@@ -117,29 +117,29 @@ module _ {H : Type 0} (held : H → State) (ds : Declarations) (bytes : List ℕ
 
 -- ---- judging
 
-module _ (means : Meanings) (now : ℤ) (way : Way) (what : Done) (x y : Machine Records) where
+module _ (means : Meanings) (now : ℤ) (given : ℕ) (way : Way) (what : Done) (x y : Machine Records) where
   -- nothing of what stands on the way has a violation
-  pub settled_none : (answer : Answer) (ls : List Judged) → AreJudged means x.declared now (standing way) ls → with_some ls ≡ [] → Keeps way what x answer y → Settles means now way what x answer y
-  settled_none answer ls judged none (inl took) = inr (inl (ls, judged, subst (λ (rs : List Judged). TakesOrTells what (most_rows * length way) rs (overlay way x.records) x answer y) (sym none) took))
+  pub settled_none : (answer : Answer) (ls : List Judged) → AreJudged means x.declared now (standing way) ls → with_some ls ≡ [] → Keeps given way what x answer y → Settles means now given way what x answer y
+  settled_none answer ls judged none (inl took) = inr (inl (ls, judged, subst (λ (rs : List Judged). TakesOrTells what given rs (overlay way x.records) x answer y) (sym none) took))
   settled_none answer ls judged none (inr failed) = inr (inr (
     failed.0,
-    fails_by (λ (why : Refusal). Fails why ((ls : List Judged) × AreJudged means x.declared now (standing way) ls × (with_some ls ≡ []) × (HasRoomOn way x → StoreHasFailed x y)))
+    fails_by (λ (why : Refusal). Fails why ((ls : List Judged) × AreJudged means x.declared now (standing way) ls × (with_some ls ≡ []) × (HasRoomOn given way x → StoreHasFailed x y)))
         _ failed.0 failed.1 tt (λ cause. (ls, judged, none, cause)),
     failed.2,
     failed.3,
   ))
 
   -- some of it has
-  pub settled_some : (ls rs : List Judged) → AreJudged means x.declared now (standing way) ls → rs ≡ with_some ls → (rs ≡ [] → ⊥) → Unchanged x y → Settles means now way what x (violated rs) y
+  pub settled_some : (ls rs : List Judged) → AreJudged means x.declared now (standing way) ls → rs ≡ with_some ls → (rs ≡ [] → ⊥) → Unchanged x y → Settles means now given way what x (violated rs) y
   settled_some ls rs judged are some stay = inr (inl (ls, judged, decided (with_some ls) are))
     where
-      decided : (ws : List Judged) → rs ≡ ws → TakesOrTells what (most_rows * length way) ws (overlay way x.records) x (violated rs) y
+      decided : (ws : List Judged) → rs ≡ ws → TakesOrTells what given ws (overlay way x.records) x (violated rs) y
       decided [] e = absurd (some e)
       decided (w ∷ ws) e = (ap violated e, stay)
 
   -- it isn't judged
   pub settled_not : (fault : ValidateFault) → IsOfJudging fault → (fault ≡ validate.TooManyVisits → OneIsOver x.declared (standing way)) → Unchanged x y
-      → Settles means now way what x (refused (unjudged fault)) y
+      → Settles means now given way what x (refused (unjudged fault)) y
   settled_not validate.UnknownGroup other many stay = absurd (other.0 refl)
   settled_not validate.NoSuchField other many stay = absurd (other.1 refl)
   settled_not validate.TooManyVisits other many stay = inl (many refl, refl, stay)
@@ -202,9 +202,9 @@ module _ (means : Meanings) (now : ℤ) (parts : List Part) (what : Done) (x : M
         (λ cause. unstored means now r x y stay (inl (command.looks x.declared shaped cause.0)) (inl cause.1))
 
     -- all are made: what they leave stands on the way, over a machine that is as it was
-    module _ (way : Way) (mid y : Machine Records) (is : made x.declared parts x.records ≡ Ok (overlay way x.records)) (stay : Unchanged x mid)
+    module _ (given : ℕ) (way : Way) (mid y : Machine Records) (is : made x.declared parts x.records ≡ Ok (overlay way x.records)) (stay : Unchanged x mid)
         (room : mid.room ≡ x.room) (live : IsTrue (list_any needs_record parts) → IsTrue x.is_open)
-        (few : length way ≤ length parts) (ascending : IsAscending (keys_of way))
+        (few : given ≤ rows_taken parts) (ascending : IsAscending (keys_of way))
         (stands : (id : List ℕ) (k : Kept) → IsTouched parts (overlay way x.records) id k → at_name id way ≡ Some (Some k))
         (touched : (id : List ℕ) (k : Kept) → at_name id way ≡ Some (Some k) → IsTouched parts (overlay way x.records) id k) where
       same_records : overlay way mid.records ≡ overlay way x.records
@@ -214,7 +214,7 @@ module _ (means : Meanings) (now : ℤ) (parts : List Part) (what : Done) (x : M
       are_listed ls judged = listings x.declared parts (overlay way x.records) way means now ls
           (subst (λ (ds : Declarations). AreJudged means ds now (standing way) ls) stay.declared judged) ascending stands touched
 
-      has_room : HasRoomFor parts (overlay way x.records) x → HasRoomOn way mid
+      has_room : HasRoomFor parts (overlay way x.records) x → HasRoomOn given way mid
       has_room r = (omega (arith, few, room, r.0), λ id k is. r.1 id k (touched id k is))
 
       module _ (r : Request) (command : IsCommand r parts what) where
@@ -231,7 +231,7 @@ module _ (means : Meanings) (now : ℤ) (parts : List Part) (what : Done) (x : M
         taken_so : AreListings means x.declared now parts (overlay way x.records) [] → IsTaken means x.declared now r x.records (overlay way x.records)
         taken_so none = (what, serves (done what) (overlay way x.records) (inr (inl (none, refl, refl))))
 
-        taken : AreListings means x.declared now parts (overlay way x.records) [] → Takes (overlay way x.records) (most_rows * length parts) x y → Handles means now r x (done what) y
+        taken : AreListings means x.declared now parts (overlay way x.records) [] → Takes (overlay way x.records) (rows_taken parts) x y → Handles means now r x (done what) y
         taken none takes = (
           inl (serves (done what) y.records (inr (inl (none, refl, takes.records)))),
           record {
@@ -239,23 +239,23 @@ module _ (means : Meanings) (now : ℤ) (parts : List Part) (what : Done) (x : M
             counts = takes.counts;
             was_open = λ after. takes.was_open;
             closes = λ before. inl takes.is_open;
-            gives = (takes.was_open, takes.is_open, subst (λ (ps : List Part). x.room ≤ y.room + most_rows * length ps) (sym command.parts_are) takes.room);
+            gives = (takes.was_open, takes.is_open, subst (λ (ps : List Part). x.room ≤ y.room + rows_taken ps) (sym command.parts_are) takes.room);
             finds = λ looks. inl takes.was_open;
             cause = λ e. cc;
           },
         )
 
-        decided : (ls : List Judged) → AreListings means x.declared now parts (overlay way x.records) ls → (answer : Answer) → TakesOrTells what (most_rows * length way) ls (overlay way mid.records) mid answer y
+        decided : (ls : List Judged) → AreListings means x.declared now parts (overlay way x.records) ls → (answer : Answer) → TakesOrTells what given ls (overlay way mid.records) mid answer y
             → Handles means now r x answer y
         decided [] none answer d = subst (λ (a : Answer). Handles means now r x a y) (sym d.0)
-            (taken none (then_takes (overlay way x.records) (most_rows * length way) (most_rows * length parts) x mid y (omega (arith, few)) stay
-            (subst (λ (m : Records). Takes m (most_rows * length way) mid y) same_records d.1)))
+            (taken none (then_takes (overlay way x.records) given (rows_taken parts) x mid y few stay
+            (subst (λ (m : Records). Takes m given mid y) same_records d.1)))
         decided (l ∷ ls) are answer d =
             let stays = still_unchanged x mid y stay d.1 in
             subst (λ (a : Answer). Handles means now r x a y) (sym d.0)
             (still means now r x y stays (violated (l ∷ ls)) tt (serves (violated (l ∷ ls)) y.records (inr (inr (l ∷ ls, are, λ e. cc, refl, stays.records)))) looks_live)
 
-        settled : (answer : Answer) → Settles means now way what mid answer y → Handles means now r x answer y
+        settled : (answer : Answer) → Settles means now given way what mid answer y → Handles means now r x answer y
         settled answer (inl over) =
             let stays = still_unchanged x mid y stay over.2 in
             let one = one_over x.declared parts (overlay way x.records) way (subst (λ (ds : Declarations). OneIsOver ds (standing way)) stay.declared over.0) ascending touched in
@@ -274,7 +274,7 @@ module _ (means : Meanings) (now : ℤ) (parts : List Part) (what : Done) (x : M
                   (cause.3 (has_room (subst (λ (ps : List Part). HasRoomFor ps (overlay way x.records) x) command.parts_are has))),
             ))))
 
-      pub change_settled : (answer : Answer) → Settles means now way what mid answer y → ChangesSo means now parts what x answer y
+      pub change_settled : (answer : Answer) → Settles means now given way what mid answer y → ChangesSo means now parts what x answer y
       change_settled answer settles = λ r command. settled r command answer settles
 
 -- ---- one set
@@ -289,6 +289,20 @@ one_set types forms (set id object field j ∷ p ∷ ps) start way m agrees cove
 one_set types forms (set id object field j ∷ []) start way m agrees covers few made =
     (id, set_alone types id object field j start way m agrees (covers.0 id refl) (omega (arith, few)) made)
 
+-- they take no more rowids than the parts
+pub few_taken : (parts : List Part) (way : Way) → length (standing way) ≤ count_left parts → rows_on (set_object parts) way ≤ rows_taken parts
+few_taken [] way few = omega (arith, few)
+few_taken (put id form j ∷ ps) way few = omega (arith, few)
+few_taken (remove id ∷ ps) way few = omega (arith, few)
+few_taken (set id object field j ∷ p ∷ ps) way few = omega (arith, few)
+few_taken (set id object field j ∷ []) way few = omega arith
+
+-- where no object's name is given, all that stand are counted
+pub all_rows : {E : Type 0} (way : Way) (r : Result (Vec Change Global) E) → IfOk r (λ v. (types : Declared) → AreTyped types way → rows_of_all v.items ≤ most_rows * length (standing way))
+    → IfOk r (λ v. (types : Declared) (m : Records) → AreTyped types way → IsOneSet None way m → rows_of_all v.items ≤ rows_on None way)
+all_rows way (Ok v) rows = λ types m typed one. rows types typed
+all_rows way (Err e) rows = tt
+
 -- the changes of it serve for what a set leaves
 module _ {E : Type 0} (object : List ℕ) (way : Way) where
   pub set_after : (r : Result (Vec Change Global) E) → IfOk r (λ v. (id : List ℕ) (m : Records) → IsOneObject id object way m → after_all v.items m ≡ overlay way m)
@@ -301,6 +315,11 @@ module _ {E : Type 0} (object : List ℕ) (way : Way) where
       → IfOk r (λ v. (types : Declared) (forms : Roots) (m : Records) → IsOneSet (Some object) way m → AreFitting types forms way → ChangesFit types forms v.items m)
   set_fit (Ok v) fit = λ types forms m one fitting. fit types forms one.0 m one.1 fitting
   set_fit (Err e) fit = tt
+
+  pub set_rows : (r : Result (Vec Change Global) E) → IfOk r (λ v. (id : List ℕ) (m : Records) → IsOneObject id object way m → rows_of_all v.items ≡ 0)
+      → IfOk r (λ v. (types : Declared) (m : Records) → AreTyped types way → IsOneSet (Some object) way m → rows_of_all v.items ≤ rows_on (Some object) way)
+  set_rows (Ok v) none = λ types m typed one. let is = none one.0 m one.1 in omega (arith, is)
+  set_rows (Err e) none = tt
 
 -- ---- a part by itself, and a batch
 

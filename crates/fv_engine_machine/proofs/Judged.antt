@@ -20,7 +20,7 @@ use Rattle.fv_store.specs.declared.stored.Stored.{Stored}
 use Rattle.fv_datum.specs.Ascending.{IsAscending}
 use Rattle.fv_validate.specs.Violations.{Reported, IsListing}
 use Rattle.fv_validate.specs.declared.fault.ValidateFault.{ValidateFault}
-use Rattle.fv_validate.specs.declared.fault.ValidateFault.TheVariants.{UnknownGroup, NoSuchField, TooManyVisits, Memory}
+use Rattle.fv_validate.specs.declared.fault.ValidateFault.TheVariants.{UnknownGroup, NoSuchField, TooManyVisits}
 use Rattle.fv_walk.specs.Visits.{HasTooManyVisits, HasFewVisits}
 
 -- ---- one record
@@ -33,12 +33,6 @@ pub for_groups : {V : Type 0} (means : Meanings) (ds : Declarations) (now : ℤ)
     → IfErr r (λ fault. fault ≡ TooManyVisits → HasTooManyVisits ds k.bundle gs) → IfErr r (λ fault. fault ≢ UnknownGroup) → IfErr r (λ fault. fault ≢ NoSuchField) → GivesListing means ds now k view r
 for_groups means ds now k view gs (Ok v) same typed listing few many known no_field = subst (λ (hs : List ℕ). HasFewVisits ds k.bundle hs × IsListing means ds now k.bundle hs (view v)) same (few typed, listing typed)
 for_groups means ds now k view gs (Err fault) same typed listing few many known no_field = ((known, no_field), λ is. subst (λ (hs : List ℕ). HasTooManyVisits ds k.bundle hs) same (many is))
-
-pub memory_alone : (ds : Declarations) (k : Kept) (fault : ValidateFault) → fault ≡ Memory → IsOfJudging fault × (fault ≡ TooManyVisits → IsOverVisited ds k)
-memory_alone ds k fault is = (
-  (λ unknown. let never : Memory ≡ UnknownGroup = sym is ∙ unknown in cc, λ no. let never : Memory ≡ NoSuchField = sym is ∙ no in cc),
-  λ many. let never : Memory ≡ TooManyVisits = sym is ∙ many in cc,
-)
 
 pub none_added : {V : Type 0} (done : List Judged) (id : List ℕ) (view : V → Reported) (vs : List V) → length vs ≡ 0 → done ≡ done ++ some_of id (map view vs)
 none_added done id view [] none = sym (append-nil done)

@@ -12,7 +12,7 @@ use Rattle.sqlite_rules.specs.Lists.{Has}
 use Rattle.fv_engine_command.specs.Commands.{Part}
 use Rattle.fv_datum.specs.Lookup.{at_name}
 use Rattle.fv_declare_schema.specs.Declarations.{Declarations}
-use Rattle.fv_engine_machine.specs.Judging.{IsListingOf, OneIsOverVisited, AreListings}
+use Rattle.fv_engine_machine.specs.Judging.{AreListings, AreListingsOf, IsListingOf, OneIsOverAmong, OneIsOverVisited}
 use Rattle.fv_engine_machine.specs.Records.{AreJudged, OneIsOver, some_of, with_some}
 use Rattle.fv_engine_pending.specs.Touched.{IsTouched}
 use Rattle.fv_engine_pending.specs.Ways.{Way, standing_entry, standing}
@@ -175,25 +175,37 @@ module _ (means : Meanings) (ds : Declarations) (now : ℤ) where
       )
       at (inr later) ih = let found = ih later in (found.0, subst (λ (xs : List Judged). Has xs (k.0, found.0)) (sym is) (inr found.1), found.2)
 
--- ---- the records that parts touch
+-- ---- the records among which they are
 
-module _ (ds : Declarations) (parts : List Part) (m : Records) (new : Way) where
-  -- of the records on the way, judged in order, those that have violations are the ones of the records that parts touch
-  pub listings : (means : Meanings) (now : ℤ) (ls : List Judged) → AreJudged means ds now (standing new) ls → IsAscending (keys_of new) → ((id : List ℕ) (k : Kept) → IsTouched parts m id k → at_name id new ≡ Some (Some k))
-      → ((id : List ℕ) (k : Kept) → at_name id new ≡ Some (Some k) → IsTouched parts m id k) → AreListings means ds now parts m (with_some ls)
-  listings means now ls judged ascending stands touched = record {
-    ascending = those_ascend ls (subst IsAscending (sym (judged_ids means ds now (standing new) ls judged)) (standing_ascends new ascending));
+module _ (ds : Declarations) (Among : List ℕ → Kept → Type 0) (ks : List (List ℕ × Kept)) (back : (k : List ℕ × Kept) → Has ks k → Among k.0 k.1) where
+  -- of records that were judged in order, those that have violations
+  pub listings_of : (means : Meanings) (now : ℤ) (ls : List Judged) → AreJudged means ds now ks ls → IsAscending (keys_of ks) → ((id : List ℕ) (k : Kept) → Among id k → Has ks (id, k)) → AreListingsOf means ds now Among (with_some ls)
+  listings_of means now ls judged ascending there = record {
+    ascending = those_ascend ls (subst IsAscending (sym (judged_ids means ds now ks ls judged)) ascending);
     sound = λ l has.
         let one = one_of_all ls l has in
-        let found = judged_sound means ds now (standing new) ls l judged one.0 in
-        (one.1, found.0, touched l.0 found.0 (found_there new (l.0, found.0) ascending found.1), found.2);
-    complete = λ id k is. let found = judged_complete means ds now (standing new) ls (id, k) judged (stands_there new id k (stands id k is)) in at id k found.0 found.1 found.2;
+        let found = judged_sound means ds now ks ls l judged one.0 in
+        (one.1, found.0, back (l.0, found.0) found.1, found.2);
+    complete = λ id k is. let found = judged_complete means ds now ks ls (id, k) judged (there id k is) in at id k found.0 found.1 found.2;
   }
     where
       at : (id : List ℕ) (k : Kept) (vs : List Reported) → Has ls (id, vs) → IsListingOf means ds now k vs → IsListingOf means ds now k [] ⊎ ((ws : List Reported) × Has (with_some ls) (id, ws))
       at id k [] has listing = inl listing
       at id k (v ∷ vs) has listing = inr (v ∷ vs, among_those ls id v vs has)
 
+  -- one that has too many visits is one of them
+  pub over_of : OneIsOver ds ks → OneIsOverAmong ds Among
+  over_of (k, has, over) = (k.0, k.1, back k has, over)
+
+-- ---- the records that parts touch
+
+module _ (ds : Declarations) (parts : List Part) (m : Records) (new : Way) where
+  -- of the records on the way, judged in order, those that have violations are the ones of the records that parts touch
+  pub listings : (means : Meanings) (now : ℤ) (ls : List Judged) → AreJudged means ds now (standing new) ls → IsAscending (keys_of new) → ((id : List ℕ) (k : Kept) → IsTouched parts m id k → at_name id new ≡ Some (Some k))
+      → ((id : List ℕ) (k : Kept) → at_name id new ≡ Some (Some k) → IsTouched parts m id k) → AreListings means ds now parts m (with_some ls)
+  listings means now ls judged ascending stands touched =
+      listings_of ds (IsTouched parts m) (standing new) (λ k has. touched k.0 k.1 (found_there new k ascending has)) means now ls judged (standing_ascends new ascending) (λ id k is. stands_there new id k (stands id k is))
+
   -- one on the way that has too many visits is one that parts touch
   pub one_over : OneIsOver ds (standing new) → IsAscending (keys_of new) → ((id : List ℕ) (k : Kept) → at_name id new ≡ Some (Some k) → IsTouched parts m id k) → OneIsOverVisited ds parts m
-  one_over (k, has, over) ascending touched = (k.0, k.1, touched k.0 k.1 (found_there new k ascending has), over)
+  one_over over ascending touched = over_of ds (IsTouched parts m) (standing new) (λ k has. touched k.0 k.1 (found_there new k ascending has)) over

@@ -1,12 +1,12 @@
 -- What the connection to the database, which keeps the records, has to do with a step.
-use Rattle.std.specs.Prelude.{◌≡◌, ◌+◌, ◌*◌, ◌≤◌, ◌<◌, ◌⊎◌, ℕ, ℤ, IsTrue, false, List, length}
+use Rattle.std.specs.Prelude.{◌≡◌, ◌+◌, ◌*◌, ◌≤◌, ◌<◌, ◌⊎◌, ℕ, ℤ, IsTrue, false, List, [], ◌∷◌}
 use Rattle.sqlite.specs.Disk.{MoreFaults}
 use Rattle.fv_engine_machine.specs.Machines.{Machine}
 use Rattle.fv_engine_machine.specs.Refusals.{parts_of}
 use Rattle.fv_engine_machine.specs.Step.{IsTaken, LooksUp, Step}
-use Rattle.fv_engine_command.specs.Commands.{Part, Request, asked}
+use Rattle.fv_engine_command.specs.Commands.{Part, set, Request, asked}
 use Rattle.fv_engine_pending.specs.Altering.{most_rows}
-use Rattle.fv_engine_pending.specs.Touched.{IsTouched}
+use Rattle.fv_engine_pending.specs.Touched.{IsTouched, count_left}
 use Rattle.fv_registry.specs.Meanings.{Meanings}
 use Rattle.fv_engine_reply.specs.Answers.{Answer, done, refused}
 use Rattle.fv_engine_reply.specs.Texts.{answer_text}
@@ -18,21 +18,26 @@ use Rattle.fv_store.specs.Records.{Kept, Records}
 abbrev pub StoreHasFailed : Machine Records → Machine Records → Type 0
 StoreHasFailed old new = MoreFaults old.faults new.faults ⊎ (old.is_open ≡ false)
 
--- the database has room for what parts leave: for each part rowids are left for a record with as many objects as one may have, and no row is
--- too long
+-- how many rowids the parts of a command take in a table, at most: none where one field is set by itself, and else for each part that leaves a
+-- record those of one with as many objects as it may have
+abbrev pub rows_taken : List Part → ℕ
+rows_taken (set id object field j ∷ []) = 0
+rows_taken parts = most_rows * count_left parts
+
+-- the database has room for what parts leave: so many rowids are left, and no row is too long
 abbrev pub HasRoomFor : List Part → Records → Machine Records → Type 0
-HasRoomFor parts m old = (most_rows * length parts < old.room) × ((id : List ℕ) (k : Kept) → IsTouched parts m id k → IsShort id k)
+HasRoomFor parts m old = (rows_taken parts < old.room) × ((id : List ℕ) (k : Kept) → IsTouched parts m id k → IsShort id k)
 
 -- why the store refuses a request: it has failed, or that is a command that would be taken, and so it has where the database has room
 abbrev pub HasCause : Meanings → ℤ → Request → Machine Records → Machine Records → Type 0
 HasCause means now r old new = StoreHasFailed old new
     ⊎ ((m : Records) × IsTaken means old.declared now r old.records m × (HasRoomFor (parts_of r) m old → StoreHasFailed old new))
 
--- A taken command of so many parts goes by an open connection, which stays open, and gives out the rowids of so many records with the most
--- objects, at most. Else none is given out.
-abbrev pub GivesOut : Answer → ℕ → Machine Records → Machine Records → Type 0
-GivesOut (done what) count old new = IsTrue old.is_open × IsTrue new.is_open × (old.room ≤ new.room + most_rows * count)
-GivesOut _ count old new = IsTrue new.is_open → new.room ≡ old.room
+-- A taken command of these parts goes by an open connection, which stays open, and gives out as many rowids as they take, at most. Else none
+-- is given out.
+abbrev pub GivesOut : Answer → List Part → Machine Records → Machine Records → Type 0
+GivesOut (done what) parts old new = IsTrue old.is_open × IsTrue new.is_open × (old.room ≤ new.room + rows_taken parts)
+GivesOut _ parts old new = IsTrue new.is_open → new.room ≡ old.room
 
 -- What a step leaves of a connection: what is declared stays, and no failure of the disk is forgotten. A connection that is shut stays shut,
 -- and only a failure of the disk shuts it. Where it is shut, a request that looks something up is refused. The store refuses with a cause.
@@ -41,7 +46,7 @@ pub record Causes (means : Meanings) (now : ℤ) (r : Request) (answer : Answer)
   pub counts : old.faults ≤ new.faults
   pub was_open : IsTrue new.is_open → IsTrue old.is_open
   pub closes : IsTrue old.is_open → IsTrue new.is_open ⊎ MoreFaults old.faults new.faults
-  pub gives : GivesOut answer (length (parts_of r)) old new
+  pub gives : GivesOut answer (parts_of r) old new
   pub finds : LooksUp old.declared r → IsTrue old.is_open ⊎ ((answer ≡ refused Store) ⊎ (answer ≡ refused Memory))
   pub cause : answer ≡ refused Store → HasCause means now r old new
 

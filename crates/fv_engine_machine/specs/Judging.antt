@@ -1,4 +1,4 @@
--- The records that a command changes are judged where all its parts are made.
+-- Records are judged: those that a command changes, where all its parts are made, or all that are stored.
 use Rattle.std.specs.Prelude.{◌≢◌, ◌⊎◌, ℕ, ℤ, List, [], unwrap_or}
 use Rattle.std.specs.Map.{keys_of}
 use Rattle.sqlite_rules.specs.Lists.{Has}
@@ -21,12 +21,20 @@ groups_of ds form = unwrap_or (at_name form ds.form_groups) []
 abbrev pub IsListingOf : Meanings → Declarations → ℤ → Kept → List Reported → Type 0
 IsListingOf means ds now k vs = HasFewVisits ds k.bundle (groups_of ds k.form) × IsListing means ds now k.bundle (groups_of ds k.form) vs
 
--- one of the records that parts put or set, and that stand after all of them, has more visits
-abbrev pub OneIsOverVisited : Declarations → List Part → Records → Type 0
-OneIsOverVisited ds parts m = (id : List ℕ) × (k : Kept) × IsTouched parts m id k × HasTooManyVisits ds k.bundle (groups_of ds k.form)
+-- one of these records has too many visits
+abbrev pub OneIsOverAmong : Declarations → (List ℕ → Kept → Type 0) → Type 0
+OneIsOverAmong ds Among = (id : List ℕ) × (k : Kept) × Among id k × HasTooManyVisits ds k.bundle (groups_of ds k.form)
 
--- none has, and those that have violations are listed by their ids, each with all of its own, ascending by the bytes of the ids
-pub record AreListings (means : Meanings) (ds : Declarations) (now : ℤ) (parts : List Part) (m : Records) (ls : List Judged) : Type 0 where
+-- none of these records has, and those that have violations are listed by their ids, each with all of its own, ascending by the bytes of the ids
+pub record AreListingsOf (means : Meanings) (ds : Declarations) (now : ℤ) (Among : List ℕ → Kept → Type 0) (ls : List Judged) : Type 0 where
   pub ascending : IsAscending (keys_of ls)
-  pub sound : (l : Judged) → Has ls l → (l.1 ≢ []) × (k : Kept) × IsTouched parts m l.0 k × IsListingOf means ds now k l.1
-  pub complete : (id : List ℕ) (k : Kept) → IsTouched parts m id k → IsListingOf means ds now k [] ⊎ ((vs : List Reported) × Has ls (id, vs))
+  pub sound : (l : Judged) → Has ls l → (l.1 ≢ []) × (k : Kept) × Among l.0 k × IsListingOf means ds now k l.1
+  pub complete : (id : List ℕ) (k : Kept) → Among id k → IsListingOf means ds now k [] ⊎ ((vs : List Reported) × Has ls (id, vs))
+
+-- one of the records that parts put or set, and that stand after all of them, has too many visits
+abbrev pub OneIsOverVisited : Declarations → List Part → Records → Type 0
+OneIsOverVisited ds parts m = OneIsOverAmong ds (IsTouched parts m)
+
+-- the listings of those
+abbrev pub AreListings : Meanings → Declarations → ℤ → List Part → Records → List Judged → Type 0
+AreListings means ds now parts m = AreListingsOf means ds now (IsTouched parts m)

@@ -1,5 +1,5 @@
 -- For private clauses: what a request is replied, and what a command that changes records and a check do on their way.
-use Rattle.std.specs.Prelude.{◌≡◌, ◌≢◌, ◌<◌, ◌+◌, ◌*◌, ◌≤◌, ◌⊎◌, ℕ, ℤ, IsTrue, List, [], ◌∷◌, length, true, false, Option, Some, None, IsSome, option_map, Ok, Err}
+use Rattle.std.specs.Prelude.{◌≡◌, ◌≢◌, ◌<◌, ◌+◌, ◌*◌, ◌≤◌, ◌⊎◌, ℕ, ℤ, IsTrue, List, [], ◌∷◌, length, true, false, Option, Some, None, IsSome, option_map, Ok, Err, string_bytes}
 use Rattle.std.specs.List.{list_any}
 use Rattle.sqlite.specs.Disk.{MoreFaults}
 use Rattle.serde_json.specs.Data as json
@@ -11,6 +11,9 @@ use Rattle.fv_engine_command.specs.Commands.{Part, set, Request}
 use Rattle.fv_engine_machine.specs.Refusals.{first_of, is_too_long, made, parts_of, refusal, told_fault, when}
 use Rattle.fv_engine_machine.specs.Step.{Changes, Checked, FieldChecked, LooksUp, Serves}
 use Rattle.fv_engine_machine.specs.Records.{AreJudged, OneIsOver, with_some}
+use Rattle.fv_engine_machine.specs.Redeclaring.{misfit}
+use Rattle.fv_engine_machine.specs.declared.rejudging.RejudgeFault.{RejudgeFault}
+use Rattle.fv_engine_machine.specs.declared.rejudging.RejudgeFault.TheVariants as rejudge
 use Rattle.fv_engine_pending.specs.Altering.{IsOneObject, most_rows}
 use Rattle.fv_engine_pending.specs.Fits.{AreFitting, AreShort}
 use Rattle.fv_engine_pending.specs.Parts.{are_misshapen}
@@ -27,8 +30,7 @@ use Rattle.fv_validate.specs.Values.{field_use, valued}
 use Rattle.fv_model.specs.declared.fault.BundleFault.{BundleFault}
 use Rattle.fv_model.specs.declared.fault.BundleFault.TheVariants as fault
 use Rattle.fv_registry.specs.Meanings.{Meanings}
-use Rattle.fv_engine_reply.specs.Answers.{Answer, Judged, done, violated, refused, part_refused}
-use Rattle.fv_engine_reply.specs.Texts.{answer_text}
+use Rattle.fv_engine_reply.specs.Answers.{Answer, Judged, done, violated, unfit, refused, part_refused}
 use Rattle.fv_engine_reply.specs.declared.answer.Done.{Done}
 use Rattle.fv_engine_reply.specs.declared.answer.Done.TheVariants as what
 use Rattle.fv_engine_reply.specs.declared.answer.Refusal.{Refusal}
@@ -59,10 +61,6 @@ pub record Takes (m : Records) (given : ℕ) (old new : Machine Records) : Type 
   pub counts : old.faults ≤ new.faults
   pub room : old.room ≤ new.room + given
 
--- what a request does, told by the text of its answer
-abbrev pub Replies : Meanings → ℤ → Request → Machine Records → List ℕ → Machine Records → Type 0
-Replies means now r old text new = (answer : Answer) × (text ≡ answer_text answer) × Handles means now r old answer new
-
 -- want of memory refuses, or the store, with its cause
 abbrev pub Fails : Refusal → Type 0 → Type 0
 Fails Memory cause = Unit {0}
@@ -79,9 +77,14 @@ Moves held ds bytes m old new relation = HasCleanDisk (held new) → Holds (held
 abbrev pub FitsWhereHeld : State → Contents → Way → Type 0
 FitsWhereHeld s c way = HasCleanDisk s → IsTrue s.is_open → Holds s c → AreFitting c.types c.roots way
 
--- the database has room for what stands on the way
-abbrev pub HasRoomOn : Way → Machine Records → Type 0
-HasRoomOn way old = (most_rows * length way < old.room) × AreShort way
+-- how many rowids what stands on the way takes in a table, at most: none where one object is set
+abbrev pub rows_on : Option (List ℕ) → Way → ℕ
+rows_on None way = most_rows * length (standing way)
+rows_on (Some object) way = 0
+
+-- the database has room for what stands on the way, which takes so many rowids at most
+abbrev pub HasRoomOn : ℕ → Way → Machine Records → Type 0
+HasRoomOn given way old = (given < old.room) × AreShort way
 
 -- the name of the object that is set, where the parts are one set
 abbrev pub set_object : List Part → Option (List ℕ)
@@ -93,11 +96,11 @@ abbrev pub IsOneSet : Option (List ℕ) → Way → Records → Type 0
 IsOneSet None way m = Unit {0}
 IsOneSet (Some object) way m = (id : List ℕ) × IsOneObject id object way m
 
--- what stands on the way is stored
-abbrev pub Keeps : Way → Done → Machine Records → Answer → Machine Records → Type 0
-Keeps way what old answer new =
-    ((answer ≡ done what) × Takes (overlay way old.records) (most_rows * length way) old new)
-    ⊎ ((why : Refusal) × Fails why (HasRoomOn way old → StoreHasFailed old new) × (answer ≡ refused why) × Unchanged old new)
+-- what stands on the way is stored; it takes so many rowids at most
+abbrev pub Keeps : ℕ → Way → Done → Machine Records → Answer → Machine Records → Type 0
+Keeps given way what old answer new =
+    ((answer ≡ done what) × Takes (overlay way old.records) given old new)
+    ⊎ ((why : Refusal) × Fails why (HasRoomOn given way old → StoreHasFailed old new) × (answer ≡ refused why) × Unchanged old new)
 
 -- where no record has a violation, these are the records, with so many rowids given out at most, and else all that have some are told
 abbrev pub TakesOrTells : Done → ℕ → List Judged → Records → Machine Records → Answer → Machine Records → Type 0
@@ -105,13 +108,13 @@ TakesOrTells what given [] m old answer new = (answer ≡ done what) × Takes m 
 TakesOrTells what given (l ∷ ls) m old answer new = (answer ≡ violated (l ∷ ls)) × Unchanged old new
 
 -- what stands on the way is judged, and stored where nothing of it has a violation
-abbrev pub Settles : Meanings → ℤ → Way → Done → Machine Records → Answer → Machine Records → Type 0
-Settles means now way what old answer new =
+abbrev pub Settles : Meanings → ℤ → ℕ → Way → Done → Machine Records → Answer → Machine Records → Type 0
+Settles means now given way what old answer new =
     (OneIsOver old.declared (standing way) × (answer ≡ refused TooManyVisits) × Unchanged old new)
     ⊎ (((ls : List Judged) × AreJudged means old.declared now (standing way) ls
-    × TakesOrTells what (most_rows * length way) (with_some ls) (overlay way old.records) old answer new)
+    × TakesOrTells what given (with_some ls) (overlay way old.records) old answer new)
     ⊎ ((why : Refusal) × Fails why ((ls : List Judged) × AreJudged means old.declared now (standing way) ls
-    × (with_some ls ≡ []) × (HasRoomOn way old → StoreHasFailed old new))
+    × (with_some ls ≡ []) × (HasRoomOn given way old → StoreHasFailed old new))
     × (answer ≡ refused why) × Unchanged old new))
 
 -- how the refusal of a part is told: in a batch with its number
@@ -188,3 +191,10 @@ IsValueOf ts type field d = (held : TypeUse) × (field_use ts type field ≡ Som
 -- the object with a datum in a field alone, where there is a datum
 abbrev pub valued_by : Declared → List ℕ → List ℕ → Option Data → Option Thing
 valued_by ts type field = option_map (valued ts type field)
+
+-- the answer where a pass over all records doesn't judge them
+abbrev pub told_pass : RejudgeFault → Answer
+told_pass (rejudge.Unfit id why) = unfit (string_bytes id) (misfit why)
+told_pass rejudge.TooManyVisits = refused TooManyVisits
+told_pass rejudge.Store = refused Store
+told_pass rejudge.Memory = refused Memory

@@ -1,25 +1,27 @@
 //! What a command does to the records, and its answer.
-ghost use Rattle.std.specs.Prelude.{◌≡◌, ℤ, map, unwrap_or};
+ghost use Rattle.std.specs.Prelude.{◌≡◌, ℤ, Some, map, unwrap_or};
 ghost use Rattle.fv_datum.specs.Moments.{IsMoment};
 ghost use Rattle.fv_datum.specs.Parsing.{json_of};
 ghost use Rattle.fv_declare_schema.specs.Declarations.{Declarations};
-ghost use Rattle.fv_engine_machine.specs.Keeping.{Replies};
 ghost use Rattle.fv_engine_machine.specs.Machines.{over, Becomes};
+ghost use Rattle.fv_engine_machine.specs.Services.{Attends, GoesOn, Replies, serving};
 ghost use Rattle.fv_engine_command.specs.CommandView.{part_view};
-ghost use Rattle.fv_engine_command.specs.Commands.{alone, batch, get, command_of, of_json, shape};
+ghost use Rattle.fv_engine_command.specs.Commands.{alone, asks_json, batch, get, command_of, shape};
 ghost use Rattle.fv_engine_machine.specs.Causes.{Handles};
 ghost use Rattle.fv_registry.specs.Meanings.{Meanings};
 ghost use Rattle.fv_engine_reply.specs.AnswerView.{answer_view};
 ghost use Rattle.fv_model_types.specs.TypesView.{types_view};
 ghost use Rattle.fv_json.specs.Documents.{view as json_view};
-ghost use Rattle.sqlite.specs.Held.{state};
+ghost use Rattle.fv_store.specs.Stock.{stock_state as state};
 
 use crate::changing::{change, done_by};
 use crate::checking::check;
 use crate::fields::{check_field, check_value};
 use crate::listing::list;
+use crate::redeclaring::redeclare;
 use crate::refusing::undone;
-use fv_engine_command::{Command, Part, command_of};
+use crate::shared_rules::SharedRules;
+use fv_engine_command::{Command, Part, command_of, redeclare_of};
 use fv_engine_reply::{Answer, Done, Refusal, Reply};
 use fv_json::{Json, JsonFault, read_json};
 use fv_local::Rulebook;
@@ -39,7 +41,8 @@ fn alone<'a, R: RuleSet, S: Alter>(
     now: i64,
 ) -> Answer<'a>
     requires { IsMoment now }
-    ensures { Becomes (state S.Store) (over (state S.Store) book.now store.old)
+    ensures text { store.new.text ≡ store.old.text }
+    ensures becomes { Becomes (state S.Store) (over (state S.Store) book.now store.old)
         (over (state S.Store) book.now store.new)
         (λ x y. Handles R.meaning now (alone (part_view part.entry)) x (answer_view result) y) }
 {
@@ -56,7 +59,8 @@ fn batch<'a, R: RuleSet, S: Alter>(
     now: i64,
 ) -> Answer<'a>
     requires { IsMoment now }
-    ensures { Becomes (state S.Store) (over (state S.Store) book.now store.old)
+    ensures text { store.new.text ≡ store.old.text }
+    ensures becomes { Becomes (state S.Store) (over (state S.Store) book.now store.old)
         (over (state S.Store) book.now store.new)
         (λ x y. Handles R.meaning now (batch (map part_view parts.now)) x (answer_view result) y) }
 {
@@ -65,7 +69,8 @@ fn batch<'a, R: RuleSet, S: Alter>(
 
 /// Shows a record.
 fn get<'a, S: Alter>(store: &mut Store<S>, alloc: Global, types: &Types, id: &'a str) -> Answer<'a>
-    ensures { (ds : Declarations) (means : Meanings) (now : ℤ) → ds.types ≡ types_view types.now
+    ensures text { store.new.text ≡ store.old.text }
+    ensures becomes { (ds : Declarations) (means : Meanings) (now : ℤ) → ds.types ≡ types_view types.now
         → Becomes (state S.Store) (over (state S.Store) ds store.old) (over (state S.Store) ds store.new)
         (λ x y. Handles means now (get id.now) x (answer_view result) y) }
 {
@@ -89,7 +94,8 @@ fn answer<'a, R: RuleSet, S: Alter>(
     now: i64,
 ) -> Answer<'a>
     requires { IsMoment now }
-    ensures { Becomes (state S.Store) (over (state S.Store) book.now store.old)
+    ensures text { store.new.text ≡ store.old.text }
+    ensures becomes { Becomes (state S.Store) (over (state S.Store) book.now store.old)
         (over (state S.Store) book.now store.new)
         (λ x y. Handles R.meaning now (unwrap_or (command_of (json_view value.now)) shape) x (answer_view result) y) }
 {
@@ -126,40 +132,63 @@ fn answer<'a, R: RuleSet, S: Alter>(
     }
 }
 
-/// The reply to a line's JSON.
-fn reply_to<R: RuleSet, S: Alter>(
+/// The answer to a line's JSON, a redeclare among what it may ask for.
+fn attend<'a, R: RuleSet + Drop, S: Alter>(
     store: &mut Store<S>,
     alloc: Global,
-    book: &Rulebook<R>,
+    rules: &SharedRules<R>,
+    book: &mut Rulebook<SharedRules<R>>,
+    value: &Json<'_, 'a>,
+    now: i64,
+) -> Answer<'a>
+    requires { IsMoment now }
+    ensures { GoesOn (state S.Store) (serving (state S.Store) (R.known rules.now) book.old store.old)
+        (serving (state S.Store) (R.known rules.now) book.new store.new)
+        (λ x y. Attends R.meaning now (asks_json (Some (json_view value.now))) x (answer_view result) y) }
+{
+    match redeclare_of(value) {
+        Some(text) => redeclare(store, alloc, rules, book, text, now),
+        None => answer(store, alloc, book, value, now),
+    }
+}
+
+/// The reply to a line's JSON.
+fn reply_to<R: RuleSet + Drop, S: Alter>(
+    store: &mut Store<S>,
+    alloc: Global,
+    rules: &SharedRules<R>,
+    book: &mut Rulebook<SharedRules<R>>,
     value: &Json,
     now: i64,
 ) -> Reply
     requires { IsMoment now }
-    ensures { Becomes (state S.Store) (over (state S.Store) book.now store.old)
-        (over (state S.Store) book.now store.new)
-        (λ x y. Replies R.meaning now (unwrap_or (command_of (json_view value.now)) shape) x result y) }
+    ensures { GoesOn (state S.Store) (serving (state S.Store) (R.known rules.now) book.old store.old)
+        (serving (state S.Store) (R.known rules.now) book.new store.new)
+        (λ x y. Replies R.meaning now (asks_json (Some (json_view value.now))) x result y) }
 {
-    let answer = answer(store, alloc, book, value, now);
+    let answer = attend(store, alloc, rules, book, value, now);
     Reply::of(alloc, &answer)
 }
 
-/// The reply to a line that isn't over the limit. Its JSON is read with the scratch, which is kept
-/// from line to line.
-pub fn reply_to_line<R: RuleSet, S: Alter>(
+/// The reply to a line that isn't over the limit: one step of the service. The declarations in force
+/// are those of the book; a redeclare that is taken puts others there, with the same rules. The line's
+/// JSON is read with the scratch, which is kept from line to line.
+pub fn reply_to_line<R: RuleSet + Drop, S: Alter>(
     store: &mut Store<S>,
     alloc: Global,
-    book: &Rulebook<R>,
+    rules: &SharedRules<R>,
+    book: &mut Rulebook<SharedRules<R>>,
     line: &[u8],
     scratch: &mut Scratch,
     now: i64,
 ) -> Reply
     requires { IsMoment now }
-    ensures { Becomes (state S.Store) (over (state S.Store) book.now store.old)
-        (over (state S.Store) book.now store.new)
-        (λ x y. Replies R.meaning now (of_json (json_of line.now)) x result y) }
+    ensures { GoesOn (state S.Store) (serving (state S.Store) (R.known rules.now) book.old store.old)
+        (serving (state S.Store) (R.known rules.now) book.new store.new)
+        (λ x y. Replies R.meaning now (asks_json (json_of line.now)) x result y) }
 {
     match read_json(alloc, line, scratch) {
-        Ok(document) => reply_to(store, alloc, book, &document.root(), now),
+        Ok(document) => reply_to(store, alloc, rules, book, &document.root(), now),
         Err(JsonFault::NotJson) => Reply::refused(alloc, Refusal::NotJson),
         Err(JsonFault::Memory) => Reply::refused(alloc, Refusal::Memory),
     }

@@ -1,14 +1,13 @@
 //! The parts of a command that changes records are made, judged at the end, and stored all together.
-ghost use Rattle.std.specs.Prelude.{◌≡◌, ◌≢◌, ◌≤◌, ◌*◌, IfOk, length, map, option_map};
+ghost use Rattle.std.specs.Prelude.{◌≡◌, ◌≢◌, ◌≤◌, IfOk, map, option_map};
 ghost use Rattle.std.specs.Map.{keys_of};
 ghost use Rattle.fv_engine_command.specs.CommandView.{part_view};
 ghost use Rattle.fv_datum.specs.Moments.{IsMoment};
 ghost use Rattle.fv_declare_schema.specs.Declarations.{Declarations};
-ghost use Rattle.fv_engine_machine.specs.Keeping.{ChangesSo, FitsWhereHeld, IsOneSet, Keeps, Moves, Settles, set_object, told_part};
+ghost use Rattle.fv_engine_machine.specs.Keeping.{ChangesSo, FitsWhereHeld, IsOneSet, Keeps, Moves, Settles, rows_on, set_object, told_part};
 ghost use Rattle.fv_engine_machine.specs.Machines.{Becomes, contents, over};
 ghost use Rattle.fv_engine_machine.specs.Refusals.{part_refusal};
 ghost use Rattle.fv_engine_machine.specs.Step.{done_by};
-ghost use Rattle.fv_engine_pending.specs.Altering.{most_rows};
 ghost use Rattle.fv_engine_pending.specs.Fits.{AreFitting, AreShort, AreTyped};
 ghost use Rattle.fv_engine_pending.specs.Ways.{overlay, pending_view};
 ghost use Rattle.fv_engine_reply.specs.Answers.{refused};
@@ -19,7 +18,7 @@ ghost use Rattle.fv_store.specs.Changes.{after_all, ChangesFit};
 ghost use Rattle.fv_store.specs.Records.{Records, Roots};
 ghost use Rattle.fv_store.specs.Stands.{Frame};
 ghost use Rattle.fv_datum.specs.Ascending.{IsAscending};
-ghost use Rattle.sqlite.specs.Held.{state};
+ghost use Rattle.fv_store.specs.Stock.{stock_state as state};
 
 use crate::judging::judge;
 use crate::refusing::{part_refusal, undone, unjudged};
@@ -91,8 +90,9 @@ fn changes_of(
         → IsOneSet (option_map (λ s. s.now) object.entry) (pending_view pending.entry) m
         → AreFitting types forms (pending_view pending.entry) → ChangesFit types forms v.items m) }
     ensures short { IfOk result (λ v. AreShort (pending_view pending.entry) → ChangesShort v.items) }
-    ensures rows { IfOk result (λ v. (types : Declared) → AreTyped types (pending_view pending.entry)
-        → rows_of_all v.items ≤ most_rows * length (pending_view pending.entry)) }
+    ensures rows { IfOk result (λ v. (types : Declared) (m : Records) → AreTyped types (pending_view pending.entry)
+        → IsOneSet (option_map (λ s. s.now) object.entry) (pending_view pending.entry) m
+        → rows_of_all v.items ≤ rows_on (option_map (λ s. s.now) object.entry) (pending_view pending.entry)) }
 {
     match object {
         Some(object) => pending.into_object(alloc, object),
@@ -109,10 +109,11 @@ fn keep<'a, 'b, S: Alter>(
     done: Done,
 ) -> Answer<'a>
     ensures frame { Frame (state S.Store store.old) (state S.Store store.new) }
+    ensures text { store.new.text ≡ store.old.text }
     ensures moves { (ds : Declarations) (bytes : _) (m : _) → AreTyped ds.types (pending_view pending.entry)
         → FitsWhereHeld (state S.Store store.old) (contents bytes ds m) (pending_view pending.entry)
         → IsOneSet (option_map (λ s. s.now) object.entry) (pending_view pending.entry) m
-        → Moves (state S.Store) ds bytes m store.old store.new (λ x y. Keeps (pending_view pending.entry) done x (answer_view result) y) }
+        → Moves (state S.Store) ds bytes m store.old store.new (λ x y. Keeps (rows_on (option_map (λ s. s.now) object.entry) (pending_view pending.entry)) (pending_view pending.entry) done x (answer_view result) y) }
 {
     match changes_of(alloc, pending, object) {
         Err(_) => Answer::Refused(Refusal::Memory),
@@ -137,11 +138,12 @@ fn settle<'a, R: RuleSet, S: Alter>(
     requires moment { IsMoment now }
     requires typed { AreTyped book.now.types (pending_view pending) }
     ensures frame { Frame (state S.Store store.old) (state S.Store store.new) }
+    ensures text { store.new.text ≡ store.old.text }
     ensures ascending { IsAscending (keys_of (pending_view pending.entry)) }
     ensures moves { (bytes : _) (m : _) → FitsWhereHeld (state S.Store store.old) (contents bytes book.now m) (pending_view pending.entry)
         → IsOneSet (option_map (λ s. s.now) object.entry) (pending_view pending.entry) m
         → Moves (state S.Store) book.now bytes m store.old store.new
-        (λ x y. Settles R.meaning now (pending_view pending.entry) done x (answer_view result) y) }
+        (λ x y. Settles R.meaning now (rows_on (option_map (λ s. s.now) object.entry) (pending_view pending.entry)) (pending_view pending.entry) done x (answer_view result) y) }
 {
     match judge(alloc, book, &pending, now) {
         Err(fault) => Answer::Refused(unjudged(fault)),
@@ -165,7 +167,8 @@ pub(crate) fn change<'a, R: RuleSet, S: Alter>(
     now: i64,
 ) -> Answer<'a>
     requires { IsMoment now }
-    ensures { Becomes (state S.Store) (over (state S.Store) book.now store.old)
+    ensures text { store.new.text ≡ store.old.text }
+    ensures becomes { Becomes (state S.Store) (over (state S.Store) book.now store.old)
         (over (state S.Store) book.now store.new)
         (λ x y. ChangesSo R.meaning now (map part_view parts.now) done x (answer_view result) y) }
 {

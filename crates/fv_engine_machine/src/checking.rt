@@ -11,7 +11,7 @@ ghost use Rattle.fv_groups.specs.Tables.{indices};
 ghost use Rattle.fv_model.specs.Views.{bundle_view};
 ghost use Rattle.fv_model.specs.WellTyped.{IsWellTyped};
 ghost use Rattle.fv_engine_reply.specs.AnswerView.{answer_view};
-ghost use Rattle.sqlite.specs.Held.{state};
+ghost use Rattle.fv_store.specs.Stock.{stock_state as state};
 
 use crate::refusing::{undone, unjudged};
 use fv_engine_reply::{Answer, Refusal};
@@ -78,7 +78,8 @@ pub(crate) fn check<'a, R: RuleSet, S: Alter>(
     now: i64,
 ) -> Answer<'a>
     requires { IsMoment now }
-    ensures { Becomes (state S.Store) (over (state S.Store) book.now store.old)
+    ensures text { store.new.text ≡ store.old.text }
+    ensures becomes { Becomes (state S.Store) (over (state S.Store) book.now store.old)
         (over (state S.Store) book.now store.new)
         (λ x y. Handles R.meaning now (check id.now (map (λ n. n.now) names.now)) x (answer_view result) y) }
 {

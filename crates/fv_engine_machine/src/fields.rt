@@ -14,7 +14,7 @@ ghost use Rattle.fv_engine_reply.specs.Answers.{field_checked, value_checked};
 ghost use Rattle.fv_engine_reply.specs.AnswerView.{answer_view};
 ghost use Rattle.fv_store.specs.Records.{Records};
 ghost use Rattle.fv_json.specs.Documents.{view as json_view};
-ghost use Rattle.sqlite.specs.Held.{state};
+ghost use Rattle.fv_store.specs.Stock.{stock_state as state};
 
 use crate::checking::groups_named;
 use crate::refusing::{misread, undone, unjudged};
@@ -73,7 +73,8 @@ pub(crate) fn check_field<'a, R: RuleSet, S: Alter>(
     now: i64,
 ) -> Answer<'a>
     requires { IsMoment now }
-    ensures { Becomes (state S.Store) (over (state S.Store) book.now store.old)
+    ensures text { store.new.text ≡ store.old.text }
+    ensures becomes { Becomes (state S.Store) (over (state S.Store) book.now store.old)
         (over (state S.Store) book.now store.new)
         (λ x y. Handles R.meaning now (check_field id.now object.now field.now (map (λ n. n.now) names.now)) x (answer_view result) y) }
 {

@@ -1,5 +1,5 @@
 //! Records on the way are judged by the groups of their forms.
-ghost use Rattle.std.specs.Prelude.{◌++◌, ◌<◌, ◌≡◌, All, MatchResult, length, map};
+ghost use Rattle.std.specs.Prelude.{◌++◌, ◌∷◌, ◌<◌, ◌≡◌, [], All, MatchResult, OnOk, length, map};
 ghost use Rattle.std.specs.Map.{keys_of};
 ghost use Rattle.fv_datum.specs.Moments.{IsMoment};
 ghost use Rattle.fv_groups.specs.Tables.{indices};
@@ -22,7 +22,7 @@ use fv_registry::RuleSet;
 use fv_store::Stored;
 use fv_validate::by_id::validate;
 use fv_validate::{ValidateFault, Violation};
-use std::alloc::Global;
+use std::alloc::{AllocError, Global};
 
 /// The groups that a form asks for; none where it isn't declared.
 fn asked_by<'a>(schema: &'a Schema, form: &str) -> &'a [GroupId]
@@ -58,12 +58,28 @@ fn judge_record<R: RuleSet>(
     )
 }
 
-/// Adds a record to those that have violations, if it has some for the groups of its form.
-fn add_judged<'a, R: RuleSet>(
+/// Adds violations under a copy of an id.
+fn push_judged(
+    alloc: Global,
+    judged: &mut Vec<Judged>,
+    id: &str,
+    violations: Vec<Violation>,
+) -> Result<(), AllocError>
+    ensures { OnOk result (map judged_view judged.new.items ≡ map judged_view judged.old.items
+        ++ (id.now, map violation_view violations.items) ∷ []) }
+{
+    let id = String::from_str(alloc, id)?;
+    judged.push(Judged { id, violations })?;
+    Ok(())
+}
+
+/// Adds a record by a copy of its id to those that have violations, if it has some for the groups of its
+/// form.
+pub(crate) fn add_judged<R: RuleSet>(
     alloc: Global,
     book: &Rulebook<R>,
-    judged: &mut Vec<Judged<'a>>,
-    id: &'a str,
+    judged: &mut Vec<Judged>,
+    id: &str,
     stored: &Stored,
     now: i64,
 ) -> Result<(), ValidateFault>
@@ -79,7 +95,7 @@ fn add_judged<'a, R: RuleSet>(
     if violations.is_empty() {
         return Ok(());
     }
-    match judged.push(Judged { id, violations }) {
+    match push_judged(alloc, judged, id, violations) {
         Ok(()) => Ok(()),
         Err(_) => Err(ValidateFault::Memory),
     }
@@ -89,12 +105,12 @@ fn add_judged<'a, R: RuleSet>(
 ///
 /// Refused by `TooManyVisits` where one of the records has more than 4,096 visits; by `Memory` at any
 /// place.
-pub(crate) fn judge<'a, R: RuleSet>(
+pub(crate) fn judge<R: RuleSet>(
     alloc: Global,
     book: &Rulebook<R>,
-    pending: &Pending<'a>,
+    pending: &Pending<'_>,
     now: i64,
-) -> Result<Vec<Judged<'a>>, ValidateFault>
+) -> Result<Vec<Judged>, ValidateFault>
     requires moment { IsMoment now }
     requires typed { AreTyped book.now.types (pending_view pending.now) }
     ensures judged { MatchResult result

@@ -1,6 +1,7 @@
 //! The record machine: what a line does to the records, and its reply. What a put, a set, a remove or
 //! a batch leaves is judged and stored where it has no violation, a get shows what is stored, a check
-//! lists its violations, and a list gives the ids of a form.
+//! lists its violations, and a list gives the ids of a form. A redeclare judges every stored record
+//! under other declarations, and puts them in force where none has a violation.
 #![tactic(auto)]
 
 mod answering;
@@ -9,6 +10,11 @@ mod checking;
 mod fields;
 mod judging;
 mod listing;
+mod redeclaring;
 mod refusing;
+mod rejudging;
+mod shared_rules;
 
 pub use answering::reply_to_line;
+pub use redeclaring::read_rulebook;
+pub use shared_rules::SharedRules;

@@ -5,7 +5,7 @@ ghost use Rattle.fv_engine_machine.specs.Machines.{over, Becomes};
 ghost use Rattle.fv_engine_machine.specs.Causes.{Handles};
 ghost use Rattle.fv_registry.specs.Meanings.{Meanings};
 ghost use Rattle.fv_engine_reply.specs.AnswerView.{answer_view};
-ghost use Rattle.sqlite.specs.Held.{state};
+ghost use Rattle.fv_store.specs.Stock.{stock_state as state};
 
 use crate::refusing::undone;
 use fv_declare_schema::Schema;
@@ -23,7 +23,8 @@ pub(crate) fn list<'a, S: Alter>(
     after: Option<&str>,
     limit: u32,
 ) -> Answer<'a>
-    ensures { (means : Meanings) (now : _) → Becomes (state S.Store) (over (state S.Store) schema.now store.old)
+    ensures text { store.new.text ≡ store.old.text }
+    ensures becomes { (means : Meanings) (now : _) → Becomes (state S.Store) (over (state S.Store) schema.now store.old)
         (over (state S.Store) schema.now store.new)
         (λ x y. Handles means now (list form.now (option_map (λ s. s.now) after.entry) limit) x (answer_view result) y) }
 {

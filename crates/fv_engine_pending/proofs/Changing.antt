@@ -7,13 +7,14 @@ use Rattle.std.specs.List.Sorted.{IsStrictlySortedBy}
 use Rattle.std.specs.Map.{keys_of}
 use Rattle.std.specs.Ordering.{is_eq}
 use Rattle.std.specs.Prelude.{unwrap_or}
+use Rattle.std.proofs.lemmas.List.{length-append}
 use Rattle.std.proofs.lemmas.Map.Keys.{sorted_head, sorted_tail}
 use Rattle.std.proofs.lemmas.Map.Text.{is_eq-slice_cmp}
 use Rattle.std.proofs.lemmas.Slice.Eq.{bytes_eq-Decides}
 use Rattle.fv_datum.specs.Lookup.{at_name}
 use Rattle.fv_engine_pending.specs.Altering.{Altered, leaves, sets, altered, leaves_entry, most_rows}
 use Rattle.fv_engine_pending.specs.Fits.{AreFit, AreTyped, EachIsShort}
-use Rattle.fv_engine_pending.specs.Ways.{Way, way_entry, overlay}
+use Rattle.fv_engine_pending.specs.Ways.{Way, way_entry, overlay, standing, standing_entry}
 use Rattle.fv_model.specs.Bundles.{Thing}
 use Rattle.fv_model.specs.WellTyped.{IsWellTyped}
 use Rattle.fv_store.specs.Causes.{AreShort as ChangesShort, WritesShort, IsShort, IsShortObject, rows_of, rows_of_all}
@@ -136,14 +137,14 @@ changes_short (c ∷ cs) (e ∷ es) is h =
     let rest : map altered cs ≡ map leaves_entry es = cc in
     (short_so c (subst LeavesShort (sym first) h.0), changes_short cs es rest h.1)
 
-few_taken : (types : Declared) (id : List ℕ) (o : Option Kept) → ForSome o (λ k. IsWellTyped types k.bundle) → taken (leaves id o) ≤ most_rows
+few_taken : (types : Declared) (id : List ℕ) (o : Option Kept) → ForSome o (λ k. IsWellTyped types k.bundle) → taken (leaves id o) ≤ most_rows * length (standing_entry id o)
 few_taken types id None h = omega arith
 few_taken types id (Some k) h =
     let typed = h k refl in
     omega (arith, typed.few)
 
--- and take as many rowids as well-typed records do, at most
-pub changes_rows : (cs : List Change) (way : Way) → map altered cs ≡ map leaves_entry way → (types : Declared) → AreTyped types way → rows_of_all cs ≤ most_rows * length way
+-- and take as many rowids as the well-typed records that stand there do, at most
+pub changes_rows : (cs : List Change) (way : Way) → map altered cs ≡ map leaves_entry way → (types : Declared) → AreTyped types way → rows_of_all cs ≤ most_rows * length (standing way)
 changes_rows [] way is types h = omega arith
 changes_rows (c ∷ cs) [] is types h = cc
 changes_rows (c ∷ cs) (e ∷ es) is types h =
@@ -152,7 +153,8 @@ changes_rows (c ∷ cs) (e ∷ es) is types h =
     let one : rows_of c ≡ taken (leaves e.0 e.1) = taken_so c ∙ ap taken first in
     let few = few_taken types e.0 e.1 h.0 in
     let more = changes_rows cs es rest types h.1 in
-    omega (arith, one, few, more)
+    let sum = length-append (standing_entry e.0 e.1) (standing es) in
+    omega (arith, one, few, more, sum)
 
 -- ---- the change of one object
 

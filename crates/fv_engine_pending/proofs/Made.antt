@@ -16,6 +16,7 @@ use Rattle.fv_model.specs.declared.fault.BundleFault.{BundleFault}
 use Rattle.fv_engine_pending.specs.Fits.{Agrees, Covers}
 use Rattle.fv_engine_pending.specs.Parts.{bundle_under, kept_as, part_made, parts_made, and_then}
 use Rattle.fv_engine_pending.specs.Steps.{faulty, staged, left_as, set_on, removed_on, step_made, steps_made, numbered}
+use Rattle.fv_engine_pending.specs.Touched.{leaves_record}
 use Rattle.fv_engine_pending.specs.Ways.{Way, overlay, standing_at, IsOn, left_at, without_id}
 use Rattle.fv_engine_pending.specs.declared.fault.PartFault.{PartFault}
 use Rattle.fv_engine_pending.specs.declared.fault.PartFault.TheVariants.{UnknownForm, NoRecord}
@@ -64,11 +65,6 @@ abbrev pub id_of : Part → List ℕ
 id_of (put id form j) = id
 id_of (set id object field j) = id
 id_of (remove id) = id
-
--- a record stands there after it
-abbrev pub leaves_record : Part → Bool
-leaves_record (remove id) = false
-leaves_record _ = true
 
 -- what stands at an id where it was left, a record or none, and at each other id
 pub record Left (id : List ℕ) (some : Bool) (w new : Way) : Type 0 where

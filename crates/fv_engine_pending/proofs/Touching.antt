@@ -1,5 +1,5 @@
 -- What parts touch stands on the way.
-use Rattle.std.proofs.Common.{◌≡◌, ◌⊎◌, inl, inr, ℕ, suc, ◌+◌, ◌≤◌, List, [], ◌∷◌, map, length, Bool, true, false, ◌||◌, cond, IsTrue, Option, Some, None, is_some, Ordering, Less, Equal, Greater, Result, Ok, Err, bytes_eq, nat_cmp, refl, sym, ap, ◌∙◌, true≢false, arith}
+use Rattle.std.proofs.Common.{◌≡◌, ◌⊎◌, inl, inr, ℕ, ◌+◌, ◌≤◌, List, [], ◌∷◌, ◌++◌, map, length, Bool, true, false, ◌||◌, cond, IsTrue, Option, Some, None, is_some, Ordering, Less, Equal, Greater, Result, Ok, Err, bytes_eq, nat_cmp, refl, sym, ap, ◌∙◌, true≢false, arith}
 use Rattle.std.specs.Cmp.Lexicographic.{slice_cmp}
 use Rattle.std.specs.List.{list_any}
 use Rattle.std.specs.Ordering.{match_ordering}
@@ -13,11 +13,11 @@ use Rattle.fv_model.specs.Bundles.{Bundled}
 use Rattle.fv_engine_pending.specs.Fits.{AreNeeded}
 use Rattle.fv_engine_pending.specs.Parts.{bundle_under, and_then}
 use Rattle.fv_engine_pending.specs.Steps.{faulty, staged, left_as, set_on, removed_on, step_made, steps_made, numbered}
-use Rattle.fv_engine_pending.specs.Touched.{touches, IsTouched, needs_record, needs_at, count_needed}
-use Rattle.fv_engine_pending.specs.Ways.{Way, overlay, standing_at, IsOn, left_at, without_id}
+use Rattle.fv_engine_pending.specs.Touched.{touches, IsTouched, leaves_record, needs_record, needs_at, count_needed, count_left}
+use Rattle.fv_engine_pending.specs.Ways.{Way, overlay, standing, standing_at, standing_entry, IsOn, left_at, without_id}
 use Rattle.fv_engine_pending.specs.declared.fault.PartFault.{PartFault}
 use Rattle.fv_engine_pending.specs.declared.fault.PartFault.TheVariants.{UnknownForm}
-use Rattle.fv_engine_pending.proofs.Made.{Left, id_of, leaves_record, part_left, stays_on, is_on}
+use Rattle.fv_engine_pending.proofs.Made.{Left, id_of, part_left, stays_on, is_on}
 use Rattle.fv_store.specs.Records.{Kept, Records, Roots}
 use Rattle.fv_model_types.specs.Types.{Declared}
 
@@ -134,77 +134,106 @@ module _ (types : Declared) (forms : Roots) (n : ℕ) (parts : List Part) (way n
   standing_touched m id k needed stands =
       (needed_or parts way id k needed (standing_was types forms id n parts way new k stands made), ap (λ o. unwrap_or o (m id)) stands)
 
--- ---- how many stand there
+-- ---- how many records stand there
 
-longer : (id : List ℕ) (o : Option Kept) (w : Way) → length (left_at id o w) ≤ length w + 1
-longer id o [] = omega arith
-longer id o (e ∷ es) = at (slice_cmp nat_cmp id e.0) (longer id o es)
+-- one where a record stands
+abbrev one_if : Option Kept → ℕ
+one_if None = 0
+one_if (Some k) = 1
+
+-- the same of all entries
+abbrev stand : Way → ℕ
+stand [] = 0
+stand (e ∷ es) = one_if e.1 + stand es
+
+all_stand : (w : Way) → length (standing w) ≡ stand w
+all_stand [] = refl
+all_stand (e ∷ es) = at e.1 (all_stand es)
   where
-    at : (c : Ordering) → length (left_at id o es) ≤ length es + 1 → length (match_ordering c ((id, o) ∷ e ∷ es) ((e.0, o) ∷ es) (e ∷ left_at id o es)) ≤ length (e ∷ es) + 1
+    at : (o : Option Kept) → length (standing es) ≡ stand es → length (standing_entry e.0 o ++ standing es) ≡ one_if o + stand es
+    at None ih = omega arith
+    at (Some k) ih = omega arith
+
+fewer_stand : (w : Way) → stand w ≤ length w
+fewer_stand [] = omega arith
+fewer_stand (e ∷ es) = at e.1 (fewer_stand es)
+  where
+    at : (o : Option Kept) → stand es ≤ length es → one_if o + stand es ≤ length (e ∷ es)
+    at None ih = omega arith
+    at (Some k) ih = omega arith
+
+left_stand : (id : List ℕ) (o : Option Kept) (w : Way) → stand (left_at id o w) ≤ stand w + one_if o
+left_stand id o [] = omega arith
+left_stand id o (e ∷ es) = at (slice_cmp nat_cmp id e.0) (left_stand id o es)
+  where
+    at : (c : Ordering) → stand (left_at id o es) ≤ stand es + one_if o → stand (match_ordering c ((id, o) ∷ e ∷ es) ((e.0, o) ∷ es) (e ∷ left_at id o es)) ≤ stand (e ∷ es) + one_if o
     at Less ih = omega arith
     at Equal ih = omega arith
     at Greater ih = omega arith
 
-shorter : (id : List ℕ) (w : Way) (k : Kept) → standing_at id w ≡ Some k → length (without_id id w) + 1 ≡ length w
-shorter id [] k stands = cc
-shorter id (e ∷ es) k stands = at (bytes_eq id e.0) (shorter id es k) stands
+without_stand : (id : List ℕ) (w : Way) (k : Kept) → standing_at id w ≡ Some k → stand (without_id id w) + 1 ≡ stand w
+without_stand id [] k stands = cc
+without_stand id (e ∷ es) k stands = at (bytes_eq id e.0) (without_stand id es k) stands
   where
-    at : (b : Bool) → (standing_at id es ≡ Some k → length (without_id id es) + 1 ≡ length es) → unwrap_or (cond b (Some e.1) (at_name id es)) None ≡ Some k → length (cond b es (e ∷ without_id id es)) + 1 ≡ length (e ∷ es)
-    at true ih found = omega arith
+    at : (b : Bool) → (standing_at id es ≡ Some k → stand (without_id id es) + 1 ≡ stand es) → unwrap_or (cond b (Some e.1) (at_name id es)) None ≡ Some k → stand (cond b es (e ∷ without_id id es)) + 1 ≡ stand (e ∷ es)
+    at true ih found = let one : one_if e.1 ≡ 1 = ap one_if found in omega (arith, one)
     at false ih found = let less = ih found in omega arith
 
-bundle_longer : (id form : List ℕ) (w new : Way) (r : Result Bundled PartFault) → left_as id form w r ≡ Ok new → length new ≤ length w + 1
-bundle_longer id form w new (Ok b) e =
+bundle_stands : (id form : List ℕ) (w new : Way) (r : Result Bundled PartFault) → left_as id form w r ≡ Ok new → stand new ≤ stand w + 1
+bundle_stands id form w new (Ok b) e =
     let kept : Kept = record { form = form; bundle = b } in
     let same : left_at id (Some kept) w ≡ new = cc in
-    let long = longer id (Some kept) w in
-    omega (arith, ap length same, long)
-bundle_longer id form w new (Err fault) e = cc
+    let more = left_stand id (Some kept) w in
+    omega (arith, ap stand same, more)
+bundle_stands id form w new (Err fault) e = cc
 
-set_longer : (types : Declared) (id object field : List ℕ) (j : json.Data) (w new : Way) (o : Option Kept) → standing_at id w ≡ o → set_on types id object field j w o ≡ Ok new → length new ≤ length w
-set_longer types id object field j w new None stands e = cc
-set_longer types id object field j w new (Some k) stands e =
-    let more = bundle_longer id k.form (without_id id w) new (faulty (bundle_set types k.bundle object field j)) e in
-    let less = shorter id w k stands in
+set_stands : (types : Declared) (id object field : List ℕ) (j : json.Data) (w new : Way) (o : Option Kept) → standing_at id w ≡ o → set_on types id object field j w o ≡ Ok new → stand new ≤ stand w
+set_stands types id object field j w new None stands e = cc
+set_stands types id object field j w new (Some k) stands e =
+    let more = bundle_stands id k.form (without_id id w) new (faulty (bundle_set types k.bundle object field j)) e in
+    let less = without_stand id w k stands in
     omega arith
 
-remove_longer : (id : List ℕ) (w new : Way) (o : Option Kept) → standing_at id w ≡ o → removed_on id w o ≡ Ok new → length new ≤ length w
-remove_longer id w new None stands e = cc
-remove_longer id w new (Some k) stands e =
+remove_stands : (id : List ℕ) (w new : Way) (o : Option Kept) → standing_at id w ≡ o → removed_on id w o ≡ Ok new → stand new + 1 ≤ stand w
+remove_stands id w new None stands e = cc
+remove_stands id w new (Some k) stands e =
     let same : left_at id None (without_id id w) ≡ new = cc in
-    let more = longer id None (without_id id w) in
-    let less = shorter id w k stands in
-    omega (arith, ap length same)
+    let more = left_stand id None (without_id id w) in
+    let less = without_stand id w k stands in
+    omega (arith, ap stand same)
 
 module _ (types : Declared) (forms : Roots) where
-  part_longer : (p : Part) (w new : Way) → step_made types (staged types forms p) w ≡ Ok new → length new + cond (needs_record p) 1 0 ≤ length w + 1
-  part_longer (put id form j) w new e =
-      let more = bundle_longer id form w new (cond (is_some (at_name form forms)) (faulty (bundle_under types forms form j)) (Err UnknownForm)) e in
+  part_stands : (p : Part) (w new : Way) → step_made types (staged types forms p) w ≡ Ok new → stand new + cond (needs_record p) 1 0 ≤ stand w + cond (leaves_record p) 1 0
+  part_stands (put id form j) w new e =
+      let more = bundle_stands id form w new (cond (is_some (at_name form forms)) (faulty (bundle_under types forms form j)) (Err UnknownForm)) e in
       omega arith
-  part_longer (set id object field j) w new e =
-      let more = set_longer types id object field j w new (standing_at id w) refl e in
+  part_stands (set id object field j) w new e =
+      let more = set_stands types id object field j w new (standing_at id w) refl e in
       omega arith
-  part_longer (remove id) w new e =
-      let more = remove_longer id w new (standing_at id w) refl e in
+  part_stands (remove id) w new e =
+      let less = remove_stands id w new (standing_at id w) refl e in
       omega arith
 
   parts_after : (n : ℕ) (p : Part) (ps : List Part) (w new : Way) (r : Result Way PartFault) → step_made types (staged types forms p) w ≡ r
-      → ((v : Way) → steps_made types (n + 1) (map (staged types forms) ps) v ≡ Ok new → length new + count_needed ps ≤ length v + length ps)
-      → and_then (steps_made types (n + 1) (map (staged types forms) ps)) (numbered n r) ≡ Ok new → length new + (cond (needs_record p) 1 0 + count_needed ps) ≤ length w + suc (length ps)
+      → ((v : Way) → steps_made types (n + 1) (map (staged types forms) ps) v ≡ Ok new → stand new + count_needed ps ≤ stand v + count_left ps)
+      → and_then (steps_made types (n + 1) (map (staged types forms) ps)) (numbered n r) ≡ Ok new
+      → stand new + (cond (needs_record p) 1 0 + count_needed ps) ≤ stand w + (cond (leaves_record p) 1 0 + count_left ps)
   parts_after n p ps w new (Ok v) is ih e =
       let rest = ih v e in
-      let one = part_longer p w v is in
+      let one = part_stands p w v is in
       omega arith
   parts_after n p ps w new (Err fault) is ih e = cc
 
-  parts_longer : (n : ℕ) (ps : List Part) (w new : Way) → steps_made types n (map (staged types forms) ps) w ≡ Ok new → length new + count_needed ps ≤ length w + length ps
-  parts_longer n [] w new e =
+  parts_stand : (n : ℕ) (ps : List Part) (w new : Way) → steps_made types n (map (staged types forms) ps) w ≡ Ok new → stand new + count_needed ps ≤ stand w + count_left ps
+  parts_stand n [] w new e =
       let same : w ≡ new = cc in
-      omega (arith, ap length same)
-  parts_longer n (p ∷ ps) w new e = parts_after n p ps w new (step_made types (staged types forms p) w) refl (λ v made. parts_longer (n + 1) ps v new made) e
+      omega (arith, ap stand same)
+  parts_stand n (p ∷ ps) w new e = parts_after n p ps w new (step_made types (staged types forms p) w) refl (λ v made. parts_stand (n + 1) ps v new made) e
 
--- no more stand on the way than there are parts
-pub counted : (types : Declared) (forms : Roots) (n : ℕ) (parts : List Part) (way new : Way) → length way ≤ count_needed parts → steps_made types n (map (staged types forms) parts) way ≡ Ok new → length new ≤ length parts
+-- no more stand there than were put or set
+pub counted : (types : Declared) (forms : Roots) (n : ℕ) (parts : List Part) (way new : Way) → length way ≤ count_needed parts → steps_made types n (map (staged types forms) parts) way ≡ Ok new → length (standing new) ≤ count_left parts
 counted types forms n parts way new few made =
-    let all = parts_longer types forms n parts way new made in
-    omega arith
+    let all = parts_stand types forms n parts way new made in
+    let begin = fewer_stand way in
+    let there = all_stand new in
+    omega (arith, all, begin, there)

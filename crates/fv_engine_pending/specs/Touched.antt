@@ -1,5 +1,5 @@
 -- The ids that parts name.
-use Rattle.std.specs.Prelude.{◌≡◌, ℕ, ◌+◌, IsTrue, List, [], ◌∷◌, Bool, false, Option, Some, None, is_some, if◌then◌else◌}
+use Rattle.std.specs.Prelude.{◌≡◌, ℕ, ◌+◌, IsTrue, List, [], ◌∷◌, Bool, true, false, Option, Some, None, is_some, if◌then◌else◌}
 use Rattle.std.specs.List.{list_any}
 use Rattle.std.specs.Option.{option_map_or}
 use Rattle.std.specs.Str.{bytes_eq}
@@ -15,6 +15,11 @@ touches id (remove i) = false
 -- the id was put or set by one of the parts, and this is its record
 abbrev pub IsTouched : List Part → Records → List ℕ → Kept → Type 0
 IsTouched parts m id kept = IsTrue (list_any (touches id) parts) × (m id ≡ Some kept)
+
+-- a part leaves a record at its id: it puts or sets one
+abbrev pub leaves_record : Part → Bool
+leaves_record (remove i) = false
+leaves_record _ = true
 
 -- the id at which a part needs a record: that of a set or a remove
 abbrev pub needed_id : Part → Option (List ℕ)
@@ -34,3 +39,8 @@ needs_at id p = option_map_or (bytes_eq id) (needed_id p) false
 abbrev pub count_needed : List Part → ℕ
 count_needed [] = 0
 count_needed (p ∷ ps) = (if needs_record p then 1 else 0) + count_needed ps
+
+-- how many leave one
+abbrev pub count_left : List Part → ℕ
+count_left [] = 0
+count_left (p ∷ ps) = (if leaves_record p then 1 else 0) + count_left ps

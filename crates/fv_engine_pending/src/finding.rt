@@ -1,7 +1,6 @@
 //! The records that parts need are found in the store.
 ghost use Rattle.std.specs.Prelude.{◌≡◌, ◌+◌, ◌≤◌, ◌⊎◌, ◌∷◌, [], IfErr, IfOk, IsTrue, OnErr, OnOk, length, map, option_map};
 ghost use Rattle.std.specs.List.{AllByRecursion, list_any};
-ghost use Rattle.sqlite.specs.Held.{state};
 ghost use Rattle.sqlite.specs.State.{HasCleanDisk};
 ghost use Rattle.fv_engine_command.specs.CommandView.{part_view};
 ghost use Rattle.fv_engine_pending.specs.Fits.{Agrees, AreNeeded, AreTyped, Covers};
@@ -9,6 +8,7 @@ ghost use Rattle.fv_engine_pending.specs.Touched.{needed_id, needs_at, needs_rec
 ghost use Rattle.fv_engine_pending.specs.Ways.{pending_view, IsOn};
 ghost use Rattle.fv_store.specs.Causes.{HasFailed};
 ghost use Rattle.fv_store.specs.Stands.{Frame, Holds, IsLive, Stays};
+ghost use Rattle.fv_store.specs.Stock.{stock_state as state};
 ghost use Rattle.fv_model_types.specs.TypesView.{types_view};
 
 use crate::pending::Pending;
@@ -38,6 +38,7 @@ fn find_record<'a, S: Alter>(
     id: &'a str,
 ) -> Result<(), StoreFault>
     ensures frame { Frame (state S.Store store.old) (state S.Store store.new) }
+    ensures text { store.new.text ≡ store.old.text }
     ensures found { HasCleanDisk (state S.Store store.new) → OnOk result ((c : _) → c.types ≡ types_view types.now
         → Holds (state S.Store store.old) c → Agrees (pending_view pending.old) c.records → Agrees (pending_view pending.new) c.records) }
     ensures there { OnOk result (IsOn id.now (pending_view pending.new)) }
@@ -74,6 +75,7 @@ fn find_for<'a, S: Alter>(
     part: &Part<'_, 'a>,
 ) -> Result<(), StoreFault>
     ensures frame { Frame (state S.Store store.old) (state S.Store store.new) }
+    ensures text { store.new.text ≡ store.old.text }
     ensures found { HasCleanDisk (state S.Store store.new) → OnOk result ((c : _) → c.types ≡ types_view types.now
         → Holds (state S.Store store.old) c → Agrees (pending_view pending.old) c.records
         → Agrees (pending_view pending.new) c.records) }
@@ -115,6 +117,7 @@ pub fn find_records<'a, S: Alter>(
     parts: &[Part<'_, 'a>],
 ) -> Result<Pending<'a>, StoreFault>
     ensures frame { Frame (state S.Store store.old) (state S.Store store.new) }
+    ensures text { store.new.text ≡ store.old.text }
     ensures found { HasCleanDisk (state S.Store store.new) → IfOk result (λ p. (c : _) → c.types ≡ types_view types.now
         → Holds (state S.Store store.old) c → Agrees (pending_view p) c.records) }
     ensures covers { IfOk result (λ p. AllByRecursion (Covers (pending_view p)) (map part_view parts.now)) }

@@ -3,7 +3,7 @@ ghost use Rattle.std.specs.Prelude.{◌≡◌, ◌≤◌, ◌*◌, [], is_some, 
 ghost use Rattle.fv_datum.specs.Lookup.{at_name};
 ghost use Rattle.fv_engine_pending.specs.Altering.{IsOneObject, altered, leaves, most_rows, sets};
 ghost use Rattle.fv_engine_pending.specs.Fits.{AreFitting, AreShort, AreTyped};
-ghost use Rattle.fv_engine_pending.specs.Ways.{way_entry, pending_view, overlay, standing_at, left_at, lone_object, without_id};
+ghost use Rattle.fv_engine_pending.specs.Ways.{way_entry, pending_view, overlay, standing, standing_at, left_at, lone_object, without_id};
 ghost use Rattle.fv_model.specs.Views.{object_view};
 ghost use Rattle.fv_store.specs.Causes.{AreShort as ChangesShort, rows_of_all};
 ghost use Rattle.fv_store.specs.Changes.{after_all, ChangesFit};
@@ -74,7 +74,7 @@ impl<'a> Pending<'a> {
             → AreFitting types forms (pending_view self.entry) → ChangesFit types forms v.items m) }
         ensures short { IfOk result (λ v. AreShort (pending_view self.entry) → ChangesShort v.items) }
         ensures rows { IfOk result (λ v. (types : Declared) → AreTyped types (pending_view self.entry)
-            → rows_of_all v.items ≤ most_rows * length (pending_view self.entry)) }
+            → rows_of_all v.items ≤ most_rows * length (standing (pending_view self.entry))) }
     {
         let Pending { records } = self;
         let mut changes = Vec::with_capacity(alloc, records.len())?;
@@ -95,7 +95,7 @@ impl<'a> Pending<'a> {
             → ChangesFit types forms v.items m) }
         ensures short { IfOk result (λ v. AreShort (pending_view self.entry) → ChangesShort v.items) }
         ensures rows { IfOk result (λ v. (types : Declared) → AreTyped types (pending_view self.entry)
-            → rows_of_all v.items ≤ most_rows * length (pending_view self.entry)) }
+            → rows_of_all v.items ≤ most_rows * length (standing (pending_view self.entry))) }
         ensures none { IfOk result (λ v. (id : _) (m : Records) → IsOneObject id object.now (pending_view self.entry) m
             → rows_of_all v.items ≡ 0) }
     {

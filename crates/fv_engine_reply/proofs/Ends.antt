@@ -1,5 +1,5 @@
 -- Lines with their ends.
-use Rattle.std.proofs.Common.{◌≡◌, ◌∷◌, [], ◌+◌, ◌-◌, ℕ, List, ◌++◌, length, take, length-append, refl, ap, sym, ◌∙◌, arith}
+use Rattle.std.proofs.Common.{◌≡◌, ◌∷◌, [], ℕ, List, ◌++◌, length, take, length-append, refl, ap, sym, ◌∙◌, arith}
 use Rattle.fv_engine_lines.specs.Lines.{ended}
 use Rattle.fv_engine_reply.specs.Content.{front}
 

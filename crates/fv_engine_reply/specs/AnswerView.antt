@@ -4,12 +4,12 @@ use Rattle.fv_model.specs.Views.{bundle_view}
 use Rattle.fv_validate.specs.ViolationView.{violation_view}
 use Rattle.fv_engine_reply.specs.Answers as spec
 use Rattle.fv_engine_reply.specs.declared.answer.Answer.{Answer}
-use Rattle.fv_engine_reply.specs.declared.answer.Answer.TheVariants.{Done, Shown, Violated, Checked, FieldChecked, ValueChecked, Ids, Refused, PartRefused}
+use Rattle.fv_engine_reply.specs.declared.answer.Answer.TheVariants.{Done, Shown, Violated, Checked, FieldChecked, ValueChecked, Ids, Refused, PartRefused, Redeclared, Misdeclared, Unfit}
 use Rattle.fv_engine_reply.specs.declared.answer.Judged.{Judged}
 
 -- the record with its violations
 abbrev pub judged_view : Judged → spec.Judged
-judged_view j = (j.id.now, map violation_view j.violations.items)
+judged_view j = (string_bytes j.id, map violation_view j.violations.items)
 
 -- the answer that it is
 abbrev pub answer_view : Answer → spec.Answer
@@ -22,3 +22,6 @@ answer_view (ValueChecked violations) = spec.value_checked (map violation_view v
 answer_view (Ids ids) = spec.ids (map string_bytes ids.items)
 answer_view (Refused why) = spec.refused why
 answer_view (PartRefused part why) = spec.part_refused part why
+answer_view Redeclared = spec.redeclared
+answer_view (Misdeclared fault) = spec.misdeclared fault
+answer_view (Unfit id why) = spec.unfit (string_bytes id) why

@@ -1,8 +1,10 @@
 -- What a command is answered.
 use Rattle.std.specs.Prelude.{ℕ, List}
+use Rattle.fv_declare.specs.declared.fault.DeclFault.{DeclFault}
 use Rattle.fv_model.specs.Bundles.{Bundled}
 use Rattle.fv_validate.specs.Violations.{Reported}
 use Rattle.fv_engine_reply.specs.declared.answer.Done.{Done}
+use Rattle.fv_engine_reply.specs.declared.answer.Misfit.{Misfit}
 use Rattle.fv_engine_reply.specs.declared.answer.Refusal.{Refusal}
 
 -- a record by its id, with its violations
@@ -14,7 +16,7 @@ pub data Answer : Type 0 where
   done : Done → Answer
   -- the record of an id: its form and its bundle
   shown : List ℕ → List ℕ → Bundled → Answer
-  -- a command that changes records was refused, with all violations of the records that have some
+  -- a command that changes records, or declarations over them, was refused, with all violations of the records that have some
   violated : List Judged → Answer
   -- all violations of a record that was checked
   checked : List Reported → Answer
@@ -28,3 +30,9 @@ pub data Answer : Type 0 where
   refused : Refusal → Answer
   -- the same for a part of a batch, by its number
   part_refused : ℕ → Refusal → Answer
+  -- declarations were changed
+  redeclared : Answer
+  -- declarations aren't taken, by their first fault
+  misdeclared : DeclFault → Answer
+  -- a stored record doesn't fit them: its id, and why
+  unfit : List ℕ → Misfit → Answer

@@ -4,13 +4,16 @@ use Rattle.std.specs.Option.{option_map_or}
 use Rattle.serde_json.specs.Data as json
 use Rattle.serde_json.specs.View.{items_of}
 use Rattle.serde_json.specs.Written.{compact_text}
+use Rattle.fv_declare.specs.FaultNames.{decl_fault_code}
 use Rattle.fv_model.specs.FaultNames.{bundle_fault_code}
 use Rattle.fv_model_types.specs.Writing.{datum_json}
 use Rattle.fv_model.specs.Writing.{bundle_json}
 use Rattle.fv_validate.specs.Violations.{Reported}
-use Rattle.fv_engine_reply.specs.Answers.{Answer, Judged, done, shown, violated, checked, field_checked, value_checked, ids, refused, part_refused}
+use Rattle.fv_engine_reply.specs.Answers.{Answer, Judged, done, shown, violated, checked, field_checked, value_checked, ids, refused, part_refused, redeclared, misdeclared, unfit}
 use Rattle.fv_engine_reply.specs.declared.answer.Done.{Done}
 use Rattle.fv_engine_reply.specs.declared.answer.Done.TheVariants as what
+use Rattle.fv_engine_reply.specs.declared.answer.Misfit.{Misfit}
+use Rattle.fv_engine_reply.specs.declared.answer.Misfit.TheVariants as misfit
 use Rattle.fv_engine_reply.specs.declared.answer.Refusal.{Refusal}
 use Rattle.fv_engine_reply.specs.declared.answer.Refusal.TheVariants.{LineTooLong, NotJson, Shape, UnknownForm, Bundle, NoRecord, UnknownGroup, NoSuchField, TooManyVisits, Store, Memory}
 
@@ -62,6 +65,13 @@ refused_json part why = json.object (members_of (
     ((codes "error", json.string (refusal_told why).0) ∷ fault_member why)
     ++ (codes "name", json.string (refusal_told why).1) ∷ option_map_or (λ n. (codes "part", json.number (json.unsigned n)) ∷ []) part []))
 
+-- ---- records that don't fit other declarations
+
+-- the code that tells why a record doesn't fit
+abbrev pub misfit_code : Misfit → List ℕ
+misfit_code misfit.UnknownForm = codes "C4"
+misfit_code (misfit.Bundle fault) = bundle_fault_code fault
+
 -- ---- answers
 
 -- the name of what was done
@@ -90,6 +100,13 @@ answer_json (ids ts) = json.object (members_of (
     (codes "ids", json.array (items_of (map (λ t. json.string t) ts))) ∷ (codes "ok", json.string (codes "list")) ∷ []))
 answer_json (refused why) = refused_json None why
 answer_json (part_refused n why) = refused_json (Some n) why
+answer_json redeclared = json.object (members_of ((codes "ok", json.string (codes "redeclare")) ∷ []))
+answer_json (misdeclared fault) = json.object (members_of (
+    (codes "error", json.string (codes "C13")) ∷ (codes "fault", json.string (decl_fault_code fault))
+    ∷ (codes "name", json.string (codes "Declarations")) ∷ []))
+answer_json (unfit id why) = json.object (members_of (
+    (codes "error", json.string (codes "C14")) ∷ (codes "fault", json.string (misfit_code why))
+    ∷ (codes "id", json.string id) ∷ (codes "name", json.string (codes "Unfit")) ∷ []))
 
 -- its text
 abbrev pub answer_text : Answer → List ℕ
@@ -102,6 +119,7 @@ abbrev pub TakesMemory : Answer → Type 0
 TakesMemory (done what) = ⊥
 TakesMemory (refused (Bundle fault)) = Unit {0}
 TakesMemory (refused why) = ⊥
+TakesMemory redeclared = ⊥
 TakesMemory _ = Unit {0}
 
 -- a text tells an answer: it is the answer's, or that of want of memory, where the answer's takes some

@@ -1,6 +1,7 @@
 ghost use Rattle.std.specs.Prelude.{◌≡◌};
-ghost use Rattle.fv_engine_reply.specs.Texts.{refusal_told};
+ghost use Rattle.fv_engine_reply.specs.Texts.{misfit_code, refusal_told};
 
+use fv_declare::DeclFault;
 use fv_model::{Bundle, BundleFault};
 use fv_validate::Violation;
 
@@ -15,8 +16,8 @@ pub enum Done {
 
 /// A record by its id, with its violations.
 #[derive(Drop)]
-pub struct Judged<'a> {
-    pub id: &'a str,
+pub struct Judged {
+    pub id: String,
     pub violations: Vec<Violation>,
 }
 
@@ -31,10 +32,10 @@ pub enum Answer<'a> {
         form: String,
         bundle: Bundle,
     },
-    /// A command that changes records was refused, with all violations of the records that have
-    /// some.
+    /// A command that changes records, or declarations over them, was refused, with all violations of
+    /// the records that have some.
     Violated {
-        records: Vec<Judged<'a>>,
+        records: Vec<Judged>,
     },
     /// All violations of a record that was checked.
     Checked {
@@ -59,6 +60,36 @@ pub enum Answer<'a> {
         part: usize,
         why: Refusal,
     },
+    /// Declarations were changed.
+    Redeclared,
+    /// C13: declarations aren't taken, by their first fault.
+    Misdeclared(DeclFault),
+    /// C14: a stored record doesn't fit other declarations, the first by its id.
+    Unfit {
+        id: String,
+        why: Misfit,
+    },
+}
+
+/// Why a stored record doesn't fit other declarations.
+#[derive(Clone, Copy, Debug, PartialEq, Eq)]
+pub enum Misfit {
+    /// Its form isn't declared; told as C4.
+    UnknownForm,
+    /// Its bundle has a fault under them.
+    Bundle(BundleFault),
+}
+
+impl Misfit {
+    /// The code that tells it: `C4`, or the code of the bundle's fault.
+    pub fn code(&self) -> &str
+        ensures { result.now ≡ misfit_code self.now }
+    {
+        match self {
+            Misfit::UnknownForm => "C4",
+            Misfit::Bundle(fault) => fault.code(),
+        }
+    }
 }
 
 /// Why a command is refused, but for violations.
@@ -80,7 +111,8 @@ pub enum Refusal {
     UnknownGroup,
     /// C8: a checkfield's record has no such object, or a type has no such field or isn't declared.
     NoSuchField,
-    /// C9: a changed record or a check of any sort has more than 4,096 visits.
+    /// C9: a changed record, one that is judged under other declarations, or a check of any sort has more
+    /// than 4,096 visits.
     TooManyVisits,
     /// C11: the store couldn't do it.
     Store,

@@ -1,12 +1,14 @@
 ghost use Rattle.std.specs.Prelude.{◌≡◌, IfOk, MatchResult, string_bytes};
 ghost use Rattle.fv_engine_lines.specs.Lines.{ended};
-ghost use Rattle.fv_engine_reply.specs.Answers.{done, refused};
+ghost use Rattle.fv_engine_reply.specs.Answers.{done, redeclared, refused};
 ghost use Rattle.fv_engine_reply.specs.AnswerView.{answer_view};
 ghost use Rattle.fv_engine_reply.specs.Content.{front, content_line};
 ghost use Rattle.fv_engine_reply.specs.Texts.{answer_text, Tells};
 
 use crate::answer::{Answer, Done, Refusal};
-use crate::texts::{bundle_refused, ids_listed, listing, part_refused, record_shown, violated};
+use crate::texts::{
+    bundle_refused, ids_listed, listing, misdeclared, part_refused, record_shown, unfit, violated,
+};
 use fv_engine_lines::Text;
 use std::alloc::{AllocError, Global};
 use std::marker::Model;
@@ -39,6 +41,8 @@ const SET: &str = "{\"ok\":\"set\"}\n";
 const REMOVE: &str = "{\"ok\":\"remove\"}\n";
 
 const BATCH: &str = "{\"ok\":\"batch\"}\n";
+
+const REDECLARE: &str = "{\"ok\":\"redeclare\"}\n";
 
 /// The line that answers a command.
 #[derive(Drop)]
@@ -121,6 +125,9 @@ impl Reply {
             Answer::PartRefused { part, why } => {
                 Reply::or_memory(part_refused(alloc, *part, *why))
             }
+            Answer::Redeclared => Reply::redeclared(),
+            Answer::Misdeclared(fault) => Reply::or_memory(misdeclared(alloc, *fault)),
+            Answer::Unfit { id, why } => Reply::or_memory(unfit(alloc, id.as_str(), *why)),
         }
     }
 
@@ -135,6 +142,14 @@ impl Reply {
             Done::Remove => Reply::fixed(REMOVE),
             Done::Batch => Reply::fixed(BATCH),
         }
+    }
+
+    /// The reply that tells that declarations were changed. It takes no memory.
+    #[tactic(auto, unfolding(json::specs::Print::escape_byte))]
+    fn redeclared() -> Reply
+        ensures { result ≡ answer_text redeclared }
+    {
+        Reply::fixed(REDECLARE)
     }
 
     /// The reply that tells a refusal; only that of a bundle takes memory.

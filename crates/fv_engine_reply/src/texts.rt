@@ -4,16 +4,17 @@ ghost use Rattle.fv_datum.specs.View.{view};
 ghost use Rattle.fv_model.specs.Views.{bundle_view};
 ghost use Rattle.fv_model_types.specs.Writing.{datum_json};
 ghost use Rattle.fv_engine_reply.specs.AnswerView.{judged_view};
-ghost use Rattle.fv_engine_reply.specs.Answers.{violated, shown, ids as ids_told};
+ghost use Rattle.fv_engine_reply.specs.Answers.{violated, shown, ids as ids_told, misdeclared, unfit};
 ghost use Rattle.fv_engine_reply.specs.Texts.{violation_json, judged_json, listing_json, refused_json, answer_json, answer_text};
 ghost use Rattle.fv_validate.specs.ViolationView.{violation_view};
 ghost use Rattle.serde_json.specs.Data as json;
 ghost use Rattle.serde_json.specs.View.{items_of, view as json_view};
 ghost use Rattle.serde_json.specs.Written.{compact_text, has_float};
 
-use crate::answer::{Judged, Refusal};
+use crate::answer::{Judged, Misfit, Refusal};
 use crate::reply::Reply;
 use fv_datum::{DatumFault, write_datum};
+use fv_declare::DeclFault;
 use fv_model::{Bundle, BundleFault};
 use fv_model_text::{quoted, write_text};
 use fv_validate::Violation;
@@ -93,7 +94,7 @@ fn violation_values(alloc: Global, violations: &[Violation]) -> Result<Vec<Value
 fn judged_value(alloc: Global, judged: &Judged) -> Result<Value, AllocError>
     ensures { IfOk result (λ v. json_view v ≡ judged_json (judged_view judged.now)) }
 {
-    let id = judged.id;
+    let id = judged.id.as_str();
     let violations = array_of(violation_values(alloc, &judged.violations)?);
     json!(in alloc; {"id": id, "violations": violations})
 }
@@ -189,6 +190,36 @@ pub(crate) fn part_refused(alloc: Global, part: usize, why: Refusal) -> Result<R
     ensures { IfOk result (λ r. r ≡ compact_text (refused_json (Some part) why)) }
 {
     let value = part_refused_value(alloc, part, why)?;
+    text_of(alloc, &value)
+}
+
+fn misdeclared_value(alloc: Global, fault: DeclFault) -> Result<Value, AllocError>
+    ensures { IfOk result (λ v. json_view v ≡ answer_json (misdeclared fault)) }
+{
+    let code = fault.code();
+    json!(in alloc; {"error": "C13", "fault": code, "name": "Declarations"})
+}
+
+/// `{"error":"C13","fault":..,"name":"Declarations"}`.
+pub(crate) fn misdeclared(alloc: Global, fault: DeclFault) -> Result<Reply, AllocError>
+    ensures { IfOk result (λ r. r ≡ answer_text (misdeclared fault)) }
+{
+    let value = misdeclared_value(alloc, fault)?;
+    text_of(alloc, &value)
+}
+
+fn unfit_value(alloc: Global, id: &str, why: Misfit) -> Result<Value, AllocError>
+    ensures { IfOk result (λ v. json_view v ≡ answer_json (unfit id.now why)) }
+{
+    let code = why.code();
+    json!(in alloc; {"error": "C14", "fault": code, "id": id, "name": "Unfit"})
+}
+
+/// `{"error":"C14","fault":..,"id":..,"name":"Unfit"}`.
+pub(crate) fn unfit(alloc: Global, id: &str, why: Misfit) -> Result<Reply, AllocError>
+    ensures { IfOk result (λ r. r ≡ answer_text (unfit id.now why)) }
+{
+    let value = unfit_value(alloc, id, why)?;
     text_of(alloc, &value)
 }
 

@@ -7,7 +7,7 @@ use Rattle.fv_model.specs.Views.{object_view}
 use Rattle.std.specs.Option.{ForSome}
 use Rattle.sqlite.specs.State.{State, HasCleanDisk}
 use Rattle.fv_datum.specs.Outcomes.{Gives}
-use Rattle.fv_model_types.specs.Types.{Declared}
+use Rattle.fv_model_types.specs.Types.{Declared, has_deep}
 use Rattle.fv_model.specs.WellTyped.{IsWellTyped}
 use Rattle.fv_store.specs.declared.change.Change.{Change}
 use Rattle.fv_store.specs.declared.change.Change.TheVariants.{Put, Object, Remove}
@@ -15,12 +15,13 @@ use Rattle.fv_store.specs.declared.fault.StoreFault.{StoreFault}
 use Rattle.fv_store.specs.declared.fault.StoreFault.TheVariants.{Store, Memory}
 use Rattle.fv_tables.specs.declared.entry.RecordRows.{RecordRows}
 use Rattle.fv_store.specs.declared.stored.Stored.{Stored}
+use Rattle.fv_store.specs.declared.written.Written.{Written}
 use Rattle.sqlite.specs.declared.error.Error.{Error}
 use Rattle.fv_store.specs.Faults.{fault_of}
 use Rattle.fv_store.specs.Changes.{after, after_all, changed, ChangeFits, ChangesFit}
 use Rattle.fv_store.specs.Records.{Kept, Records, Contents, Fits, AllFit, with_record, without_record, with_thing, with_object, with_records}
 use Rattle.fv_store.specs.Steps.{Keeps, IsRefusal}
-use Rattle.fv_store.specs.Written.{entry_of, written_of}
+use Rattle.fv_store.specs.Written.{Writings, writings, entries, entry_of, written_of}
 use Rattle.fv_store.proofs.Kept.{all_kept}
 use Rattle.fv_store.proofs.Named.{all_named}
 use Rattle.fv_tables.specs.Changes.{AllNamed}
@@ -29,8 +30,13 @@ use Rattle.fv_tables.specs.Stored.{rows_view}
 use Rattle.fv_store.specs.Stands.{Frame, Holds, about_rows}
 use Rattle.sqlite.specs.Order.{Row}
 use Rattle.fv_tables.specs.Stands.{Entries}
-use Rattle.fv_store.specs.Stored.{stored_view}
-use Rattle.fv_store.proofs.Openings.{keeps_of, holds_after}
+use Rattle.fv_store.specs.Stock.{Stock}
+use Rattle.fv_store.specs.Stored.{stored_view, untyped, written_view}
+use Rattle.fv_store.proofs.Openings.{keeps_of, holds_as, holds_after}
+
+-- the same store has the same connection
+pub same_connection : {S : Type 0} {s t : Stock S} → s ≡ t → s.connection ≡ t.connection
+same_connection {S} is = ap (λ (x : Stock S). x.connection) is
 
 -- ---- what is handed out
 
@@ -38,12 +44,27 @@ given_is : (r : Result (Option Stored) StoreFault) (o : Option Kept) → Gives M
 given_is (Err e) o h = tt
 given_is (Ok x) o h = cc
 
-module _ (s : State) (types : Declared) (id : List ℕ) (found : Option RecordRows) (r : Result (Option Stored) StoreFault) (clean : HasCleanDisk s) (live : IsTrue s.is_open)
-    (shown : (d : List Row) (m : Entries) → tables.Keeps s d m → AllNamed m → option_map rows_view found ≡ m id)
-    (gives : (o : Option Kept) → ForSome o (λ k. IsWellTyped types k.bundle) → option_map rows_view found ≡ option_map entry_of (option_map written_of o) → Gives Memory (option_map stored_view) r (Ok o)) where
+-- ---- what is written of a record
+
+module _ (s : State) (id : List ℕ) (found : Option RecordRows) (clean : HasCleanDisk s) (live : IsTrue s.is_open)
+    (shown : (d : List Row) (m : Entries) → tables.Keeps s d m → AllNamed m → option_map rows_view found ≡ m id) where
+  pub written_out : (r : Result (Option Written) StoreFault)
+      → IfOk r (λ w. (types : Declared) (o : Option Kept) → has_deep types ≡ false → ForSome o (λ k. IsWellTyped types k.bundle)
+      → option_map rows_view found ≡ option_map entry_of (option_map written_of o) → option_map written_view w ≡ option_map untyped o)
+      → IfOk r (λ w. (c : Contents) → has_deep c.types ≡ false → Holds s c → option_map written_view w ≡ option_map untyped (c.records id))
+  written_out (Err e) h = tt
+  written_out (Ok w) h = λ c few holds.
+      h c.types (c.records id) few (λ k known. ((holds clean live).0.fit id k known).typed)
+      (shown (about_rows c.bytes) (all_kept c.records) (keeps_of s c holds) (all_named c (holds clean live).0.fit))
+
+-- ---- a record read under types
+
+module _ (s : State) (types : Declared) (id : List ℕ) (found : Option Written) (r : Result (Option Stored) StoreFault) (few : has_deep types ≡ false) (clean : HasCleanDisk s) (live : IsTrue s.is_open)
+    (shown : (c : Contents) → has_deep c.types ≡ false → Holds s c → option_map written_view found ≡ option_map untyped (c.records id))
+    (gives : (o : Option Kept) → ForSome o (λ k. IsWellTyped types k.bundle) → option_map written_view found ≡ option_map untyped o → Gives Memory (option_map stored_view) r (Ok o)) where
   handed : (c : Contents) → c.types ≡ types → Holds s c → Gives Memory (option_map stored_view) r (Ok (c.records id))
   handed c same holds = gives (c.records id) (λ k known. subst (λ (ts : Declared). IsWellTyped ts k.bundle) same ((holds clean live).0.fit id k known).typed)
-      (shown (about_rows c.bytes) (all_kept c.records) (keeps_of s c holds) (all_named c (holds clean live).0.fit))
+      (shown c (subst (λ (ts : Declared). has_deep ts ≡ false) (sym same) few) holds)
 
   pub handed_out : IfOk r (λ o. (c : Contents) → c.types ≡ types → Holds s c → option_map stored_view o ≡ c.records id)
   handed_out = go r handed
@@ -117,3 +138,12 @@ module _ (old new : State) (frame : Frame old new) where
       → OnErr q ((k : Contents) → Holds old k → Holds new k)
   commit_undone (Ok x) h = tt
   commit_undone (Err e) h = λ k. holds_after old new k k.records frame (h k.bytes k.records) (λ fit. fit)
+
+  -- ---- declarations
+
+  -- other contents of which the same is written, under these declarations
+  pub declared : (text : List ℕ) → ((d : List ℕ) (m : Records) → Keeps old d m → Keeps new text m)
+      → (k after : Contents) → after.bytes ≡ text → writings after.records ≡ writings k.records → AllFit after → Holds old k → Holds new after
+  declared text h k after is same fit = holds_as old new k after frame
+      (λ keeps. subst (λ (d : List ℕ). Keeps new d after.records) (sym is) (subst (λ (ws : Writings). tables.Keeps new (about_rows text) (entries ws)) (sym same) (h k.bytes k.records keeps)))
+      (λ _. fit)

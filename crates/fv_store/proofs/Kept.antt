@@ -1,5 +1,5 @@
 -- What the rows keep of records that change.
-use Rattle.std.proofs.Common.{◌≡◌, ◌&&◌, ℕ, List, [], ◌∷◌, Bool, true, false, cond, Option, Some, None, bytes_eq, map, option_map, refl, sym, ap, ◌∙◌}
+use Rattle.std.proofs.Common.{◌≡◌, ℕ, List, [], ◌∷◌, Bool, true, false, cond, Option, Some, None, bytes_eq, map, option_map, refl, ap}
 use Rattle.std.proofs.Math.Path.{fun_ext}
 use Rattle.fv_model.specs.Bundles.{Thing}
 use Rattle.fv_model.specs.Replaced.{changed_at}

@@ -10,7 +10,7 @@ use Rattle.sqlite.specs.declared.error.Error.{Error}
 use Rattle.sqlite.specs.State.{State, HasCleanDisk, Shows, KeepsCounts}
 use Rattle.fv_model.specs.Bundles.{Thing}
 use Rattle.fv_store.specs.declared.change.Change.{Change}
-use Rattle.fv_store.specs.Causes.{AreShort, HasRooms, IsShort, IsShortObject, LeavesRoom, WritesShort, rows_of, rows_of_all}
+use Rattle.fv_store.specs.Causes.{AreShort, HasRooms, IsShort, IsShortAbout, IsShortObject, LeavesRoom, WritesShort, rows_of, rows_of_all}
 use Rattle.fv_store.specs.Changes.{after, after_all}
 use Rattle.fv_store.specs.Records.{Kept, Records, with_record, without_record, with_object}
 use Rattle.fv_store.specs.Stands.{Frame, Spells, about_rows}
@@ -18,6 +18,7 @@ use Rattle.fv_store.specs.Steps.{Advances, IsExcused, Keeps, Makes, MakesAll}
 use Rattle.fv_model.specs.Writing.{named_written}
 use Rattle.fv_store.specs.Written.{writings, object_kept}
 use Rattle.fv_store.proofs.Kept.{rows_kept, all_kept, part_kept, kept_with, kept_without, kept_set}
+use Rattle.fv_tables.specs.About.{Redeclares}
 use Rattle.fv_tables.specs.Changes.{AreApart, object_view, objects_view, with_part_of}
 use Rattle.fv_tables.specs.Causes.{IsShortHead}
 use Rattle.fv_tables.specs.Causes as tables_short
@@ -108,17 +109,24 @@ one_more cs c x y z p q d m spelled =
 abbrev pub Committed : State → State → Type 0
 Committed mid new = IsTrue mid.in_transaction × Shows mid new mid.now mid.now false × KeepsCounts mid new × (new.marks ≡ [])
 
--- the changes are made in a transaction that begins here, and are committed
+-- what was made in a transaction that begins here holds where it was committed
+ended : {R : Database → Database → Type 0} (old mid new : State) (P : Database → Type 0) (Q : Database → Database → Type 0) → (HasCleanDisk new → HasCleanDisk mid) → (HasCleanDisk mid → HasCleanDisk old)
+    → (HasCleanDisk mid → Advances (record old { in_transaction = true }) mid R) → (HasCleanDisk new → Committed mid new) → ((x y : Database) → R x y → P x → Q x y)
+    → (HasCleanDisk old → IsTrue old.is_open → P old.now × P old.committed) → HasCleanDisk new → Q old.now new.now × Q old.now new.committed
+ended old mid new P Q late early step ends to keeps clean =
+    let end = ends clean in
+    let it = step (late clean) in
+    let was = keeps (early (late clean)) (it.was_open end.1.was_open) in
+    let made = to old.now mid.now it.change was.0 in
+    (subst (Q old.now) (sym end.1.now_is) made, subst (Q old.now) (sym end.1.committed_is) made)
+
+-- the changes
 pub commit_on_ok : (old mid new : State) (cs : List Change) (r : Result (Unit {0}) Error) → (HasCleanDisk new → HasCleanDisk mid) → (HasCleanDisk mid → HasCleanDisk old)
     → (HasCleanDisk mid → Advances (record old { in_transaction = true }) mid (MakesAll cs)) → (HasCleanDisk new → OnOk r (Committed mid new))
     → OnOk r ((d : List ℕ) (m : Records) → Keeps old d m → Keeps new d (after_all cs m))
 commit_on_ok old mid new cs (Err e) late early step ends = tt
 commit_on_ok old mid new cs (Ok t) late early step ends = λ d m keeps clean live.
-    let end = ends clean in
-    let it = step (late clean) in
-    let was = keeps (early (late clean)) (it.was_open end.1.was_open) in
-    let spelled = (it.change d m was.0).0 in
-    (subst (λ b. Spells b d (writings (after_all cs m))) (sym end.1.now_is) spelled, subst (λ b. Spells b d (writings (after_all cs m))) (sym end.1.committed_is) spelled)
+    ended old mid new (λ b. Spells b d (writings m)) (λ _ b. Spells b d (writings (after_all cs m))) late early step ends (λ x y made spelled. (made d m spelled).0) keeps clean
 
 -- the rowids that they take are given out, and no more
 pub commit_leaves : (old mid new : State) (cs : List Change) (r : Result (Unit {0}) Error) → (HasCleanDisk new → HasCleanDisk mid) → (HasCleanDisk mid → HasCleanDisk old)
@@ -126,10 +134,26 @@ pub commit_leaves : (old mid new : State) (cs : List Change) (r : Result (Unit {
     → HasCleanDisk new → OnOk r ((d : List ℕ) (m : Records) → Keeps old d m → LeavesRoom (rows_of_all cs) old.now new.now)
 commit_leaves old mid new cs (Err e) late early step ends clean = tt
 commit_leaves old mid new cs (Ok t) late early step ends clean = λ d m keeps.
-    let end = ends clean in
-    let it = step (late clean) in
-    let was = keeps (early (late clean)) (it.was_open end.1.was_open) in
-    subst (λ b. LeavesRoom (rows_of_all cs) old.now b) (sym end.1.now_is) (it.change d m was.0).1
+    (ended old mid new (λ b. Spells b d (writings m)) (LeavesRoom (rows_of_all cs)) late early step ends (λ x y made spelled. (made d m spelled).1) keeps clean).0
+
+-- other declarations
+pub declare_on_ok : (old mid new : State) (text : List ℕ) (r : Result (Unit {0}) Error) → (HasCleanDisk new → HasCleanDisk mid) → (HasCleanDisk mid → HasCleanDisk old)
+    → (HasCleanDisk mid → Advances (record old { in_transaction = true }) mid (Redeclares text)) → (HasCleanDisk new → OnOk r (Committed mid new))
+    → OnOk r ((d : List ℕ) (m : Records) → Keeps old d m → Keeps new text m)
+declare_on_ok old mid new text (Err e) late early step ends = tt
+declare_on_ok old mid new text (Ok t) late early step ends = λ d m keeps clean live.
+    ended old mid new (λ b. Spells b d (writings m)) (λ _ b. Spells b text (writings m)) late early step ends (λ x y made spelled. (made d (all_kept m) spelled).0) keeps clean
+
+no_rowid : (old new : Database) → ((n : ℕ) → HasRooms n old → HasRooms n new) → LeavesRoom 0 old new
+no_rowid old new stays n room = stays n (fewer_rooms n (n + 0) old (omega arith) room)
+
+-- they take no rowid
+pub declare_leaves : (old mid new : State) (text : List ℕ) (r : Result (Unit {0}) Error) → (HasCleanDisk new → HasCleanDisk mid) → (HasCleanDisk mid → HasCleanDisk old)
+    → (HasCleanDisk mid → Advances (record old { in_transaction = true }) mid (Redeclares text)) → (HasCleanDisk new → OnOk r (Committed mid new))
+    → HasCleanDisk new → OnOk r ((d : List ℕ) (m : Records) → Keeps old d m → LeavesRoom 0 old.now new.now)
+declare_leaves old mid new text (Err e) late early step ends clean = tt
+declare_leaves old mid new text (Ok t) late early step ends clean = λ d m keeps.
+    (ended old mid new (λ b. Spells b d (writings m)) (LeavesRoom 0) late early step ends (λ x y made spelled. no_rowid x y (made d (all_kept m) spelled).1) keeps clean).0
 
 -- ---- refusals
 
@@ -160,5 +184,14 @@ pub make_cause : (old mid new : State) (cs : List Change) → HasCleanDisk old �
     → (d : List ℕ) (m : Records) → Keeps old d m → HasRooms (rows_of_all cs) old.now → AreShort cs → IsExcused old new e
 make_cause old mid new cs clean up e h d m keeps room short refused = elim (cases_Bool old.is_open) [
   | inl live ↦ failed_still old mid new up (h d m (keeps clean live).0 room short refused)
+  | inr shut ↦ inr shut
+]
+
+-- the declarations were refused, and the transaction was undone
+pub declare_cause : (old mid new : State) (text : List ℕ) → HasCleanDisk old → mid.faults ≤ new.faults → (e : Error)
+    → ((d : List ℕ) (m : Entries) → tables.Stands old.now (about_rows d) m → IsShortAbout text → IsExcused (record old { in_transaction = true }) mid e)
+    → (d : List ℕ) (m : Records) → Keeps old d m → IsShortAbout text → IsExcused old new e
+declare_cause old mid new text clean up e h d m keeps short refused = elim (cases_Bool old.is_open) [
+  | inl live ↦ failed_still old mid new up (h d (all_kept m) (keeps clean live).0 short refused)
   | inr shut ↦ inr shut
 ]

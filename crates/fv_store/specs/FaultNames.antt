@@ -13,6 +13,5 @@ store_fault_name Memory = codes "Memory"
 -- the name of a fault of opening a store
 abbrev pub open_store_fault_name : OpenStoreFault → List ℕ
 open_store_fault_name refusal.OtherVersion = codes "OtherVersion"
-open_store_fault_name refusal.OtherDeclarations = codes "OtherDeclarations"
 open_store_fault_name refusal.Store = codes "Store"
 open_store_fault_name refusal.Memory = codes "Memory"

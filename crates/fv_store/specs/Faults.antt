@@ -1,6 +1,5 @@
 -- Which fault a refusal is: want of memory, or another.
-use Rattle.std.specs.Prelude.{◌==◌, ℕ, List, [], ◌∷◌, not, Option}
-use Rattle.std.specs.Str.{bytes_eq}
+use Rattle.std.specs.Prelude.{◌==◌, ℕ, [], ◌∷◌, not, Option}
 use Rattle.sqlite.specs.declared.error.Error.{Error}
 use Rattle.sqlite.specs.declared.error.Error.TheVariants.{SqliteFailure}
 use Rattle.sqlite.specs.declared.error.ErrorCode.TheVariants.{OutOfMemory}
@@ -38,10 +37,8 @@ open_fault_of _ = refusal.Store
 -- a fault of the row of `about`
 abbrev pub IsAboutFault : OpenStoreFault → Type 0
 IsAboutFault refusal.OtherVersion = Unit {0}
-IsAboutFault refusal.OtherDeclarations = Unit {0}
 IsAboutFault _ = ⊥
 
--- of the row of `about`: the version first, and then the declarations
-abbrev pub about_fault : ℕ → List ℕ → List ℕ → Option OpenStoreFault
-about_fault version stored given =
-    first ((not (version == tables_version), refusal.OtherVersion) ∷ (not (bytes_eq stored given), refusal.OtherDeclarations) ∷ [])
+-- of the row of `about`: its version alone is judged
+abbrev pub about_fault : ℕ → Option OpenStoreFault
+about_fault version = first ((not (version == tables_version), refusal.OtherVersion) ∷ [])

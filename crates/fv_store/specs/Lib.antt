@@ -8,6 +8,7 @@ pub mod Pages
 pub mod Records
 pub mod Stands
 pub mod Steps
+pub mod Stock
 pub mod Stored
 pub mod Texts
 pub mod Written

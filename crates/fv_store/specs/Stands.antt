@@ -31,6 +31,7 @@ pub record Stands (db : Database) (c : Contents) : Type 0 where
 abbrev pub Holds : State → Contents → Type 0
 Holds s c = HasCleanDisk s → IsTrue s.is_open → Stands s.now c × Stands s.committed c
 
--- what a database hands to a store that is opened over it: no record where it is blank, else what it stands for
-abbrev pub Opens : State → Contents → Type 0
-Opens s c = (HasCleanDisk s → IsTrue s.is_open → IsBlank s.now × (c.records ≡ no_records)) ⊎ Holds s c
+-- What a database hands to a store that is opened over it, with these declarations for a blank one: no record and these where it is blank, else what
+-- it stands for, under its own.
+abbrev pub Opens : State → List ℕ → Contents → Type 0
+Opens s given c = (HasCleanDisk s → IsTrue s.is_open → IsBlank s.now × (c.bytes ≡ given) × (c.records ≡ no_records)) ⊎ Holds s c

@@ -29,14 +29,14 @@ Makes taken change old new =
 abbrev pub MakesAll : List Change → Database → Database → Type 0
 MakesAll cs = Makes (rows_of_all cs) (after_all cs)
 
--- the row of `about`, where there is one, is taken
+-- the row of `about`, where there is one, is taken, and these are its declarations
 abbrev pub IsTaken : State → List ℕ → Type 0
-IsTaken s given = (version : ℕ) (stored : List ℕ) → TellsAbout version stored s.now → about_fault version stored given ≡ None
+IsTaken s text = (version : ℕ) (stored : List ℕ) → TellsAbout version stored s.now → (about_fault version ≡ None) × (text ≡ stored)
 
--- a refusal for the row of `about` comes where that is its first fault, and never for a blank database
-abbrev pub IsCaused : State → List ℕ → OpenStoreFault → Type 0
-IsCaused s given e = IsAboutFault e → IsTrue s.is_open × (IsBlank s.now → ⊥) × ((version : ℕ) (stored : List ℕ)
-    → TellsAbout version stored s.now → about_fault version stored given ≡ Some e)
+-- a refusal for the row of `about` comes where that is its fault, and never for a blank database
+abbrev pub IsCaused : State → OpenStoreFault → Type 0
+IsCaused s e = IsAboutFault e → IsTrue s.is_open × (IsBlank s.now → ⊥) × ((version : ℕ) (stored : List ℕ)
+    → TellsAbout version stored s.now → about_fault version ≡ Some e)
 
 -- of a refusal to open a store only a failure of the disk or a shut connection is the cause
 abbrev pub IsOpenExcused : State → State → OpenStoreFault → Type 0

@@ -1,9 +1,21 @@
 -- A record as it is handed out.
-use Rattle.std.specs.Prelude.{string_bytes}
+use Rattle.std.specs.Prelude.{ℕ, List, Option, Some, string_bytes}
+use Rattle.serde_json.specs.Data as json
+use Rattle.serde_json.specs.Read.{read}
 use Rattle.fv_model.specs.Views.{bundle_view}
+use Rattle.fv_model.specs.Writing.{bundle_json}
 use Rattle.fv_store.specs.declared.stored.Stored.{Stored}
+use Rattle.fv_store.specs.declared.written.Written.{Written}
 use Rattle.fv_store.specs.Records.{Kept}
 
 -- the record that it is
 abbrev pub stored_view : Stored → Kept
 stored_view s = record { form = string_bytes s.form; bundle = bundle_view s.bundle }
+
+-- the form and the JSON that it is
+abbrev pub written_view : Written → List ℕ × Option json.Data
+written_view w = (string_bytes w.form, read (string_bytes w.bundle))
+
+-- what is handed out of a record without types: its form, and its bundle's JSON
+abbrev pub untyped : Kept → List ℕ × Option json.Data
+untyped k = (k.form, Some (bundle_json k.bundle))

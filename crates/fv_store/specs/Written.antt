@@ -13,6 +13,7 @@ pub record Written : Type 0 where
   pub root : List ℕ
   pub objects : List (List ℕ × (List ℕ × json.Members))
 
+-- what is written of a record
 abbrev pub written_of : Kept → Written
 written_of k = record { form = k.form; root = k.bundle.root; objects = map named_written k.bundle.objects }
 
@@ -20,6 +21,7 @@ written_of k = record { form = k.form; root = k.bundle.root; objects = map named
 abbrev pub Writings : Type 0
 Writings = List ℕ → Option Written
 
+-- what is written of each of these records
 abbrev pub writings : Records → Writings
 writings m id = option_map written_of (m id)
 

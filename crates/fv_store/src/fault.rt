@@ -2,6 +2,7 @@
 ghost use Rattle.std.specs.Prelude.{◌≡◌};
 ghost use Rattle.fv_store.specs.FaultNames.{store_fault_name, open_store_fault_name};
 ghost use Rattle.fv_store.specs.Faults.{fault_of, json_fault, bundle_fault, open_fault_of};
+ghost use Rattle.fv_store.specs.declared.fault.OpenStoreFault.TheVariants as refusal;
 ghost use Rattle.fv_store.specs.declared.fault.StoreFault.TheVariants.{Memory};
 
 use fv_json::Refused;
@@ -79,9 +80,6 @@ pub enum OpenStoreFault {
     /// The tables are of another version.
     #[error("tables of another version")]
     OtherVersion,
-    /// The declarations that are stored are others.
-    #[error("other declarations")]
-    OtherDeclarations,
     /// The database refused, for another cause than want of memory, or isn't of this form.
     #[error("the database refused")]
     Store,
@@ -97,7 +95,6 @@ impl OpenStoreFault {
     {
         match self {
             OpenStoreFault::OtherVersion => "OtherVersion",
-            OpenStoreFault::OtherDeclarations => "OtherDeclarations",
             OpenStoreFault::Store => "Store",
             OpenStoreFault::Memory => "Memory",
         }
@@ -112,5 +109,13 @@ impl From<Error> for OpenStoreFault {
             Error::SqliteFailure(ErrorCode::OutOfMemory) => OpenStoreFault::Memory,
             _ => OpenStoreFault::Store,
         }
+    }
+}
+
+impl From<AllocError> for OpenStoreFault {
+    ghost from_gives = { λ _ fault. fault ≡ refusal.Memory };
+
+    fn from(_error: AllocError) -> OpenStoreFault {
+        OpenStoreFault::Memory
     }
 }

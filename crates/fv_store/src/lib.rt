@@ -1,5 +1,5 @@
-//! The records of a service, kept in a database: what its rows spell of the records, and how records are
-//! read, listed and changed.
+//! The records of a service, kept in a database: what its rows spell of the records, how records are read,
+//! listed and changed, and how their declarations are.
 #![tactic(auto)]
 
 mod about;
@@ -9,11 +9,14 @@ mod fault;
 mod joining;
 mod object_rows;
 mod opening;
+mod redeclaring;
 mod store;
 mod stored;
 mod text;
+mod written;
 
 pub use change::Change;
 pub use fault::{OpenStoreFault, StoreFault};
 pub use store::Store;
 pub use stored::Stored;
+pub use written::Written;

@@ -1,5 +1,5 @@
-//! A database is made ready, or is compared with what it is asked to be.
-ghost use Rattle.std.specs.Prelude.{◌≡◌, ◌↔◌, false, IsTrue, IfErr, None, OnOk, OnErr};
+//! A database is made ready, and the declarations in force are read.
+ghost use Rattle.std.specs.Prelude.{◌≡◌, ◌↔◌, false, IsTrue, IfErr, IfOk, None, OnOk, OnErr};
 ghost use Rattle.sqlite.specs.State.{HasCleanDisk};
 ghost use Rattle.sqlite.specs.Held.{state};
 ghost use Rattle.fv_store.specs.Causes.{IsShortAbout};
@@ -8,10 +8,11 @@ ghost use Rattle.fv_store.specs.Stands.{Frame, IsBlank, IsLive, Stays, TellsAbou
 ghost use Rattle.fv_store.specs.Steps.{Keeps, IsSettled, IsTaken, IsCaused, IsExcused, IsOpenExcused};
 ghost use Rattle.fv_tables.specs.Tables.{store_schema};
 
-use crate::about::agrees;
+use crate::about::declarations_in;
 use crate::fault::OpenStoreFault;
 use fv_tables::{create_tables, read_about};
 use sqlite::{Alter, Connection, Error};
+use std::alloc::Global;
 
 /// Whether the database has no table, index or view.
 fn is_blank<S: Alter>(conn: &Connection<S>) -> bool
@@ -41,48 +42,51 @@ fn create<S: Alter>(conn: &mut Connection<S>, declarations: &[u8]) -> Result<(),
     tx.commit()
 }
 
-/// Compares what is stored with this version and these declarations. A row that isn't there is
-/// refused as one that can't be read.
-fn compare<S: Alter>(conn: &mut Connection<S>, declarations: &[u8]) -> Result<(), OpenStoreFault>
+/// The declarations that are stored under this version. A row that isn't there is refused as one that
+/// can't be read.
+fn stored<S: Alter>(conn: &mut Connection<S>) -> Result<Vec<u8>, OpenStoreFault>
     ensures mode { conn.old.in_transaction ≡ false → conn.new.in_transaction ≡ false }
     ensures frame { Frame (state S.Store conn.old) (state S.Store conn.new) }
     ensures limit { conn.new.step_limit ≡ conn.old.step_limit }
     ensures open { OnOk result (IsLive (state S.Store conn.new)) }
     ensures untouched { IsSettled (state S.Store conn.old) → Stays (state S.Store conn.old) (state S.Store conn.new) }
     ensures taken { HasCleanDisk (state S.Store conn.new)
-        → OnOk result (IsTaken (state S.Store conn.old) declarations.now) }
+        → IfOk result (λ v. IsTaken (state S.Store conn.old) v.items) }
     ensures cause { HasCleanDisk (state S.Store conn.new) → (IsBlank (state S.Store conn.old).now → ⊥)
-        → IfErr result (IsCaused (state S.Store conn.old) declarations.now) }
+        → IfErr result (IsCaused (state S.Store conn.old)) }
     ensures store_known { HasCleanDisk (state S.Store conn.new) → conn.old.step_limit ≡ None
         → IfErr result (λ e. (version : _) (d : _) → TellsAbout version d (state S.Store conn.old).now
         → IsOpenExcused (state S.Store conn.old) (state S.Store conn.new) e) }
 {
     let rows = read_about(conn)?;
     match rows.first() {
-        Some(row) => agrees(row, declarations),
+        Some(row) => declarations_in(row),
         None => Err(OpenStoreFault::Store),
     }
 }
 
-/// Makes the tables in a database that has none, and compares what is stored otherwise. A
-/// connection that is inside a transaction is refused.
+/// Makes the tables in a database that has none, and reads the declarations that are stored otherwise;
+/// the declarations in force, in either case. A connection that is inside a transaction is refused.
 pub(crate) fn settle<S: Alter>(
+    alloc: Global,
     conn: &mut Connection<S>,
     declarations: &[u8],
-) -> Result<(), OpenStoreFault>
+) -> Result<Vec<u8>, OpenStoreFault>
     ensures mode { OnOk result (conn.new.in_transaction ≡ false) }
     ensures frame { Frame (state S.Store conn.old) (state S.Store conn.new) }
     ensures limit { conn.new.step_limit ≡ conn.old.step_limit }
     ensures open { OnOk result (IsLive (state S.Store conn.new)) }
-    ensures fresh { OnOk result (IsBlank (state S.Store conn.old).now
-        → Keeps (state S.Store conn.new) declarations.now no_records) }
+    ensures fresh { IfOk result (λ v. IsBlank (state S.Store conn.old).now
+        → (v.items ≡ declarations.now) × Keeps (state S.Store conn.new) declarations.now no_records) }
     ensures kept { OnOk result ((state S.Store conn.old).now.schema ≡ store_schema
         → Stays (state S.Store conn.old) (state S.Store conn.new)) }
+    ensures still { OnOk result ((IsBlank (state S.Store conn.old).now → ⊥)
+        → Stays (state S.Store conn.old) (state S.Store conn.new)) }
     ensures taken { HasCleanDisk (state S.Store conn.new)
-        → OnOk result (IsTaken (state S.Store conn.old) declarations.now) }
+        → IfOk result (λ v. IsTaken (state S.Store conn.old) v.items) }
     ensures untouched { OnErr result (Stays (state S.Store conn.old) (state S.Store conn.new)) }
     ensures cause { HasCleanDisk (state S.Store conn.new)
-        → IfErr result (IsCaused (state S.Store conn.old) declarations.now) }
+        → IfErr result (IsCaused (state S.Store conn.old)) }
     ensures store_known { HasCleanDisk (state S.Store conn.new) → conn.old.in_transaction ≡ false
         → conn.old.step_limit ≡ None → IfErr result (λ e. (version : _) (d : _)
         → TellsAbout version d (state S.Store conn.old).now
@@ -95,8 +99,9 @@ pub(crate) fn settle<S: Alter>(
         return Err(OpenStoreFault::Store);
     }
     if is_blank(conn) {
+        let text = declarations.to_vec(alloc)?;
         create(conn, declarations)?;
-        return Ok(());
+        return Ok(text);
     }
-    compare(conn, declarations)
+    stored(conn)
 }

@@ -1,86 +1,95 @@
 //! The store.
-ghost use Rattle.std.specs.Prelude.{◌≡◌, ◌≢◌, false, IfOk, IfErr, IfSome, OnOk, OnErr, MatchResult, map, option_map, string_bytes, Some, None, unwrap_or, []};
+ghost use Rattle.std.specs.Prelude.{◌≡◌, false, IfOk, IfErr, IfSome, OnOk, OnErr, MatchResult, map, option_map, string_bytes, Some, None, unwrap_or, []};
 ghost use Rattle.sqlite.specs.State.{HasCleanDisk};
 ghost use Rattle.sqlite.specs.Held.{state};
+ghost use Rattle.fv_model_types.specs.Types.{has_deep};
 ghost use Rattle.fv_model_types.specs.TypesView.{types_view};
 ghost use Rattle.fv_model.specs.Views.{bundle_view};
 ghost use Rattle.fv_model.specs.WellTyped.{IsWellTyped};
 ghost use Rattle.fv_store.specs.Causes.{AreShort, HasFailed, HasRooms, IsShortAbout, LeavesRoom, rows_of_all};
 ghost use Rattle.fv_store.specs.Changes.{changed, ChangesFit};
 ghost use Rattle.fv_store.specs.Stands.{Frame, Holds, IsBlank, IsLive, Opens, Stays, TellsAbout};
+ghost use Rattle.fv_store.specs.Stock.{stock_state};
 ghost use Rattle.fv_store.specs.Faults.{about_fault, IsAboutFault};
-ghost use Rattle.fv_store.specs.Lists.{Lists};
-ghost use Rattle.fv_store.specs.Records.{AllFit};
-ghost use Rattle.fv_store.specs.Stored.{stored_view};
+ghost use Rattle.fv_store.specs.Lists.{Lists, ListsOf};
+ghost use Rattle.fv_store.specs.Records.{AllFit, Contents};
+ghost use Rattle.fv_store.specs.Stored.{stored_view, untyped, written_view};
+ghost use Rattle.fv_store.specs.Written.{writings};
 
 use crate::change::Change;
-use crate::changes;
 use crate::fault::{OpenStoreFault, StoreFault};
 use crate::opening::settle;
 use crate::stored::{Stored, stored_if};
+use crate::written::{Written, written_if};
+use crate::{changes, redeclaring};
 use fv_model::Types;
-use fv_tables::{find, find_ids};
+use fv_tables::{find, find_all_ids, find_ids};
 use sqlite::{Alter, Connection};
 use std::alloc::Global;
 use std::marker::Model;
 
-/// Records by their ids, in a database. Contracts see it as its connection, which is outside a
-/// transaction and has no limit on the steps of a statement.
+/// Records by their ids, in a database, and the declarations that are in force there. Contracts see
+/// it as its connection, which is outside a transaction and has no limit on the steps of a statement,
+/// and the declarations' bytes.
 pub struct Store<S: Alter> {
     connection: Connection<S>,
+    declarations: Vec<u8>,
 }
 
 impl<S: Alter + Drop> Drop for Store<S> {
     fn drop(self) {
-        let Store { connection: _ } = self;
+        let Store {
+            connection: _,
+            declarations: _,
+        } = self;
     }
 }
 
 impl<S: Alter> Model for Store<S> {
     ghost use Rattle.std.specs.Prelude.{◌≡◌, false, None};
-    ghost use Rattle.sqlite.specs.Held.{Held, held_code};
+    ghost use Rattle.fv_store.specs.Stock.{Stock, stock_code};
 
-    ghost Value = { Held S };
+    ghost Value = { Stock S };
 
-    ghost coded = { held_code S.code };
+    ghost coded = { stock_code S.code };
 
-    ghost view = { λ s. s.connection };
+    ghost view = { λ s. record { connection = s.connection; text = s.declarations.items } };
 
     ghost invariant = { λ s. (s.connection.in_transaction ≡ false) × (s.connection.step_limit ≡ None) };
 }
 
 impl<S: Alter + Drop> Store<S> {
-    /// A store over the database of a connection, under these declarations. A database with no
-    /// table, index or view is given the tables, with no record. The connection has no limit on the
-    /// steps of a statement from now on, also where it is handed back.
+    /// A store over the database of a connection. A database with no table, index or view is given the
+    /// tables, with these declarations and no record; any other keeps its own declarations, which are
+    /// in force. The connection has no limit on the steps of a statement from now on, also where it is
+    /// handed back.
     ///
-    /// Refused by `OtherVersion` for tables of another version, then by `OtherDeclarations` where
-    /// the declarations that are stored are others; by `Memory` at any place; and by `Store` where the
-    /// connection is inside a transaction or was shut before, where the disk has failed during the
-    /// call, where the declarations are too long, and where the database has other tables and no row of
-    /// declarations, or one of another form. Whether the tables of records are of their form isn't looked at.
-    /// A refusal hands the connection back, its database as it was.
+    /// Refused by `OtherVersion` for tables of another version; by `Memory` at any place; and by `Store`
+    /// where the connection is inside a transaction or was shut before, where the disk has failed during
+    /// the call, where the declarations that are written are too long, and where the database has other
+    /// tables and no row of declarations, or one of another form. Whether the tables of records are of
+    /// their form isn't looked at. A refusal hands the connection back, its database as it was.
     pub fn open(
+        alloc: Global,
         mut connection: Connection<S>,
         declarations: &[u8],
     ) -> Result<Store<S>, (OpenStoreFault, Connection<S>)>
-        ensures frame { MatchResult result (λ s. Frame (state S.Store connection) (state S.Store s))
+        ensures frame { MatchResult result (λ s. Frame (state S.Store connection) (stock_state S.Store s))
             (λ e. Frame (state S.Store connection) (state S.Store e.1)) }
-        ensures open { IfOk result (λ s. IsLive (state S.Store s)) }
-        ensures opened { IfOk result (λ s. (c : _) → c.bytes ≡ declarations.now → Opens (state S.Store connection) c
-            → Holds (state S.Store s) c) }
-        ensures taken { IfOk result (λ s. HasCleanDisk (state S.Store s) → (version : _) (d : _)
-            → TellsAbout version d (state S.Store connection).now → about_fault version d declarations.now ≡ None) }
-        ensures same { IfOk result (λ s. HasCleanDisk (state S.Store s) → (c : _) → Holds (state S.Store connection) c
-            → c.bytes ≡ declarations.now) }
+        ensures open { IfOk result (λ s. IsLive (stock_state S.Store s)) }
+        ensures opened { IfOk result (λ s. (c : _) → Opens (state S.Store connection) declarations.now c
+            → Holds (stock_state S.Store s) c × (HasCleanDisk (stock_state S.Store s) → s.text ≡ c.bytes)) }
+        ensures fresh { IfOk result (λ s. IsBlank (state S.Store connection).now → s.text ≡ declarations.now) }
+        ensures still { IfOk result (λ s. (IsBlank (state S.Store connection).now → ⊥)
+            → Stays (state S.Store connection) (stock_state S.Store s)) }
+        ensures taken { IfOk result (λ s. HasCleanDisk (stock_state S.Store s) → (version : _) (d : _)
+            → TellsAbout version d (state S.Store connection).now
+            → (about_fault version ≡ None) × (s.text ≡ d)) }
         ensures refused { IfErr result (λ e. IsAboutFault e.0 → HasCleanDisk (state S.Store e.1)
             → (version : _) (d : _) → TellsAbout version d (state S.Store connection).now
-            → about_fault version d declarations.now ≡ Some e.0) }
+            → about_fault version ≡ Some e.0) }
         ensures other_version { IfErr result (λ e. e.0 ≡ OpenStoreFault.OtherVersion → HasCleanDisk (state S.Store e.1)
-            → (c : _) → Opens (state S.Store connection) c → ⊥) }
-        ensures other_declarations { IfErr result (λ e. e.0 ≡ OpenStoreFault.OtherDeclarations
-            → HasCleanDisk (state S.Store e.1) → (c : _) → Opens (state S.Store connection) c
-            → c.bytes ≢ declarations.now) }
+            → (c : _) → Opens (state S.Store connection) declarations.now c → ⊥) }
         ensures store_known { IfErr result (λ e. e.0 ≡ OpenStoreFault.Store → HasCleanDisk (state S.Store e.1)
             → connection.in_transaction ≡ false → (version : _) (d : _)
             → TellsAbout version d (state S.Store connection).now
@@ -89,17 +98,28 @@ impl<S: Alter + Drop> Store<S> {
             → connection.in_transaction ≡ false → IsBlank (state S.Store connection).now
             → IsShortAbout declarations.now → HasFailed (state S.Store connection) (state S.Store e.1)) }
         ensures untouched { IfErr result (λ e. Stays (state S.Store connection) (state S.Store e.1)) }
-        ensures stays { IfErr result (λ e. (c : _) → Opens (state S.Store connection) c → Opens (state S.Store e.1) c) }
+        ensures stays { IfErr result (λ e. (c : _) → Opens (state S.Store connection) declarations.now c
+            → Opens (state S.Store e.1) declarations.now c) }
     {
         connection.set_step_limit(None);
-        match settle(&mut connection, declarations) {
-            Ok(()) => Ok(Store { connection }),
+        match settle(alloc, &mut connection, declarations) {
+            Ok(declarations) => Ok(Store {
+                connection,
+                declarations,
+            }),
             Err(fault) => Err((fault, connection)),
         }
     }
 }
 
 impl<S: Alter> Store<S> {
+    /// The declarations in force. It takes no memory.
+    pub fn declarations(&self) -> &[u8]
+        ensures { result.now ≡ self.now.text }
+    {
+        &self.declarations
+    }
+
     /// The record of that id, if there is one, its bundle read under these types and well-typed.
     ///
     /// Refused by `Memory` at any place, and by `Store` only where the disk has failed during the call
@@ -110,24 +130,51 @@ impl<S: Alter> Store<S> {
         types: &Types,
         id: &str,
     ) -> Result<Option<Stored>, StoreFault>
-        ensures frame { Frame (state S.Store self.old) (state S.Store self.new) }
-        ensures open { OnOk result (IsLive (state S.Store self.new)) }
-        ensures found { HasCleanDisk (state S.Store self.new)
-            → IfOk result (λ o. (c : _) → c.types ≡ types_view types.now → Holds (state S.Store self.old) c
+        ensures frame { Frame (stock_state S.Store self.old) (stock_state S.Store self.new) }
+        ensures text { self.new.text ≡ self.old.text }
+        ensures open { OnOk result (IsLive (stock_state S.Store self.new)) }
+        ensures found { HasCleanDisk (stock_state S.Store self.new)
+            → IfOk result (λ o. (c : _) → c.types ≡ types_view types.now → Holds (stock_state S.Store self.old) c
             → option_map stored_view o ≡ c.records id.now) }
         ensures typed { IfOk result (λ o. IfSome o (λ s. IsWellTyped (types_view types.now) (bundle_view s.bundle))) }
-        ensures cause { HasCleanDisk (state S.Store self.new) → IfErr result (λ e. e ≡ StoreFault.Store → (c : _)
-            → c.types ≡ types_view types.now → Holds (state S.Store self.old) c
-            → HasFailed (state S.Store self.old) (state S.Store self.new)) }
-        ensures same { HasCleanDisk (state S.Store self.new) → OnOk result ((c : _) → Holds (state S.Store self.old) c
-            → (state S.Store self.new).now ≡ (state S.Store self.old).now) }
-        ensures stays { (c : _) → Holds (state S.Store self.old) c → Holds (state S.Store self.new) c }
-        ensures untouched { (c : _) → Holds (state S.Store self.old) c
-            → Stays (state S.Store self.old) (state S.Store self.new) }
+        ensures cause { HasCleanDisk (stock_state S.Store self.new) → IfErr result (λ e. e ≡ StoreFault.Store → (c : _)
+            → c.types ≡ types_view types.now → Holds (stock_state S.Store self.old) c
+            → HasFailed (stock_state S.Store self.old) (stock_state S.Store self.new)) }
+        ensures same { HasCleanDisk (stock_state S.Store self.new) → OnOk result ((c : _)
+            → Holds (stock_state S.Store self.old) c
+            → (stock_state S.Store self.new).now ≡ (stock_state S.Store self.old).now) }
+        ensures stays { (c : _) → Holds (stock_state S.Store self.old) c → Holds (stock_state S.Store self.new) c }
+        ensures untouched { (c : _) → Holds (stock_state S.Store self.old) c
+            → Stays (stock_state S.Store self.old) (stock_state S.Store self.new) }
+    {
+        let found = self.written(alloc, id)?;
+        stored_if(alloc, types, found)
+    }
+
+    /// What is written of the record of that id, if there is one: its form, and its bundle's JSON.
+    ///
+    /// Refused by `Memory` at any place, and by `Store` only where the disk has failed during the call
+    /// or the connection was shut before, if the store holds records.
+    pub fn written(&mut self, alloc: Global, id: &str) -> Result<Option<Written>, StoreFault>
+        ensures frame { Frame (stock_state S.Store self.old) (stock_state S.Store self.new) }
+        ensures text { self.new.text ≡ self.old.text }
+        ensures open { OnOk result (IsLive (stock_state S.Store self.new)) }
+        ensures found { HasCleanDisk (stock_state S.Store self.new)
+            → IfOk result (λ o. (c : _) → has_deep c.types ≡ false → Holds (stock_state S.Store self.old) c
+            → option_map written_view o ≡ option_map untyped (c.records id.now)) }
+        ensures cause { HasCleanDisk (stock_state S.Store self.new) → IfErr result (λ e. e ≡ StoreFault.Store → (c : _)
+            → Holds (stock_state S.Store self.old) c
+            → HasFailed (stock_state S.Store self.old) (stock_state S.Store self.new)) }
+        ensures same { HasCleanDisk (stock_state S.Store self.new) → OnOk result ((c : _)
+            → Holds (stock_state S.Store self.old) c
+            → (stock_state S.Store self.new).now ≡ (stock_state S.Store self.old).now) }
+        ensures stays { (c : _) → Holds (stock_state S.Store self.old) c → Holds (stock_state S.Store self.new) c }
+        ensures untouched { (c : _) → Holds (stock_state S.Store self.old) c
+            → Stays (stock_state S.Store self.old) (stock_state S.Store self.new) }
     {
         prove!(self.connection.is_autocommit());
         let found = find(&mut self.connection, alloc, id)?;
-        stored_if(alloc, types, found)
+        Ok(written_if(alloc, found)?)
     }
 
     /// The ids of the records of a form above one, ascending by their bytes, so many at most; above the
@@ -142,21 +189,53 @@ impl<S: Alter> Store<S> {
         after: Option<&str>,
         limit: u32,
     ) -> Result<Vec<String>, StoreFault>
-        ensures frame { Frame (state S.Store self.old) (state S.Store self.new) }
-        ensures open { OnOk result (IsLive (state S.Store self.new)) }
-        ensures found { HasCleanDisk (state S.Store self.new)
-            → IfOk result (λ ids. (c : _) → Holds (state S.Store self.old) c
+        ensures frame { Frame (stock_state S.Store self.old) (stock_state S.Store self.new) }
+        ensures text { self.new.text ≡ self.old.text }
+        ensures open { OnOk result (IsLive (stock_state S.Store self.new)) }
+        ensures found { HasCleanDisk (stock_state S.Store self.new)
+            → IfOk result (λ ids. (c : _) → Holds (stock_state S.Store self.old) c
             → Lists c.records form.now (unwrap_or (option_map (λ s. s.now) after.entry) []) limit
             (map string_bytes ids.items)) }
-        ensures cause { HasCleanDisk (state S.Store self.new) → IfErr result (λ e. e ≡ StoreFault.Store → (c : _)
-            → Holds (state S.Store self.old) c → HasFailed (state S.Store self.old) (state S.Store self.new)) }
-        ensures stays { (c : _) → Holds (state S.Store self.old) c → Holds (state S.Store self.new) c }
-        ensures untouched { (c : _) → Holds (state S.Store self.old) c
-            → Stays (state S.Store self.old) (state S.Store self.new) }
+        ensures cause { HasCleanDisk (stock_state S.Store self.new) → IfErr result (λ e. e ≡ StoreFault.Store → (c : _)
+            → Holds (stock_state S.Store self.old) c
+            → HasFailed (stock_state S.Store self.old) (stock_state S.Store self.new)) }
+        ensures stays { (c : _) → Holds (stock_state S.Store self.old) c → Holds (stock_state S.Store self.new) c }
+        ensures untouched { (c : _) → Holds (stock_state S.Store self.old) c
+            → Stays (stock_state S.Store self.old) (stock_state S.Store self.new) }
     {
         prove!(self.connection.is_autocommit());
         let above = after.unwrap_or("");
         Ok(find_ids(&mut self.connection, alloc, form, above, limit)?)
+    }
+
+    /// The ids of the records of all forms above one, ascending by their bytes, so many at most; above
+    /// the empty text where none is given. It need not be the id of a record.
+    ///
+    /// Refused by `Memory` at any place, and by `Store` only where the disk has failed during the call
+    /// or the connection was shut before, if the store holds records.
+    pub fn ids(
+        &mut self,
+        alloc: Global,
+        after: Option<&str>,
+        limit: u32,
+    ) -> Result<Vec<String>, StoreFault>
+        ensures frame { Frame (stock_state S.Store self.old) (stock_state S.Store self.new) }
+        ensures text { self.new.text ≡ self.old.text }
+        ensures open { OnOk result (IsLive (stock_state S.Store self.new)) }
+        ensures found { HasCleanDisk (stock_state S.Store self.new)
+            → IfOk result (λ ids. (c : _) → Holds (stock_state S.Store self.old) c
+            → ListsOf c.records (λ k. Unit {0}) (unwrap_or (option_map (λ s. s.now) after.entry) []) limit
+            (map string_bytes ids.items)) }
+        ensures cause { HasCleanDisk (stock_state S.Store self.new) → IfErr result (λ e. e ≡ StoreFault.Store → (c : _)
+            → Holds (stock_state S.Store self.old) c
+            → HasFailed (stock_state S.Store self.old) (stock_state S.Store self.new)) }
+        ensures stays { (c : _) → Holds (stock_state S.Store self.old) c → Holds (stock_state S.Store self.new) c }
+        ensures untouched { (c : _) → Holds (stock_state S.Store self.old) c
+            → Stays (stock_state S.Store self.old) (stock_state S.Store self.new) }
+    {
+        prove!(self.connection.is_autocommit());
+        let above = after.unwrap_or("");
+        Ok(find_all_ids(&mut self.connection, alloc, above, limit)?)
     }
 
     /// Makes the changes in order, all of them or none. The records after all of them have to fit;
@@ -166,30 +245,68 @@ impl<S: Alter> Store<S> {
     /// or the connection was shut before, where a table has fewer rowids left than there are records and
     /// objects that are put, or where a row is too long, if the store holds records.
     pub fn commit(&mut self, alloc: Global, changes: &[Change]) -> Result<(), StoreFault>
-        ensures frame { Frame (state S.Store self.old) (state S.Store self.new) }
-        ensures open { OnOk result (IsLive (state S.Store self.new)) }
-        ensures made { OnOk result ((c : _) → AllFit (changed changes.now c) → Holds (state S.Store self.old) c
-            → Holds (state S.Store self.new) (changed changes.now c)) }
-        ensures done { OnOk result ((c : _) → ChangesFit c.types c.roots changes.now c.records → Holds (state S.Store self.old) c
-            → Holds (state S.Store self.new) (changed changes.now c)) }
-        ensures room { HasCleanDisk (state S.Store self.new) → OnOk result ((c : _) → Holds (state S.Store self.old) c
-            → LeavesRoom (rows_of_all changes.now) (state S.Store self.old).now (state S.Store self.new).now) }
-        ensures undone { OnErr result ((c : _) → Holds (state S.Store self.old) c → Holds (state S.Store self.new) c) }
-        ensures untouched { OnErr result (Stays (state S.Store self.old) (state S.Store self.new)) }
-        ensures cause { HasCleanDisk (state S.Store self.new) → IfErr result (λ e. e ≡ StoreFault.Store → (c : _)
-            → Holds (state S.Store self.old) c → HasRooms (rows_of_all changes.now) (state S.Store self.old).now
-            → AreShort changes.now → HasFailed (state S.Store self.old) (state S.Store self.new)) }
+        ensures frame { Frame (stock_state S.Store self.old) (stock_state S.Store self.new) }
+        ensures text { self.new.text ≡ self.old.text }
+        ensures open { OnOk result (IsLive (stock_state S.Store self.new)) }
+        ensures made { OnOk result ((c : _) → AllFit (changed changes.now c) → Holds (stock_state S.Store self.old) c
+            → Holds (stock_state S.Store self.new) (changed changes.now c)) }
+        ensures done { OnOk result ((c : _) → ChangesFit c.types c.roots changes.now c.records
+            → Holds (stock_state S.Store self.old) c
+            → Holds (stock_state S.Store self.new) (changed changes.now c)) }
+        ensures room { HasCleanDisk (stock_state S.Store self.new) → OnOk result ((c : _)
+            → Holds (stock_state S.Store self.old) c → LeavesRoom (rows_of_all changes.now)
+            (stock_state S.Store self.old).now (stock_state S.Store self.new).now) }
+        ensures undone { OnErr result ((c : _) → Holds (stock_state S.Store self.old) c
+            → Holds (stock_state S.Store self.new) c) }
+        ensures untouched { OnErr result (Stays (stock_state S.Store self.old) (stock_state S.Store self.new)) }
+        ensures cause { HasCleanDisk (stock_state S.Store self.new) → IfErr result (λ e. e ≡ StoreFault.Store → (c : _)
+            → Holds (stock_state S.Store self.old) c → HasRooms (rows_of_all changes.now) (stock_state S.Store self.old).now
+            → AreShort changes.now → HasFailed (stock_state S.Store self.old) (stock_state S.Store self.new)) }
     {
         prove!(self.connection.is_autocommit());
         Ok(changes::commit(&mut self.connection, alloc, changes)?)
     }
 
+    /// Writes other declarations in place of those in force. What is written of the records stays, so
+    /// what it is read as under the other declarations has to fit them.
+    ///
+    /// Refused by `Memory` at any place, and by `Store` only where the disk has failed during the call
+    /// or the connection was shut before, or where the declarations are too long, if the store holds
+    /// records. After a refusal those that were in force still are.
+    pub fn redeclare(&mut self, alloc: Global, declarations: &[u8]) -> Result<(), StoreFault>
+        ensures frame { Frame (stock_state S.Store self.old) (stock_state S.Store self.new) }
+        ensures open { OnOk result (IsLive (stock_state S.Store self.new)) }
+        ensures made { OnOk result ((c d : Contents) → d.bytes ≡ declarations.now
+            → writings d.records ≡ writings c.records → AllFit d → Holds (stock_state S.Store self.old) c
+            → Holds (stock_state S.Store self.new) d) }
+        ensures text { OnOk result (self.new.text ≡ declarations.now) }
+        ensures room { HasCleanDisk (stock_state S.Store self.new) → OnOk result ((c : _)
+            → Holds (stock_state S.Store self.old) c
+            → LeavesRoom 0 (stock_state S.Store self.old).now (stock_state S.Store self.new).now) }
+        ensures undone { OnErr result ((c : _) → Holds (stock_state S.Store self.old) c
+            → Holds (stock_state S.Store self.new) c) }
+        ensures same_text { OnErr result (self.new.text ≡ self.old.text) }
+        ensures untouched { OnErr result (Stays (stock_state S.Store self.old) (stock_state S.Store self.new)) }
+        ensures cause { HasCleanDisk (stock_state S.Store self.new) → IfErr result (λ e. e ≡ StoreFault.Store → (c : _)
+            → Holds (stock_state S.Store self.old) c → IsShortAbout declarations.now
+            → HasFailed (stock_state S.Store self.old) (stock_state S.Store self.new)) }
+    {
+        let text = declarations.to_vec(alloc)?;
+        prove!(self.connection.is_autocommit());
+        redeclaring::redeclare(&mut self.connection, declarations)?;
+        self.declarations = text;
+        Ok(())
+    }
+
     /// The connection, its database as it is. It takes no memory.
     pub fn into_connection(self) -> Connection<S>
-        ensures same { result ≡ self }
-        ensures holds { (c : _) → Holds (state S.Store self) c → Holds (state S.Store result) c }
+        ensures same { result ≡ self.connection }
+        ensures holds { (c : _) → Holds (stock_state S.Store self) c → Holds (state S.Store result) c }
     {
-        let Store { connection } = self;
-        connection
+        let Store {
+            connection: inner,
+            declarations: _,
+        } = self;
+        inner
     }
 }

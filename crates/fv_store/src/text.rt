@@ -1,11 +1,12 @@
 //! The bundle that a text spells.
-ghost use Rattle.std.specs.Prelude.{◌≡◌, IfOk, Ok};
+ghost use Rattle.std.specs.Prelude.{◌≡◌, IfOk, Ok, Some};
+ghost use Rattle.serde_json.specs.Read.{read};
 ghost use Rattle.fv_datum.specs.Outcomes.{Gives};
 ghost use Rattle.fv_model_types.specs.TypesView.{types_view};
 ghost use Rattle.fv_model.specs.Views.{bundle_view};
 ghost use Rattle.fv_model.specs.Bundles.{Bundled};
 ghost use Rattle.fv_model.specs.WellTyped.{IsWellTyped};
-ghost use Rattle.fv_store.specs.Texts.{bundle_text};
+ghost use Rattle.fv_model.specs.Writing.{bundle_json};
 
 use crate::fault::StoreFault;
 use fv_json::Document;
@@ -15,7 +16,7 @@ use std::alloc::Global;
 
 /// The bundle that a text spells, well-typed. `Store` where it spells none.
 pub(crate) fn bundle_of(alloc: Global, types: &Types, text: &str) -> Result<Bundle, StoreFault>
-    ensures read { (b : Bundled) → IsWellTyped (types_view types.now) b → text.now ≡ bundle_text b
+    ensures read { (b : Bundled) → IsWellTyped (types_view types.now) b → read text.now ≡ Some (bundle_json b)
         → Gives StoreFault.Memory bundle_view result (Ok b) }
     ensures typed { IfOk result (λ b. IsWellTyped (types_view types.now) (bundle_view b)) }
 {

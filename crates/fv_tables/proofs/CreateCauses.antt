@@ -201,26 +201,35 @@ pub object_cause : (old new : State) (r : Result ℕ Error) → ExecutesInside 0
 object_cause old new (Ok count) h = tt
 object_cause old new (Err e) h = λ rows has. create_cause half_schema object_text object_table can_object old new made_object_plain made_object_whole made_object_is.0 made_object_is.1 (Err e) h has.0
 
--- ---- the first row of `about`
+-- ---- a row of `about` fits
 
-abbrev first_edit : List ℕ → Edit
-first_edit declarations = record { table = about; gone = []; news = about_row 2 declarations ∷ [] }
-
-passes_check : (db : Trees) (declarations : List ℕ) → list_all (passes Check store_schema db about) (about_row 2 declarations ∷ []) ≡ true
+pub about_checked : (db : Trees) (version : ℕ) (declarations : List ℕ) → list_all (passes Check store_schema db about) (about_row version declarations ∷ []) ≡ true
 unfolding everything binary value_cmp is_nan lt
-passes_check db declarations = refl
+about_checked db version declarations = refl
 
-fits_about : (declarations : List ℕ) → IsShortAbout declarations → IsStorableRow 0 (about_row 2 declarations)
+fits_about : (version : ℕ) (declarations : List ℕ) → IsShortAbout declarations → IsStorableRow 0 (about_row version declarations)
 unfolding is_nan
-fits_about declarations short = (
+fits_about version declarations short = (
   record {
     typed = λ c real. no_real c real;
     columns = (omega arith, omega arith);
-    numbers = All-from_recursion (λ v. NotNan (number v)) (about_row 2 declarations) (tt, (tt, (tt, (tt, tt))));
+    numbers = All-from_recursion (λ v. NotNan (number v)) (about_row version declarations) (tt, (tt, (tt, (tt, tt))));
     short = omega (arith, short);
   },
   omega arith,
 )
+
+pub about_small : (version : ℕ) (declarations : List ℕ) → IsShortAbout declarations → (r : Row) → Has (about_row version declarations ∷ []) r → IsOversized store_schema about r → ⊥
+about_small version declarations short r (inr never) big = never
+about_small version declarations short r (inl is) (inl big) = big (subst (IsStorableRow 0) (sym is) (fits_about version declarations short))
+about_small version declarations short r (inl is) (inr (i, inr (inr never), of, big)) = never
+about_small version declarations short r (inl is) (inr (i, inr (inl two), of, big)) = three_is_not_zero (ap (λ (x : Index). x.table) (sym two) ∙ of)
+about_small version declarations short r (inl is) (inr (i, inl one, of, big)) = one_is_not_zero (ap (λ (x : Index). x.table) (sym one) ∙ of)
+
+-- ---- the first row of `about`
+
+abbrev first_edit : List ℕ → Edit
+first_edit declarations = record { table = about; gone = []; news = about_row 2 declarations ∷ [] }
 
 module _ (db : Trees) (no_about : db 0 ≡ []) (no_record : db 1 ≡ []) (no_object : db 3 ≡ []) (declarations : List ℕ) where
   abbrev row : Row
@@ -230,7 +239,7 @@ module _ (db : Trees) (no_about : db 0 ≡ []) (no_record : db 1 ≡ []) (no_obj
   unfolding names.same_name joined
   first_allowed (Broken Datatype) h = never_false h
   first_allowed (Broken NotNull) h = never_false h
-  first_allowed (Broken Check) h = never_false (sym (passes_check db declarations) ∙ h)
+  first_allowed (Broken Check) h = never_false (sym (about_checked db 2 declarations) ∙ h)
   first_allowed (Broken PrimaryKey) h = never_false (sym (ap (λ rows. are_fresh rows (row ∷ [])) no_about) ∙ h)
   first_allowed (Broken Unique) h = h (keys_apart (with_tree db 0 (put_all (db 0) (row ∷ [])))
       (subst (AreApart head_row) (sym no_record) (record { shape = λ r there. absurd there; once = λ i n k v w there. absurd there }))
@@ -240,13 +249,6 @@ module _ (db : Trees) (no_about : db 0 ≡ []) (no_record : db 1 ≡ []) (no_obj
   first_allowed NoRowid h = never_false h
   first_allowed BadReference h = never_false h
   first_allowed TooDeep h = h
-
-  first_small : IsShortAbout declarations → (r : Row) → Has (row ∷ []) r → IsOversized store_schema about r → ⊥
-  first_small short r (inr never) big = never
-  first_small short r (inl is) (inl big) = big (subst (IsStorableRow 0) (sym is) (fits_about declarations short))
-  first_small short r (inl is) (inr (i, inr (inr never), of, big)) = never
-  first_small short r (inl is) (inr (i, inr (inl two), of, big)) = three_is_not_zero (ap (λ (x : Index). x.table) (sym two) ∙ of)
-  first_small short r (inl is) (inr (i, inl one, of, big)) = one_is_not_zero (ap (λ (x : Index). x.table) (sym one) ∙ of)
 
 module _ (s : State) (none : s.step_limit ≡ None) (declarations : List ℕ) (no_about : s.now.trees 0 ≡ []) (no_record : s.now.trees 1 ≡ []) (no_object : s.now.trees 3 ≡ []) (short : IsShortAbout declarations) where
   abbrev trees : Trees
@@ -268,7 +270,7 @@ module _ (s : State) (none : s.step_limit ≡ None) (declarations : List ℕ) (n
       let news : numbered Chosen (trees 0) (map (λ r. cast_row about (drop 0 r)) rows) ≡ row ∷ [] =
       ap (λ all. numbered Chosen (trees 0) (map (λ r. cast_row about (drop 0 r)) all)) given.1 ∙ rw (cast_int (pos 1), cast_null, cast_int (pos 2)) refl in
       let is = ap (λ all. record { table = about; gone = []; news = all }) news in
-      never_edited trees (first_edit declarations) (works_put_one 0 [] (row ∷ []) row refl) (first_allowed trees no_about no_record no_object declarations) (first_small trees no_about no_record no_object declarations short) st'
+      never_edited trees (first_edit declarations) (works_put_one 0 [] (row ∷ []) row refl) (first_allowed trees no_about no_record no_object declarations) (about_small 2 declarations short) st'
       (subst (λ (edit : Edit). Edited store_schema Enforced trees edit (Err st')) is edited)
   never_first sql stop (inl (st, inr (rows, given, inr (counter, counted, inr (next, edited, inl (st', wrong, _)))), _)) = never_ok wrong
   never_first sql stop (inl (st, inr (rows, given, inr (counter, counted, inr (next, edited, inr (after, kept, wrong)))), _)) = never_ok wrong

@@ -5,14 +5,14 @@ use Rattle.sqlite.specs.Term.{Term, lit, col}
 use Rattle.sqlite.specs.Schema.{Schema}
 use Rattle.sqlite.specs.Query.{Query}
 use Rattle.sqlite.specs.declared.types.Value.TheVariants.{Null, Int}
-use Rattle.sqlite.specs.Command.TheVariants.{Select, Update, DropTable}
+use Rattle.sqlite.specs.Command.TheVariants.{Select, DropTable}
 use Rattle.sqlite_typing.specs.Types.{accepts_program}
 use Rattle.sqlite_tied.specs.Compute.{everything}
 use Rattle.sqlite.specs.Listing.{understood, reads_listing}
 use Rattle.sqlite.proofs.Callers.{IsPlain, command_of}
 use Rattle.fv_tables.specs.Tables.{bare_schema, store_schema}
 use Rattle.fv_tables.specs.FirstTables.{old_schema}
-use Rattle.fv_tables.proofs.Texts.{IsWhole, one_table}
+use Rattle.fv_tables.proofs.Texts.{IsWhole, RenewMeans, one_table}
 
 -- ---- the row of `about`, under either schema
 
@@ -83,20 +83,9 @@ version_terms = col 1 0 ∷ col 1 0 ∷ lit Null ∷ lit (Int (pos 2)) ∷ col 1
 abbrev pub version_text : List ℕ
 version_text = codes "UPDATE about SET version = 2"
 
-abbrev pub version_query : Query
-version_query = one_table 0 [] version_terms
-
-pub version_is : command_of (understood store_schema version_text) ≡ Update 0 (record { lets = []; body = version_query })
+pub version_means : RenewMeans version_text version_terms []
 unfolding understood everything
-version_is = refl
-
-pub version_plain : IsPlain (understood store_schema version_text)
-unfolding understood everything
-version_plain = (refl, refl)
-
-pub version_whole : IsWhole version_text 0 (understood store_schema version_text)
-unfolding understood everything
-version_whole = (lit≤ tt, refl)
+version_means = record { is = refl; plain = (refl, refl); whole = (lit≤ tt, refl); accepted = refl }
 
 -- after the DROP the schema is that of a database with `about` alone
 pub dropped_is : without_table old_schema 1 ≡ bare_schema

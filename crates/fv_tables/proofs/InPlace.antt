@@ -47,7 +47,7 @@ pub no_parts : works store_schema Enforced 0 3 [] [] ≡ []
 unfolding same_name joined
 no_parts = refl
 
-same_rooms : (db new : Database) → new.trees 1 ≡ db.trees 1 → new.trees 3 ≡ db.trees 3 → (n : ℕ) → HasRooms n db → HasRooms n new
+pub same_rooms : (db new : Database) → new.trees 1 ≡ db.trees 1 → new.trees 3 ≡ db.trees 3 → (n : ℕ) → HasRooms n db → HasRooms n new
 same_rooms db new one three n room = (subst (HasRoom n) (sym one) room.0, subst (HasRoom n) (sym three) room.1)
 
 -- ---- the row of an object

@@ -31,3 +31,5 @@ pub mod InsideQueries
 pub mod Parts
 pub mod Heads
 pub mod Replaces
+pub mod Redeclares
+pub mod RedeclareCauses

@@ -133,7 +133,7 @@ module _ (tree : ℕ) (terms shown : List Term) (order : List (Term × Key)) (db
       ∙ ap (map (output whole)) (one_matched (λ x. list_all (holds (given ∷ x ∷ [])) terms) (λ x. given ∷ x ∷ []) (db tree) up r there passes alone) in
       a.shown ∙ ap paged (one_permutation (output whole (given ∷ r ∷ [])) a.ordered (subst (λ os. IsPermutation os a.ordered) single a.same))
 
-truth_of : (b : Bool) → is_true (from_truth (Some b)) ≡ b
+pub truth_of : (b : Bool) → is_true (from_truth (Some b)) ≡ b
 truth_of true = refl
 truth_of false = refl
 

@@ -1,9 +1,9 @@
 -- What the queries show, and what they leave.
-use Rattle.std.proofs.Common.{◌≡◌, inl, inr, true, false, ℕ, pos, zero, suc, ◌<◌, length, get_or, arith, List, [], ◌∷◌, map, Option, Some, None, Ok, Err, Result, IfOk, IfErr, OnOk, IsTrue, IsUtf8, ◌⊎◌, Vec, slice_get, codes, refl, sym, ap, ap₂, subst, ◌∙◌}
+use Rattle.std.proofs.Common.{◌≡◌, inl, inr, true, false, ℕ, zero, suc, ◌<◌, length, get_or, arith, List, [], ◌∷◌, map, Option, Some, None, Ok, Err, Result, IfOk, IfErr, OnOk, IsTrue, IsUtf8, ◌⊎◌, Vec, slice_get, codes, refl, sym, ap, ap₂, subst, ◌∙◌}
 use Rattle.std.specs.List.{AllByRecursion}
 use Rattle.std.proofs.lemmas.Slice.Eq.{bytes_eq-Decides}
 use Rattle.sqlite.specs.Effect.{Database, RefusesToRead}
-use Rattle.sqlite.specs.declared.types.Value.TheVariants.{Null, Int, Text}
+use Rattle.sqlite.specs.declared.types.Value.TheVariants.{Null, Text}
 use Rattle.sqlite.specs.Order.{Row, column, bytes}
 use Rattle.sqlite.specs.Schema.{Schema}
 use Rattle.sqlite_resolve.specs.declared.compiled.Compiled.{Compiled}
@@ -31,7 +31,7 @@ use Rattle.sqlite_typing.specs.Types.{accepts_program}
 use Rattle.sqlite_tied.specs.Compute.{everything}
 use Rattle.fv_tables.specs.Causes.{IsExcused, IsRefusal}
 use Rattle.fv_tables.proofs.Refusals.{no_sum, never_steps, query_cause}
-use Rattle.fv_tables.proofs.Texts.{find_text, find_query, find_is, find_plain, find_whole, find_unlisted, parts_text, parts_query, parts_is, parts_plain, parts_whole, parts_unlisted, by_first, ids_text, ids_query, ids_is, ids_plain, ids_whole, ids_accepted, ids_unlisted}
+use Rattle.fv_tables.proofs.Texts.{find_text, find_query, find_is, find_plain, find_whole, find_unlisted, parts_text, parts_query, parts_is, parts_plain, parts_whole, parts_unlisted, by_first}
 use Rattle.fv_tables.proofs.Layouts.{heads, parts}
 use Rattle.fv_tables.proofs.OneTable.{head_by_id, shown_sound, shown_complete}
 use Rattle.fv_tables.proofs.Ordered.{shows_objects, has_part}
@@ -326,19 +326,3 @@ module _ (old new : State) (clean : HasCleanDisk old) (none : old.step_limit ≡
         query_cause parts_text (Text id ∷ []) old new store_schema has parts_plain parts_whole (Select (record { lets = []; body = parts_query }) (codes "name" ∷ codes "kind" ∷ codes "fields" ∷ [])) parts_is parts_unlisted (parts_never old has none id) e h refused
     | inr shut ↦ inr shut
   ]
-
-ids_never : (s : State) → s.now.schema ≡ store_schema → s.step_limit ≡ None → (form above : List ℕ) (limit : ℕ) (e : Error)
-    → RefusesToRead s.step_limit (Select (record { lets = []; body = ids_query }) (codes "id" ∷ [])) s.now (Text form ∷ Text above ∷ Int (pos limit) ∷ []) e → ⊥
-ids_never s has none form above limit e (inl h) = let wrong = subst (λ sc. accepts_program sc [] ids_query (Text form ∷ Text above ∷ Int (pos limit) ∷ []) ≡ false) has h.1 in cc (wrong, ids_accepted form above limit)
-ids_never s has none form above limit e (inr (inl h)) = no_sum (s.now.trees 1) h.1
-ids_never s has none form above limit e (inr (inr h)) = never_steps s.step_limit none h.1
-
-pub ids_cause : (old new : State) → HasCleanDisk old → old.step_limit ≡ None → (form above : List ℕ) (limit : ℕ) (r : Result (Vec Row Global) Error)
-    → IfErr r (FailsToQuery ids_text (Text form ∷ Text above ∷ Int (pos limit) ∷ []) old new) → IfErr r (λ e. (d : List Row) (m : Entries) → Keeps old d m → IsExcused old new e)
-ids_cause old new clean none form above limit (Ok rows) h = tt
-ids_cause old new clean none form above limit (Err e) h = λ d m keeps refused. elim (cases_Bool old.is_open) [
-  | inl live ↦
-      let has = (keeps clean live).0.schema in
-      query_cause ids_text (Text form ∷ Text above ∷ Int (pos limit) ∷ []) old new store_schema has ids_plain ids_whole (Select (record { lets = []; body = ids_query }) (codes "id" ∷ [])) ids_is ids_unlisted (ids_never old has none form above limit) e h refused
-  | inr shut ↦ inr shut
-]

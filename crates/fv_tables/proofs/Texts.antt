@@ -6,6 +6,7 @@ use Rattle.sqlite_sql.specs.declared.ops.BinaryOp.TheVariants.{Compare}
 use Rattle.sqlite_sql.specs.declared.ops.CompareOp.TheVariants.{Eq, Gt}
 use Rattle.sqlite.specs.Collation.TheVariants.{Binary}
 use Rattle.sqlite.specs.Query.{Query, inner, end}
+use Rattle.sqlite.specs.Order.{Row}
 use Rattle.sqlite.specs.declared.types.Value.TheVariants.{Null, Int, Text as Words, Blob}
 use Rattle.sqlite.specs.Source.TheVariants.{Values}
 use Rattle.sqlite.specs.Command.TheVariants.{Insert, Select, Delete, Update, CreateTable}
@@ -302,40 +303,64 @@ pub first_accepted : (declarations : List ℕ) → accepts_terms first_terms (Bl
 unfolding everything
 first_accepted declarations = refl
 
--- ---- the ids of a form
+-- ---- the row of `about` is written anew
+
+-- the text replaces each row of `about` by these terms, and is accepted with these parameters
+pub record RenewMeans (text : List ℕ) (terms : List Term) (params : Row) : Type 0 where
+  pub is : command_of (understood store_schema text) ≡ Update 0 (record { lets = []; body = one_table 0 [] terms })
+  pub plain : IsPlain (understood store_schema text)
+  pub whole : IsWhole text (length params) (understood store_schema text)
+  pub accepted : accepts_program store_schema [] (one_table 0 [] terms) params ≡ true
+
+abbrev pub declare_text : List ℕ
+declare_text = codes "UPDATE about SET declarations = ?1"
+
+-- the rowid of the row, and then the whole new row
+abbrev pub declare_terms : List Term
+declare_terms = col 1 0 ∷ col 1 0 ∷ lit Null ∷ col 1 2 ∷ col 0 0 ∷ []
+
+pub declare_means : (declarations : List ℕ) → RenewMeans declare_text declare_terms (Blob declarations ∷ [])
+unfolding understood everything
+declare_means declarations = record { is = refl; plain = (refl, refl); whole = (lit≤ tt, refl); accepted = refl }
+
+-- ---- the ids of records
+
+-- the id is above this parameter
+abbrev pub above_given : ℕ → Term
+above_given n = op2 (Compare Gt Binary) (col 1 1) (col 0 n)
+
+-- ascending by the id
+abbrev pub by_id : List (Term × Key)
+by_id = (col 1 1, record { collation = Binary; descending = false }) ∷ []
+
+-- the ids of the rows that pass the tests
+abbrev pub ids_where : List Term → Term → Query
+ids_where tests limit = over_table 1 tests (col 1 1 ∷ []) by_id limit
+
+-- the text shows them, and is accepted with these parameters
+pub record IdsMean (text : List ℕ) (tests : List Term) (limit : Term) (params : Row) : Type 0 where
+  pub is : command_of (understood store_schema text) ≡ Select (record { lets = []; body = ids_where tests limit }) (codes "id" ∷ [])
+  pub plain : IsPlain (understood store_schema text)
+  pub whole : IsWhole text (length params) (understood store_schema text)
+  pub unlisted : reads_listing store_schema text ≡ false
+  pub accepted : accepts_program store_schema [] (ids_where tests limit) params ≡ true
 
 abbrev pub ids_text : List ℕ
 ids_text = codes "SELECT id FROM record WHERE form = ?1 AND id > ?2 ORDER BY id LIMIT ?3"
 
-abbrev pub ids_query : Query
-ids_query = record {
-  from = inner 1 end;
-  filter = op2 (Compare Eq Binary) (col 1 2) (col 0 0) ∷ op2 (Compare Gt Binary) (col 1 1) (col 0 1) ∷ [];
-  group = None;
-  project = col 1 1 ∷ [];
-  distinct = false;
-  collations = [];
-  order = (col 1 1, record { collation = Binary; descending = false }) ∷ [];
-  limit = col 0 2;
-  offset = lit (Int (pos 0));
-}
+abbrev pub ids_tests : List Term
+ids_tests = op2 (Compare Eq Binary) (col 1 2) (col 0 0) ∷ above_given 1 ∷ []
 
-pub ids_is : command_of (understood store_schema ids_text) ≡ Select (record { lets = []; body = ids_query }) (codes "id" ∷ [])
+pub ids_mean : (form above : List ℕ) (limit : ℕ) → IdsMean ids_text ids_tests (col 0 2) (Words form ∷ Words above ∷ Int (pos limit) ∷ [])
 unfolding understood everything
-ids_is = refl
+ids_mean form above limit = record { is = refl; plain = (refl, refl); whole = (lit≤ tt, refl); unlisted = refl; accepted = refl }
 
-pub ids_plain : IsPlain (understood store_schema ids_text)
+abbrev pub all_ids_text : List ℕ
+all_ids_text = codes "SELECT id FROM record WHERE id > ?1 ORDER BY id LIMIT ?2"
+
+abbrev pub all_ids_tests : List Term
+all_ids_tests = above_given 0 ∷ []
+
+pub all_ids_mean : (above : List ℕ) (limit : ℕ) → IdsMean all_ids_text all_ids_tests (col 0 1) (Words above ∷ Int (pos limit) ∷ [])
 unfolding understood everything
-ids_plain = (refl, refl)
-
-pub ids_whole : IsWhole ids_text 3 (understood store_schema ids_text)
-unfolding understood everything
-ids_whole = (lit≤ tt, refl)
-
-pub ids_accepted : (form above : List ℕ) (limit : ℕ) → accepts_program store_schema [] ids_query (Words form ∷ Words above ∷ Int (pos limit) ∷ []) ≡ true
-unfolding everything
-ids_accepted form above limit = refl
-
-pub ids_unlisted : reads_listing store_schema ids_text ≡ false
-unfolding everything
-ids_unlisted = refl
+all_ids_mean above limit = record { is = refl; plain = (refl, refl); whole = (lit≤ tt, refl); unlisted = refl; accepted = refl }

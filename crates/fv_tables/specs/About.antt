@@ -5,7 +5,8 @@ use Rattle.sqlite.specs.Order.{Row}
 use Rattle.sqlite.specs.Effect.{Database}
 use Rattle.fv_tables.specs.Tables.{store_schema}
 use Rattle.fv_tables.specs.FirstTables.{old_schema}
-use Rattle.fv_tables.specs.Stands.{about_row}
+use Rattle.fv_tables.specs.Causes.{HasRooms}
+use Rattle.fv_tables.specs.Stands.{about_row, Entries, Stands}
 
 -- the tables are those of version 1 or those of version 2
 abbrev pub HasTables : Database → Type 0
@@ -23,3 +24,9 @@ shown_about version declarations = Int (pos version) ∷ Raw declarations ∷ []
 abbrev pub ShowsAbout : List Row → ℕ → List ℕ → Type 0
 ShowsAbout [] version declarations = ⊥
 ShowsAbout (row ∷ rows) version declarations = row ≡ shown_about version declarations
+
+-- The row of `about` has these declarations since, whatever it had. The version and the records stay, and so does the room for rows.
+abbrev pub Redeclares : List ℕ → Database → Database → Type 0
+Redeclares declarations old new =
+    (d : List ℕ) (m : Entries) → Stands old (about_row 2 d ∷ []) m
+    → Stands new (about_row 2 declarations ∷ []) m × ((n : ℕ) → HasRooms n old → HasRooms n new)

@@ -25,11 +25,15 @@ Lists Wanted above limit ids = (all : List (List ℕ)) × AreListed Wanted above
 abbrev pub HasForm : Entries → List ℕ → List ℕ → Type 0
 HasForm m form id = (k : Entry) × (m id ≡ Some k) × (k.form ≡ form)
 
+-- the id has a record
+abbrev pub HasRecord : Entries → List ℕ → Type 0
+HasRecord m id = (k : Entry) × (m id ≡ Some k)
+
 -- the row that shows an id
 abbrev pub id_row : List ℕ → Row
 id_row id = Words id ∷ []
 
--- the rows show the first ids of a form above one, each a text
-abbrev pub ShowsIds : List Row → Entries → List ℕ → List ℕ → ℕ → Type 0
-ShowsIds rows m form above limit =
-    (ids : List (List ℕ)) × Lists (HasForm m form) above limit ids × AllByRecursion IsUtf8 ids × (rows ≡ map id_row ids)
+-- the rows show the first of the wanted ids above one, each a text
+abbrev pub ShowsIds : List Row → (List ℕ → Type 0) → List ℕ → ℕ → Type 0
+ShowsIds rows Wanted above limit =
+    (ids : List (List ℕ)) × Lists Wanted above limit ids × AllByRecursion IsUtf8 ids × (rows ≡ map id_row ids)

@@ -10,9 +10,9 @@ mod finding;
 mod listing;
 mod rows;
 
-pub use about::read_about;
+pub use about::{read_about, write_about};
 pub use creating::create_tables;
 pub use entries::{put_record, remove_record, set_object};
 pub use entry::{ObjectRow, RecordRows};
 pub use finding::find;
-pub use listing::find_ids;
+pub use listing::{find_all_ids, find_ids};

@@ -1,5 +1,6 @@
-//! A disk that fails from one of its calls on, under the whole service: a batch is refused, and what
-//! stands on the disk is the records before it or after it, never those of a part.
+//! A disk that fails from one of its calls on, under the whole service: a batch or a redeclare is refused,
+//! and what stands on the disk is what was there before it or after it, never a part: all records, and the
+//! declarations in force.
 use crate::engines::replied;
 use sqlite::{Connection, FileStore, Files, Options};
 use sqlite_disk::{Crash, Disk, Fuse, Memory};
@@ -18,12 +19,49 @@ const PUTS: &str =
 
 const PUTS_TAKEN: &str = "{\"ok\":\"put\"}\n{\"ok\":\"put\"}\n{\"ok\":\"put\"}\n";
 
+/// A command that is run over a disk that fails, the reply where it is taken, and how what stands is looked
+/// at: what is shown before the command, and behind it.
+#[derive(Clone, Copy)]
+struct Change {
+    line: &'static str,
+    taken: &'static str,
+    looks: &'static str,
+    before: &'static str,
+    after: &'static str,
+}
+
 /// A put in the place of the first, with one object that was there and one that wasn't; a field of the
 /// second; and the third is removed.
-const CHANGE: &str =
-    r#"{"do":"batch","parts":[{"do":"put","id":"r1","form":"item","bundle":{"root":"c","objects":{"a":{"type":"Item","fields":{"name":"three"}},"c":{"type":"Item"}}}},{"do":"set","id":"r2","object":"a","field":"name","value":"four"},{"do":"remove","id":"r3"}]}"#;
+const BATCH: Change = Change {
+    line: r#"{"do":"batch","parts":[{"do":"put","id":"r1","form":"item","bundle":{"root":"c","objects":{"a":{"type":"Item","fields":{"name":"three"}},"c":{"type":"Item"}}}},{"do":"set","id":"r2","object":"a","field":"name","value":"four"},{"do":"remove","id":"r3"}]}"#,
+    taken: "{\"ok\":\"batch\"}\n",
+    looks: GETS,
+    before: BEFORE,
+    after: AFTER,
+};
 
-const TAKEN: &str = "{\"ok\":\"batch\"}\n";
+/// Declarations with a field more, which each record fits. That field tells which are in force.
+const REDECLARE: Change = Change {
+    line: r#"{"do":"redeclare","text":"{\"types\":{\"Item\":{\"fields\":{\"more\":{\"type\":\"integer\"},\"name\":{\"type\":\"text\"}}}},\"forms\":{\"item\":{\"root\":\"Item\"}}}"}"#,
+    taken: "{\"ok\":\"redeclare\"}\n",
+    looks: r#"{"do":"get","id":"r1"}
+{"do":"get","id":"r2"}
+{"do":"get","id":"r3"}
+{"do":"list","form":"item"}
+{"do":"checkvalue","type":"Item","field":"more","value":1}"#,
+    before: r#"{"bundle":{"objects":{"a":{"fields":{"name":"one"},"type":"Item"},"b":{"fields":{},"type":"Item"}},"root":"a"},"form":"item","id":"r1","ok":"get"}
+{"bundle":{"objects":{"a":{"fields":{"name":"two"},"type":"Item"}},"root":"a"},"form":"item","id":"r2","ok":"get"}
+{"bundle":{"objects":{"a":{"fields":{},"type":"Item"},"b":{"fields":{},"type":"Item"}},"root":"a"},"form":"item","id":"r3","ok":"get"}
+{"ids":["r1","r2","r3"],"ok":"list"}
+{"error":"C8","name":"NoSuchField"}
+"#,
+    after: r#"{"bundle":{"objects":{"a":{"fields":{"name":"one"},"type":"Item"},"b":{"fields":{},"type":"Item"}},"root":"a"},"form":"item","id":"r1","ok":"get"}
+{"bundle":{"objects":{"a":{"fields":{"name":"two"},"type":"Item"}},"root":"a"},"form":"item","id":"r2","ok":"get"}
+{"bundle":{"objects":{"a":{"fields":{},"type":"Item"},"b":{"fields":{},"type":"Item"}},"root":"a"},"form":"item","id":"r3","ok":"get"}
+{"ids":["r1","r2","r3"],"ok":"list"}
+{"ok":"checkvalue","violations":[]}
+"#,
+};
 
 const REFUSED: &str = "{\"error\":\"C11\",\"name\":\"Store\"}\n";
 
@@ -116,24 +154,26 @@ fn mended(alloc: Global, files: &Files<Fuse<Memory>>) -> Result<Files<Memory>, F
     Ok(Files { log, db })
 }
 
-/// The records on the disk are those before the batch or after it, and after it where it was taken.
+/// What stands on the disk is what was there before the command or after it, and after it where it was
+/// taken.
 fn check_left(
     rt: &impl Abort,
     alloc: Global,
+    change: Change,
     files: &Files<Fuse<Memory>>,
     taken: bool,
 ) -> Result<(), Fail> {
-    let (shown, _) = replied_over(alloc, mended(alloc, files)?, GETS)?;
+    let (shown, _) = replied_over(alloc, mended(alloc, files)?, change.looks)?;
     assert!(rt;
-        shown.as_str() == AFTER || (!taken && shown.as_str() == BEFORE),
+        shown.as_str() == change.after || (!taken && shown.as_str() == change.before),
         "{shown}"
     );
     Ok(())
 }
 
-/// How the batch ends: `t`, it is taken; `r`, it is refused; `-`, no engine is opened.
-fn outcome(rt: &impl Abort, text: &str) -> char {
-    if text == TAKEN {
+/// How the command ends: `t`, it is taken; `r`, it is refused; `-`, no engine is opened.
+fn outcome(rt: &impl Abort, change: Change, text: &str) -> char {
+    if text == change.taken {
         return 't';
     }
     if text.starts_with('{') {
@@ -143,21 +183,21 @@ fn outcome(rt: &impl Abort, text: &str) -> char {
     '-'
 }
 
-/// Adds how a put ends over copies of the files that fail after so many calls of the log and of the
+/// Adds how a command ends over copies of the files that fail after so many calls of the log and of the
 /// database file. What stands is looked at as it was written, and then without what wasn't synced.
 fn add_outcome(
     outcomes: &mut String,
     rt: &impl Abort,
     alloc: Global,
-    files: &Files<Memory>,
-    calls: (u64, u64),
+    change: Change,
+    (files, calls): (&Files<Memory>, (u64, u64)),
 ) -> Result<(), Fail> {
-    let (text, mut files) = replied_over(alloc, fused(alloc, files, calls)?, CHANGE)?;
-    let ended = outcome(rt, text.as_str());
-    check_left(rt, alloc, &files, ended == 't')?;
+    let (text, mut files) = replied_over(alloc, fused(alloc, files, calls)?, change.line)?;
+    let ended = outcome(rt, change, text.as_str());
+    check_left(rt, alloc, change, &files, ended == 't')?;
     files.log.crash();
     files.db.crash();
-    check_left(rt, alloc, &files, ended == 't')?;
+    check_left(rt, alloc, change, &files, ended == 't')?;
     outcomes.push(ended)?;
     Ok(())
 }
@@ -165,12 +205,12 @@ fn add_outcome(
 /// More calls than a run makes.
 const NEVER: u64 = 1000000;
 
-/// The same for each of some calls.
+/// The same of a batch for each of some calls.
 fn outcomes(rt: &impl Abort, alloc: Global, table: &[(u64, u64)]) -> Result<String, Fail> {
     let files = with_records(rt, alloc)?;
     let mut outcomes = String::new(alloc);
     for calls in table {
-        add_outcome(&mut outcomes, rt, alloc, &files, *calls)?;
+        add_outcome(&mut outcomes, rt, alloc, BATCH, (&files, *calls))?;
     }
     Ok(outcomes)
 }
@@ -234,6 +274,45 @@ fn a_database_file_fails(rt: HostRuntime) -> Result<(), Fail> {
         (NEVER, 200),
     ];
     let outcomes = outcomes(&rt, rt.alloc(), &table)?;
+    assert!(rt; outcomes.starts_with('-'), "{outcomes}");
+    assert!(rt; outcomes.ends_with('t'), "{outcomes}");
+    Ok(())
+}
+
+/// Nothing is opened at first, at some calls the redeclare is refused, and at last it is taken.
+#[test]
+fn a_log_fails_at_each_call_under_a_redeclare(rt: HostRuntime) -> Result<(), Fail> {
+    let files = with_records(&rt, rt.alloc())?;
+    let mut outcomes = String::new(rt.alloc());
+    for calls in 0..60 {
+        add_outcome(
+            &mut outcomes,
+            &rt,
+            rt.alloc(),
+            REDECLARE,
+            (&files, (calls, NEVER)),
+        )?;
+    }
+    assert!(rt; outcomes.starts_with('-'), "{outcomes}");
+    assert!(rt; outcomes.contains('r'), "{outcomes}");
+    assert!(rt; outcomes.ends_with('t'), "{outcomes}");
+    Ok(())
+}
+
+/// The same of the database file.
+#[test]
+fn a_database_file_fails_at_each_call_under_a_redeclare(rt: HostRuntime) -> Result<(), Fail> {
+    let files = with_records(&rt, rt.alloc())?;
+    let mut outcomes = String::new(rt.alloc());
+    for calls in 0..60 {
+        add_outcome(
+            &mut outcomes,
+            &rt,
+            rt.alloc(),
+            REDECLARE,
+            (&files, (NEVER, calls)),
+        )?;
+    }
     assert!(rt; outcomes.starts_with('-'), "{outcomes}");
     assert!(rt; outcomes.ends_with('t'), "{outcomes}");
     Ok(())

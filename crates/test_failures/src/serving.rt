@@ -213,6 +213,63 @@ fn bytes_that_come_one_by_one_are_answered(rt: HostRuntime) -> Result<(), Fail> 
     check_answered(&rt, rt.alloc(), made, (PUTS.as_bytes(), streams), ANSWERS)
 }
 
+/// A put, a redeclare that adds a field, and a get.
+const ANEW: &str =
+    r#"{"do":"put","id":"r1","form":"item","bundle":{"root":"a","objects":{"a":{"type":"Item","fields":{"count":1,"name":"abc"}}}}}
+{"do":"redeclare","text":"{\"types\":{\"Item\":{\"fields\":{\"count\":{\"type\":\"integer\"},\"name\":{\"type\":\"text\"},\"note\":{\"type\":\"text\"}}}},\"forms\":{\"item\":{\"root\":\"Item\"}}}"}
+{"do":"get","id":"r1"}
+"#;
+
+const ANEW_ANSWERS: &str = r#"{"ok":"put"}
+{"ok":"redeclare"}
+{"bundle":{"objects":{"a":{"fields":{"count":1,"name":"abc"},"type":"Item"}},"root":"a"},"form":"item","id":"r1","ok":"get"}
+"#;
+
+/// Tells which declarations are in force, by a field that the new ones have.
+const PROBE: &str = r#"{"do":"checkvalue","type":"Item","field":"note","value":null}"#;
+
+const OLD: &str = "{\"error\":\"C8\",\"name\":\"NoSuchField\"}\n";
+
+const NEW: &str = "{\"ok\":\"checkvalue\",\"violations\":[]}\n";
+
+/// A writer fails at a call: the redeclare is in force where it was reached, also without its reply.
+fn check_anew(rt: &impl Abort, alloc: Global, writes: usize, wanted: &str) -> Result<(), Fail> {
+    let mut engine = opened(alloc, DECLARATIONS)?;
+    let streams = (1, NEVER, writes);
+    let (ended, written, _) = served(alloc, &mut engine, &[], ANEW.as_bytes(), streams);
+    assert_eq!(rt; ended, Err(ServeFault::Write), "{writes}");
+    assert!(rt; ANEW_ANSWERS.as_bytes().starts_with(&written), "{writes}");
+    let probed = replies(alloc, &mut engine, PROBE)?;
+    assert_eq!(rt; probed.as_str(), wanted, "{writes}");
+    check_stands(rt, alloc, &mut engine)
+}
+
+/// The first reply takes 13 writes of a byte and a flush. The redeclare is made behind them.
+#[test]
+fn a_redeclare_stands_without_its_reply(rt: HostRuntime) -> Result<(), Fail> {
+    for writes in 0..14 {
+        check_anew(&rt, rt.alloc(), writes, OLD)?;
+    }
+    for writes in 14..ANEW_ANSWERS.len() + 3 {
+        check_anew(&rt, rt.alloc(), writes, NEW)?;
+    }
+    Ok(())
+}
+
+/// A redeclare that comes a byte a call, behind what it needs and before what needs it.
+#[test]
+fn a_redeclare_that_comes_bytewise_is_answered(rt: HostRuntime) -> Result<(), Fail> {
+    let made = (DECLARATIONS, [].as_slice());
+    let streams = (1, NEVER, NEVER);
+    check_answered(
+        &rt,
+        rt.alloc(),
+        made,
+        (ANEW.as_bytes(), streams),
+        ANEW_ANSWERS,
+    )
+}
+
 /// Adds the put with spaces behind it, so many bytes in all, and its end.
 fn add_padded(input: &mut Vec<u8>, alloc: Global, length: usize) -> Result<(), Fail> {
     let mut line = Vec::new(alloc);
@@ -290,4 +347,29 @@ fn each_line_is_judged_at_a_moment_of_the_clock(rt: HostRuntime) -> Result<(), F
     let made = (EVENTS, moments.as_slice());
     let given = (EVENT_LINES.as_bytes(), (NEVER, NEVER, NEVER));
     check_answered(&rt, rt.alloc(), made, given, EVENT_ANSWERS)
+}
+
+/// A put of an event on the second day of 1970, and then the declarations that are in force, four times.
+const EVENTS_ANEW: &str =
+    r#"{"do":"put","id":"r1","form":"f","bundle":{"root":"a","objects":{"a":{"type":"Event","fields":{"when":"1970-01-02"}}}}}
+{"do":"redeclare","text":"{\"types\":{\"Event\":{\"fields\":{\"when\":{\"type\":\"date\",\"constraints\":[{\"constraint\":\"Future\"}]},\"note\":{\"type\":\"text\"}}}},\"forms\":{\"f\":{\"root\":\"Event\"}}}"}
+{"do":"redeclare","text":"{\"types\":{\"Event\":{\"fields\":{\"when\":{\"type\":\"date\",\"constraints\":[{\"constraint\":\"Future\"}]},\"note\":{\"type\":\"text\"}}}},\"forms\":{\"f\":{\"root\":\"Event\"}}}"}
+{"do":"redeclare","text":"{\"types\":{\"Event\":{\"fields\":{\"when\":{\"type\":\"date\",\"constraints\":[{\"constraint\":\"Future\"}]},\"note\":{\"type\":\"text\"}}}},\"forms\":{\"f\":{\"root\":\"Event\"}}}"}
+{"do":"redeclare","text":"{\"types\":{\"Event\":{\"fields\":{\"when\":{\"type\":\"date\",\"constraints\":[{\"constraint\":\"Future\"}]},\"note\":{\"type\":\"text\"}}}},\"forms\":{\"f\":{\"root\":\"Event\"}}}"}
+"#;
+
+const EVENTS_ANEW_ANSWERS: &str = r#"{"ok":"put"}
+{"ok":"redeclare"}
+{"error":"C10","name":"Violations","records":[{"id":"r1","violations":[{"constraint":"Future","message":"must be a future date","occurrence":0,"path":"when","value":"1970-01-02"}]}]}
+{"error":"C10","name":"Violations","records":[{"id":"r1","violations":[{"constraint":"Future","message":"must be a future date","occurrence":0,"path":"when","value":"1970-01-02"}]}]}
+{"ok":"redeclare"}
+"#;
+
+/// A redeclare is judged at its own moment, and not at that of the put or of a redeclare before.
+#[test]
+fn a_redeclare_is_judged_at_a_moment_of_the_clock(rt: HostRuntime) -> Result<(), Fail> {
+    let moments = [0, 86399, 86400, 253402128000, -62135596800];
+    let made = (EVENTS, moments.as_slice());
+    let given = (EVENTS_ANEW.as_bytes(), (NEVER, NEVER, NEVER));
+    check_answered(&rt, rt.alloc(), made, given, EVENTS_ANEW_ANSWERS)
 }

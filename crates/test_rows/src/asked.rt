@@ -3,6 +3,7 @@ use crate::shared::Shared;
 use anyhow::{Result, bail};
 use fv_datum::moment_ok;
 use fv_engine::{Engine, OpenFault, Reply};
+use fv_model_text::quoted;
 use fv_registry::RuleSet;
 use sqlite::{Connection, MemStore};
 use std::alloc::Global;
@@ -29,6 +30,22 @@ pub(crate) fn opened<'a, R: RuleSet>(
     }
 }
 
+/// An engine over the database of another, which is closed, with these declarations handed in.
+pub(crate) fn reopened<'a, R: RuleSet>(
+    alloc: Global,
+    rules: &'a R,
+    engine: Service<'a, R>,
+    declarations: &str,
+) -> Result<Service<'a, R>, OpenFault>
+    requires { R.means rules.now }
+{
+    let connection = engine.into_connection();
+    match Engine::open(alloc, Shared { rules }, declarations.as_bytes(), connection) {
+        Ok(engine) => Ok(engine),
+        Err((fault, _)) => Err(fault),
+    }
+}
+
 /// The reply to a line at a moment.
 pub(crate) fn reply_at<R: RuleSet>(
     alloc: Global,
@@ -40,6 +57,18 @@ pub(crate) fn reply_at<R: RuleSet>(
         bail!("{now} is no moment");
     }
     Ok(engine.run(alloc, line.as_bytes(), now))
+}
+
+/// The reply to a redeclare of a text.
+pub(crate) fn redeclare_reply<R: RuleSet>(
+    alloc: Global,
+    engine: &mut Service<'_, R>,
+    text: &str,
+    now: i64,
+) -> Result<Reply> {
+    let text = quoted(alloc, text)?;
+    let line = format!(in alloc; "{{\"do\":\"redeclare\",\"text\":{text}}}")?;
+    reply_at(alloc, engine, line.as_str(), now)
 }
 
 /// The reply to a put of a bundle as the record `r1` under the form `f`.

@@ -16,13 +16,13 @@ const OTHERS: &str =
 const PUT: &str =
     r#"{"do":"put","id":"r1","form":"f","bundle":{"root":"a","objects":{"a":{"type":"T","fields":{"at":-3}}}}}"#;
 
-const TAKEN: &str = "{\"ok\":\"put\"}\n";
+pub(crate) const TAKEN: &str = "{\"ok\":\"put\"}\n";
 
 const NOT_PAST: &str =
     r#"{"error":"C10","name":"Violations","records":[{"id":"r1","violations":[{"constraint":"Past","message":"must be a past date","occurrence":0,"path":"at","value":-3}]}]}
 "#;
 
-const GET: &str = r#"{"do":"get","id":"r1"}"#;
+pub(crate) const GET: &str = r#"{"do":"get","id":"r1"}"#;
 
 const NO_RECORD: &str = "{\"error\":\"C6\",\"name\":\"NoRecord\"}\n";
 
@@ -32,21 +32,32 @@ const SHOWN: &str =
 
 const CANNOT_OPEN: &str = "formd: cannot open database\n";
 
-pub(crate) const OTHER_DECLARATIONS: &str = "formd: store: OtherDeclarations\n";
-
-const OTHER_VERSION: &str = "formd: store: OtherVersion\n";
+pub(crate) const OTHER_VERSION: &str = "formd: store: OtherVersion\n";
 
 const STORE: &str = "formd: store: Store\n";
 
 /// The demonstration's declarations, a put of a record of theirs, and how the record is shown.
-const ITEMS: &str =
+pub(crate) const ITEMS: &str =
     r#"{"types":{"Item":{"fields":{"count":{"type":"integer","constraints":[{"constraint":"Min","with":{"value":1}}]},"name":{"type":"text","constraints":[{"constraint":"NotNull"},{"constraint":"Size","with":{"min":1,"max":3}}]}}}},"forms":{"item":{"root":"Item"}}}"#;
 
-const PUT_ITEM: &str =
+pub(crate) const PUT_ITEM: &str =
     r#"{"do":"put","id":"r1","form":"item","bundle":{"root":"a","objects":{"a":{"type":"Item","fields":{"count":1,"name":"abc"}}}}}"#;
 
-const ITEM: &str =
+pub(crate) const ITEM: &str =
     r#"{"bundle":{"objects":{"a":{"fields":{"count":1,"name":"abc"},"type":"Item"}},"root":"a"},"form":"item","id":"r1","ok":"get"}
+"#;
+
+/// The same declarations, but for a greater size.
+const LARGER: &str =
+    r#"{"types":{"Item":{"fields":{"count":{"type":"integer","constraints":[{"constraint":"Min","with":{"value":1}}]},"name":{"type":"text","constraints":[{"constraint":"NotNull"},{"constraint":"Size","with":{"min":1,"max":5}}]}}}},"forms":{"item":{"root":"Item"}}}"#;
+
+/// The record, and a put that the greater size would take, and how both are answered.
+const GET_AND_PUT: &str = r#"{"do":"get","id":"r1"}
+{"do":"put","id":"r1","form":"item","bundle":{"root":"a","objects":{"a":{"type":"Item","fields":{"count":1,"name":"abcd"}}}}}"#;
+
+const ITEM_AND_LONG: &str =
+    r#"{"bundle":{"objects":{"a":{"fields":{"count":1,"name":"abc"},"type":"Item"}},"root":"a"},"form":"item","id":"r1","ok":"get"}
+{"error":"C10","name":"Violations","records":[{"id":"r1","violations":[{"constraint":"Size","message":"size must be between 1 and 3","occurrence":2,"path":"name","value":"abcd"}]}]}
 "#;
 
 /// A run of `serve` over the declarations and the database of these paths, with more words, one a
@@ -81,15 +92,15 @@ pub(crate) fn remove(host: &HostRuntime, database: &str) -> Result<(), Fail> {
 }
 
 /// Changes a database by a statement of SQL.
-fn change(host: &HostRuntime, database: &str, statement: &str) -> Result<(), Fail> {
+pub(crate) fn change(host: &HostRuntime, database: &str, statement: &str) -> Result<(), Fail> {
     let mut connection = Connection::open(host, database)?;
     connection.execute(statement, &[])?;
     connection.close()?;
     Ok(())
 }
 
-/// What is stored is there at the next run, under the same declarations and the same version alone. The
-/// version is asked before the declarations, and a database that is refused stays as it was.
+/// What is stored is there at the next run, whatever declarations are handed in, under the same version
+/// alone. A database that is refused stays as it was.
 #[test]
 fn records_stay_in_the_file(rt: HostRuntime) -> Result<(), Fail> {
     fs::write(&rt, "formd_kept.json", DECLARATIONS)?;
@@ -98,7 +109,7 @@ fn records_stay_in_the_file(rt: HostRuntime) -> Result<(), Fail> {
     let other = ("formd_kept_others.json", "formd_kept.db", "");
     check(&rt, &rt, same, GET, (0, NO_RECORD, ""))?;
     check(&rt, &rt, same, PUT, (0, TAKEN, ""))?;
-    check(&rt, &rt, other, GET, (4, "", OTHER_DECLARATIONS))?;
+    check(&rt, &rt, other, GET, (0, SHOWN, ""))?;
     check(&rt, &rt, same, GET, (0, SHOWN, ""))?;
     change(&rt, "formd_kept.db", "UPDATE about SET version = 3")?;
     check(&rt, &rt, same, GET, (4, "", OTHER_VERSION))?;
@@ -112,22 +123,27 @@ fn records_stay_in_the_file(rt: HostRuntime) -> Result<(), Fail> {
     remove(&rt, "formd_kept.db")
 }
 
-/// The demonstration's record stays under the demonstration's declarations; with one more space they
-/// are others. A database without the row that tells of its declarations is refused.
+/// The demonstration's record stays, and so do its declarations, which are in force in a run that is
+/// given the same with one more space, or with a greater size. A database without the row that tells of
+/// its declarations is refused.
 #[test]
 fn the_demonstration_stays_in_the_file(rt: HostRuntime) -> Result<(), Fail> {
     let others = format!(in rt.alloc(); "{ITEMS} ")?;
     fs::write(&rt, "formd_items.json", ITEMS)?;
     fs::write(&rt, "formd_items_others.json", others.as_str())?;
+    fs::write(&rt, "formd_items_larger.json", LARGER)?;
     let same = ("formd_items.json", "formd_items.db", "");
     let other = ("formd_items_others.json", "formd_items.db", "");
+    let larger = ("formd_items_larger.json", "formd_items.db", "");
     check(&rt, &rt, same, PUT_ITEM, (0, TAKEN, ""))?;
-    check(&rt, &rt, other, GET, (4, "", OTHER_DECLARATIONS))?;
+    check(&rt, &rt, other, GET_AND_PUT, (0, ITEM_AND_LONG, ""))?;
+    check(&rt, &rt, larger, GET_AND_PUT, (0, ITEM_AND_LONG, ""))?;
     check(&rt, &rt, same, GET, (0, ITEM, ""))?;
     change(&rt, "formd_items.db", "DELETE FROM about")?;
     check(&rt, &rt, same, GET, (4, "", STORE))?;
     fs::remove_file(&rt, "formd_items.json")?;
     fs::remove_file(&rt, "formd_items_others.json")?;
+    fs::remove_file(&rt, "formd_items_larger.json")?;
     remove(&rt, "formd_items.db")
 }
 
@@ -179,8 +195,8 @@ fn no_database_is_not_opened(rt: HostRuntime) -> Result<(), Fail> {
     remove(&rt, "formd_held.db")
 }
 
-/// The declarations are read, then the database is opened, then the declarations are judged, then
-/// they are compared with those of the database.
+/// The declarations are read, then the database is opened, then the declarations are judged, whatever
+/// the database keeps.
 #[test]
 fn the_first_failure_is_told(rt: HostRuntime) -> Result<(), Fail> {
     fs::write(&rt, "formd_first.json", DECLARATIONS)?;

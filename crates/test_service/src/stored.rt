@@ -1,7 +1,9 @@
 //! Runs of `serve` over declarations of many bytes and over many records, which are stored whole.
-use crate::served::{OTHER_DECLARATIONS, check, remove};
+use crate::served::{check, remove};
+use sqlite::Connection;
 use std::alloc::Global;
 use std::fs;
+use std::process::Abort;
 use std::test::Fail;
 
 const DECLARATIONS: &str =
@@ -28,7 +30,22 @@ fn write_padded(host: &HostRuntime, path: &str, count: usize) -> Result<(), Fail
     Ok(())
 }
 
-/// Declarations of some 100 KB are stored and compared whole.
+/// The declarations that a database keeps have so many bytes.
+fn check_kept(
+    rt: &impl Abort,
+    host: &HostRuntime,
+    database: &str,
+    length: usize,
+) -> Result<(), Fail> {
+    let mut connection = Connection::open(host, database)?;
+    let rows = connection.query_all("SELECT declarations FROM about", &[])?;
+    let kept: Vec<u8> = rows.first().ok_or("a row")?.get(0)?;
+    assert_eq!(rt; kept.len(), length);
+    connection.close()?;
+    Ok(())
+}
+
+/// Declarations of some 100 KB are stored whole, and stay where longer ones are handed in.
 #[test]
 fn long_declarations_are_opened_again(rt: HostRuntime) -> Result<(), Fail> {
     write_padded(&rt, "formd_long.json", 100000)?;
@@ -36,8 +53,20 @@ fn long_declarations_are_opened_again(rt: HostRuntime) -> Result<(), Fail> {
     let long = ("formd_long.json", "formd_long.db", "");
     let longer = ("formd_longer.json", "formd_long.db", "");
     check(&rt, &rt, long, PUT, (0, TAKEN, ""))?;
-    check(&rt, &rt, longer, GET, (4, "", OTHER_DECLARATIONS))?;
+    check_kept(
+        &rt,
+        &rt,
+        "formd_long.db",
+        DECLARATIONS.len().saturating_add(100000),
+    )?;
+    check(&rt, &rt, longer, GET, (0, SHOWN, ""))?;
     check(&rt, &rt, long, GET, (0, SHOWN, ""))?;
+    check_kept(
+        &rt,
+        &rt,
+        "formd_long.db",
+        DECLARATIONS.len().saturating_add(100000),
+    )?;
     fs::remove_file(&rt, "formd_long.json")?;
     fs::remove_file(&rt, "formd_longer.json")?;
     remove(&rt, "formd_long.db")

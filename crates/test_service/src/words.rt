@@ -45,7 +45,7 @@ const SERVE_HELP: &str = "Answers command lines over a database, under declarati
 Usage: formd serve [OPTIONS] --declarations <FILE> --database <FILE>
 
 Options:
-      --declarations <FILE>  The file with the declarations
+      --declarations <FILE>  The declarations for a database that is empty; any other keeps its own
       --database <FILE>      The database, made where there is none
       --now <SECONDS>        The moment of every command, in seconds since 1970 (the machine's clock where not given)
   -h, --help                 Print help

@@ -74,18 +74,27 @@ get r2
 = item <3>
 ";
 
-/// Other declarations are refused.
-const REFUSED: &str = "
+/// Whatever is handed in, the file's own declarations are in force, until others are written.
+const OTHERS: &str = "
 open [others]
-= OtherDeclarations
+declarations
+= [declarations]
+ids 10
+= r1 r10 r2
+redeclare [more]
+declarations
+= [more]
 
-open [declarations ]
-= OtherDeclarations
+open [declarations]
+declarations
+= [more]
 ";
 
-/// A refused open has changed nothing. The version that is then written is refused as another.
+/// The file has the new ones, and the records. The version that is then written is refused as another.
 const LAST: &str = "
-open [declarations]
+open [others]
+declarations
+= [more]
 get r1
 = item <1>
 get r10
@@ -102,7 +111,7 @@ fn a_file_that_is_opened_again_has_what_was_kept(rt: HostRuntime) -> Result<(), 
     let put = "open [declarations]\ncommit; r1 item <1>; r2 item <2>";
     let file = check_file(&rt, alloc, Memory::new(alloc), put)?;
     let file = check_file(&rt, alloc, file, AGAIN)?;
-    let file = check_file(&rt, alloc, file, REFUSED)?;
+    let file = check_file(&rt, alloc, file, OTHERS)?;
     let file = check_file(&rt, alloc, file, LAST)?;
     check_file(&rt, alloc, file, "open [declarations]\n= OtherVersion")?;
     Ok(())

@@ -35,7 +35,6 @@ fn faults_of_calls_have_texts(rt: HostRuntime) -> Result<(), Fail> {
 fn faults_of_opening_have_texts(rt: HostRuntime) -> Result<(), Fail> {
     for (fault, wanted) in [
         (OpenStoreFault::OtherVersion, "tables of another version"),
-        (OpenStoreFault::OtherDeclarations, "other declarations"),
         (OpenStoreFault::Store, "the database refused"),
         (OpenStoreFault::Memory, "out of memory"),
     ] {

@@ -11,6 +11,8 @@ mod faults;
 #[cfg(test)]
 mod listing;
 #[cfg(test)]
+mod redeclaring;
+#[cfg(test)]
 mod refusals;
 #[cfg(test)]
 mod storing;

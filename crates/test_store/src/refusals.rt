@@ -2,8 +2,7 @@
 use crate::transcripts::{check, check_each};
 use std::test::Fail;
 
-/// The tables of version 1, which kept each bundle in one text. Other declarations or not, the version is
-/// asked first.
+/// The tables of version 1, which kept each bundle in one text, whatever declarations are handed in.
 #[test]
 fn the_first_tables_are_of_another_version(rt: HostRuntime) -> Result<(), Fail> {
     check_each(
@@ -54,26 +53,6 @@ const CHANGES: &str = "{change} := UPDATE about SET version = 3
 {change} := UPDATE about SET version = 3, declarations = x''
 {fault} := OtherVersion
 {row} := 1 3 []
-
-{change} := UPDATE about SET declarations = x'6465636c61726174696f6e7320'
-{fault} := OtherDeclarations
-{row} := 1 2 [6465636C61726174696F6E7320]
-
-{change} := UPDATE about SET declarations = x'4465636c61726174696f6e73'
-{fault} := OtherDeclarations
-{row} := 1 2 [4465636C61726174696F6E73]
-
-{change} := UPDATE about SET declarations = x'6465636c61726174696f6e'
-{fault} := OtherDeclarations
-{row} := 1 2 [6465636C61726174696F6E]
-
-{change} := UPDATE about SET declarations = x'6f7468657273'
-{fault} := OtherDeclarations
-{row} := 1 2 [6F7468657273]
-
-{change} := UPDATE about SET declarations = x''
-{fault} := OtherDeclarations
-{row} := 1 2 []
 
 {change} := UPDATE about SET version = 'first'
 {fault} := Store
@@ -169,7 +148,7 @@ SELECT sql FROM sqlite_schema
     )
 }
 
-/// The connection comes back, and with the declarations that are stored it finds the records.
+/// The connection comes back, and with the version that was there it finds the records.
 #[test]
 fn a_refused_open_hands_the_connection_back(rt: HostRuntime) -> Result<(), Fail> {
     check(
@@ -179,11 +158,15 @@ fn a_refused_open_hands_the_connection_back(rt: HostRuntime) -> Result<(), Fail>
 open [declarations]
 commit; r1 item <1>; r2 item <2>
 
-open [declarations ]
-= OtherDeclarations
+UPDATE about SET version = 3
+
+open [declarations]
+= OtherVersion
 
 open []
-= OtherDeclarations
+= OtherVersion
+
+UPDATE about SET version = 2
 
 open [declarations]
 get r1

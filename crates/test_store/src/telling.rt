@@ -3,10 +3,11 @@ use crate::texts::add;
 use fv_json::Document;
 use fv_model::{Bundle, Types, read_bundle};
 use fv_model_text::write_bundle;
-use fv_store::{Change, Store, Stored};
+use fv_store::{Change, Store, StoreFault, Stored, Written};
 use json::Scratch;
 use sqlite::{Alter, Connection, Row};
 use std::alloc::Global;
+use std::str;
 use std::test::Fail;
 
 /// The change of one object: the one of that name of a bundle as JSON.
@@ -71,8 +72,30 @@ fn add_found<S: Alter>(
     }
 }
 
+/// Adds the form of a record and the text that is written of its bundle.
+fn add_text(told: &mut String, written: &Written) -> Result<(), Fail> {
+    let form = written.form.as_str();
+    let bundle = written.bundle.as_str();
+    write!(told, "= {form} {bundle}\n")?;
+    Ok(())
+}
+
+/// Adds what is written of the record of an id, whatever its types: `none`, or the fault's name.
+fn add_written<S: Alter>(
+    told: &mut String,
+    alloc: Global,
+    store: &mut Store<S>,
+    id: &str,
+) -> Result<(), Fail> {
+    match store.written(alloc, id) {
+        Ok(Some(written)) => add_text(told, &written),
+        Ok(None) => add(told, "= ", "none"),
+        Err(fault) => add(told, "= ", fault.name()),
+    }
+}
+
 /// Adds ids, or `none`.
-fn add_ids(told: &mut String, ids: &[String]) -> Result<(), Fail> {
+fn add_some(told: &mut String, ids: &[String]) -> Result<(), Fail> {
     told.push('=')?;
     for id in ids {
         write!(told, " {id}")?;
@@ -84,7 +107,15 @@ fn add_ids(told: &mut String, ids: &[String]) -> Result<(), Fail> {
     Ok(())
 }
 
-/// Adds what a store lists for `FORM LIMIT`, and behind that an id to begin after; or the fault's name.
+/// Adds the ids that a store gives, or the fault's name.
+fn add_ids(told: &mut String, ids: Result<Vec<String>, StoreFault>) -> Result<(), Fail> {
+    match ids {
+        Ok(ids) => add_some(told, &ids),
+        Err(fault) => add(told, "= ", fault.name()),
+    }
+}
+
+/// Adds what a store lists for `FORM LIMIT`, and behind that an id to begin after.
 fn add_listed<S: Alter>(
     told: &mut String,
     alloc: Global,
@@ -94,13 +125,53 @@ fn add_listed<S: Alter>(
     let mut words = asked.split(' ');
     let form = words.next().ok_or("a form")?;
     let limit = words.next().ok_or("a limit")?.parse()?;
-    match store.list(alloc, form, words.next(), limit) {
-        Ok(ids) => add_ids(told, &ids),
-        Err(fault) => add(told, "= ", fault.name()),
-    }
+    add_ids(told, store.list(alloc, form, words.next(), limit))
 }
 
-/// A line to a store: `get` of an id, `list` of a form's ids, or `commit` of changes, all of them in one.
+/// Adds what a store gives of the ids of all forms for `LIMIT`, and behind that an id to begin after.
+fn add_all_ids<S: Alter>(
+    told: &mut String,
+    alloc: Global,
+    store: &mut Store<S>,
+    asked: &str,
+) -> Result<(), Fail> {
+    let mut words = asked.split(' ');
+    let limit = words.next().ok_or("a limit")?.parse()?;
+    add_ids(told, store.ids(alloc, words.next(), limit))
+}
+
+/// Adds the declarations in force.
+fn add_declarations<S: Alter>(told: &mut String, store: &Store<S>) -> Result<(), Fail> {
+    let text = str::from_utf8(store.declarations())?;
+    write!(told, "= [{text}]\n")?;
+    Ok(())
+}
+
+/// A line to a store that asks for its records' ids or for what is written of one, or of its declarations:
+/// those in force, or `redeclare [DECLARATIONS]`. Tells whether it was one.
+fn ask_further<S: Alter>(
+    told: &mut String,
+    alloc: Global,
+    store: &mut Store<S>,
+    line: &str,
+) -> Result<bool, Fail> {
+    if let Some(asked) = line.strip_prefix("ids ") {
+        add_all_ids(told, alloc, store, asked)?;
+    } else if let Some(id) = line.strip_prefix("written") {
+        add_written(told, alloc, store, id.trim_start())?;
+    } else if line == "declarations" {
+        add_declarations(told, store)?;
+    } else if let Some(given) = line.strip_prefix("redeclare [") {
+        let text = given.strip_suffix("]").ok_or("declarations")?;
+        store.redeclare(alloc, text.as_bytes())?;
+    } else {
+        return Ok(false);
+    }
+    Ok(true)
+}
+
+/// A line to a store: `get` of an id, `list` of a form's ids, `commit` of changes, all of them in one; or
+/// one of those above.
 pub(crate) fn ask_store<S: Alter>(
     told: &mut String,
     alloc: Global,
@@ -112,6 +183,9 @@ pub(crate) fn ask_store<S: Alter>(
     }
     if let Some(asked) = line.strip_prefix("list ") {
         return add_listed(told, alloc, store, asked);
+    }
+    if ask_further(told, alloc, store, line)? {
+        return Ok(());
     }
     let changes = changes_of(alloc, types, line)?;
     store.commit(alloc, &changes)?;

@@ -66,7 +66,7 @@ fn tell_opened<S: Alter + Drop>(
     connection: Connection<S>,
     (declarations, lines): (&str, &str),
 ) -> Result<Connection<S>, Fail> {
-    match Store::open(connection, declarations.as_bytes()) {
+    match Store::open(alloc, connection, declarations.as_bytes()) {
         Ok(mut store) => {
             tell_store(told, alloc, &mut store, lines)?;
             Ok(store.into_connection())

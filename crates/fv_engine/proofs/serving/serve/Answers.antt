@@ -1,6 +1,6 @@
 use Rattle.std.proofs.lemmas.Result.{on_ok_weaker}
-use Rattle.sqlite.specs.Held.{state}
-use Rattle.fv_engine.proofs.Lifts.{weaker, served_lifted, stopped_lifted, served_told, stopped_told}
+use Rattle.fv_store.specs.Stock.{stock_state as state}
+use Rattle.fv_engine.proofs.Lifts.{weaker, served_lifted, stopped_lifted, served_turned, stopped_turned}
 use Rattle.fv_engine.proofs.serving.serve.Goals as goal
 
 pub returns-clause-causes : goal.returns-clause-causes
@@ -15,10 +15,10 @@ returns-clause-write_causes g c = λ is. stopped_lifted g.R.RuleSet.meaning (sta
 
 pub returns-clause-ok : goal.returns-clause-ok
 returns-clause-ok g c = on_ok_weaker c.answer_lines.result
-    (λ all. weaker (state g.S.Store) _ _ _ _ (λ x y run. served_told g.R.RuleSet.meaning g.C.Clock.ticks x y _ _ _ _ _ run) all) (returns-clause-causes g c)
+    (λ all. weaker (state g.S.Store) _ _ _ _ (λ x y run. served_turned g.R.RuleSet.meaning g.C.Clock.ticks x y _ _ _ _ _ run) all) (returns-clause-causes g c)
 
 pub returns-clause-read : goal.returns-clause-read
-returns-clause-read g c = λ is. weaker (state g.S.Store) _ _ _ _ (λ x y run. served_told g.R.RuleSet.meaning g.C.Clock.ticks x y _ _ _ _ _ run) (returns-clause-read_causes g c is)
+returns-clause-read g c = λ is. weaker (state g.S.Store) _ _ _ _ (λ x y run. served_turned g.R.RuleSet.meaning g.C.Clock.ticks x y _ _ _ _ _ run) (returns-clause-read_causes g c is)
 
 pub returns-clause-write : goal.returns-clause-write
-returns-clause-write g c = λ is. weaker (state g.S.Store) _ _ _ _ (λ x y run. stopped_told g.R.RuleSet.meaning g.C.Clock.ticks x y _ _ _ _ _ _ run) (returns-clause-write_causes g c is)
+returns-clause-write g c = λ is. weaker (state g.S.Store) _ _ _ _ (λ x y run. stopped_turned g.R.RuleSet.meaning g.C.Clock.ticks x y _ _ _ _ _ _ run) (returns-clause-write_causes g c is)

@@ -1,13 +1,13 @@
 use Rattle.std.proofs.Common.{◌≡◌, ℕ, List, Option, map, Ok, Err, inl, inr, refl, sym, ap, subst, ◌∙◌}
 use Rattle.std.proofs.lemmas.Int.{to_z-of_z}
 use mir.Syntax.{w64}
-use Rattle.sqlite.specs.Held.{state}
+use Rattle.fv_store.specs.Stock.{stock_state as state}
 use Rattle.fv_engine_command.specs.CommandView.{part_view}
 use Rattle.fv_declare_schema.specs.Declarations.{Declarations}
-use Rattle.fv_engine_machine.specs.Keeping.{Unchanged, ChangesSo, FitsWhereHeld, IsOneSet}
+use Rattle.fv_engine_machine.specs.Keeping.{Unchanged, ChangesSo, FitsWhereHeld, IsOneSet, Settles, rows_on, set_object}
 use Rattle.fv_engine_machine.specs.Machines.{contents, with_map, over, room_in}
 use Rattle.fv_engine_machine.proofs.Becoming.{rests, unmoved, unchanged, stays_itself, fails_so}
-use Rattle.fv_engine_machine.proofs.Changes.{is_part_memory, change_memory, change_misshapen, change_unfound, change_unmade, change_settled, one_set}
+use Rattle.fv_engine_machine.proofs.Changes.{is_part_memory, change_memory, change_misshapen, change_unfound, change_unmade, change_settled, few_taken, one_set}
 use Rattle.fv_engine_pending.specs.Fits.{AreTyped, Keeps}
 use Rattle.fv_engine_pending.specs.Steps.{staged, step_view, steps_made}
 use Rattle.fv_engine_pending.specs.Ways.{pending_view}
@@ -20,17 +20,17 @@ use Rattle.fv_store.specs.Records.{Records}
 use Rattle.fv_model_types.specs.TypesView.{types_view}
 use Rattle.fv_engine_machine.proofs.changing.change.Goals as goal
 
-pub returns-in-Err : goal.returns-in-Err
-returns-in-Err g c = rests (state g.S.Store) _ _ (λ x. change_memory g.R.RuleSet.meaning c.args.now (map part_view c.args.parts.now) c.args.done x x (stays_itself x))
+pub returns-in-Err-clause-becomes : goal.returns-in-Err-clause-becomes
+returns-in-Err-clause-becomes g c = rests (state g.S.Store) _ _ (λ x. change_memory g.R.RuleSet.meaning c.args.now (map part_view c.args.parts.now) c.args.done x x (stays_itself x))
 
-pub returns-in-Ok-None : goal.returns-in-Ok-None
-returns-in-Ok-None g c =
+pub returns-in-Ok-None-clause-becomes : goal.returns-in-Ok-None-clause-becomes
+returns-in-Ok-None-clause-becomes g c =
     let parts = map part_view c.args.parts.now in
     let misshapen = rw (c.in-Ok-None.field-0-is, c.schema-schema.ensures) at c.in-Ok-None.ensures.read in
     unmoved (state g.S.Store) c.args.book.now _ _ (λ m. change_misshapen g.R.RuleSet.meaning c.args.now parts c.args.done _ misshapen)
 
-pub returns-in-Err-find_records : goal.returns-in-Err-find_records
-returns-in-Err-find_records g c =
+pub returns-in-Err-find_records-clause-becomes : goal.returns-in-Err-find_records-clause-becomes
+returns-in-Err-find_records-clause-becomes g c =
     let ds = c.args.book.now in
     let parts = map part_view c.args.parts.now in
     let read = rw (c.in-Ok-Some.field-0-is, c.schema-schema.ensures) at c.in-Ok-Some.ensures.read in
@@ -40,8 +40,8 @@ returns-in-Err-find_records g c =
     (fails_so c.in-Err-find_records.fault c.undone.result _ c.undone.ensures.store c.undone.ensures.memory (λ is. (e.asked is, e.cause clean is (contents bytes ds m) same holds))))
     (λ bytes m holds. e.stays (contents bytes ds m) holds)
 
-pub returns-in-Err-apply_all : goal.returns-in-Err-apply_all
-returns-in-Err-apply_all g c =
+pub returns-in-Err-apply_all-clause-becomes : goal.returns-in-Err-apply_all-clause-becomes
+returns-in-Err-apply_all-clause-becomes g c =
     let ds = c.args.book.now in
     let parts = map part_view c.args.parts.now in
     let read = rw (c.in-Ok-Some.field-0-is, c.schema-schema.ensures) at c.in-Ok-Some.ensures.read in
@@ -74,8 +74,8 @@ settle-requires-clause-typed g c =
     let typed : AreTyped ds.types (pending_view c.in-Ok.pending) = rw first at c.in-Ok.ensures.typed in
     (keeps ds.forms fits).0 typed
 
-pub returns : goal.returns
-returns g c =
+pub returns-clause-becomes : goal.returns-clause-becomes
+returns-clause-becomes g c =
     let held = state g.S.Store in
     let ds = c.args.book.now in
     let parts = map part_view c.args.parts.now in
@@ -102,13 +102,13 @@ returns g c =
           let one = one_set ds.types ds.forms parts start way m agrees e.covers e.count goes in
           let t = settles bytes m fit (subst (λ (o : Option (List ℕ)). IsOneSet o way m) (sym c.set_object.ensures) one) clean (e.stays (contents bytes ds m) holds) in (
             t.0,
-            change_settled g.R.RuleSet.meaning c.args.now parts c.args.done before read.0 way mid (with_map held (over held ds c.settle.new.store) t.0)
+            change_settled g.R.RuleSet.meaning c.args.now parts c.args.done before read.0 (rows_on (set_object parts) way) way mid (with_map held (over held ds c.settle.new.store) t.0)
                 (made ds.types ds.forms 0 parts start way m agrees e.covers goes) stay
                 (ap room_in (e.same mid_clean (contents bytes ds m) holds))
                 (λ needs. e.frame.was_open mid_clean (e.live needs mid_clean))
-                (counted ds.types ds.forms 0 parts start way e.count goes) c.settle.ensures.ascending
+                (few_taken parts way (counted ds.types ds.forms 0 parts start way e.count goes)) c.settle.ensures.ascending
                 (λ id k. touched_stands ds.types ds.forms 0 parts start way goes m id k) (λ id k stands. standing_touched ds.types ds.forms 0 parts start way goes m id k e.needed stands)
-                (answer_view c.settle.result) t.1,
+                (answer_view c.settle.result) (subst (λ (o : Option (List ℕ)). Settles g.R.RuleSet.meaning c.args.now (rows_on o way) way c.args.done mid (answer_view c.settle.result) (with_map held (over held ds c.settle.new.store) t.0)) c.set_object.ensures t.1),
             t.2,
           );
     }

@@ -1,7 +1,7 @@
 use Rattle.std.proofs.Common.{◌≡◌, map, refl, sym, subst, ap, ◌∙◌}
 use Rattle.std.proofs.lemmas.Int.{to_z-of_z}
 use mir.Syntax.{w64}
-use Rattle.sqlite.specs.Held.{state}
+use Rattle.fv_store.specs.Stock.{stock_state as state}
 use Rattle.fv_declare_schema.specs.Declarations.{Declarations}
 use Rattle.fv_model.specs.Views.{bundle_view}
 use Rattle.fv_model.specs.WellTyped.{IsWellTyped}
@@ -13,8 +13,8 @@ use Rattle.fv_engine_machine.specs.Machines.{contents}
 use Rattle.fv_engine_machine.proofs.Becoming.{unchanged, checked_none, checked_some, not_found, fails_so}
 use Rattle.fv_engine_machine.proofs.checking.check.Goals as goal
 
-pub returns-in-Ok-None : goal.returns-in-Ok-None
-returns-in-Ok-None g c =
+pub returns-in-Ok-None-clause-becomes : goal.returns-in-Ok-None-clause-becomes
+returns-in-Ok-None-clause-becomes g c =
     let ds = c.args.book.now in
     let names = map (λ n. n.now) c.args.names.now in
     let same : ds.types ≡ types_view c.types.result.now = sym (c.types.ensures ∙ ap (λ (d : Declarations). d.types) c.schema.ensures) in
@@ -24,8 +24,8 @@ returns-in-Ok-None g c =
     (sym (found clean (contents bytes ds m) same holds)))
     (λ bytes m holds. c.in-Ok-None.ensures.stays (contents bytes ds m) holds)
 
-pub returns-in-Ok-Some : goal.returns-in-Ok-Some
-returns-in-Ok-Some g c =
+pub returns-in-Ok-Some-clause-becomes : goal.returns-in-Ok-Some-clause-becomes
+returns-in-Ok-Some-clause-becomes g c =
     let ds = c.args.book.now in
     let names = map (λ n. n.now) c.args.names.now in
     let same : ds.types ≡ types_view c.types.result.now = sym (c.types.ensures ∙ ap (λ (d : Declarations). d.types) c.schema.ensures) in
@@ -36,8 +36,8 @@ returns-in-Ok-Some g c =
     (sym (found clean (contents bytes ds m) same holds)) _ told)
     (λ bytes m holds. c.in-Ok-Some.ensures.stays (contents bytes ds m) holds)
 
-pub returns-in-Err : goal.returns-in-Err
-returns-in-Err g c =
+pub returns-in-Err-clause-becomes : goal.returns-in-Err-clause-becomes
+returns-in-Err-clause-becomes g c =
     let ds = c.args.book.now in
     let names = map (λ n. n.now) c.args.names.now in
     let same : ds.types ≡ types_view c.types.result.now = sym (c.types.ensures ∙ ap (λ (d : Declarations). d.types) c.schema.ensures) in

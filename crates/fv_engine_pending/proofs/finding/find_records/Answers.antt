@@ -1,7 +1,6 @@
 use Rattle.std.proofs.Common.{◌≡◌, ◌+◌, ◌≤◌, ◌∷◌, [], ◌++◌, IsTrue, map, length, take, sym, ap, subst, ◌∙◌}
 use Rattle.std.specs.List.{AllByRecursion, list_any}
 use Rattle.std.proofs.lemmas.List.{take_more, map-append}
-use Rattle.sqlite.specs.Held.{state}
 use Rattle.fv_engine_command.specs.CommandView.{part_view}
 use Rattle.fv_engine_pending.specs.Fits.{AreNeeded, Covers}
 use Rattle.fv_engine_pending.specs.Touched.{needs_record, count_needed}
@@ -10,6 +9,7 @@ use Rattle.fv_engine_pending.proofs.Found.{covers_more, needed_more, live_more, 
 use Rattle.fv_store.proofs.Refusals.{handed_on}
 use Rattle.fv_store.proofs.Steps.{frame_then, failed_then}
 use Rattle.fv_store.specs.Stands.{IsLive}
+use Rattle.fv_store.specs.Stock.{stock_state as state}
 use Rattle.fv_engine_pending.proofs.finding.find_records.Goals as goal
 
 pub loop-part-preserved : goal.loop-part-preserved
@@ -30,6 +30,7 @@ loop-part-preserved g c =
     ∙ map-append part_view (take l.part-index parts) (part ∷ []) in
     record {
       frame = frame_then begin mid now was.frame made.frame;
+      text = made.text ∙ was.text;
       found = λ clean k types holds. made.found clean k types (was.stays k holds) (was.found (made.frame.clean clean) k types holds);
       covers = subst (AllByRecursion (Covers new)) (sym more) (covers_more done (part_view part) old new made.keeps made.covers was.covers);
       needed = subst (λ ps. AreNeeded ps new) (sym more) (needed_more done (part_view part) old new made.only was.needed);

@@ -1,4 +1,3 @@
-use Rattle.std.proofs.Common.{ap}
 use Rattle.sqlite.specs.Held.{state}
 use Rattle.fv_model.specs.Views.{object_view}
 use Rattle.fv_store.specs.Stands.{about_rows}

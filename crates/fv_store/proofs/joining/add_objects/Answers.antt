@@ -1,4 +1,4 @@
-use Rattle.std.proofs.Common.{◌≡◌, ◌∷◌, ◌+◌, ◌++◌, [], drop, string_bytes, refl, sym, ap, ◌∙◌, add-one, drop-cons, rules}
+use Rattle.std.proofs.Common.{◌≡◌, ◌∷◌, ◌+◌, ◌++◌, drop, string_bytes, refl, sym, ap, ◌∙◌, add-one, drop-cons, rules}
 use Rattle.fv_store.specs.Texts.{objects_text}
 use Rattle.fv_store.proofs.Joined.{one_behind}
 use Rattle.fv_store.proofs.joining.add_objects.Goals as goal

@@ -5,5 +5,8 @@ use Rattle.fv_store.proofs.opening.settle.Goals as goal
 
 pub returns-in_err-create-clause-store_blank : goal.returns-in_err-create-clause-store_blank
 returns-in_err-create-clause-store_blank g c clean outside none =
-    handed_on _ c.from_residual.result (open_fault_of c.in_err-create.field-0.0) c.from_residual.ensures.1
+    handed_on _ c.from_residual-in_err-create.result (open_fault_of c.in_err-create.field-0.0) c.from_residual-in_err-create.ensures.1
     (λ blank short is. c.in_err-create.ensures.cause clean none blank short (is_refusal c.in_err-create.field-0.0 is))
+
+pub returns-then-is_blank-clause-fresh : goal.returns-then-is_blank-clause-fresh
+returns-then-is_blank-clause-fresh g c blank = (c.in_ok-text.ensures.items_if_clones_equal (λ x y e. e), c.in_ok-create.ensures.done blank)

@@ -1,5 +1,6 @@
 use Rattle.std.proofs.Common.{IsTrue}
 use Rattle.sqlite.specs.Held.{state}
+use Rattle.fv_tables.specs.Lists.{HasForm}
 use Rattle.fv_tables.specs.Stands.{Keeps}
 use Rattle.fv_tables.proofs.Refusals.{handed_on}
 use Rattle.fv_tables.proofs.ShownIds.{ids_found, ids_refused}
@@ -11,10 +12,10 @@ returns-in_err-rows-clause-cause g c clean none = handed_on _ c.from_residual.re
 pub returns-clause-found : goal.returns-clause-found
 returns-clause-found g c clean =
     let shown = c.in_ok-rows.ensures.shown clean in
-    ids_found (Keeps (state g.S.Store c.args.conn.now)) c.args.form.now c.args.above.now c.args.limit c.in_ok-rows.rows.items shown.1 (IsTrue (state g.S.Store c.args.conn.now).is_open) shown.0 c.ids_in.result
+    ids_found (Keeps (state g.S.Store c.args.conn.now)) (λ m. HasForm m c.args.form.now) c.args.above.now c.args.limit c.in_ok-rows.rows.items shown.1 (IsTrue (state g.S.Store c.args.conn.now).is_open) shown.0 c.ids_in.result
     (rw c.deref.ensures.value at c.ids_in.ensures.shown)
 
 pub returns-clause-cause : goal.returns-clause-cause
 returns-clause-cause g c clean none =
-    ids_refused (Keeps (state g.S.Store c.args.conn.now)) c.args.form.now c.args.above.now c.args.limit c.in_ok-rows.rows.items (c.in_ok-rows.ensures.shown clean).1 (state g.S.Store c.args.conn.now)
+    ids_refused (Keeps (state g.S.Store c.args.conn.now)) (λ m. HasForm m c.args.form.now) c.args.above.now c.args.limit c.in_ok-rows.rows.items (c.in_ok-rows.ensures.shown clean).1 (state g.S.Store c.args.conn.now)
     (state g.S.Store c.find_id_rows.new.conn) c.ids_in.result (rw c.deref.ensures.value at c.ids_in.ensures.cause)

@@ -1,17 +1,16 @@
-use Rattle.std.proofs.Common.{◌≡◌, Some, refl, sym, subst}
+use Rattle.std.proofs.Common.{◌≡◌, Some, inr, sym, subst}
+use Rattle.sqlite.specs.Held.{state}
+use Rattle.sqlite.specs.State.{HasCleanDisk}
 use Rattle.fv_store.specs.Faults.{IsAboutFault, about_fault}
+use Rattle.fv_store.specs.Records.{Contents}
+use Rattle.fv_store.specs.Stands.{Opens}
 use Rattle.fv_store.specs.declared.fault.OpenStoreFault.{OpenStoreFault}
-use Rattle.fv_engine.proofs.Openings.{store_cause, store_alone, memory_apart}
+use Rattle.fv_engine.proofs.DeclaredOnce.{same_contents}
+use Rattle.fv_engine.proofs.Openings.{memory_apart, store_alone, store_cause, text_told}
 use Rattle.fv_engine.proofs.engine.Engine.open.Goals as goal
-
-pub returns-in-Ok-open-clause-opened : goal.returns-in-Ok-open-clause-opened
-returns-in-Ok-open-clause-opened g c = λ m opens. c.in-Ok-open.ensures.opened _ refl opens
 
 pub returns-in-Err-open-clause-other_version : goal.returns-in-Err-open-clause-other_version
 returns-in-Err-open-clause-other_version g c = λ is. c.in-Err-open.ensures.other_version (store_cause c.in-Err-open.fault _ _ c.store_fault.ensures.memory c.store_fault.ensures.other is)
-
-pub returns-in-Err-open-clause-other_declarations : goal.returns-in-Err-open-clause-other_declarations
-returns-in-Err-open-clause-other_declarations g c = λ is. c.in-Err-open.ensures.other_declarations (store_cause c.in-Err-open.fault _ _ c.store_fault.ensures.memory c.store_fault.ensures.other is)
 
 pub returns-in-Err-open-clause-store_known : goal.returns-in-Err-open-clause-store_known
 returns-in-Err-open-clause-store_known g c = λ is. c.in-Err-open.ensures.store_known (store_cause c.in-Err-open.fault _ _ c.store_fault.ensures.memory c.store_fault.ensures.other is)
@@ -28,5 +27,30 @@ returns-in-Err-open-clause-memory g c = memory_apart c.in-Err-open.fault _ c.sto
 pub returns-in-Err-open-clause-cause : goal.returns-in-Err-open-clause-cause
 returns-in-Err-open-clause-cause g c = λ fault is about clean version d tables.
     let same : c.in-Err-open.fault ≡ fault = store_cause c.in-Err-open.fault fault _ c.store_fault.ensures.memory c.store_fault.ensures.other is in
-    subst (λ (f : OpenStoreFault). about_fault version d c.args.declarations.now ≡ Some f) same
+    subst (λ (f : OpenStoreFault). about_fault version ≡ Some f) same
     (c.in-Err-open.ensures.refused (subst IsAboutFault (sym same) about) clean version d tables)
+
+pub returns-in-Ok-in_force-clause-in_force : goal.returns-in-Ok-in_force-clause-in_force
+returns-in-Ok-in_force-clause-in_force g c = record {
+  opened = λ clean k opens. (c.in-Ok-open.ensures.opened k opens).1 clean;
+  told = λ clean version d tells. c.in-Ok-open.ensures.taken clean version d tells;
+}
+
+pub returns-in-Ok-in_force-clause-opened : goal.returns-in-Ok-in_force-clause-opened
+returns-in-Ok-in_force-clause-opened g c = λ known ds m declares opens.
+    let now = rw c.declarations.ensures at c.in-Ok-in_force.ensures.taken in
+    let same = same_contents _ known _ c.in-Ok-in_force.book ds m now declares in
+    (c.in-Ok-open.ensures.opened _ (subst (λ (k : Contents). Opens (state g.S.Store c.args.connection) c.args.declarations.now k) (sym same) opens)).0
+
+pub returns-in-Err-in_force-clause-refused : goal.returns-in-Err-in_force-clause-refused
+returns-in-Err-in_force-clause-refused g c = λ fault is.
+    let told = rw (c.declarations.ensures, c.in-Ok.ensures) at (text_told _ c.in-Err-in_force.fault fault c.in-Err-in_force.ensures.refused.1 is) in
+    inr (
+      (_, rw c.in-Ok.ensures at c.in-Ok-read_rulebook.ensures.taken),
+      _,
+      record { opened = λ clean k opens. (c.in-Ok-open.ensures.opened k opens).1 (subst (λ s. HasCleanDisk (state g.S.Store s)) c.into_connection.ensures.same clean); told = λ clean version d tells. c.in-Ok-open.ensures.taken (subst (λ s. HasCleanDisk (state g.S.Store s)) c.into_connection.ensures.same clean) version d tells },
+      told,
+    )
+
+pub returns-in-Err-in_force-clause-stays : goal.returns-in-Err-in_force-clause-stays
+returns-in-Err-in_force-clause-stays g c = λ k opens. inr (c.into_connection.ensures.holds k (c.in-Ok-open.ensures.opened k opens).0)

@@ -1,44 +1,47 @@
-use Rattle.std.proofs.Common.{◌≡◌, ℕ, List, [], Option, Some, None, Bor, option_map, map, string_bytes, unwrap_or, refl, ap, subst, ◌∙◌, not}
+use Rattle.std.proofs.Common.{◌≡◌, ℕ, List, [], Bor, option_map, map, string_bytes, unwrap_or, refl, ap, subst, ◌∙◌, not}
 use Rattle.sqlite.specs.Held.{state}
 use Rattle.fv_store.specs.Faults.{fault_of}
 use Rattle.fv_store.specs.Lists.{Lists}
 use Rattle.fv_store.specs.Stands.{about_rows}
 use Rattle.fv_store.proofs.Openings.{keeps_of, holds_still}
-use Rattle.fv_store.proofs.Holdings.{is_refusal}
+use Rattle.fv_store.proofs.Holdings.{same_connection, is_refusal}
 use Rattle.fv_store.proofs.Refusals.{handed_on}
 use Rattle.fv_store.proofs.Kept.{all_kept}
-use Rattle.fv_store.proofs.Listed.{listed}
+use Rattle.fv_store.proofs.Listed.{begins, listed}
 use Rattle.fv_store.proofs.store.Store.list.Goals as goal
-
--- where a list begins
-begins : (after : Option (Bor (List ℕ))) (none : Bor (List ℕ)) → none.now ≡ [] → (unwrap_or after none).now ≡ unwrap_or (option_map (λ s. s.now) after) []
-begins None none is = is
-begins (Some s) none is = refl
 
 pub returns-clause-found : goal.returns-clause-found
 returns-clause-found g c clean k holds =
-    let found = rw c.self.view_is at (c.in_ok-find_ids.ensures.found clean) in
+    let same : c.self.inside.connection ≡ c.args.self.now.connection = same_connection c.self.view_is in
+    let found = rw same at (c.in_ok-find_ids.ensures.found clean) in
     let start : c.unwrap_or-above.result.now ≡ unwrap_or (option_map (λ s. s.now) c.args.after) [] = ap (λ (s : Bor (List ℕ)). s.now) c.unwrap_or-above.ensures ∙ begins c.args.after _ refl in
     subst (λ (above : List ℕ). Lists k.records c.args.form.now above c.args.limit (map string_bytes c.in_ok-find_ids.field-0.items)) start
-    (listed k.records c.args.form.now _ c.args.limit _ (found.1 (about_rows k.bytes) (all_kept k.records) (keeps_of (state g.S.Store c.args.self.now) k holds)))
+    (listed k.records c.args.form.now _ c.args.limit _ (found.1 (about_rows k.bytes) (all_kept k.records) (keeps_of (state g.S.Store c.args.self.now.connection) k holds)))
 
 pub returns-clause-stays : goal.returns-clause-stays
 returns-clause-stays g c =
-    rw c.self.view_is at (holds_still (state g.S.Store c.self.inside.connection) (state g.S.Store c.find_ids.new.conn) c.find_ids.ensures.frame (λ d m. c.find_ids.ensures.stays (about_rows d) (all_kept m)))
+    let same : c.self.inside.connection ≡ c.args.self.now.connection = same_connection c.self.view_is in
+    rw same at (holds_still (state g.S.Store c.self.inside.connection) (state g.S.Store c.find_ids.new.conn) c.find_ids.ensures.frame (λ d m. c.find_ids.ensures.stays (about_rows d) (all_kept m)))
 
 pub returns-in_err-find_ids-clause-stays : goal.returns-in_err-find_ids-clause-stays
 returns-in_err-find_ids-clause-stays g c =
-    rw c.self.view_is at (holds_still (state g.S.Store c.self.inside.connection) (state g.S.Store c.find_ids.new.conn) c.find_ids.ensures.frame (λ d m. c.find_ids.ensures.stays (about_rows d) (all_kept m)))
+    let same : c.self.inside.connection ≡ c.args.self.now.connection = same_connection c.self.view_is in
+    rw same at (holds_still (state g.S.Store c.self.inside.connection) (state g.S.Store c.find_ids.new.conn) c.find_ids.ensures.frame (λ d m. c.find_ids.ensures.stays (about_rows d) (all_kept m)))
 
 pub returns-in_err-find_ids-clause-cause : goal.returns-in_err-find_ids-clause-cause
 returns-in_err-find_ids-clause-cause g c clean =
+    let same : c.self.inside.connection ≡ c.args.self.now.connection = same_connection c.self.view_is in
     handed_on _ c.from_residual.result (fault_of c.in_err-find_ids.field-0.0) c.from_residual.ensures.1
-    (λ is k holds. rw c.self.view_is at (c.in_err-find_ids.ensures.cause clean c.self.invariant.1 (about_rows k.bytes) (all_kept k.records)) (keeps_of (state g.S.Store c.args.self.now) k holds) (is_refusal c.in_err-find_ids.field-0.0 is))
+    (λ is k holds. rw same at (c.in_err-find_ids.ensures.cause clean c.self.invariant.1 (about_rows k.bytes) (all_kept k.records)) (keeps_of (state g.S.Store c.args.self.now.connection) k holds) (is_refusal c.in_err-find_ids.field-0.0 is))
 
 pub returns-clause-untouched : goal.returns-clause-untouched
-returns-clause-untouched g c = λ k holds.
-    rw c.self.view_is at (c.find_ids.ensures.untouched (c.is_autocommit.ensures.settled (c.is_autocommit.ensures.value ∙ ap not c.self.invariant.0)) (about_rows k.bytes) (all_kept k.records)) (keeps_of (state g.S.Store c.args.self.now) k holds)
+returns-clause-untouched g c =
+    let same : c.self.inside.connection ≡ c.args.self.now.connection = same_connection c.self.view_is in
+    λ k holds.
+    rw same at (c.find_ids.ensures.untouched (c.is_autocommit.ensures.settled (c.is_autocommit.ensures.value ∙ ap not c.self.invariant.0)) (about_rows k.bytes) (all_kept k.records)) (keeps_of (state g.S.Store c.args.self.now.connection) k holds)
 
 pub returns-in_err-find_ids-clause-untouched : goal.returns-in_err-find_ids-clause-untouched
-returns-in_err-find_ids-clause-untouched g c = λ k holds.
-    rw c.self.view_is at (c.find_ids.ensures.untouched (c.is_autocommit.ensures.settled (c.is_autocommit.ensures.value ∙ ap not c.self.invariant.0)) (about_rows k.bytes) (all_kept k.records)) (keeps_of (state g.S.Store c.args.self.now) k holds)
+returns-in_err-find_ids-clause-untouched g c =
+    let same : c.self.inside.connection ≡ c.args.self.now.connection = same_connection c.self.view_is in
+    λ k holds.
+    rw same at (c.find_ids.ensures.untouched (c.is_autocommit.ensures.settled (c.is_autocommit.ensures.value ∙ ap not c.self.invariant.0)) (about_rows k.bytes) (all_kept k.records)) (keeps_of (state g.S.Store c.args.self.now.connection) k holds)

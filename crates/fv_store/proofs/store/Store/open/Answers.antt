@@ -1,6 +1,6 @@
-use Rattle.std.proofs.Common.{refl}
+use Rattle.std.proofs.Common.{List, ℕ, refl}
 use Rattle.sqlite.specs.Held.{state}
-use Rattle.fv_store.proofs.Openings.{unlimited, opens_ok, opens_err, opens_version, opens_declarations, taken_same}
+use Rattle.fv_store.proofs.Openings.{unlimited, opens_ok, opens_err, opens_text, opens_version}
 use Rattle.fv_store.proofs.store.Store.open.Goals as goal
 
 pub returns-in-Ok-clause-frame : goal.returns-in-Ok-clause-frame
@@ -10,17 +10,20 @@ pub returns-in-Err-clause-frame : goal.returns-in-Err-clause-frame
 returns-in-Err-clause-frame g c = unlimited (state g.S.Store c.args.connection) (state g.S.Store c.settle.new.conn) (rw c.set_step_limit.ensures at c.settle.ensures.frame)
 
 pub returns-in-Ok-clause-opened : goal.returns-in-Ok-clause-opened
-returns-in-Ok-clause-opened g c =
+returns-in-Ok-clause-opened g c k opens =
     let is = c.set_step_limit.ensures in
-    opens_ok (state g.S.Store c.args.connection) (state g.S.Store c.settle.new.conn) (unlimited _ _ (rw is at c.settle.ensures.frame)) c.args.declarations.now (rw is at c.in-Ok.ensures.fresh) (rw is at c.in-Ok.ensures.kept)
+    let old = state g.S.Store c.args.connection in
+    let new = state g.S.Store c.settle.new.conn in
+    let given = c.args.declarations.now in
+    let text : List ℕ = c.in-Ok.declarations.items in
+    let frame = unlimited old new (rw is at c.settle.ensures.frame) in
+    let fresh = rw is at c.in-Ok.ensures.fresh in (
+      opens_ok old new frame given text fresh (rw is at c.in-Ok.ensures.kept) k opens,
+      λ clean. opens_text old given text (frame.clean clean) (frame.was_open clean (c.in-Ok.ensures.open clean)) (λ blank. (fresh blank).0) (rw is at (c.in-Ok.ensures.taken clean)) k opens,
+    )
 
 pub returns-in-Ok-clause-taken : goal.returns-in-Ok-clause-taken
 returns-in-Ok-clause-taken g c clean = rw c.set_step_limit.ensures at (c.in-Ok.ensures.taken clean)
-
-pub returns-in-Ok-clause-same : goal.returns-in-Ok-clause-same
-returns-in-Ok-clause-same g c clean k =
-    let frame = unlimited (state g.S.Store c.args.connection) (state g.S.Store c.settle.new.conn) (rw c.set_step_limit.ensures at c.settle.ensures.frame) in
-    taken_same (state g.S.Store c.args.connection) c.args.declarations.now k (frame.clean clean) (frame.was_open clean (c.in-Ok.ensures.open clean)) (rw c.set_step_limit.ensures at (c.in-Ok.ensures.taken clean))
 
 pub returns-in-Err-clause-refused : goal.returns-in-Err-clause-refused
 returns-in-Err-clause-refused g c fault clean = (rw c.set_step_limit.ensures at (c.in-Err.ensures.cause clean fault)).2
@@ -30,18 +33,13 @@ returns-in-Err-clause-other_version g c is clean k =
     let same = c.set_step_limit.ensures in
     opens_version (state g.S.Store c.args.connection) c.args.declarations.now k ((rw same at c.settle.ensures.frame).clean clean) (rw is at (rw same at (c.in-Err.ensures.cause clean)))
 
-pub returns-in-Err-clause-other_declarations : goal.returns-in-Err-clause-other_declarations
-returns-in-Err-clause-other_declarations g c is clean k =
-    let same = c.set_step_limit.ensures in
-    opens_declarations (state g.S.Store c.args.connection) c.args.declarations.now k ((rw same at c.settle.ensures.frame).clean clean) (rw is at (rw same at (c.in-Err.ensures.cause clean)))
-
 pub returns-in-Err-clause-untouched : goal.returns-in-Err-clause-untouched
 returns-in-Err-clause-untouched g c = rw c.set_step_limit.ensures at c.in-Err.ensures.untouched
 
 pub returns-in-Err-clause-stays : goal.returns-in-Err-clause-stays
 returns-in-Err-clause-stays g c =
     let is = c.set_step_limit.ensures in
-    opens_err (state g.S.Store c.args.connection) (state g.S.Store c.settle.new.conn) (unlimited _ _ (rw is at c.settle.ensures.frame)) (rw is at c.in-Err.ensures.untouched)
+    opens_err (state g.S.Store c.args.connection) (state g.S.Store c.settle.new.conn) (unlimited _ _ (rw is at c.settle.ensures.frame)) (rw is at c.in-Err.ensures.untouched) c.args.declarations.now
 
 pub returns-in-Err-clause-store_known : goal.returns-in-Err-clause-store_known
 returns-in-Err-clause-store_known g c is clean outside version d tells =
@@ -52,3 +50,9 @@ pub returns-in-Err-clause-store_blank : goal.returns-in-Err-clause-store_blank
 returns-in-Err-clause-store_blank g c is clean outside blank short =
     let same = c.set_step_limit.ensures in
     (rw same at (c.in-Err.ensures.store_blank clean)) outside refl blank short is
+
+pub returns-in-Ok-clause-fresh : goal.returns-in-Ok-clause-fresh
+returns-in-Ok-clause-fresh g c blank = ((rw c.set_step_limit.ensures at c.in-Ok.ensures.fresh) blank).0
+
+pub returns-in-Ok-clause-still : goal.returns-in-Ok-clause-still
+returns-in-Ok-clause-still g c = rw c.set_step_limit.ensures at c.in-Ok.ensures.still

@@ -1,0 +1,26 @@
+-- Which declarations are in force in a database that is opened.
+use Rattle.std.specs.Prelude.{◌≡◌, ◌⊎◌, ℕ, List, None, Ok, Err}
+use Rattle.sqlite.specs.State.{State, HasCleanDisk}
+use Rattle.fv_declare.specs.Declares.{Declares}
+use Rattle.fv_declare.specs.declared.fault.DeclFault.{DeclFault}
+use Rattle.fv_declare_schema.specs.Declarations.{Declarations}
+use Rattle.fv_registry.specs.Rules.{Known}
+use Rattle.fv_store.specs.Faults.{about_fault}
+use Rattle.fv_store.specs.Records.{Contents}
+use Rattle.fv_store.specs.Stands.{Opens, TellsAbout}
+
+-- this is the text of the declarations in force in a database: of those that it keeps under this version of the tables, or of those handed in
+-- where it is blank
+pub record IsInForce (old new : State) (given text : List ℕ) : Type 0 where
+  pub opened : HasCleanDisk new → (c : Contents) → Opens old given c → text ≡ c.bytes
+  pub told : HasCleanDisk new → (version : ℕ) (kept : List ℕ) → TellsAbout version kept old.now → (about_fault version ≡ None) × (text ≡ kept)
+
+-- a text declares something, where these rules are there
+abbrev pub DeclaresSome : Known → List ℕ → Type 0
+DeclaresSome known text = (ds : Declarations) × Declares known text (Ok ds)
+
+-- declarations are refused by their first fault: those handed in, or, where these declare something, those that the database keeps
+abbrev pub IsMisdeclared : Known → State → State → List ℕ → DeclFault → Type 0
+IsMisdeclared known old new given fault =
+    Declares known given (Err fault)
+    ⊎ (DeclaresSome known given × (text : List ℕ) × IsInForce old new given text × Declares known text (Err fault))

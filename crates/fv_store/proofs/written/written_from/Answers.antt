@@ -1,0 +1,11 @@
+use Rattle.std.proofs.Common.{ap, ap₂, ◌∙◌}
+use Rattle.serde_json.specs.Read.{read}
+use Rattle.fv_tables.specs.Stands.{Entry}
+use Rattle.fv_store.proofs.Joined.{kept_text}
+use Rattle.fv_store.proofs.ReadBack.{bundle_back}
+use Rattle.fv_store.proofs.written.written_from.Goals as goal
+
+pub returns : goal.returns
+returns c types k few typed same =
+    let text = kept_text k c.args.rows _ c.in_ok-bundle.ensures typed.ascending same in
+    ap₂ (λ f j. (f, j)) (ap (λ (e : Entry). e.form) same) (ap read text ∙ bundle_back types k.bundle few typed)
