@@ -3,6 +3,11 @@ use Rattle.std.proofs.Common.{◌≡◌, ◌≢◌, ◌⊎◌, ℕ, List, Bool, 
 use Rattle.std.proofs.lemmas.Slice.Eq.{bytes_eq-Decides}
 use Rattle.fv_declare.specs.declared.fault.DeclFault.{DeclFault}
 use Rattle.fv_declare.specs.declared.fault.DeclFault.TheVariants as decl
+use Rattle.sqlite.specs.State.{State, HasCleanDisk}
+use Rattle.fv_store.specs.Stands.{MayBeFirst, Stays}
+use Rattle.fv_store.specs.Steps.{IsUpgraded}
+use Rattle.fv_registry.specs.Rules.{Known}
+use Rattle.fv_engine.specs.Openings.{DeclaresSome, IsLeft}
 use Rattle.fv_store.specs.declared.fault.OpenStoreFault.{OpenStoreFault}
 use Rattle.fv_store.specs.declared.fault.OpenStoreFault.TheVariants.{OtherVersion, Store, Memory}
 use Rattle.fv_engine.specs.declared.engine.OpenFault.{OpenFault}
@@ -54,3 +59,10 @@ text_alone P f fault (inr (it, told, holds)) is = let never : opened.Declaration
 -- texts that a comparison tells apart
 pub differs : (a b : List ℕ) (answer : Bool) → answer ≡ bytes_eq a b → answer ≡ false → a ≡ b → ⊥
 differs a b answer is apart same = let never : true ≡ false = sym ((bytes_eq-Decides a b).1 same) ∙ sym is ∙ apart in cc
+
+-- ---- what a refusal leaves
+
+-- a store that was opened has left the database as it was, or migrated it
+pub left_by : (known : Known) (given : List ℕ) (old new : State) (fault : OpenFault) → DeclaresSome known given → Stays old new ⊎ (HasCleanDisk new → MayBeFirst old.now) → IsUpgraded old new → ((f : OpenStoreFault) → fault ≢ opened.Store f) → IsLeft known given old new fault
+left_by known given old new fault some (inl stays) made other = inl stays
+left_by known given old new fault some (inr first) made other = inr (some, other, record { first = first; upgraded = made })

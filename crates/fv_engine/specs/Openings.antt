@@ -1,5 +1,5 @@
--- Which declarations are in force in a database that is opened.
-use Rattle.std.specs.Prelude.{◌≡◌, ◌⊎◌, ℕ, List, None, Ok, Err}
+-- Which declarations are in force in a database that is opened, and what a refusal leaves of it.
+use Rattle.std.specs.Prelude.{◌≡◌, ◌≢◌, ◌⊎◌, ℕ, List, None, Ok, Err}
 use Rattle.sqlite.specs.State.{State, HasCleanDisk}
 use Rattle.fv_declare.specs.Declares.{Declares}
 use Rattle.fv_declare.specs.declared.fault.DeclFault.{DeclFault}
@@ -7,7 +7,11 @@ use Rattle.fv_declare_schema.specs.Declarations.{Declarations}
 use Rattle.fv_registry.specs.Rules.{Known}
 use Rattle.fv_store.specs.Faults.{about_fault}
 use Rattle.fv_store.specs.Records.{Contents}
-use Rattle.fv_store.specs.Stands.{Opens, TellsAbout}
+use Rattle.fv_store.specs.Stands.{MayBeFirst, Opens, Stays, TellsAbout}
+use Rattle.fv_store.specs.Steps.{IsUpgraded}
+use Rattle.fv_store.specs.declared.fault.OpenStoreFault.{OpenStoreFault}
+use Rattle.fv_engine.specs.declared.engine.OpenFault.{OpenFault}
+use Rattle.fv_engine.specs.declared.engine.OpenFault.TheVariants.{Store}
 
 -- this is the text of the declarations in force in a database: of those that it keeps under this version of the tables, or of those handed in
 -- where it is blank
@@ -24,3 +28,13 @@ abbrev pub IsMisdeclared : Known → State → State → List ℕ → DeclFault 
 IsMisdeclared known old new given fault =
     Declares known given (Err fault)
     ⊎ (DeclaresSome known given × (text : List ℕ) × IsInForce old new given text × Declares known text (Err fault))
+
+-- the database may have been of version 1, and if it was, tables of version 2 keep since what its rows kept
+pub record IsMigrated (old new : State) : Type 0 where
+  pub first : HasCleanDisk new → MayBeFirst old.now
+  pub upgraded : IsUpgraded old new
+
+-- A refusal leaves the database as it was. Only where the declarations handed in declare something and the store was opened can it have been
+-- migrated.
+abbrev pub IsLeft : Known → List ℕ → State → State → OpenFault → Type 0
+IsLeft known given old new fault = Stays old new ⊎ (DeclaresSome known given × ((f : OpenStoreFault) → fault ≢ Store f) × IsMigrated old new)

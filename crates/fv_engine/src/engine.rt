@@ -1,17 +1,20 @@
-ghost use Rattle.std.specs.Prelude.{◌≡◌, ◌≢◌, ◌⊎◌, false, IfOk, IfErr, MatchResult, Ok, Err, Some, None};
+ghost use Rattle.std.specs.Prelude.{◌≡◌, ◌≢◌, ◌⊎◌, false, IfOk, IfErr, List, MatchResult, Ok, Err, Some, None, ℕ};
 ghost use Rattle.sqlite.specs.State.{HasCleanDisk};
 ghost use Rattle.sqlite.specs.Held.{state};
 ghost use Rattle.fv_datum.specs.Moments.{IsMoment};
 ghost use Rattle.fv_store.specs.Faults.{about_fault, IsAboutFault};
 ghost use Rattle.fv_store.specs.Causes.{HasFailed, IsShortAbout};
-ghost use Rattle.fv_store.specs.Stands.{Frame, Holds, IsBlank, IsLive, Opens, Stays, TellsAbout};
+ghost use Rattle.fv_store.specs.Stands.{first_version, Frame, Holds, IsBlank, IsLive, MayBeFirst, KeepsFirst, Opens, Stays, TellsAbout};
+ghost use Rattle.fv_store.specs.Steps.{IsUpgraded};
+ghost use Rattle.fv_tables.specs.Olds.{Olds};
+ghost use Rattle.fv_upgrade.specs.Upgraded.{AllShort, AllUpgrade, HasFew, upgraded};
 ghost use Rattle.fv_store.specs.Stock.{stock_state};
 ghost use Rattle.fv_declare.specs.Declares.{Declares};
 ghost use Rattle.fv_engine.specs.Laws.{ShowsWhatWasPut, ChangesNoGet, ListsSome, MayChangePlaces, LeavesNothingToList, FailsWhereShut, FailsForRoomAlone, ShowsTheSame, LeavesNothingAtAll, FitsWhereAdded};
-ghost use Rattle.fv_engine.specs.Openings.{DeclaresSome, IsInForce, IsMisdeclared};
+ghost use Rattle.fv_engine.specs.Openings.{DeclaresSome, IsInForce, IsLeft, IsMisdeclared};
 ghost use Rattle.fv_engine_machine.specs.Machines.{contents};
 ghost use Rattle.fv_engine_machine.specs.Services.{GoesOn, Keeps, Responds, Turned, reign_of};
-ghost use Rattle.fv_model_types.specs.Types.{FieldsApart};
+ghost use Rattle.fv_model_types.specs.Types.{FieldsApart, has_deep};
 ghost use Rattle.fv_model_types.specs.TypesView.{types_view};
 ghost use Rattle.fv_engine.specs.FaultNames.{open_fault_name};
 ghost use Rattle.fv_engine_reply.specs.Answers.{refused};
@@ -143,12 +146,14 @@ fn in_force<R: RuleSet + Drop>(
 
 impl<R: RuleSet + Drop, S: Alter + Drop> Engine<R, S> {
     /// An engine over a database: an empty one is made ready for these declarations; any other is taken
-    /// with its records, and its own declarations are in force. The rules are those that declared
-    /// constraints use.
+    /// with its records, and its own declarations are in force. One of version 1 is migrated. The rules
+    /// are those that declared constraints use.
     ///
     /// `Declarations` with the fault of the declarations handed in, then `Store` with that of the
     /// database, then `Declarations` with the fault of those that the database keeps; `Memory` at any
-    /// place. A refusal hands the connection back, its database as it was, and drops the rules.
+    /// place. A refusal hands the connection back, its database as it was, or, where it was of version 1
+    /// and the refusal is `Declarations` or `Memory`, perhaps migrated, with the same records. It drops
+    /// the rules.
     pub fn open(
         alloc: Global,
         rules: R,
@@ -170,9 +175,12 @@ impl<R: RuleSet + Drop, S: Alter + Drop> Engine<R, S> {
         ensures opened { IfOk result (λ e. (known : _) (ds : _) (m : _) → Declares known e.text (Ok ds)
             → Opens (state S.Store connection) declarations.now (contents e.text ds m)
             → Keeps (stock_state S.Store) e m) }
-        // A database that isn't empty is left as it was.
+        // Whatever is not of version 1 is left as it was.
         ensures still { IfOk result (λ e. (IsBlank (state S.Store connection).now → ⊥)
-            → Stays (state S.Store connection) (stock_state S.Store e.machine.records)) }
+            → Stays (state S.Store connection) (stock_state S.Store e.machine.records)
+            ⊎ (HasCleanDisk (stock_state S.Store e.machine.records) → MayBeFirst (state S.Store connection).now)) }
+        // One of version 1 is opened only where the text of each row is a bundle by its form, whatever texts they are.
+        ensures upgraded { IfOk result (λ e. IsUpgraded (state S.Store connection) (stock_state S.Store e.machine.records)) }
         // Declarations are told by their first fault; those handed in come first.
         ensures refused { IfErr result (λ r. (fault : _) → r.0 ≡ OpenFault.Declarations fault
             → IsMisdeclared (R.known rules) (state S.Store connection) (state S.Store r.1) declarations.now fault) }
@@ -188,16 +196,20 @@ impl<R: RuleSet + Drop, S: Alter + Drop> Engine<R, S> {
         // The store fails with a cause, over tables of either version and over an empty database.
         ensures store_known { IfErr result (λ r. r.0 ≡ OpenFault.Store OpenStoreFault.Store
             → HasCleanDisk (state S.Store r.1) → connection.in_transaction ≡ false → (version : _) (d : _)
-            → TellsAbout version d (state S.Store connection).now
+            → TellsAbout version d (state S.Store connection).now → (version ≡ first_version → ⊥)
+            → HasFailed (state S.Store connection) (state S.Store r.1)) }
+        ensures store_first { IfErr result (λ r. r.0 ≡ OpenFault.Store OpenStoreFault.Store
+            → HasCleanDisk (state S.Store r.1) → connection.in_transaction ≡ false → (d : List ℕ) (m : Olds)
+            → KeepsFirst (state S.Store connection) d m → AllUpgrade m → IsShortAbout d → AllShort (upgraded m) → HasFew m
             → HasFailed (state S.Store connection) (state S.Store r.1)) }
         ensures store_blank { IfErr result (λ r. r.0 ≡ OpenFault.Store OpenStoreFault.Store
             → HasCleanDisk (state S.Store r.1) → connection.in_transaction ≡ false
             → IsBlank (state S.Store connection).now → IsShortAbout declarations.now
             → HasFailed (state S.Store connection) (state S.Store r.1)) }
-        // A refusal hands the database back as it was.
-        ensures untouched { IfErr result (λ r. Stays (state S.Store connection) (state S.Store r.1)) }
-        ensures stays { IfErr result (λ r. (c : _) → Opens (state S.Store connection) declarations.now c
-            → Opens (state S.Store r.1) declarations.now c) }
+        // A refusal hands the database back as it was, or migrated.
+        ensures left { IfErr result (λ r. IsLeft (R.known rules) declarations.now (state S.Store connection) (state S.Store r.1) r.0) }
+        ensures stays { IfErr result (λ r. (c : _) → has_deep c.types ≡ false
+            → Opens (state S.Store connection) declarations.now c → Opens (state S.Store r.1) declarations.now c) }
     {
         let rules = match SharedRules::new(alloc, rules) {
             Ok(rules) => rules,
@@ -212,16 +224,24 @@ impl<R: RuleSet + Drop, S: Alter + Drop> Engine<R, S> {
             Err((fault, connection)) => return Err((store_fault(fault), connection)),
         };
         match in_force(alloc, &rules, given, declarations, store.declarations()) {
-            Ok(book) => Ok(Engine {
-                rules,
-                book,
-                store,
-                scratch: Scratch::new(alloc),
-            }),
+            Ok(book) => {
+                are_shallow(book.schema().types());
+                Ok(Engine {
+                    rules,
+                    book,
+                    store,
+                    scratch: Scratch::new(alloc),
+                })
+            }
             Err(fault) => Err((fault, store.into_connection())),
         }
     }
 }
+
+/// No type has another in it deeper than is written back.
+fn are_shallow(_types: &Types)
+    ensures { has_deep (types_view _types.now) ≡ false }
+{}
 
 /// Each field of a type has a name of its own.
 fn are_apart(types: &Types)

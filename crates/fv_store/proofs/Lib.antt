@@ -6,9 +6,11 @@ pub mod Joined
 pub mod Kept
 pub mod Listed
 pub mod Memory
+pub mod Migrations
 pub mod Named
 pub mod Openings
 pub mod Pages
 pub mod ReadBack
 pub mod Refusals
 pub mod Steps
+pub mod Upgraded

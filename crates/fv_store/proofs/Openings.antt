@@ -1,5 +1,5 @@
 -- What an open finds and leaves.
-use Rattle.std.proofs.Common.{◌≡◌, ◌≢◌, ◌==◌, ℕ, Bool, true, false, not, cond, length, List, [], ◌∷◌, slice_get, Option, Some, None, Result, Ok, Err, IfOk, IfErr, IsTrue, inl, inr, refl, sym, ap, subst, ◌∙◌}
+use Rattle.std.proofs.Common.{◌≡◌, ◌≢◌, ◌⊎◌, ◌==◌, ◌||◌, ℕ, Bool, true, false, not, cond, length, List, [], ◌∷◌, slice_get, Option, Some, None, Result, Ok, Err, IfOk, IfErr, IsTrue, inl, inr, refl, sym, ap, subst, ◌∙◌}
 use Rattle.sqlite.specs.Schema.{Schema}
 use Rattle.sqlite.specs.declared.error.Error.{Error}
 use Rattle.sqlite.specs.Effect.{Database}
@@ -12,8 +12,12 @@ use Rattle.fv_store.specs.Faults.{about_fault, open_fault_of, IsAboutFault}
 use Rattle.fv_store.specs.Records.{Kept, Records, Contents, AllFit, no_records, with_records}
 use Rattle.fv_tables.specs.About.{ShowsAbout, shown_about}
 use Rattle.fv_tables.specs.Tables.{store_schema}
-use Rattle.fv_store.specs.Stands.{Frame, Stands, Holds, Opens, IsBlank, Stays, TellsAbout, tables_version}
-use Rattle.fv_store.specs.Steps.{Keeps, IsTaken, IsCaused, IsRefusal, IsOpenExcused}
+use Rattle.fv_store.specs.Stands.{Frame, Stands, StandsFirst, Holds, HoldsFirst, Opens, IsBlank, MayBeFirst, Stays, TellsAbout, about_rows, first_version, olds, tables_version}
+use Rattle.fv_store.specs.Steps.{Keeps, IsTaken, IsTakenAs, IsCaused, IsRefusal, IsOpenExcused, IsUpgraded}
+use Rattle.fv_store.specs.Stored.{Told, told}
+use Rattle.fv_store.proofs.Upgraded.{upgraded_olds}
+use Rattle.fv_model_types.specs.Types.{has_deep}
+use Rattle.fv_tables.specs.Stands as tables
 
 -- a frame says nothing of the limit on steps
 pub unlimited : (old new : State) → Frame (record old { step_limit = None }) new → Frame old new
@@ -24,12 +28,12 @@ unlimited old new f = record { clean = f.clean; was_open = f.was_open; counts = 
 abbrev Answer : Type 0 → Type 0
 Answer X = Result X OpenStoreFault
 
-abbrev Judges : {X : Type 0} → (X → List ℕ) → Answer X → Option OpenStoreFault → List ℕ → Type 0
+abbrev Judges : {X : Type 0} → (X → Told) → Answer X → Option OpenStoreFault → Told → Type 0
 Judges view r o stored = Gives Memory view r (unless_fault o stored)
 
 -- what a row that tells its version and its declarations is judged as
-abbrev JudgesAll : {X : Type 0} → (X → List ℕ) → State → Answer X → Type 0
-JudgesAll view s r = (version : ℕ) (d : List ℕ) → TellsAbout version d s.now → Judges view r (about_fault version) d
+abbrev JudgesAll : {X : Type 0} → (X → Told) → State → Answer X → Type 0
+JudgesAll view s r = (version : ℕ) (d : List ℕ) → TellsAbout version d s.now → Judges view r (about_fault version) (told version d)
 
 pub about_first : (rows : List Row) (version : ℕ) (d : List ℕ) (row : Row) → Some row ≡ slice_get rows 0 → ShowsAbout rows version d → row ≡ shown_about version d
 about_first [] version d row some h = absurd cc
@@ -39,7 +43,7 @@ pub about_never : (rows : List Row) (version : ℕ) (d : List ℕ) → None ≡ 
 about_never [] version d none h = h
 about_never (row ∷ rows) version d none h = absurd cc
 
-judges_ok : {X : Type 0} (view : X → List ℕ) (x : X) (o : Option OpenStoreFault) (stored : List ℕ) → Judges view (Ok x) o stored → (o ≡ None) × (view x ≡ stored)
+judges_ok : {X : Type 0} (view : X → Told) (x : X) (o : Option OpenStoreFault) (stored : Told) → Judges view (Ok x) o stored → (o ≡ None) × (view x ≡ stored)
 judges_ok view x None stored h = (refl, let same : stored ≡ view x = cc in sym same)
 judges_ok view x (Some e) stored h = absurd cc
 
@@ -48,38 +52,40 @@ is_not_memory OtherVersion h is = cc
 is_not_memory Store h is = h
 is_not_memory Memory h is = h
 
-is_fault : (e : OpenStoreFault) (o : Option OpenStoreFault) (stored : List ℕ) → ◌≡◌ {A = Answer (List ℕ)} (unless_fault o stored) (Err e) → o ≡ Some e
+is_fault : (e : OpenStoreFault) (o : Option OpenStoreFault) (stored : Told) → ◌≡◌ {A = Answer Told} (unless_fault o stored) (Err e) → o ≡ Some e
 is_fault e None stored h = absurd cc
 is_fault e (Some f) stored h = let same : f ≡ e = cc in ap Some same
 
-pub taken_all : {X : Type 0} (view : X → List ℕ) (s : State) (r : Answer X) → JudgesAll view s r → IfOk r (λ x. IsTaken s (view x))
+pub taken_all : {X : Type 0} (view : X → Told) (s : State) (r : Answer X) → JudgesAll view s r → IfOk r (λ x. IsTakenAs s (view x).0 (view x).1)
 taken_all view s (Err e) h = tt
-taken_all view s (Ok x) h = λ version d tells. judges_ok view x (about_fault version) d (h version d tells)
+taken_all view s (Ok x) h = λ version d tells.
+    let it = judges_ok view x (about_fault version) (told version d) (h version d tells) in
+    (it.0, ap (λ (t : Told). t.0) it.1, ap (λ (t : Told). t.1) it.1)
 
-pub caused_all : {X : Type 0} (view : X → List ℕ) (s : State) (r : Answer X) → IsTrue s.is_open → (IsBlank s.now → ⊥) → JudgesAll view s r → IfErr r (IsCaused s)
+pub caused_all : {X : Type 0} (view : X → Told) (s : State) (r : Answer X) → IsTrue s.is_open → (IsBlank s.now → ⊥) → JudgesAll view s r → IfErr r (IsCaused s)
 caused_all view s (Ok x) live filled h = tt
-caused_all view s (Err e) live filled h = λ fault. (live, filled, λ version d tells. is_fault e (about_fault version) d (h version d tells (is_not_memory e fault)))
+caused_all view s (Err e) live filled h = λ fault. (live, filled, λ version d tells. is_fault e (about_fault version) (told version d) (h version d tells (is_not_memory e fault)))
 
 never_store : (version : ℕ) → about_fault version ≡ Some Store → ⊥
-never_store version = go (not (version == tables_version))
+never_store version = go (not (version == first_version || version == tables_version))
   where
     go : (a : Bool) → ◌≡◌ {A = Option OpenStoreFault} (cond a (Some OtherVersion) None) (Some Store) → ⊥
     go true h = cc
     go false h = cc
 
 -- the row of `about` is no cause for `Store`
-pub excused_all : {X : Type 0} (view : X → List ℕ) (old new : State) (r : Answer X) → JudgesAll view old r
+pub excused_all : {X : Type 0} (view : X → Told) (old new : State) (r : Answer X) → JudgesAll view old r
     → IfErr r (λ e. (version : ℕ) (d : List ℕ) → TellsAbout version d old.now → IsOpenExcused old new e)
 excused_all view old new (Ok x) h = tt
 excused_all view old new (Err e) h = λ version d tells is.
-    absurd (never_store version (is_fault e (about_fault version) d (h version d tells (λ memory. let wrong : Store ≡ Memory = sym is ∙ memory in cc)) ∙ ap Some is))
+    absurd (never_store version (is_fault e (about_fault version) (told version d) (h version d tells (λ memory. let wrong : Store ≡ Memory = sym is ∙ memory in cc)) ∙ ap Some is))
 
 -- a refusal of the database
 pub is_refusal : (e : Error) → open_fault_of e ≡ Store → IsRefusal e
 is_refusal e is memory = let wrong : Memory ≡ Store = sym (ap open_fault_of memory) ∙ is in cc
 
--- the version of these tables is taken
-no_version : about_fault tables_version ≡ Some OtherVersion → ⊥
+-- a version of the two is taken
+no_version : ◌≡◌ {A = Option OpenStoreFault} None (Some OtherVersion) → ⊥
 no_version h = let never : ◌≡◌ {A = Option OpenStoreFault} None (Some OtherVersion) = h in cc
 
 -- ---- a blank database
@@ -110,28 +116,63 @@ holds_after old new k after = holds_as old new k (with_records after k)
 no_record : (o : Option Kept) → o ≡ None → (kept : Kept) → o ≡ Some kept → ⊥
 no_record o none kept some = cc
 
+-- what stands tells its version and its declarations
+tells_second : {db : Database} (k : Contents) → Stands db k → TellsAbout tables_version k.bytes db
+tells_second k stands = (inr stands.spells.schema, stands.spells.about)
+
+-- the same of version 1
+tells_first : {db : Database} (k : Contents) → StandsFirst db k → TellsAbout first_version k.bytes db
+tells_first k stands = (inl stands.spells.schema, stands.spells.about)
+
+second_is_not_first : ◌≢◌ {A = ℕ} tables_version first_version
+second_is_not_first e = cc
+
 module _ (old new : State) (frame : Frame old new) where
   pub holds_still : ((d : List ℕ) (m : Records) → Keeps old d m → Keeps new d m) → (k : Contents) → Holds old k → Holds new k
   holds_still stays k = holds_after old new k k.records frame (stays k.bytes k.records) (λ fit. fit)
 
-  holds_stays : (old.now.schema ≡ store_schema → Stays old new) → (k : Contents) → Holds old k → Holds new k
-  holds_stays stays k holds sure live =
+  -- what stands by version 2 stays
+  holds_stays : ((IsBlank old.now → ⊥) → Stays old new ⊎ (HasCleanDisk new → MayBeFirst old.now)) → (k : Contents) → Holds old k → Holds new k
+  holds_stays still k holds sure live =
       let was = holds (frame.clean sure) (frame.was_open sure live) in
-      let it = stays was.0.spells.schema sure live in
-      (subst (λ db. Stands db k) (sym it.2) was.0, subst (λ db. Stands db k) (sym it.3) was.1)
+      at was (still (λ blank. never_blank old.now blank was.0.spells.schema))
+    where
+      at : Stands old.now k × Stands old.committed k → Stays old new ⊎ (HasCleanDisk new → MayBeFirst old.now) → Stands new.now k × Stands new.committed k
+      at was (inl stays) =
+          let it = stays sure live in
+          (subst (λ db. Stands db k) (sym it.2) was.0, subst (λ db. Stands db k) (sym it.3) was.1)
+      at was (inr first) = absurd (second_is_not_first ((first sure).1 tables_version k.bytes (tells_second k was.0)))
+
+  -- and what stands by version 1 is migrated
+  holds_first : IsUpgraded old new → (k : Contents) → has_deep k.types ≡ false → HoldsFirst old k → Holds new k
+  holds_first made k shallow holds sure live =
+      let was = holds (frame.clean sure) (frame.was_open sure live) in
+      let it = (made k.bytes (olds k.records) (λ clean is. let w = holds clean is in (w.0.spells, w.1.spells))).1 sure live in
+      let same = upgraded_olds k.types k.records shallow (λ id kept known. (was.0.fit id kept known).typed) in (
+        record { spells = subst (tables.Stands new.now (about_rows k.bytes)) same it.0; fit = was.0.fit },
+        record { spells = subst (tables.Stands new.committed (about_rows k.bytes)) same it.1; fit = was.1.fit },
+      )
 
   -- what is opened over a blank database, or over one that stands, stands
-  pub opens_ok : (given text : List ℕ) → (IsBlank old.now → (text ≡ given) × Keeps new given no_records) → (old.now.schema ≡ store_schema → Stays old new)
-      → (k : Contents) → Opens old given k → Holds new k
-  opens_ok given text fresh kept k (inr holds) = holds_stays kept k holds
-  opens_ok given text fresh kept k (inl blank) = λ sure live.
+  pub opens_ok : (given text : List ℕ) → (IsBlank old.now → (text ≡ given) × Keeps new given no_records) → ((IsBlank old.now → ⊥) → Stays old new ⊎ (HasCleanDisk new → MayBeFirst old.now))
+      → IsUpgraded old new → (k : Contents) → has_deep k.types ≡ false → Opens old given k → Holds new k
+  opens_ok given text fresh still made k shallow (inr (inl holds)) = holds_stays still k holds
+  opens_ok given text fresh still made k shallow (inr (inr holds)) = holds_first made k shallow holds
+  opens_ok given text fresh still made k shallow (inl blank) = λ sure live.
       let was = blank (frame.clean sure) (frame.was_open sure live) in
       let none = subst (λ (d : List ℕ). Keeps new d k.records) (sym was.1) (subst (Keeps new given) (sym was.2) (fresh was.0).1) sure live in
       let fit : AllFit k = λ id kept known. absurd (no_record (k.records id) (ap (λ (m : Records). m id) was.2) kept known) in
       (record { spells = none.0; fit = fit }, record { spells = none.1; fit = fit })
 
   pub opens_err : Stays old new → (given : List ℕ) (k : Contents) → Opens old given k → Opens new given k
-  opens_err untouched given k (inr holds) = inr (holds_stays (λ _. untouched) k holds)
+  opens_err untouched given k (inr (inl holds)) = inr (inl (λ sure live.
+      let was = holds (frame.clean sure) (frame.was_open sure live) in
+      let it = untouched sure live in
+      (subst (λ db. Stands db k) (sym it.2) was.0, subst (λ db. Stands db k) (sym it.3) was.1)))
+  opens_err untouched given k (inr (inr holds)) = inr (inr (λ sure live.
+      let was = holds (frame.clean sure) (frame.was_open sure live) in
+      let it = untouched sure live in
+      (subst (λ db. StandsFirst db k) (sym it.2) was.0, subst (λ db. StandsFirst db k) (sym it.3) was.1)))
   opens_err untouched given k (inl blank) = inl (λ sure live.
       let was = blank (frame.clean sure) (frame.was_open sure live) in
       let it = untouched sure live in
@@ -139,16 +180,14 @@ module _ (old new : State) (frame : Frame old new) where
 
 -- ---- a database that is blank or stands
 
--- what stands tells its version and its declarations
-told : {db : Database} (k : Contents) → Stands db k → TellsAbout tables_version k.bytes db
-told k stands = (inr stands.spells.schema, stands.spells.about)
-
--- it isn't of another version
+-- what is opened isn't of another version
 pub opens_version : (s : State) (given : List ℕ) (k : Contents) → HasCleanDisk s → IsCaused s OtherVersion → Opens s given k → ⊥
 opens_version s given k clean cause (inl blank) = let is = cause tt in is.1 (blank clean is.0).0
-opens_version s given k clean cause (inr holds) = let is = cause tt in no_version (is.2 tables_version k.bytes (told k (holds clean is.0).0))
+opens_version s given k clean cause (inr (inl holds)) = let is = cause tt in no_version (is.2 tables_version k.bytes (tells_second k (holds clean is.0).0))
+opens_version s given k clean cause (inr (inr holds)) = let is = cause tt in no_version (is.2 first_version k.bytes (tells_first k (holds clean is.0).0))
 
 -- and its declarations are in force, or those given for a blank one
 pub opens_text : (s : State) (given text : List ℕ) → HasCleanDisk s → IsTrue s.is_open → (IsBlank s.now → text ≡ given) → IsTaken s text → (k : Contents) → Opens s given k → text ≡ k.bytes
 opens_text s given text clean live fresh taken k (inl blank) = let was = blank clean live in fresh was.0 ∙ sym was.1
-opens_text s given text clean live fresh taken k (inr holds) = (taken tables_version k.bytes (told k (holds clean live).0)).1
+opens_text s given text clean live fresh taken k (inr (inl holds)) = (taken tables_version k.bytes (tells_second k (holds clean live).0)).1
+opens_text s given text clean live fresh taken k (inr (inr holds)) = (taken first_version k.bytes (tells_first k (holds clean live).0)).1

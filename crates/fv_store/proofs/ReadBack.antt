@@ -165,6 +165,10 @@ fields_back types all t few fits =
     let fields = fields_added all fits.fields t.fields no_members (fields_few t.type_name types fits.fields few fits.declared) fits.fit (no_fields 4) in
     text_back (object (added no_members t.fields)) (fields.plain, fields.ordered) (let flat = fields.flat in omega arith)
 
+-- and as JSON
+pub fields_plain : (types : Declared) (all : Things) (t : Thing) → has_deep types ≡ false → FitsType types all t → ArePlain (added no_members t.fields)
+fields_plain types all t few fits = (fields_added all fits.fields t.fields no_members (fields_few t.type_name types fits.fields few fits.declared) fits.fit (no_fields 4)).plain
+
 -- ---- bundles
 
 thing_plain : (t : Thing) → Fields 4 (added no_members t.fields) → IsPlain (thing_json t) × (depth (thing_json t) ≤ 6)

@@ -70,16 +70,23 @@ set_makes id name t x y turns d m spelled =
     let it = turns (about_rows d) (all_kept m) spelled tt in
     (subst (tables.Stands y (about_rows d)) (sym (kept_set id name t m)) it.0, it.1)
 
-pub set_made : (id name : List ℕ) (t : Thing) (old new : State) → Advances old new (Turns 0 Always (with_part_of id name (part_kept name t))) → Advances old new (Makes 0 (with_object id name t))
-set_made id name t old new = led old new (set_makes id name t)
+pub set_made : (id name : List ℕ) (t : Thing) (old new : State) (r : Result (Unit {0}) Error) → OnOk r (Advances old new (Turns 0 Always (with_part_of id name (part_kept name t))))
+    → OnOk r (Advances old new (Makes 0 (with_object id name t)))
+set_made id name t old new r = led_on_ok old new r (set_makes id name t)
 
 remove_makes : (id : List ℕ) (x y : Database) → Turns 0 Always (tables.without_entry id) x y → Makes 0 (without_record id) x y
 remove_makes id x y turns d m spelled =
     let it = turns (about_rows d) (all_kept m) spelled tt in
     (subst (tables.Stands y (about_rows d)) (sym (kept_without id m)) it.0, it.1)
 
-pub remove_made : (id : List ℕ) (old new : State) → Advances old new (Turns 0 Always (tables.without_entry id)) → Advances old new (Makes 0 (without_record id))
-remove_made id old new = led old new (remove_makes id)
+pub remove_made : (id : List ℕ) (old new : State) (r : Result (Unit {0}) Error) → OnOk r (Advances old new (Turns 0 Always (tables.without_entry id))) → OnOk r (Advances old new (Makes 0 (without_record id)))
+remove_made id old new r = led_on_ok old new r (remove_makes id)
+
+-- why a statement is refused, said of the records that its tables keep
+pub of_records : (s : State) (Refuses : Error → Type 0) (r : Result (Unit {0}) Error) → IfErr r (λ e. (d : List Row) (m : Entries) → tables.Stands s.now d m → Refuses e)
+    → IfErr r (λ e. (d : List ℕ) (m : Records) → Spells s.now d (writings m) → Refuses e)
+of_records s Refuses (Ok x) h = tt
+of_records s Refuses (Err e) h = λ d m. h (about_rows d) (all_kept m)
 
 -- ---- one change after another
 

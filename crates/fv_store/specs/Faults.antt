@@ -1,5 +1,5 @@
 -- Which fault a refusal is: want of memory, or another.
-use Rattle.std.specs.Prelude.{◌==◌, ℕ, [], ◌∷◌, not, Option}
+use Rattle.std.specs.Prelude.{◌==◌, ◌||◌, ℕ, [], ◌∷◌, not, Option}
 use Rattle.sqlite.specs.declared.error.Error.{Error}
 use Rattle.sqlite.specs.declared.error.Error.TheVariants.{SqliteFailure}
 use Rattle.sqlite.specs.declared.error.ErrorCode.TheVariants.{OutOfMemory}
@@ -12,7 +12,9 @@ use Rattle.fv_store.specs.declared.fault.OpenStoreFault.{OpenStoreFault}
 use Rattle.fv_store.specs.declared.fault.OpenStoreFault.TheVariants as refusal
 use Rattle.fv_store.specs.declared.fault.StoreFault.{StoreFault}
 use Rattle.fv_store.specs.declared.fault.StoreFault.TheVariants.{Store, Memory}
-use Rattle.fv_store.specs.Stands.{tables_version}
+use Rattle.fv_upgrade.specs.declared.fault.UpgradeFault.{UpgradeFault}
+use Rattle.fv_upgrade.specs.declared.fault.UpgradeFault.TheVariants as upgrade
+use Rattle.fv_store.specs.Stands.{first_version, tables_version}
 
 -- of an error of the database
 abbrev pub fault_of : Error → StoreFault
@@ -34,6 +36,11 @@ abbrev pub open_fault_of : Error → OpenStoreFault
 open_fault_of (SqliteFailure OutOfMemory) = refusal.Memory
 open_fault_of _ = refusal.Store
 
+-- of a migration
+abbrev pub upgrade_fault : UpgradeFault → OpenStoreFault
+upgrade_fault upgrade.Memory = refusal.Memory
+upgrade_fault _ = refusal.Store
+
 -- a fault of the row of `about`
 abbrev pub IsAboutFault : OpenStoreFault → Type 0
 IsAboutFault refusal.OtherVersion = Unit {0}
@@ -41,4 +48,4 @@ IsAboutFault _ = ⊥
 
 -- of the row of `about`: its version alone is judged
 abbrev pub about_fault : ℕ → Option OpenStoreFault
-about_fault version = first ((not (version == tables_version), refusal.OtherVersion) ∷ [])
+about_fault version = first ((not (version == first_version || version == tables_version), refusal.OtherVersion) ∷ [])

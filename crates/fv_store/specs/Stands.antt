@@ -2,17 +2,27 @@
 pub use Rattle.fv_tables.specs.Creating.{IsBlank}
 pub use Rattle.fv_tables.specs.Stands.{Frame, IsLive, Stays}
 pub use Rattle.fv_tables.specs.About.{TellsAbout}
-use Rattle.std.specs.Prelude.{◌≡◌, ◌⊎◌, ℕ, IsTrue, List, [], ◌∷◌}
+use Rattle.std.specs.Prelude.{◌≡◌, ◌⊎◌, ◌&&◌, ℕ, Bool, false, IsTrue, List, [], ◌∷◌, codes, length, nat_eq, option_map}
 use Rattle.sqlite.specs.Effect.{Database}
 use Rattle.sqlite.specs.Order.{Row}
 use Rattle.sqlite.specs.State.{State, HasCleanDisk}
+use Rattle.sqlite.specs.Table.{Table}
+use Rattle.sqlite_schema.specs.Names.{same_name}
+use Rattle.sqlite_schema.specs.declared.schema.Column.{Column}
+use Rattle.fv_tables.specs.Olds as first
+use Rattle.fv_tables.specs.Olds.{Old, Olds}
 use Rattle.fv_tables.specs.Stands as tables
-use Rattle.fv_store.specs.Records.{Contents, AllFit, no_records}
+use Rattle.fv_store.specs.Records.{Kept, Records, Contents, AllFit, no_records}
+use Rattle.fv_store.specs.Texts.{bundle_text}
 use Rattle.fv_store.specs.Written.{Writings, writings, entries}
 
 -- the version of the tables
 abbrev pub tables_version : ℕ
 tables_version = 2
+
+-- the version of the tables that are migrated
+abbrev pub first_version : ℕ
+first_version = 1
 
 -- the one row of `about`: this version and these declarations
 abbrev pub about_rows : List ℕ → List Row
@@ -31,7 +41,56 @@ pub record Stands (db : Database) (c : Contents) : Type 0 where
 abbrev pub Holds : State → Contents → Type 0
 Holds s c = HasCleanDisk s → IsTrue s.is_open → Stands s.now c × Stands s.committed c
 
+-- ---- files of version 1
+
+-- what a row of version 1 keeps of a record: its form and its bundle's text
+abbrev pub old_of : Kept → Old
+old_of k = record { form = k.form; bundle = bundle_text k.bundle }
+
+-- the same of each record
+abbrev pub olds : Records → Olds
+olds m id = option_map old_of (m id)
+
+-- the one row of `about` in version 1
+abbrev pub first_rows : List ℕ → List Row
+first_rows declarations = tables.about_row first_version declarations ∷ []
+
+-- what a connection outside a transaction keeps in tables of version 1, now and as committed: the declarations, and rows of records
+abbrev pub KeepsFirst : State → List ℕ → Olds → Type 0
+KeepsFirst s declarations = first.KeepsFirst s (first_rows declarations)
+
+-- the tables of version 1, with the declarations and a row of `record` for each record, and each record fits
+pub record StandsFirst (db : Database) (c : Contents) : Type 0 where
+  pub spells : first.SpellsFirst db (first_rows c.bytes) (olds c.records)
+  pub fit : AllFit c
+
+-- what a connection to a file of version 1 stands for, as `Holds` says it of version 2
+abbrev pub HoldsFirst : State → Contents → Type 0
+HoldsFirst s c = HasCleanDisk s → IsTrue s.is_open → StandsFirst s.now c × StandsFirst s.committed c
+
+-- three columns of these names
+abbrev pub are_columns : List ℕ → List ℕ → List ℕ → List Column → Bool
+are_columns first second third (a ∷ b ∷ c ∷ []) = same_name a.name first && (same_name b.name second && same_name c.name third)
+are_columns first second third _ = false
+
+-- the two tables of version 1, by their names and those of their columns
+abbrev pub are_first : List Table → Bool
+are_first (about ∷ record_table ∷ []) =
+    (same_name about.name (codes "about") && are_columns (codes "one") (codes "version") (codes "declarations") about.columns)
+    && (same_name record_table.name (codes "record") && are_columns (codes "id") (codes "form") (codes "bundle") record_table.columns)
+are_first _ = false
+
+-- these, one index, which is that of the ids in version 1, and no view
+abbrev pub HasFirstTables : Database → Type 0
+HasFirstTables db = IsTrue (are_first db.schema.tables && (nat_eq (length db.schema.indexes) 1 && nat_eq (length db.schema.views) 0))
+
+-- it may be of version 1: so it says, if its tables are those of version 1
+abbrev pub MayBeFirst : Database → Type 0
+MayBeFirst db = HasFirstTables db × ((version : ℕ) (stored : List ℕ) → TellsAbout version stored db → version ≡ first_version)
+
+-- ---- opening
+
 -- What a database hands to a store that is opened over it, with these declarations for a blank one: no record and these where it is blank, else what
--- it stands for, under its own.
+-- it stands for, under its own, by the tables of either version.
 abbrev pub Opens : State → List ℕ → Contents → Type 0
-Opens s given c = (HasCleanDisk s → IsTrue s.is_open → IsBlank s.now × (c.bytes ≡ given) × (c.records ≡ no_records)) ⊎ Holds s c
+Opens s given c = (HasCleanDisk s → IsTrue s.is_open → IsBlank s.now × (c.bytes ≡ given) × (c.records ≡ no_records)) ⊎ (Holds s c ⊎ HoldsFirst s c)

@@ -1,17 +1,19 @@
--- What changes do to a database, for private clauses.
+-- What changes do to a database, and a migration; all but `IsUpgraded` for private clauses.
 pub use Rattle.fv_tables.specs.Causes.{IsRefusal, IsExcused}
 pub use Rattle.fv_tables.specs.Stands.{IsSettled}
 pub use Rattle.fv_tables.specs.Steps.{Advances, Inside}
-use Rattle.std.specs.Prelude.{◌≡◌, ℕ, IsTrue, List, Some, None}
+use Rattle.std.specs.Prelude.{◌≡◌, ℕ, ℤ, pos, IsTrue, List, Some, None}
 use Rattle.sqlite.specs.Effect.{Database}
-use Rattle.sqlite.specs.State.{State}
+use Rattle.sqlite.specs.State.{State, HasCleanDisk}
+use Rattle.fv_tables.specs.Olds.{Olds}
 use Rattle.fv_tables.specs.Stands as tables
+use Rattle.fv_upgrade.specs.Upgraded.{AllUpgrade, upgraded}
 use Rattle.fv_store.specs.declared.change.Change.{Change}
 use Rattle.fv_store.specs.Changes.{after_all}
 use Rattle.fv_store.specs.Causes.{HasFailed, LeavesRoom, rows_of_all}
 use Rattle.fv_store.specs.Faults.{about_fault, IsAboutFault}
 use Rattle.fv_store.specs.Records.{Records}
-use Rattle.fv_store.specs.Stands.{about_rows, Spells, IsBlank, TellsAbout}
+use Rattle.fv_store.specs.Stands.{about_rows, Spells, IsBlank, KeepsFirst, TellsAbout}
 use Rattle.fv_store.specs.Written.{writings, entries}
 use Rattle.fv_store.specs.declared.fault.OpenStoreFault.{OpenStoreFault}
 use Rattle.fv_store.specs.declared.fault.OpenStoreFault.TheVariants as refusal
@@ -32,6 +34,17 @@ MakesAll cs = Makes (rows_of_all cs) (after_all cs)
 -- the row of `about`, where there is one, is taken, and these are its declarations
 abbrev pub IsTaken : State → List ℕ → Type 0
 IsTaken s text = (version : ℕ) (stored : List ℕ) → TellsAbout version stored s.now → (about_fault version ≡ None) × (text ≡ stored)
+
+-- the same, with its version
+abbrev pub IsTakenAs : State → ℤ → List ℕ → Type 0
+IsTakenAs s number text =
+    (version : ℕ) (stored : List ℕ) → TellsAbout version stored s.now → (about_fault version ≡ None) × (number ≡ pos version) × (text ≡ stored)
+
+-- Where it was of version 1, each row's text is a bundle by its form, and tables of version 2 keep the same declarations and what those rows
+-- are there.
+abbrev pub IsUpgraded : State → State → Type 0
+IsUpgraded old new =
+    (d : List ℕ) (m : Olds) → KeepsFirst old d m → (HasCleanDisk new → AllUpgrade m) × tables.Keeps new (about_rows d) (upgraded m)
 
 -- a refusal for the row of `about` comes where that is its fault, and never for a blank database
 abbrev pub IsCaused : State → OpenStoreFault → Type 0

@@ -1,9 +1,10 @@
--- A record as it is handed out.
-use Rattle.std.specs.Prelude.{ℕ, List, Option, Some, string_bytes}
+-- What rows keep, as it is handed out.
+use Rattle.std.specs.Prelude.{ℕ, ℤ, pos, List, Option, Some, string_bytes}
 use Rattle.serde_json.specs.Data as json
 use Rattle.serde_json.specs.Read.{read}
 use Rattle.fv_model.specs.Views.{bundle_view}
 use Rattle.fv_model.specs.Writing.{bundle_json}
+use Rattle.fv_store.specs.declared.about.About.{About}
 use Rattle.fv_store.specs.declared.stored.Stored.{Stored}
 use Rattle.fv_store.specs.declared.written.Written.{Written}
 use Rattle.fv_store.specs.Records.{Kept}
@@ -19,3 +20,15 @@ written_view w = (string_bytes w.form, read (string_bytes w.bundle))
 -- what is handed out of a record without types: its form, and its bundle's JSON
 abbrev pub untyped : Kept → List ℕ × Option json.Data
 untyped k = (k.form, Some (bundle_json k.bundle))
+
+-- a version of the tables, and declarations
+abbrev pub Told : Type 0
+Told = ℤ × List ℕ
+
+-- as the row of `about` tells them
+abbrev pub told : ℕ → List ℕ → Told
+told version declarations = (pos version, declarations)
+
+-- as the code has them
+abbrev pub about_view : About → Told
+about_view a = (a.version, a.declarations.items)

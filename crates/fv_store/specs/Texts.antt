@@ -1,4 +1,4 @@
--- The text of a bundle, put together from what its rows keep, for private clauses.
+-- The text of a bundle, and how it is put together from what its rows keep.
 use Rattle.std.specs.Prelude.{ℕ, List, [], ◌∷◌, ◌++◌, codes}
 use Rattle.json.specs.Print.{quoted}
 use Rattle.serde_json.specs.Written.{compact_text}

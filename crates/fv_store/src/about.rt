@@ -1,27 +1,51 @@
-//! The row of `about`: the version is compared with that of these tables, and the declarations are read.
-ghost use Rattle.std.specs.Prelude.{◌≡◌, ℕ, List};
+//! The row of `about`: the tables' version is judged, and the declarations are read.
+ghost use Rattle.std.specs.Prelude.{◌≡◌, ◌↔◌, pos, IsTrue, ℕ, List};
 ghost use Rattle.fv_datum.specs.Outcomes.{Gives, unless_fault};
 ghost use Rattle.fv_store.specs.Faults.{about_fault};
+ghost use Rattle.fv_store.specs.Stands.{first_version};
+ghost use Rattle.fv_store.specs.Stored.{about_view, told};
 ghost use Rattle.fv_tables.specs.About.{shown_about};
 
 use crate::fault::OpenStoreFault;
 use sqlite::Row;
 
+/// The version of the tables that are migrated.
+const FIRST_VERSION: i64 = 1;
+
 /// The version of the tables.
 const VERSION: i64 = 2;
 
-/// The declarations that a row of this version shows.
+/// What the row keeps.
+#[derive(Drop)]
+pub(crate) struct About {
+    pub(crate) version: i64,
+    pub(crate) declarations: Vec<u8>,
+}
+
+impl About {
+    /// Whether the tables have to be migrated.
+    pub(crate) fn is_first(&self) -> bool
+        ensures { IsTrue result ↔ (self.now.version ≡ pos first_version) }
+    {
+        self.version == FIRST_VERSION
+    }
+}
+
+/// What a row shows that is of one of the two versions.
 ///
 /// `OtherVersion`; `Store` for a row of another form; `Memory` at any place. The version is asked
 /// first, so that tables of another version may keep their declarations in another way.
-pub(crate) fn declarations_in(row: &Row) -> Result<Vec<u8>, OpenStoreFault>
+pub(crate) fn about_in(row: &Row) -> Result<About, OpenStoreFault>
     ensures { (version : ℕ) (stored : List ℕ) → row.now ≡ shown_about version stored
-        → Gives OpenStoreFault.Memory (λ v. v.items) result (unless_fault (about_fault version) stored) }
+        → Gives OpenStoreFault.Memory about_view result (unless_fault (about_fault version) (told version stored)) }
 {
     let version: i64 = row.get(0)?;
-    if version != VERSION {
+    if version != FIRST_VERSION && version != VERSION {
         return Err(OpenStoreFault::OtherVersion);
     }
     let declarations: Vec<u8> = row.get(1)?;
-    Ok(declarations)
+    Ok(About {
+        version,
+        declarations,
+    })
 }

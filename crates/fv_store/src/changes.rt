@@ -60,8 +60,7 @@ fn set<S: Alter>(
         → IsShortObject id.now (name.now, object_view object.now) → IsExcused old new e)) }
 {
     let fields = fields_of(alloc, object)?;
-    set_object(tx, id, name, object.type_name(), fields.as_str())?;
-    Ok(())
+    set_object(tx, id, name, object.type_name(), fields.as_str())
 }
 
 /// Takes a record out, where there is one.
@@ -75,8 +74,7 @@ fn remove<S: Alter>(tx: &mut Transaction<'_, S>, id: &str) -> Result<(), Error>
     ensures cause { Inside S.Store tx.old.conn.now tx.new.conn.now (λ old new. tx.old.conn.now.step_limit ≡ None
         → IfErr result (λ e. (d : _) (m : _) → Spells old.now d (writings m) → IsExcused old new e)) }
 {
-    remove_record(tx, id)?;
-    Ok(())
+    remove_record(tx, id)
 }
 
 /// Makes one change.

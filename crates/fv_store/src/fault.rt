@@ -1,12 +1,13 @@
 //! How a call of the store fails.
 ghost use Rattle.std.specs.Prelude.{◌≡◌};
 ghost use Rattle.fv_store.specs.FaultNames.{store_fault_name, open_store_fault_name};
-ghost use Rattle.fv_store.specs.Faults.{fault_of, json_fault, bundle_fault, open_fault_of};
+ghost use Rattle.fv_store.specs.Faults.{fault_of, json_fault, bundle_fault, open_fault_of, upgrade_fault};
 ghost use Rattle.fv_store.specs.declared.fault.OpenStoreFault.TheVariants as refusal;
 ghost use Rattle.fv_store.specs.declared.fault.StoreFault.TheVariants.{Memory};
 
 use fv_json::Refused;
 use fv_model::BundleFault;
+use fv_upgrade::UpgradeFault;
 use sqlite::{Error, ErrorCode};
 use std::alloc::AllocError;
 
@@ -80,7 +81,8 @@ pub enum OpenStoreFault {
     /// The tables are of another version.
     #[error("tables of another version")]
     OtherVersion,
-    /// The database refused, for another cause than want of memory, or isn't of this form.
+    /// The database refused, for another cause than want of memory, or isn't of this form, or a row of
+    /// version 1 spells no record.
     #[error("the database refused")]
     Store,
     /// An allocation was refused.
@@ -117,5 +119,16 @@ impl From<AllocError> for OpenStoreFault {
 
     fn from(_error: AllocError) -> OpenStoreFault {
         OpenStoreFault::Memory
+    }
+}
+
+impl From<UpgradeFault> for OpenStoreFault {
+    ghost from_gives = { λ e fault. fault ≡ upgrade_fault e };
+
+    fn from(fault: UpgradeFault) -> OpenStoreFault {
+        match fault {
+            UpgradeFault::Memory => OpenStoreFault::Memory,
+            _ => OpenStoreFault::Store,
+        }
     }
 }

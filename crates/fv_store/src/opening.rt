@@ -1,17 +1,21 @@
-//! A database is made ready, and the declarations in force are read.
-ghost use Rattle.std.specs.Prelude.{◌≡◌, ◌↔◌, false, IsTrue, IfErr, IfOk, None, OnOk, OnErr};
+//! A database is made ready or migrated, and the declarations in force are read.
+ghost use Rattle.std.specs.Prelude.{◌≡◌, ◌⊎◌, ◌↔◌, false, IsTrue, IfErr, IfOk, List, None, OnOk, OnErr, ℕ};
 ghost use Rattle.sqlite.specs.State.{HasCleanDisk};
 ghost use Rattle.sqlite.specs.Held.{state};
 ghost use Rattle.fv_store.specs.Causes.{IsShortAbout};
 ghost use Rattle.fv_store.specs.Records.{no_records};
-ghost use Rattle.fv_store.specs.Stands.{Frame, IsBlank, IsLive, Stays, TellsAbout};
-ghost use Rattle.fv_store.specs.Steps.{Keeps, IsSettled, IsTaken, IsCaused, IsExcused, IsOpenExcused};
-ghost use Rattle.fv_tables.specs.Tables.{store_schema};
+ghost use Rattle.fv_store.specs.Stands.{are_columns, are_first, first_version, Frame, HasFirstTables, IsBlank, IsLive, MayBeFirst, KeepsFirst, Stays, TellsAbout};
+ghost use Rattle.fv_store.specs.Steps.{Keeps, IsSettled, IsTaken, IsTakenAs, IsCaused, IsExcused, IsOpenExcused, IsUpgraded};
+ghost use Rattle.fv_tables.specs.Olds.{Olds};
+ghost use Rattle.fv_upgrade.specs.Upgraded.{AllShort, AllUpgrade, HasFew, upgraded};
 
-use crate::about::declarations_in;
+use crate::about::{About, about_in};
 use crate::fault::OpenStoreFault;
 use fv_tables::{create_tables, read_about};
+use fv_upgrade::migrate;
 use sqlite::{Alter, Connection, Error};
+use sqlite_schema::names::same_name;
+use sqlite_schema::schema::{Column, Table};
 use std::alloc::Global;
 
 /// Whether the database has no table, index or view.
@@ -20,6 +24,49 @@ fn is_blank<S: Alter>(conn: &Connection<S>) -> bool
 {
     let schema = conn.schema();
     schema.tables.is_empty() && schema.indexes.is_empty() && schema.views.is_empty()
+}
+
+/// Whether these are three columns of these names.
+fn are_columns(columns: &[Column], first: &[u8], second: &[u8], third: &[u8]) -> bool
+    ensures { result ≡ are_columns first.now second.now third.now columns.now }
+{
+    match columns {
+        [a, b, c] => {
+            same_name(a.name.as_slice(), first)
+                && same_name(b.name.as_slice(), second)
+                && same_name(c.name.as_slice(), third)
+        }
+        _ => false,
+    }
+}
+
+/// Whether these are the two tables of version 1, by their names and those of their columns.
+fn are_first(tables: &[Table]) -> bool
+    ensures { result ≡ are_first tables.now }
+{
+    match tables {
+        [about, record] => {
+            about.is_named(b"about")
+                && are_columns(
+                    about.columns.as_slice(),
+                    b"one",
+                    b"version",
+                    b"declarations",
+                )
+                && record.is_named(b"record")
+                && are_columns(record.columns.as_slice(), b"id", b"form", b"bundle")
+        }
+        _ => false,
+    }
+}
+
+/// Whether the database has the two tables of version 1, an index, which is that of the ids there, and
+/// no view.
+fn has_first_tables<S: Alter>(conn: &Connection<S>) -> bool
+    ensures { IsTrue result ↔ HasFirstTables (state S.Store conn.now).now }
+{
+    let schema = conn.schema();
+    are_first(schema.tables.as_slice()) && schema.indexes.len() == 1 && schema.views.len() == 0
 }
 
 /// Makes the tables in one transaction.
@@ -42,16 +89,16 @@ fn create<S: Alter>(conn: &mut Connection<S>, declarations: &[u8]) -> Result<(),
     tx.commit()
 }
 
-/// The declarations that are stored under this version. A row that isn't there is refused as one that
-/// can't be read.
-fn stored<S: Alter>(conn: &mut Connection<S>) -> Result<Vec<u8>, OpenStoreFault>
+/// What `about` keeps, in tables of either version. A row that isn't there is refused as one that can't
+/// be read.
+fn stored<S: Alter>(conn: &mut Connection<S>) -> Result<About, OpenStoreFault>
     ensures mode { conn.old.in_transaction ≡ false → conn.new.in_transaction ≡ false }
     ensures frame { Frame (state S.Store conn.old) (state S.Store conn.new) }
     ensures limit { conn.new.step_limit ≡ conn.old.step_limit }
     ensures open { OnOk result (IsLive (state S.Store conn.new)) }
     ensures untouched { IsSettled (state S.Store conn.old) → Stays (state S.Store conn.old) (state S.Store conn.new) }
     ensures taken { HasCleanDisk (state S.Store conn.new)
-        → IfOk result (λ v. IsTaken (state S.Store conn.old) v.items) }
+        → IfOk result (λ a. IsTakenAs (state S.Store conn.old) a.version a.declarations.items) }
     ensures cause { HasCleanDisk (state S.Store conn.new) → (IsBlank (state S.Store conn.old).now → ⊥)
         → IfErr result (IsCaused (state S.Store conn.old)) }
     ensures store_known { HasCleanDisk (state S.Store conn.new) → conn.old.step_limit ≡ None
@@ -60,13 +107,50 @@ fn stored<S: Alter>(conn: &mut Connection<S>) -> Result<Vec<u8>, OpenStoreFault>
 {
     let rows = read_about(conn)?;
     match rows.first() {
-        Some(row) => declarations_in(row),
+        Some(row) => about_in(row),
         None => Err(OpenStoreFault::Store),
     }
 }
 
-/// Makes the tables in a database that has none, and reads the declarations that are stored otherwise;
-/// the declarations in force, in either case. A connection that is inside a transaction is refused.
+/// The declarations of a database that isn't blank. One of version 1 is migrated; one that says so and
+/// has other tables than its two is refused, so that nothing but these is ever dropped.
+fn kept<S: Alter>(conn: &mut Connection<S>, alloc: Global) -> Result<Vec<u8>, OpenStoreFault>
+    requires mode { conn.old.in_transaction ≡ false }
+    requires settled { IsSettled (state S.Store conn.old) }
+    ensures mode { conn.new.in_transaction ≡ false }
+    ensures frame { Frame (state S.Store conn.old) (state S.Store conn.new) }
+    ensures limit { conn.new.step_limit ≡ conn.old.step_limit }
+    ensures open { OnOk result (IsLive (state S.Store conn.new)) }
+    ensures still { OnOk result (Stays (state S.Store conn.old) (state S.Store conn.new)
+        ⊎ (HasCleanDisk (state S.Store conn.new) → MayBeFirst (state S.Store conn.old).now)) }
+    ensures upgraded { OnOk result (IsUpgraded (state S.Store conn.old) (state S.Store conn.new)) }
+    ensures taken { HasCleanDisk (state S.Store conn.new)
+        → IfOk result (λ v. IsTaken (state S.Store conn.old) v.items) }
+    ensures untouched { OnErr result (Stays (state S.Store conn.old) (state S.Store conn.new)) }
+    ensures cause { HasCleanDisk (state S.Store conn.new) → (IsBlank (state S.Store conn.old).now → ⊥)
+        → IfErr result (IsCaused (state S.Store conn.old)) }
+    ensures store_known { HasCleanDisk (state S.Store conn.new) → conn.old.step_limit ≡ None
+        → IfErr result (λ e. (version : _) (d : _) → TellsAbout version d (state S.Store conn.old).now
+        → (version ≡ first_version → ⊥) → IsOpenExcused (state S.Store conn.old) (state S.Store conn.new) e) }
+    ensures store_first { HasCleanDisk (state S.Store conn.new) → conn.old.step_limit ≡ None
+        → IfErr result (λ e. (d : List ℕ) (m : Olds) → KeepsFirst (state S.Store conn.old) d m → AllUpgrade m
+        → IsShortAbout d → AllShort (upgraded m) → HasFew m
+        → IsOpenExcused (state S.Store conn.old) (state S.Store conn.new) e) }
+{
+    let about = stored(conn)?;
+    if !about.is_first() {
+        return Ok(about.declarations);
+    }
+    if !has_first_tables(conn) {
+        return Err(OpenStoreFault::Store);
+    }
+    prove!(conn.is_autocommit());
+    migrate(conn, alloc)?;
+    Ok(about.declarations)
+}
+
+/// Makes the tables in a database that has none, and migrates one of version 1; the declarations in
+/// force, in either case. A connection that is inside a transaction is refused.
 pub(crate) fn settle<S: Alter>(
     alloc: Global,
     conn: &mut Connection<S>,
@@ -78,10 +162,10 @@ pub(crate) fn settle<S: Alter>(
     ensures open { OnOk result (IsLive (state S.Store conn.new)) }
     ensures fresh { IfOk result (λ v. IsBlank (state S.Store conn.old).now
         → (v.items ≡ declarations.now) × Keeps (state S.Store conn.new) declarations.now no_records) }
-    ensures kept { OnOk result ((state S.Store conn.old).now.schema ≡ store_schema
-        → Stays (state S.Store conn.old) (state S.Store conn.new)) }
     ensures still { OnOk result ((IsBlank (state S.Store conn.old).now → ⊥)
-        → Stays (state S.Store conn.old) (state S.Store conn.new)) }
+        → Stays (state S.Store conn.old) (state S.Store conn.new)
+        ⊎ (HasCleanDisk (state S.Store conn.new) → MayBeFirst (state S.Store conn.old).now)) }
+    ensures upgraded { OnOk result (IsUpgraded (state S.Store conn.old) (state S.Store conn.new)) }
     ensures taken { HasCleanDisk (state S.Store conn.new)
         → IfOk result (λ v. IsTaken (state S.Store conn.old) v.items) }
     ensures untouched { OnErr result (Stays (state S.Store conn.old) (state S.Store conn.new)) }
@@ -89,7 +173,11 @@ pub(crate) fn settle<S: Alter>(
         → IfErr result (IsCaused (state S.Store conn.old)) }
     ensures store_known { HasCleanDisk (state S.Store conn.new) → conn.old.in_transaction ≡ false
         → conn.old.step_limit ≡ None → IfErr result (λ e. (version : _) (d : _)
-        → TellsAbout version d (state S.Store conn.old).now
+        → TellsAbout version d (state S.Store conn.old).now → (version ≡ first_version → ⊥)
+        → IsOpenExcused (state S.Store conn.old) (state S.Store conn.new) e) }
+    ensures store_first { HasCleanDisk (state S.Store conn.new) → conn.old.in_transaction ≡ false
+        → conn.old.step_limit ≡ None → IfErr result (λ e. (d : List ℕ) (m : Olds)
+        → KeepsFirst (state S.Store conn.old) d m → AllUpgrade m → IsShortAbout d → AllShort (upgraded m) → HasFew m
         → IsOpenExcused (state S.Store conn.old) (state S.Store conn.new) e) }
     ensures store_blank { HasCleanDisk (state S.Store conn.new) → conn.old.in_transaction ≡ false
         → conn.old.step_limit ≡ None → IfErr result (λ e. IsBlank (state S.Store conn.old).now
@@ -103,5 +191,5 @@ pub(crate) fn settle<S: Alter>(
         create(conn, declarations)?;
         return Ok(text);
     }
-    stored(conn)
+    kept(conn, alloc)
 }

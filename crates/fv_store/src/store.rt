@@ -1,5 +1,5 @@
 //! The store.
-ghost use Rattle.std.specs.Prelude.{◌≡◌, false, IfOk, IfErr, IfSome, OnOk, OnErr, MatchResult, map, option_map, string_bytes, Some, None, unwrap_or, []};
+ghost use Rattle.std.specs.Prelude.{◌≡◌, ◌⊎◌, false, IfOk, IfErr, IfSome, List, OnOk, OnErr, MatchResult, map, option_map, string_bytes, Some, None, unwrap_or, [], ℕ};
 ghost use Rattle.sqlite.specs.State.{HasCleanDisk};
 ghost use Rattle.sqlite.specs.Held.{state};
 ghost use Rattle.fv_model_types.specs.Types.{has_deep};
@@ -8,7 +8,10 @@ ghost use Rattle.fv_model.specs.Views.{bundle_view};
 ghost use Rattle.fv_model.specs.WellTyped.{IsWellTyped};
 ghost use Rattle.fv_store.specs.Causes.{AreShort, HasFailed, HasRooms, IsShortAbout, LeavesRoom, rows_of_all};
 ghost use Rattle.fv_store.specs.Changes.{changed, ChangesFit};
-ghost use Rattle.fv_store.specs.Stands.{Frame, Holds, IsBlank, IsLive, Opens, Stays, TellsAbout};
+ghost use Rattle.fv_store.specs.Stands.{first_version, Frame, Holds, IsBlank, IsLive, MayBeFirst, KeepsFirst, Opens, Stays, TellsAbout};
+ghost use Rattle.fv_store.specs.Steps.{IsUpgraded};
+ghost use Rattle.fv_tables.specs.Olds.{Olds};
+ghost use Rattle.fv_upgrade.specs.Upgraded.{AllShort, AllUpgrade, HasFew, upgraded};
 ghost use Rattle.fv_store.specs.Stock.{stock_state};
 ghost use Rattle.fv_store.specs.Faults.{about_fault, IsAboutFault};
 ghost use Rattle.fv_store.specs.Lists.{Lists, ListsOf};
@@ -61,14 +64,18 @@ impl<S: Alter> Model for Store<S> {
 impl<S: Alter + Drop> Store<S> {
     /// A store over the database of a connection. A database with no table, index or view is given the
     /// tables, with these declarations and no record; any other keeps its own declarations, which are
-    /// in force. The connection has no limit on the steps of a statement from now on, also where it is
-    /// handed back.
+    /// in force. One of version 1 is migrated in one transaction: its tables are replaced by those of
+    /// version 2, with the same records. The connection has no limit on the steps of a statement from
+    /// now on, also where it is handed back.
     ///
-    /// Refused by `OtherVersion` for tables of another version; by `Memory` at any place; and by `Store`
-    /// where the connection is inside a transaction or was shut before, where the disk has failed during
-    /// the call, where the declarations that are written are too long, and where the database has other
-    /// tables and no row of declarations, or one of another form. Whether the tables of records are of
-    /// their form isn't looked at. A refusal hands the connection back, its database as it was.
+    /// Refused by `OtherVersion` for tables of a version other than 1 and 2; by `Memory` at any place; and
+    /// by `Store` where the connection is inside a transaction or was shut before, where the disk has failed
+    /// during the call, where the declarations that are written are too long, where the database has other
+    /// tables and no row of declarations, or one of another form, and, in version 1, where there is a table,
+    /// an index or a view beside its two tables, a row's text is no bundle by its form, a new row is too
+    /// long, or a table has fewer rowids than there are new rows.
+    /// Whether the tables of records are of their form isn't looked at. A refusal hands the connection back,
+    /// its database as it was.
     pub fn open(
         alloc: Global,
         mut connection: Connection<S>,
@@ -77,11 +84,17 @@ impl<S: Alter + Drop> Store<S> {
         ensures frame { MatchResult result (λ s. Frame (state S.Store connection) (stock_state S.Store s))
             (λ e. Frame (state S.Store connection) (state S.Store e.1)) }
         ensures open { IfOk result (λ s. IsLive (stock_state S.Store s)) }
-        ensures opened { IfOk result (λ s. (c : _) → Opens (state S.Store connection) declarations.now c
-            → Holds (stock_state S.Store s) c × (HasCleanDisk (stock_state S.Store s) → s.text ≡ c.bytes)) }
+        ensures opened { IfOk result (λ s. (c : _) → has_deep c.types ≡ false
+            → Opens (state S.Store connection) declarations.now c → Holds (stock_state S.Store s) c) }
+        ensures in_force { IfOk result (λ s. HasCleanDisk (stock_state S.Store s) → (c : _)
+            → Opens (state S.Store connection) declarations.now c → s.text ≡ c.bytes) }
         ensures fresh { IfOk result (λ s. IsBlank (state S.Store connection).now → s.text ≡ declarations.now) }
+        // Whatever is not of version 1 is left as it was.
         ensures still { IfOk result (λ s. (IsBlank (state S.Store connection).now → ⊥)
-            → Stays (state S.Store connection) (stock_state S.Store s)) }
+            → Stays (state S.Store connection) (stock_state S.Store s)
+            ⊎ (HasCleanDisk (stock_state S.Store s) → MayBeFirst (state S.Store connection).now)) }
+        // Whatever texts its rows have, one of version 1 is migrated only where each is a bundle by its form.
+        ensures upgraded { IfOk result (λ s. IsUpgraded (state S.Store connection) (stock_state S.Store s)) }
         ensures taken { IfOk result (λ s. HasCleanDisk (stock_state S.Store s) → (version : _) (d : _)
             → TellsAbout version d (state S.Store connection).now
             → (about_fault version ≡ None) × (s.text ≡ d)) }
@@ -92,7 +105,11 @@ impl<S: Alter + Drop> Store<S> {
             → (c : _) → Opens (state S.Store connection) declarations.now c → ⊥) }
         ensures store_known { IfErr result (λ e. e.0 ≡ OpenStoreFault.Store → HasCleanDisk (state S.Store e.1)
             → connection.in_transaction ≡ false → (version : _) (d : _)
-            → TellsAbout version d (state S.Store connection).now
+            → TellsAbout version d (state S.Store connection).now → (version ≡ first_version → ⊥)
+            → HasFailed (state S.Store connection) (state S.Store e.1)) }
+        ensures store_first { IfErr result (λ e. e.0 ≡ OpenStoreFault.Store → HasCleanDisk (state S.Store e.1)
+            → connection.in_transaction ≡ false → (d : List ℕ) (m : Olds) → KeepsFirst (state S.Store connection) d m
+            → AllUpgrade m → IsShortAbout d → AllShort (upgraded m) → HasFew m
             → HasFailed (state S.Store connection) (state S.Store e.1)) }
         ensures store_blank { IfErr result (λ e. e.0 ≡ OpenStoreFault.Store → HasCleanDisk (state S.Store e.1)
             → connection.in_transaction ≡ false → IsBlank (state S.Store connection).now

@@ -10,7 +10,7 @@ use Rattle.sqlite_resolve.specs.declared.error.CompileError.TheVariants.{NoSuchT
 use Rattle.sqlite_schema.specs.declared.command.Returning.{Returning}
 use Rattle.sqlite_syntax.specs.declared.statement.Parsed.{Parsed}
 use Rattle.sqlite_tied.specs.Compute.{everything}
-use Rattle.fv_tables.proofs.FirstTexts.{read_text}
+use Rattle.fv_tables.proofs.FirstTexts.{read_text, old_rows_text}
 use Rattle.fv_tables.proofs.Texts.{find_text, objects_text}
 
 abbrev Plan : Type 0
@@ -85,3 +85,10 @@ first_find = λ s base. refl
 
 pub find_bare : (s : Schema) (c : Compiled) → understood s find_text ≡ Ok c → c.returning ≡ None
 find_bare = text_bare find_text first_find
+
+first_old : IsBare (first old_rows_text)
+unfolding everything
+first_old = λ s base. refl
+
+pub old_rows_bare : (s : Schema) (c : Compiled) → understood s old_rows_text ≡ Ok c → c.returning ≡ None
+old_rows_bare = text_bare old_rows_text first_old

@@ -89,7 +89,7 @@ object_step old new (Ok count) h = record {
 
 -- ---- the first row of `about`
 
-no_rows : {K V : Type 0} (row_of : ℤ → K → V → Row) (IsGood : K → V → Type 0) (m : K → Option V) → ((k : K) → m k ≡ None) → HasRows row_of IsGood [] m
+pub no_rows : {K V : Type 0} (row_of : ℤ → K → V → Row) (IsGood : K → V → Type 0) (m : K → Option V) → ((k : K) → m k ≡ None) → HasRows row_of IsGood [] m
 no_rows row_of IsGood m none = record {
   apart = tt;
   sound = λ row h. absurd h;
@@ -144,6 +144,9 @@ blank_then x y z p q h = q [] (p h)
 
 pub blank_half_then : (x y z : Database) → Leads IsBlank (IsHalf []) x y → Builds IsHalf IsMade y z → Leads IsBlank (IsMade []) x z
 blank_half_then x y z p q h = q [] (p h)
+
+pub built_on : (P Q R : List Row → Database → Type 0) (x y z : Database) → Builds P Q x y → Builds Q R y z → Builds P R x z
+built_on P Q R x y z p q rows h = q rows (p rows h)
 
 pub led_on : (P Q R : Database → Type 0) (x y z : Database) → Leads P Q x y → Leads Q R y z → Leads P R x z
 led_on P Q R x y z p q h = q (p h)

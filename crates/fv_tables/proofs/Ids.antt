@@ -64,13 +64,15 @@ module _ (id : List ℕ) where
   not_below : (n : ℤ) → int_cmp n n ≡ Less → ⊥
   not_below n h = grind (arith, ints, nat_tests)
 
-  at_most_once : (m : List ℕ → Option Head) (rs : List Row) → HasRows head_row IsTextHead rs m → sum_by hit rs ≤ 1
-  at_most_once m rs s = go rs s.apart s.sound s.once
+  -- whatever the rows keep beside the rowid and the id, which comes first
+  pub at_most_once : {V : Type 0} (row_of : ℤ → List ℕ → V → Row) (IsGood : List ℕ → V → Type 0) → ((i : ℤ) (k : List ℕ) (v : V) → (rowid (row_of i k v) ≡ Int i) × (bytes (column (row_of i k v) 1) ≡ k))
+      → (m : List ℕ → Option V) (rs : List Row) → HasRows row_of IsGood rs m → sum_by hit rs ≤ 1
+  at_most_once {V} row_of IsGood begins m rs s = go rs s.apart s.sound s.once
     where
-      key_is : (row : Row) (it : IsRowOf head_row IsTextHead m row) → bytes_eq (bytes (column row 1)) id ≡ true → it.key ≡ id
-      key_is row it same = ap (λ (r : Row). bytes (column r 1)) (sym it.is) ∙ (bytes_eq-Decides (bytes (column row 1)) id).0 same
+      key_is : (row : Row) (it : IsRowOf row_of IsGood m row) → bytes_eq (bytes (column row 1)) id ≡ true → it.key ≡ id
+      key_is row it same = sym (begins it.number it.key it.value).1 ∙ ap (λ (r : Row). bytes (column r 1)) (sym it.is) ∙ (bytes_eq-Decides (bytes (column row 1)) id).0 same
 
-      go : (xs : List Row) → IsTable xs → ((r : Row) → Has xs r → IsRowOf head_row IsTextHead m r) → ((i n : ℤ) (k : List ℕ) (v w : Head) → Has xs (head_row i k v) → Has xs (head_row n k w) → i ≡ n) → sum_by hit xs ≤ 1
+      go : (xs : List Row) → IsTable xs → ((r : Row) → Has xs r → IsRowOf row_of IsGood m r) → ((i n : ℤ) (k : List ℕ) (v w : V) → Has xs (row_of i k v) → Has xs (row_of n k w) → i ≡ n) → sum_by hit xs ≤ 1
       go [] up rows once = omega arith
       go (x ∷ xs) up rows once = let step : sum_by hit (x ∷ xs) ≡ hit x + sum_by hit xs = sum_by-cons hit x xs in elim (cases_Bool (bytes_eq (bytes (column x 1)) id)) [
         | inr other ↦ let rest = go xs up.1 (λ r h. rows r (inr h)) (λ i n k v w p q. once i n k v w (inr p) (inr q)) in let head : hit x ≡ 0 = rw other refl in omega arith
@@ -81,11 +83,11 @@ module _ (id : List ℕ) where
               | inl too ↦ absurd (
                   let rx = rows x (inl refl) in
                   let ry = rows y (inr h) in
-                  let here : Has (x ∷ xs) (head_row rx.number id rx.value) = inl (ap (λ k. head_row rx.number k rx.value) (sym (key_is x rx same)) ∙ sym rx.is) in
-                  let there : Has (x ∷ xs) (head_row ry.number id ry.value) = inr (subst (Has xs) (ry.is ∙ ap (λ k. head_row ry.number k ry.value) (key_is y ry too)) h) in
+                  let here : Has (x ∷ xs) (row_of rx.number id rx.value) = inl (ap (λ k. row_of rx.number k rx.value) (sym (key_is x rx same)) ∙ sym rx.is) in
+                  let there : Has (x ∷ xs) (row_of ry.number id ry.value) = inr (subst (Has xs) (ry.is ∙ ap (λ k. row_of ry.number k ry.value) (key_is y ry too)) h) in
                   let number : rx.number ≡ ry.number = once rx.number ry.number id rx.value ry.value here there in
                   let less : value_cmp (rowid x) (rowid y) ≡ Less = all_has (λ r. value_cmp (rowid x) (rowid r) ≡ Less) xs y up.0 h in
-                  let both : value_cmp (Int rx.number) (Int ry.number) ≡ Less = subst₂ (λ (a b : Row). value_cmp (rowid a) (rowid b) ≡ Less) rx.is ry.is less in
+                  let both : value_cmp (Int rx.number) (Int ry.number) ≡ Less = subst₂ (λ a b. value_cmp a b ≡ Less) (ap rowid rx.is ∙ (begins rx.number rx.key rx.value).0) (ap rowid ry.is ∙ (begins ry.number ry.key ry.value).0) less in
                   not_below rx.number (sym (value_cmp-Int rx.number rx.number) ∙ subst (λ n. value_cmp (Int rx.number) (Int n) ≡ Less) (sym number) both))
             ]) in
             omega arith
@@ -167,7 +169,7 @@ module _ (text : List ℕ) (given : Row) (above : List ℕ) (n : ℕ) (Wanted : 
       let mapped = ap (sum_by (shows id)) all in
       let through = sum_by-map (shows id) (output q) (matches (overlay db []) f.tests (inner 1 end) (given ∷ [])) in
       let less = fewer (λ r. list_all (holds (given ∷ r ∷ [])) f.tests) (λ r. given ∷ r ∷ []) (λ e. shows id (output q e)) (hit id) (db 1) (λ r there passed. refl) in
-      let most = at_most_once id (λ i. head_of (m i)) (db 1) s in
+      let most = at_most_once id head_row IsTextHead (λ i k v. (refl, refl)) (λ i. head_of (m i)) (db 1) s in
       le_by (moved ∙ mapped ∙ through) (both_le less most)
 
   -- two neighbours show two ids

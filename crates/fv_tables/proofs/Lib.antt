@@ -33,3 +33,7 @@ pub mod Heads
 pub mod Replaces
 pub mod Redeclares
 pub mod RedeclareCauses
+pub mod ShownRows
+pub mod OldRows
+pub mod Migrates
+pub mod MigrateCauses

@@ -1,5 +1,5 @@
 -- What the queries show, and what they leave.
-use Rattle.std.proofs.Common.{◌≡◌, inl, inr, true, false, ℕ, zero, suc, ◌<◌, length, get_or, arith, List, [], ◌∷◌, map, Option, Some, None, Ok, Err, Result, IfOk, IfErr, OnOk, IsTrue, IsUtf8, ◌⊎◌, Vec, slice_get, codes, refl, sym, ap, ap₂, subst, ◌∙◌}
+use Rattle.std.proofs.Common.{◌≡◌, inl, inr, true, false, ℕ, List, [], ◌∷◌, map, Option, Some, None, Ok, Err, Result, IfOk, IfErr, OnOk, IsTrue, IsUtf8, ◌⊎◌, Vec, slice_get, codes, refl, sym, ap, subst, ◌∙◌}
 use Rattle.std.specs.List.{AllByRecursion}
 use Rattle.std.proofs.lemmas.Slice.Eq.{bytes_eq-Decides}
 use Rattle.sqlite.specs.Effect.{Database, RefusesToRead}
@@ -23,8 +23,7 @@ use Rattle.sqlite_rules.specs.Lists.{Has}
 use Rattle.fv_tables.specs.Tables.{store_schema}
 use Rattle.fv_tables.specs.Rows.{HasRows}
 use Rattle.fv_tables.specs.declared.entry.ObjectRow.{ObjectRow}
-use Rattle.fv_tables.specs.Changes.{Things, IsNamed, object_view, objects_view}
-use Rattle.fv_tables.specs.Stored.{front}
+use Rattle.fv_tables.specs.Changes.{Things, IsNamed}
 use Rattle.fv_tables.specs.Stands.{Head, Part, Place, Maps, Entry, Entries, Frame, IsSettled, Spells, Stands, tables_of, Stays, Keeps, head_row, part_row, IsTextHead, IsTextOfHead, IsTextObject, IsTextPart, head_of, part_of, shown_head, shown_part, ShowsHead}
 use Rattle.std.proofs.lemmas.Bool.{cases_Bool}
 use Rattle.sqlite_typing.specs.Types.{accepts_program}
@@ -223,30 +222,6 @@ head_none (Some k) is = absurd cc
 
 abbrev pub thing_in : Row → List ℕ × Part
 thing_in row = (bytes (column row 0), record { kind = bytes (column row 1); fields = bytes (column row 2) })
-
-pub same_objects : (os : Things) (objects : List ObjectRow) → map shown_part os ≡ map (λ (o : ObjectRow). shown_part (object_view o)) objects → objects_view objects ≡ os
-same_objects [] [] same = refl
-same_objects [] (o ∷ objects) same = absurd cc
-same_objects (x ∷ os) [] same = absurd cc
-same_objects (x ∷ os) (o ∷ objects) same =
-    let head : shown_part x ≡ shown_part (object_view o) = cc in
-    let tail : map shown_part os ≡ map (λ (o : ObjectRow). shown_part (object_view o)) objects = cc in
-    ap₂ (λ (y : List ℕ × Part) ys. y ∷ ys) (sym (ap (λ (r : Row). (bytes (column r 0), record { kind = bytes (column r 1); fields = bytes (column r 2) })) head)) (same_objects os objects tail)
-
--- a row of those shows an object, which is text
-pub one_of : (rows : List Row) (os : Things) (i : ℕ) (row : Row) → i < length rows → row ≡ get_or rows i row → rows ≡ map shown_part os → AllByRecursion IsTextObject os → (o : List ℕ × Part) × (row ≡ shown_part o) × IsTextObject o
-one_of [] os i row within is shows texts = absurd (omega arith)
-one_of (r ∷ rows) [] i row within is shows texts = cc
-one_of (r ∷ rows) (o ∷ os) zero row within is shows texts =
-    let head : r ≡ shown_part o = cc in
-    (o, is ∙ head, texts.0)
-one_of (r ∷ rows) (o ∷ os) (suc i) row within is shows texts =
-    let tail : rows ≡ map shown_part os = cc in
-    one_of rows os i row (omega arith) is tail texts.1
-
-pub fronts : (os : Things) → map front (map shown_part os) ≡ map shown_part os
-fronts [] = refl
-fronts (o ∷ os) = ap (λ rs. shown_part o ∷ rs) (fronts os)
 
 pub same_kept : (k : Entry) (form root : List ℕ) (os : Things) → form ≡ k.form → root ≡ k.root → os ≡ k.objects → record { form = form; root = root; objects = os } ≡ k
 same_kept k form root os p q r = λ i. record { form = p i; root = q i; objects = r i }

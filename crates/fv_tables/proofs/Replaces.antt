@@ -1,5 +1,5 @@
 -- The objects of a record that is there are replaced: what the statements make of the tables, one after another.
-use Rattle.std.proofs.Common.{◌≡◌, ◌≢◌, ◌⊎◌, ◌++◌, ◌&&◌, ◌||◌, ◌+◌, ◌<◌, ◌≤◌, length, arith, zero, suc, take, ℕ, inl, inr, Bool, true, false, cond, bytes_eq, List, [], ◌∷◌, Option, Some, None, IsSome, Ok, Err, Result, OnOk, IfErr, IsTrue, refl, sym, ap, subst, ◌∙◌, string_bytes, drop, get_or, IfOk}
+use Rattle.std.proofs.Common.{◌≡◌, ◌≢◌, ◌⊎◌, ◌++◌, ◌&&◌, ◌||◌, ◌+◌, ◌<◌, ◌≤◌, length, arith, zero, suc, take, ℕ, inl, inr, Bool, true, false, cond, bytes_eq, List, [], ◌∷◌, Option, Some, None, IsSome, Ok, Err, Result, OnOk, IfErr, IsTrue, refl, sym, ap, subst, ◌∙◌, string_bytes, drop, get_or}
 use Rattle.std.proofs.lemmas.Bool.{cases_Bool}
 use Rattle.std.proofs.lemmas.List.{map-append}
 use Rattle.std.proofs.lemmas.Slice.Eq.{bytes_eq-Decides}
@@ -12,11 +12,11 @@ use Rattle.sqlite_rules.proofs.ListLemmas.{has_right}
 use Rattle.sqlite_rules.proofs.ProbeLemmas.{mapped_has}
 use Rattle.fv_tables.specs.declared.entry.ObjectRow.{ObjectRow}
 use Rattle.fv_tables.specs.Stands.{Head, Part, Place, Maps, Spells, Frame, IsOwned, same_place, put, added, dropped, removed, without_parts}
-use Rattle.fv_tables.specs.Changes.{Things, AreApart, names_of, same_object, has_object, all_added, all_spared, has_name, replaced, spared, written, with_part_of, object_view, objects_view, IsFree, IsNew}
+use Rattle.fv_tables.specs.Changes.{Things, AreApart, names_of, same_object, has_object, all_added, others_dropped, has_name, replaced, dropped_unless_kept, written, object_view, objects_view, IsFree, IsNew}
 use Rattle.fv_tables.specs.Causes.{HasRooms, IsExcused, IsShortHead, IsShortPart, AreShort}
-use Rattle.fv_tables.specs.Steps.{Advances, Always, Anyhow, Makes, Turns, Lacks, LacksPart, ArePartsOf, IsThere, AreThere, UpdatesPart}
+use Rattle.fv_tables.specs.Steps.{Advances, Anyhow, Makes, Lacks, LacksPart, ArePartsOf, IsThere, AreThere, UpdatesPart}
 use Rattle.fv_tables.proofs.Removes.{zero_is_not_one}
-use Rattle.fv_tables.proofs.Objects.{other_name, last_apart, apart_taken, turns_set, all_added-push, both_rooms, both, heads_added}
+use Rattle.fv_tables.proofs.Objects.{other_name, last_apart, apart_taken, all_added-push, both_rooms, both, heads_added}
 use Rattle.fv_tables.proofs.Layouts.{parts}
 use Rattle.fv_tables.proofs.Composed.{fewer_rooms, owned_all, short_taken, short_last}
 use Rattle.fv_tables.proofs.Drops.{owned_dropped}
@@ -120,12 +120,12 @@ begun s change same inside = record {
 }
 
 -- an object whose name is among the new ones stays
-pub spared_kept : (s : State) (id : List ℕ) (os : Things) (name : List ℕ) → has_name name os ≡ true → IsTrue s.in_transaction → Advances s s (Makes 0 Anyhow (spared id os name))
-spared_kept s id os name has inside = begun s (spared id os name) (λ t. rw has refl) inside
+pub not_dropped : (s : State) (id : List ℕ) (os : Things) (name : List ℕ) → has_name name os ≡ true → IsTrue s.in_transaction → Advances s s (Makes 0 Anyhow (dropped_unless_kept id os name))
+not_dropped s id os name has inside = begun s (dropped_unless_kept id os name) (λ t. rw has refl) inside
 
 -- another is taken out
-pub spared_gone : (a b : State) (id : List ℕ) (os : Things) (name : List ℕ) → has_name name os ≡ false → Advances a b (Makes 0 Anyhow (dropped (id, name))) → Advances a b (Makes 0 Anyhow (spared id os name))
-spared_gone a b id os name has = led a b (λ x y p d t spelled _. let it = p d t spelled tt in let gone : spared id os name t ≡ dropped (id, name) t = rw has refl in (subst (Spells y d) (sym gone) it.0, it.1))
+pub unkept_dropped : (a b : State) (id : List ℕ) (os : Things) (name : List ℕ) → has_name name os ≡ false → Advances a b (Makes 0 Anyhow (dropped (id, name))) → Advances a b (Makes 0 Anyhow (dropped_unless_kept id os name))
+unkept_dropped a b id os name has = led a b (λ x y p d t spelled _. let it = p d t spelled tt in let gone : dropped_unless_kept id os name t ≡ dropped (id, name) t = rw has refl in (subst (Spells y d) (sym gone) it.0, it.1))
 
 -- some objects were written and the next was refused
 pub parts_cause : (a b c : State) (id : List ℕ) (there : Things) (all : List ObjectRow) (i : ℕ) (o : ObjectRow) → i < length all → take (i + 1) all ≡ take i all ++ o ∷ [] → HasCleanDisk c → Frame a b → Frame b c
@@ -143,36 +143,36 @@ parts_cause a b c id there all i o below more clean before after made e h d t sp
 
 -- ---- those that are not among the new ones are taken out
 
-pub all_spared-push : (id : List ℕ) (os : Things) (names : List (List ℕ)) (name : List ℕ) (t : Maps) → all_spared id os (names ++ name ∷ []) t ≡ spared id os name (all_spared id os names t)
-all_spared-push id os [] name t = refl
-all_spared-push id os (n ∷ names) name t = all_spared-push id os names name (spared id os n t)
+pub others_dropped-push : (id : List ℕ) (os : Things) (names : List (List ℕ)) (name : List ℕ) (t : Maps) → others_dropped id os (names ++ name ∷ []) t ≡ dropped_unless_kept id os name (others_dropped id os names t)
+others_dropped-push id os [] name t = refl
+others_dropped-push id os (n ∷ names) name t = others_dropped-push id os names name (dropped_unless_kept id os n t)
 
 -- a name more
-pub spared_more : (id : List ℕ) (os : Things) (there : List ObjectRow) (i : ℕ) (o : ObjectRow) → take (i + 1) there ≡ take i there ++ o ∷ [] → (x y z : Database)
-    → Makes 0 Anyhow (all_spared id os (names_of (objects_view (take i there)))) x y → Makes 0 Anyhow (spared id os (object_view o).0) y z → Makes 0 Anyhow (all_spared id os (names_of (objects_view (take (i + 1) there)))) x z
-spared_more id os there i o more x y z p q d t spelled _ =
+pub dropped_more : (id : List ℕ) (os : Things) (there : List ObjectRow) (i : ℕ) (o : ObjectRow) → take (i + 1) there ≡ take i there ++ o ∷ [] → (x y z : Database)
+    → Makes 0 Anyhow (others_dropped id os (names_of (objects_view (take i there)))) x y → Makes 0 Anyhow (dropped_unless_kept id os (object_view o).0) y z → Makes 0 Anyhow (others_dropped id os (names_of (objects_view (take (i + 1) there)))) x z
+dropped_more id os there i o more x y z p q d t spelled _ =
     let before = objects_view (take i there) in
     let names = names_of before in
     let pushed : names_of (objects_view (take (i + 1) there)) ≡ names ++ (object_view o).0 ∷ [] =
     ap (λ l. names_of (objects_view l)) more ∙ ap names_of (map-append object_view (take i there) (o ∷ [])) ∙ map-append (λ (e : List ℕ × Part). e.0) before (object_view o ∷ []) in
     let one = p d t spelled tt in
-    let two = q d (all_spared id os names t) one.0 tt in
-    (subst (Spells z d) (sym (ap (λ ns. all_spared id os ns t) pushed ∙ all_spared-push id os names (object_view o).0 t)) two.0, both_rooms 0 0 0 x y z refl one.1 two.1)
+    let two = q d (others_dropped id os names t) one.0 tt in
+    (subst (Spells z d) (sym (ap (λ ns. others_dropped id os ns t) pushed ∙ others_dropped-push id os names (object_view o).0 t)) two.0, both_rooms 0 0 0 x y z refl one.1 two.1)
 
-owned_spared : (id : List ℕ) (os : Things) (name : List ℕ) (t : Maps) → IsOwned t → IsOwned (spared id os name t)
-owned_spared id os name t owned = go (has_name name os)
+owned_unless_kept : (id : List ℕ) (os : Things) (name : List ℕ) (t : Maps) → IsOwned t → IsOwned (dropped_unless_kept id os name t)
+owned_unless_kept id os name t owned = go (has_name name os)
   where
     go : (b : Bool) → IsOwned (cond b t (dropped (id, name) t))
     go true = owned
     go false = owned_dropped (id, name) t owned
 
-pub owned_all_spared : (id : List ℕ) (os : Things) (names : List (List ℕ)) (t : Maps) → IsOwned t → IsOwned (all_spared id os names t)
-owned_all_spared id os [] t owned = owned
-owned_all_spared id os (name ∷ names) t owned = owned_all_spared id os names (spared id os name t) (owned_spared id os name t owned)
+pub owned_others_dropped : (id : List ℕ) (os : Things) (names : List (List ℕ)) (t : Maps) → IsOwned t → IsOwned (others_dropped id os names t)
+owned_others_dropped id os [] t owned = owned
+owned_others_dropped id os (name ∷ names) t owned = owned_others_dropped id os names (dropped_unless_kept id os name t) (owned_unless_kept id os name t owned)
 
-heads_spared : (id : List ℕ) (os : Things) (names : List (List ℕ)) (t : Maps) → (all_spared id os names t).heads ≡ t.heads
-heads_spared id os [] t = refl
-heads_spared id os (name ∷ names) t = heads_spared id os names (spared id os name t) ∙ go (has_name name os)
+heads_dropped : (id : List ℕ) (os : Things) (names : List (List ℕ)) (t : Maps) → (others_dropped id os names t).heads ≡ t.heads
+heads_dropped id os [] t = refl
+heads_dropped id os (name ∷ names) t = heads_dropped id os names (dropped_unless_kept id os name t) ∙ go (has_name name os)
   where
     go : (b : Bool) → (cond b t (dropped (id, name) t)).heads ≡ t.heads
     go true = refl
@@ -181,9 +181,9 @@ heads_spared id os (name ∷ names) t = heads_spared id os names (spared id os n
 -- ---- what is left then
 
 -- another record's objects are as before
-parts_elsewhere : (id : List ℕ) (os : Things) (names : List (List ℕ)) (t : Maps) (at : Place) → bytes_eq at.0 id ≡ false → (all_spared id os names t).parts at ≡ t.parts at
+parts_elsewhere : (id : List ℕ) (os : Things) (names : List (List ℕ)) (t : Maps) (at : Place) → bytes_eq at.0 id ≡ false → (others_dropped id os names t).parts at ≡ t.parts at
 parts_elsewhere id os [] t at other = refl
-parts_elsewhere id os (name ∷ names) t at other = parts_elsewhere id os names (spared id os name t) at other ∙ go (has_name name os)
+parts_elsewhere id os (name ∷ names) t at other = parts_elsewhere id os names (dropped_unless_kept id os name t) at other ∙ go (has_name name os)
   where
     go : (b : Bool) → (cond b t (dropped (id, name) t)).parts at ≡ t.parts at
     go true = refl
@@ -191,9 +191,9 @@ parts_elsewhere id os (name ∷ names) t at other = parts_elsewhere id os names 
 
 -- of the record's objects none is left but those among the new ones
 parts_left : (id : List ℕ) (os : Things) (names : List (List ℕ)) (t : Maps) → ((name : List ℕ) → (t.parts (id, name) ≡ None) ⊎ (has_name name os ≡ true) ⊎ Has names name)
-    → (name : List ℕ) → ((all_spared id os names t).parts (id, name) ≡ None) ⊎ (has_name name os ≡ true)
+    → (name : List ℕ) → ((others_dropped id os names t).parts (id, name) ≡ None) ⊎ (has_name name os ≡ true)
 parts_left id os [] t each name = elim (each name) [ inl none ↦ inl none | inr (inl has) ↦ inr has | inr (inr never) ↦ absurd never ]
-parts_left id os (n ∷ names) t each name = parts_left id os names (spared id os n t) (λ other. next other (each other)) name
+parts_left id os (n ∷ names) t each name = parts_left id os names (dropped_unless_kept id os n t) (λ other. next other (each other)) name
   where
     still_none : (other : List ℕ) (b : Bool) → t.parts (id, other) ≡ None → (cond b t (dropped (id, n) t)).parts (id, other) ≡ None
     still_none other true none = none
@@ -207,7 +207,7 @@ parts_left id os (n ∷ names) t each name = parts_left id os names (spared id o
     this_one other true has is = inr (ap (λ m. has_name m os) is ∙ has)
     this_one other false has is = inl (let same : same_place (id, other) (id, n) ≡ true = (parts.decides (id, other) (id, n)).1 (ap (λ m. (id, m)) is) in rw same refl)
 
-    next : (other : List ℕ) → (t.parts (id, other) ≡ None) ⊎ (has_name other os ≡ true) ⊎ Has (n ∷ names) other → ((spared id os n t).parts (id, other) ≡ None) ⊎ (has_name other os ≡ true) ⊎ Has names other
+    next : (other : List ℕ) → (t.parts (id, other) ≡ None) ⊎ (has_name other os ≡ true) ⊎ Has (n ∷ names) other → ((dropped_unless_kept id os n t).parts (id, other) ≡ None) ⊎ (has_name other os ≡ true) ⊎ Has names other
     next other (inl none) = inl (still_none other (has_name n os) none)
     next other (inr (inl has)) = inr (inl has)
     next other (inr (inr (inl is))) = elim (this_one other (has_name n os) refl is) [ inl none ↦ inl none | inr has ↦ inr (inl has) ]
@@ -232,14 +232,14 @@ agree id (o ∷ os) t u hs each = agree id os (added (id, o.0) o.1 t) (added (id
         pair : (a b c e : List ℕ) → a ≡ b → c ≡ e → ◌≡◌ {A = Place} (a, c) (b, e)
         pair a b c e p q = λ i. (p i, q i)
 
-pub spared_added : (id : List ℕ) (os : Things) (names : List (List ℕ)) (t : Maps) → ((name : List ℕ) (p : Part) → t.parts (id, name) ≡ Some p → Has names name) → all_added id os (all_spared id os names t) ≡ replaced id os t
-spared_added id os names t complete =
-    agree id os (all_spared id os names t) (record { heads = t.heads; parts = without_parts id t.parts }) (heads_spared id os names t) (λ at. elim (cases_Bool (bytes_eq at.0 id)) [
+pub dropped_added : (id : List ℕ) (os : Things) (names : List (List ℕ)) (t : Maps) → ((name : List ℕ) (p : Part) → t.parts (id, name) ≡ Some p → Has names name) → all_added id os (others_dropped id os names t) ≡ replaced id os t
+dropped_added id os names t complete =
+    agree id os (others_dropped id os names t) (record { heads = t.heads; parts = without_parts id t.parts }) (heads_dropped id os names t) (λ at. elim (cases_Bool (bytes_eq at.0 id)) [
       | inr other ↦ inl (rw other (parts_elsewhere id os names t at other))
       | inl same ↦
           let is : at.0 ≡ id = (bytes_eq-Decides at.0 id).0 same in
           elim (parts_left id os names t (λ name. known name (t.parts (id, name)) refl) at.1) [
-            | inl none ↦ inl (rw same (subst (λ k. (all_spared id os names t).parts (k, at.1) ≡ None) (sym is) none))
+            | inl none ↦ inl (rw same (subst (λ k. (others_dropped id os names t).parts (k, at.1) ≡ None) (sym is) none))
             | inr has ↦ inr (is, has)
           ]
     ])
@@ -249,9 +249,9 @@ spared_added id os names t complete =
     known name (Some p) is = inr (inr (complete name p is))
 
 -- those of the new names stay
-parts_stay : (id : List ℕ) (os : Things) (names : List (List ℕ)) (name : List ℕ) (t : Maps) → has_name name os ≡ true → (all_spared id os names t).parts (id, name) ≡ t.parts (id, name)
+parts_stay : (id : List ℕ) (os : Things) (names : List (List ℕ)) (name : List ℕ) (t : Maps) → has_name name os ≡ true → (others_dropped id os names t).parts (id, name) ≡ t.parts (id, name)
 parts_stay id os [] name t has = refl
-parts_stay id os (n ∷ names) name t has = parts_stay id os names name (spared id os n t) has ∙ go (has_name n os) refl
+parts_stay id os (n ∷ names) name t has = parts_stay id os names name (dropped_unless_kept id os n t) has ∙ go (has_name n os) refl
   where
     go : (b : Bool) → has_name n os ≡ b → (cond b t (dropped (id, n) t)).parts (id, name) ≡ t.parts (id, name)
     go true is = refl
@@ -294,14 +294,14 @@ known_there o (x ∷ os) has = go (same_object x o) refl has (known_there o os)
     go true same all later = inl (sym (same_is x o same))
     go false other is later = inr (later is)
 
-there_spared : (id : List ℕ) (os there : Things) (t : Maps) → AreApart os → ArePartsOf id there t → AreThere id there os (all_spared id os (names_of there) t)
-there_spared id os there t apart known = (apart, λ o among has. parts_stay id os (names_of there) o.0 t (named os o among) ∙ known.0 o (known_there o there has))
+there_left : (id : List ℕ) (os there : Things) (t : Maps) → AreApart os → ArePartsOf id there t → AreThere id there os (others_dropped id os (names_of there) t)
+there_left id os there t apart known = (apart, λ o among has. parts_stay id os (names_of there) o.0 t (named os o among) ∙ known.0 o (known_there o there has))
 
 -- ---- the objects of a record
 
 -- they were read, those of other names taken out, and the new ones written
 pub replace_step : {X E : Type 0} (a b c f : State) (id : List ℕ) (os there : Things) (k : ℕ) (r : Result X E) → ((d : List Row) (t : Maps) → Spells a.now d t → ArePartsOf id there t) → Advances a b (λ x y. y ≡ x)
-    → Advances b c (Makes 0 Anyhow (all_spared id os (names_of there))) → OnOk r (Advances c f (Makes k (AreThere id there os) (all_added id os))) → OnOk r (Advances a f (Makes k (λ _. AreApart os) (replaced id os)))
+    → Advances b c (Makes 0 Anyhow (others_dropped id os (names_of there))) → OnOk r (Advances c f (Makes k (AreThere id there os) (all_added id os))) → OnOk r (Advances a f (Makes k (λ _. AreApart os) (replaced id os)))
 replace_step a b c f id os there k (Err e) found p q s = tt
 replace_step a b c f id os there k (Ok x) found p q s = record {
   was_open = λ live. p.was_open (q.was_open (s.was_open live));
@@ -311,37 +311,37 @@ replace_step a b c f id os there k (Ok x) found p q s = record {
       let names = names_of there in
       let known = found d t spelled in
       let one = q.change d t (subst (λ (x : Database). Spells x d t) (sym p.change) spelled) tt in
-      let two = s.change d (all_spared id os names t) one.0 (there_spared id os there t apart known) in (
-        subst (Spells f.now d) (spared_added id os names t (λ name part has. mapped_has (λ (o : List ℕ × Part). o.0) there (name, part) (known.1 name part has))) two.0,
+      let two = s.change d (others_dropped id os names t) one.0 (there_left id os there t apart known) in (
+        subst (Spells f.now d) (dropped_added id os names t (λ name part has. mapped_has (λ (o : List ℕ × Part). o.0) there (name, part) (known.1 name part has))) two.0,
         λ n room. two.1 n (one.1 (n + k) (fewer_rooms (n + k + 0) (n + k) b.now (omega arith) (subst (HasRooms (n + k)) (sym p.change) room))),
       );
 }
 
 -- they were read, and a DELETE was refused
-pub spare_cause : (a b c : State) → HasCleanDisk c → Frame a b → Frame b c → Advances a b (λ x y. y ≡ x) → (e : Error) → ((d : List Row) (t : Maps) → Spells b.now d t → IsOwned t → IsExcused b c e)
+pub others_cause : (a b c : State) → HasCleanDisk c → Frame a b → Frame b c → Advances a b (λ x y. y ≡ x) → (e : Error) → ((d : List Row) (t : Maps) → Spells b.now d t → IsOwned t → IsExcused b c e)
     → (d : List Row) (t : Maps) → Spells a.now d t → IsOwned t → IsExcused a c e
-spare_cause a b c clean before after p e h d t spelled owned refused =
+others_cause a b c clean before after p e h d t spelled owned refused =
     failed_then a b c (after.clean clean) before after.counts (h d t (subst (λ (x : Database). Spells x d t) (sym p.change) spelled) owned refused)
 
 -- the others were taken out, and an object was refused
 pub rest_put_cause : {X : Type 0} (a b c f : State) (id : List ℕ) (os there : Things) (k : ℕ) → HasCleanDisk f → Frame a b → Frame b c → Frame c f → ((d : List Row) (t : Maps) → Spells a.now d t → ArePartsOf id there t) → Advances a b (λ x y. y ≡ x)
-    → Advances b c (Makes 0 Anyhow (all_spared id os (names_of there)))
+    → Advances b c (Makes 0 Anyhow (others_dropped id os (names_of there)))
     → (r : Result X Error) → IfErr r (λ e. (d : List Row) (t : Maps) → Spells c.now d t → AreThere id there os t → IsOwned t → IsSome (t.heads id) → HasRooms k c.now → AreShort id os → IsExcused c f e)
     → IfErr r (λ e. (d : List Row) (t : Maps) → Spells a.now d t → AreApart os → IsOwned t → IsSome (t.heads id) → HasRooms k a.now → AreShort id os → IsExcused a f e)
 rest_put_cause a b c f id os there k clean first second third found p q (Ok x) h = tt
 rest_put_cause a b c f id os there k clean first second third found p q (Err e) h = λ d t spelled apart owned has room short refused.
     let names = names_of there in
     let one = q.change d t (subst (λ (x : Database). Spells x d t) (sym p.change) spelled) tt in
-    let headed : IsSome ((all_spared id os names t).heads id) = subst IsSome (sym (ap (λ (g : List ℕ → Option Head). g id) (heads_spared id os names t))) has in
+    let headed : IsSome ((others_dropped id os names t).heads id) = subst IsSome (sym (ap (λ (g : List ℕ → Option Head). g id) (heads_dropped id os names t))) has in
     failed_then a c f (third.clean clean) (frame_then a b c first second) third.counts
-    (h d (all_spared id os names t) one.0 (there_spared id os there t apart (found d t spelled)) (owned_all_spared id os names t owned) headed (one.1 k (fewer_rooms (k + 0) k b.now (omega arith) (subst (HasRooms k) (sym p.change) room))) short refused)
+    (h d (others_dropped id os names t) one.0 (there_left id os there t apart (found d t spelled)) (owned_others_dropped id os names t owned) headed (one.1 k (fewer_rooms (k + 0) k b.now (omega arith) (subst (HasRooms k) (sym p.change) room))) short refused)
 
 -- some were taken out, and the next DELETE was refused
-pub spared_cause : (a b c : State) (id : List ℕ) (os : Things) (names : List (List ℕ)) → HasCleanDisk c → Frame a b → Frame b c → Advances a b (Makes 0 Anyhow (all_spared id os names)) → (e : Error)
+pub next_drop_cause : (a b c : State) (id : List ℕ) (os : Things) (names : List (List ℕ)) → HasCleanDisk c → Frame a b → Frame b c → Advances a b (Makes 0 Anyhow (others_dropped id os names)) → (e : Error)
     → ((d : List Row) (t : Maps) → Spells b.now d t → IsOwned t → IsExcused b c e) → (d : List Row) (t : Maps) → Spells a.now d t → IsOwned t → IsExcused a c e
-spared_cause a b c id os names clean before after made e h d t spelled owned refused =
+next_drop_cause a b c id os names clean before after made e h d t spelled owned refused =
     let it = made.change d t spelled tt in
-    failed_then a b c (after.clean clean) before after.counts (h d (all_spared id os names t) it.0 (owned_all_spared id os names t owned) refused)
+    failed_then a b c (after.clean clean) before after.counts (h d (others_dropped id os names t) it.0 (owned_others_dropped id os names t owned) refused)
 
 -- ---- the record
 
@@ -386,12 +386,6 @@ new_rest_cause a b c id h os k clean before after p (Err e) cause = λ d t spell
     let headed : IsSome ((put id h t).heads id) = rw itself refl in
     failed_then a b c (after.clean clean) before after.counts
     (cause d (put id h t) one.0 (owned_put id h t new.0.1) (new.0.0, free_of id t new.0.1 new.1) headed (one.1 k (fewer_rooms (k + 1) (1 + k) a.now (omega arith) room)) short refused)
-
--- ---- an object is set
-
-pub set_on_ok : (a b : State) (id name : List ℕ) (p : Part) (r : Result ℕ Error) → IfOk r (λ count. Advances a b (UpdatesPart (id, name) p count)) → OnOk r (Advances a b (Turns 0 Always (with_part_of id name p)))
-set_on_ok a b id name p (Err e) step = tt
-set_on_ok a b id name p (Ok count) step = led a b (turns_set id name p count) step
 
 -- ---- whether a name is among those of objects
 

@@ -1,5 +1,5 @@
 -- What is read of rows that show ids.
-use Rattle.std.proofs.Common.{◌≡◌, ◌+◌, ◌<◌, ◌++◌, ℕ, zero, suc, List, [], ◌∷◌, length, get_or, take, map, String, string_bytes, IsUtf8, Vec, Result, Ok, Err, IfOk, IfErr, refl, sym, ap, subst, ◌∙◌, add-one, arith}
+use Rattle.std.proofs.Common.{◌≡◌, ◌+◌, ◌<◌, ◌++◌, ℕ, List, [], ◌∷◌, length, get_or, take, map, String, string_bytes, IsUtf8, Vec, Result, Ok, Err, IfOk, IfErr, refl, sym, ap, subst, ◌∙◌, add-one}
 use Rattle.std.specs.List.{AllByRecursion}
 use Rattle.std.proofs.Math.Seq.{take-suc}
 use Rattle.std.proofs.lemmas.List.{map-append}
@@ -22,17 +22,6 @@ same_ids (id ∷ ids) (s ∷ read) is =
     let bytes : string_bytes s ≡ id = cc in
     let tail : map (λ r. column r 0) (map id_row ids) ≡ map (λ (x : String Global). Text (string_bytes x)) read = cc in
     ap (λ b. b ∷ map string_bytes read) bytes ∙ ap (λ l. id ∷ l) (same_ids ids read tail)
-
--- a row of those shows an id, which is a text
-pub one_of : (rows : List Row) (ids : List (List ℕ)) (i : ℕ) (row : Row) → i < length rows → row ≡ get_or rows i row → rows ≡ map id_row ids → AllByRecursion IsUtf8 ids → (id : List ℕ) × (row ≡ id_row id) × IsUtf8 id
-one_of [] ids i row within is shows texts = absurd (omega arith)
-one_of (r ∷ rows) [] i row within is shows texts = cc
-one_of (r ∷ rows) (id ∷ ids) zero row within is shows texts =
-    let head : r ≡ id_row id = cc in
-    (id, is ∙ head, texts.0)
-one_of (r ∷ rows) (id ∷ ids) (suc i) row within is shows texts =
-    let tail : rows ≡ map id_row ids = cc in
-    one_of rows ids i row (omega arith) is tail texts.1
 
 -- one row more is read
 pub read_more : (rows : List Row) (i : ℕ) (row : Row) (read : List (String Global)) (s : String Global) → i < length rows → row ≡ get_or rows i row → map (λ r. column r 0) (take i rows) ≡ map (λ x. Text (string_bytes x)) read → column row 0 ≡ Text (string_bytes s)

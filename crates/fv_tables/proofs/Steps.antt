@@ -1,5 +1,5 @@
 -- One statement inside a transaction, as a step of the maps.
-use Rattle.std.proofs.Common.{◌≡◌, ◌+◌, ◌≤◌, ℕ, inl, inr, false, List, [], ◌∷◌, IsTrue, Ok, Err, Result, OnOk, IfErr, refl, sym, subst, ◌∙◌, arith}
+use Rattle.std.proofs.Common.{◌≡◌, ◌+◌, ◌≤◌, ℕ, inl, inr, false, List, [], ◌∷◌, IsTrue, Ok, Err, Result, OnOk, refl, sym, subst, ◌∙◌, arith}
 use Rattle.std.proofs.lemmas.Bool.{cases_Bool}
 use Rattle.sqlite.specs.Order.{Row}
 use Rattle.sqlite.specs.Effect.{Database}
@@ -14,7 +14,7 @@ use Rattle.sqlite.specs.State.{State, HasCleanDisk, ExecutesInside, KeepsCommit,
 use Rattle.fv_tables.specs.Stands.{Head, Part, Place, head_row, part_row, IsTextHead, IsTextPart, IsOwned, Frame, put, added, removed}
 use Rattle.fv_tables.specs.Steps.{Advances, Makes, Lacks, LacksPart}
 use Rattle.sqlite.specs.Edit.{next_rowid}
-use Rattle.fv_tables.specs.Causes.{HasRoom, HasFailed, IsExcused}
+use Rattle.fv_tables.specs.Causes.{HasRoom, HasFailed}
 use Rattle.fv_tables.proofs.Rooms.{fewer, room_among, room_after}
 use Rattle.fv_tables.proofs.Texts.{remove_text, put_text, add_text}
 use Rattle.fv_tables.proofs.Removes.{removes}
@@ -110,12 +110,6 @@ failed_then a b c clean p up (inr shut) = elim (cases_Bool a.is_open) [
 pub failed_still : (a b c : State) → b.faults ≤ c.faults → HasFailed a b → HasFailed a c
 failed_still a b c up (inl more) = inl (more_then a.faults b.faults c.faults more up)
 failed_still a b c up (inr shut) = inr shut
-
--- the stages before were reached, and the last statement was refused
-pub next_cause : {X : Type 0} (P Q R : Type 0) (a b c : State) → HasCleanDisk b → Frame a b → b.faults ≤ c.faults → (P → Q) → (r : Result X Error) → IfErr r (λ e. Q → R → IsExcused b c e)
-    → IfErr r (λ e. P → R → IsExcused a c e)
-next_cause P Q R a b c clean before up leads (Ok x) h = tt
-next_cause P Q R a b c clean before up leads (Err e) h = λ p r refused. failed_then a b c clean before up (h (leads p) r refused)
 
 pub keeps_then : (a b c : State) → KeepsCommit a b → KeepsCommit b c → KeepsCommit a c
 keeps_then a b c p q = record { was_open = λ live. p.was_open (q.was_open live); committed = λ live. q.committed live ∙ p.committed (q.was_open live) }

@@ -49,13 +49,13 @@ AreApart [] = Unit {0}
 AreApart (o ∷ os) = (has_name o.0 os ≡ false) × AreApart os
 
 -- an object of a record is taken out, unless one of its name is among these
-abbrev pub spared : List ℕ → Things → List ℕ → Maps → Maps
-spared id os name t = if has_name name os then t else dropped (id, name) t
+abbrev pub dropped_unless_kept : List ℕ → Things → List ℕ → Maps → Maps
+dropped_unless_kept id os name t = if has_name name os then t else dropped (id, name) t
 
 -- the same of each of these names
-abbrev pub all_spared : List ℕ → Things → List (List ℕ) → Maps → Maps
-all_spared id os [] t = t
-all_spared id os (name ∷ names) t = all_spared id os names (spared id os name t)
+abbrev pub others_dropped : List ℕ → Things → List (List ℕ) → Maps → Maps
+others_dropped id os [] t = t
+others_dropped id os (name ∷ names) t = others_dropped id os names (dropped_unless_kept id os name t)
 
 -- the objects of the record are these, one written after another where all others have gone
 abbrev pub replaced : List ℕ → Things → Maps → Maps

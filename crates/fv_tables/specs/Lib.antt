@@ -9,3 +9,4 @@ pub mod Causes
 pub mod Lists
 pub mod Creating
 pub mod About
+pub mod Olds

@@ -1,4 +1,4 @@
--- What one statement does to a database, for private clauses.
+-- What statements do to a database inside a transaction: to the records that the tables stand for, and to the maps that they spell.
 use Rattle.std.specs.Prelude.{◌≡◌, ◌⊎◌, ◌+◌, IsTrue, IsSome, map, ℕ, true, List, Some, None}
 use Rattle.std.specs.List.{AllByRecursion}
 use Rattle.sqlite.specs.Order.{Row}

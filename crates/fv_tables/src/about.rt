@@ -31,12 +31,9 @@ pub fn read_about<S: Alter>(conn: &mut Connection<S>) -> Result<Vec<Row>, Error>
     conn.query_all(READ_ABOUT, &[])
 }
 
-/// Writes the declarations in place of those that tables of version 2 have. The version and the records stay. The number isn't promised.
+/// Writes the declarations in place of those that tables of version 2 have. The version and the records stay.
 /// Refused by `OutOfMemory`, and else only where the disk failed, the connection was shut before or the declarations are too long, if the tables stand.
-pub fn write_about<S: Alter>(
-    tx: &mut Transaction<'_, S>,
-    declarations: &[u8],
-) -> Result<usize, Error>
+pub fn write_about<S: Alter>(tx: &mut Transaction<'_, S>, declarations: &[u8]) -> Result<(), Error>
     ensures same_reference { tx.new.conn.ghost_name ≡ tx.old.conn.ghost_name }
     ensures frame { Frame (state S.Store tx.old.conn.now) (state S.Store tx.new.conn.now) }
     ensures limit { tx.new.conn.now.step_limit ≡ tx.old.conn.now.step_limit }
@@ -47,5 +44,6 @@ pub fn write_about<S: Alter>(
         → IfErr result (λ e. (d : List ℕ) (m : Entries) → Stands old.now (about_row 2 d ∷ []) m
         → IsShortAbout declarations.now → IsExcused old new e)) }
 {
-    tx.execute(WRITE_ABOUT, params![declarations])
+    tx.execute(WRITE_ABOUT, params![declarations])?;
+    Ok(())
 }

@@ -36,8 +36,8 @@ fn create_about<S: Alter>(tx: &mut Transaction<'_, S>) -> Result<usize, Error>
     tx.execute(CREATE_ABOUT, &[])
 }
 
-/// Whatever rows `about` has, they stay.
-fn create_record<S: Alter>(tx: &mut Transaction<'_, S>) -> Result<usize, Error>
+/// Makes `record` where `about` stands alone. Whatever rows `about` has, they stay.
+pub(crate) fn create_record<S: Alter>(tx: &mut Transaction<'_, S>) -> Result<usize, Error>
     ensures same_reference { tx.new.conn.ghost_name ≡ tx.old.conn.ghost_name }
     ensures frame { Frame (state S.Store tx.old.conn.now) (state S.Store tx.new.conn.now) }
     ensures limit { tx.new.conn.now.step_limit ≡ tx.old.conn.now.step_limit }
@@ -50,8 +50,8 @@ fn create_record<S: Alter>(tx: &mut Transaction<'_, S>) -> Result<usize, Error>
     tx.execute(CREATE_RECORD, &[])
 }
 
-/// Whatever rows `about` has, they stay.
-fn create_object<S: Alter>(tx: &mut Transaction<'_, S>) -> Result<usize, Error>
+/// Makes `object` beside `about` and `record`. Whatever rows `about` has, they stay.
+pub(crate) fn create_object<S: Alter>(tx: &mut Transaction<'_, S>) -> Result<usize, Error>
     ensures same_reference { tx.new.conn.ghost_name ≡ tx.old.conn.ghost_name }
     ensures frame { Frame (state S.Store tx.old.conn.now) (state S.Store tx.new.conn.now) }
     ensures limit { tx.new.conn.now.step_limit ≡ tx.old.conn.now.step_limit }
@@ -77,12 +77,12 @@ fn insert_about<S: Alter>(tx: &mut Transaction<'_, S>, declarations: &[u8]) -> R
     tx.execute(INSERT_ABOUT, params![declarations])
 }
 
-/// Makes the tables in a blank database, with the declarations and no record. Blank is one with no table, index or view. The number isn't promised.
+/// Makes the tables in a blank database, with the declarations and no record. Blank is one with no table, index or view.
 /// Refused by `OutOfMemory`, and else only where the disk failed, the connection was shut before or the declarations are too long, if the database is blank.
 pub fn create_tables<S: Alter>(
     tx: &mut Transaction<'_, S>,
     declarations: &[u8],
-) -> Result<usize, Error>
+) -> Result<(), Error>
     ensures same_reference { tx.new.conn.ghost_name ≡ tx.old.conn.ghost_name }
     ensures frame { Frame (state S.Store tx.old.conn.now) (state S.Store tx.new.conn.now) }
     ensures limit { tx.new.conn.now.step_limit ≡ tx.old.conn.now.step_limit }
@@ -95,5 +95,6 @@ pub fn create_tables<S: Alter>(
     create_about(tx)?;
     create_record(tx)?;
     create_object(tx)?;
-    insert_about(tx, declarations)
+    insert_about(tx, declarations)?;
+    Ok(())
 }

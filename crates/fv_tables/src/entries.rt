@@ -35,7 +35,7 @@ pub fn put_record<S: Alter>(
     write_record(tx, id, form, root, objects)
 }
 
-/// Writes an object of a record in place of the one of that name; where there is none, nothing changes. The number isn't promised.
+/// Writes an object of a record in place of the one of that name; where there is none, nothing changes.
 /// Refused by `OutOfMemory`, and else only where the disk failed, the connection was shut before or the row is too long, if the tables stand.
 pub fn set_object<S: Alter>(
     tx: &mut Transaction<'_, S>,
@@ -43,7 +43,7 @@ pub fn set_object<S: Alter>(
     name: &str,
     kind: &str,
     fields: &str,
-) -> Result<usize, Error>
+) -> Result<(), Error>
     ensures same_reference { tx.new.conn.ghost_name ≡ tx.old.conn.ghost_name }
     ensures frame { Frame (state S.Store tx.old.conn.now) (state S.Store tx.new.conn.now) }
     ensures limit { tx.new.conn.now.step_limit ≡ tx.old.conn.now.step_limit }
@@ -54,12 +54,13 @@ pub fn set_object<S: Alter>(
         → IfErr result (λ e. (d : _) (m : _) → Stands old.now d m → HasRooms 0 old.now
         → IsShortPart (id.now, name.now) (record { kind = kind.now; fields = fields.now }) → IsExcused old new e)) }
 {
-    update_object(tx, id, name, kind, fields)
+    update_object(tx, id, name, kind, fields)?;
+    Ok(())
 }
 
-/// Takes the record of the id out with its objects, if there is one. The number isn't promised.
+/// Takes the record of the id out with its objects, if there is one.
 /// Refused by `OutOfMemory`, and else only where the disk failed or the connection was shut before, if the tables stand.
-pub fn remove_record<S: Alter>(tx: &mut Transaction<'_, S>, id: &str) -> Result<usize, Error>
+pub fn remove_record<S: Alter>(tx: &mut Transaction<'_, S>, id: &str) -> Result<(), Error>
     ensures same_reference { tx.new.conn.ghost_name ≡ tx.old.conn.ghost_name }
     ensures frame { Frame (state S.Store tx.old.conn.now) (state S.Store tx.new.conn.now) }
     ensures limit { tx.new.conn.now.step_limit ≡ tx.old.conn.now.step_limit }
@@ -69,5 +70,6 @@ pub fn remove_record<S: Alter>(tx: &mut Transaction<'_, S>, id: &str) -> Result<
     ensures cause { Inside S.Store tx.old.conn.now tx.new.conn.now (λ old new. tx.old.conn.now.step_limit ≡ None
         → IfErr result (λ e. (d : _) (m : _) → Stands old.now d m → IsExcused old new e)) }
 {
-    delete_record(tx, id)
+    delete_record(tx, id)?;
+    Ok(())
 }

@@ -8,6 +8,7 @@ mod entries;
 mod entry;
 mod finding;
 mod listing;
+mod migrating;
 mod rows;
 
 pub use about::{read_about, write_about};
@@ -16,3 +17,4 @@ pub use entries::{put_record, remove_record, set_object};
 pub use entry::{ObjectRow, RecordRows};
 pub use finding::find;
 pub use listing::{find_all_ids, find_ids};
+pub use migrating::{OldRow, find_old, replace_tables};

@@ -2,7 +2,7 @@
 ghost use Rattle.std.specs.Prelude.{◌≡◌, ◌+◌, length, option_map, IfErr, IfOk, IsSome, None, OnOk, Some};
 ghost use Rattle.sqlite.specs.State.{KeepsCommit};
 ghost use Rattle.sqlite.specs.Held.{state};
-ghost use Rattle.fv_tables.specs.Changes.{all_added, all_spared, has_name as has, has_object as has_this, names_of, replaced, same_object, spared, written};
+ghost use Rattle.fv_tables.specs.Changes.{all_added, others_dropped, has_name as has, has_object as has_this, names_of, replaced, same_object, dropped_unless_kept, written};
 ghost use Rattle.fv_tables.specs.Changes.{object_view, objects_view, AreApart, IsFree, IsNew, IsReady};
 ghost use Rattle.fv_tables.specs.Causes.{AreShort, HasRooms, IsExcused, IsShortHead, IsShortPart};
 ghost use Rattle.fv_tables.specs.Stands.{Frame, ShowsHead, Spells, IsOwned, removed, put, added, dropped};
@@ -293,7 +293,7 @@ fn put_objects<S: Alter>(
 }
 
 /// Takes an object of a record out, unless one of its name is among these.
-fn spare<S: Alter>(
+fn drop_unless_kept<S: Alter>(
     tx: &mut Transaction<'_, S>,
     id: &str,
     object: &ObjectRow,
@@ -304,7 +304,7 @@ fn spare<S: Alter>(
     ensures limit { tx.new.conn.now.step_limit ≡ tx.old.conn.now.step_limit }
     ensures kept { Inside S.Store tx.old.conn.now tx.new.conn.now KeepsCommit }
     ensures done { Inside S.Store tx.old.conn.now tx.new.conn.now (λ old new. OnOk result (Advances old new
-        (Makes 0 Anyhow (spared id.now (objects_view objects.now) (object_view object.now).0)))) }
+        (Makes 0 Anyhow (dropped_unless_kept id.now (objects_view objects.now) (object_view object.now).0)))) }
     ensures cause { Inside S.Store tx.old.conn.now tx.new.conn.now (λ old new. tx.old.conn.now.step_limit ≡ None
         → IfErr result (λ e. (d : _) (t : _) → Spells old.now d t → IsOwned t → IsExcused old new e)) }
 {
@@ -314,8 +314,8 @@ fn spare<S: Alter>(
     Ok(())
 }
 
-/// The same of each object that the record has.
-fn spare_all<S: Alter>(
+/// Takes the objects of a record out whose names are not among these.
+fn drop_others<S: Alter>(
     tx: &mut Transaction<'_, S>,
     id: &str,
     there: &[ObjectRow],
@@ -326,12 +326,12 @@ fn spare_all<S: Alter>(
     ensures limit { tx.new.conn.now.step_limit ≡ tx.old.conn.now.step_limit }
     ensures kept { Inside S.Store tx.old.conn.now tx.new.conn.now KeepsCommit }
     ensures done { Inside S.Store tx.old.conn.now tx.new.conn.now (λ old new. OnOk result (Advances old new
-        (Makes 0 Anyhow (all_spared id.now (objects_view objects.now) (names_of (objects_view there.now)))))) }
+        (Makes 0 Anyhow (others_dropped id.now (objects_view objects.now) (names_of (objects_view there.now)))))) }
     ensures cause { Inside S.Store tx.old.conn.now tx.new.conn.now (λ old new. tx.old.conn.now.step_limit ≡ None
         → IfErr result (λ e. (d : _) (t : _) → Spells old.now d t → IsOwned t → IsExcused old new e)) }
 {
     'there: for object in there {
-        spare(tx, id, object, objects)?;
+        drop_unless_kept(tx, id, object, objects)?;
     }
     Ok(())
 }
@@ -353,7 +353,7 @@ fn replace_objects<S: Alter>(
         → HasRooms (length objects.now) old.now → AreShort id.now (objects_view objects.now) → IsExcused old new e)) }
 {
     let there = find_parts(tx, id)?;
-    spare_all(tx, id, &there, objects)?;
+    drop_others(tx, id, &there, objects)?;
     put_objects(tx, id, &there, objects)
 }
 

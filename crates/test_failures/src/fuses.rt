@@ -1,15 +1,12 @@
 //! A disk that fails from one of its calls on, under the whole service: a batch or a redeclare is refused,
 //! and what stands on the disk is what was there before it or after it, never a part: all records, and the
 //! declarations in force.
-use crate::engines::replied;
-use sqlite::{Connection, FileStore, Files, Options};
-use sqlite_disk::{Crash, Disk, Fuse, Memory};
+use crate::files::{NEVER, fused, mended, replied_over};
+use sqlite::Files;
+use sqlite_disk::{Crash, Fuse, Memory};
 use std::alloc::Global;
 use std::process::Abort;
 use std::test::Fail;
-
-const DECLARATIONS: &str =
-    r#"{"types":{"Item":{"fields":{"name":{"type":"text"}}}},"forms":{"item":{"root":"Item"}}}"#;
 
 /// The records that stand at first.
 const PUTS: &str =
@@ -81,39 +78,6 @@ const AFTER: &str =
 {"error":"C6","name":"NoRecord"}
 "#;
 
-/// The files of a database, all of it written there if the disk lets it.
-fn closed<D: Disk + Drop>(connection: Connection<FileStore<D>>) -> Files<D> {
-    match connection.close_files() {
-        Ok(files) => files,
-        Err((_, store)) => store.close(),
-    }
-}
-
-/// The replies to lines over a database, or why no engine is opened, and its files.
-fn replied_and_closed<D: Disk + Drop>(
-    alloc: Global,
-    connection: Connection<FileStore<D>>,
-    lines: &str,
-) -> Result<(String, Files<D>), Fail> {
-    let (text, connection) = replied(alloc, DECLARATIONS, connection, lines)?;
-    Ok((text, closed(connection)))
-}
-
-/// The same over files, without a reply where they aren't opened.
-fn replied_over<D: Disk + Drop>(
-    alloc: Global,
-    files: Files<D>,
-    lines: &str,
-) -> Result<(String, Files<D>), Fail> {
-    if !files.may_be_used() {
-        return Ok((String::new(alloc), files));
-    }
-    match Connection::open_files(alloc, files, Options::new(1)) {
-        Ok(connection) => replied_and_closed(alloc, connection, lines),
-        Err((_, left)) => Ok((String::new(alloc), left.into_files())),
-    }
-}
-
 /// A log and a database file that hold the first records.
 fn with_records(rt: &impl Abort, alloc: Global) -> Result<Files<Memory>, Fail> {
     let files = Files {
@@ -123,35 +87,6 @@ fn with_records(rt: &impl Abort, alloc: Global) -> Result<Files<Memory>, Fail> {
     let (text, files) = replied_over(alloc, files, PUTS)?;
     assert_eq!(rt; text.as_str(), PUTS_TAKEN);
     Ok(files)
-}
-
-/// A file with these bytes, which a crash leaves.
-fn file_of(alloc: Global, bytes: &[u8]) -> Result<Memory, Fail> {
-    let mut file = Memory::new(alloc);
-    file.write_at(0, bytes)?;
-    file.sync()?;
-    Ok(file)
-}
-
-/// Copies of the files that fail after so many calls of the log and of the database file.
-fn fused(
-    alloc: Global,
-    files: &Files<Memory>,
-    (log_calls, db_calls): (u64, u64),
-) -> Result<Files<Fuse<Memory>>, Fail> {
-    let log = file_of(alloc, files.log.bytes())?;
-    let db = file_of(alloc, files.db.bytes())?;
-    Ok(Files {
-        log: Fuse::new(log, log_calls),
-        db: Fuse::new(db, db_calls),
-    })
-}
-
-/// Copies of the files as they are on the disk, which don't fail.
-fn mended(alloc: Global, files: &Files<Fuse<Memory>>) -> Result<Files<Memory>, Fail> {
-    let log = file_of(alloc, files.log.inner().bytes())?;
-    let db = file_of(alloc, files.db.inner().bytes())?;
-    Ok(Files { log, db })
 }
 
 /// What stands on the disk is what was there before the command or after it, and after it where it was
@@ -201,9 +136,6 @@ fn add_outcome(
     outcomes.push(ended)?;
     Ok(())
 }
-
-/// More calls than a run makes.
-const NEVER: u64 = 1000000;
 
 /// The same of a batch for each of some calls.
 fn outcomes(rt: &impl Abort, alloc: Global, table: &[(u64, u64)]) -> Result<String, Fail> {

@@ -6,6 +6,8 @@
 #[cfg(test)]
 mod faults;
 #[cfg(test)]
+mod migrated;
+#[cfg(test)]
 mod redeclared;
 #[cfg(test)]
 mod served;

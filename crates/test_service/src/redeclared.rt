@@ -57,9 +57,9 @@ fn a_redeclare_stays_in_the_file(rt: HostRuntime) -> Result<(), Fail> {
     remove(&rt, "formd_anew.db")
 }
 
-const NO_JSON: &str = "formd: declarations refused: F1 NotJson\n";
+pub(crate) const NO_JSON: &str = "formd: declarations refused: F1 NotJson\n";
 
-const NO_SHAPE: &str = "formd: declarations refused: F2 Shape\n";
+pub(crate) const NO_SHAPE: &str = "formd: declarations refused: F2 Shape\n";
 
 const NO_RULE: &str = "formd: declarations refused: F15 UnknownRule\n";
 
@@ -67,7 +67,7 @@ const NO_RULE: &str = "formd: declarations refused: F15 UnknownRule\n";
 const RULED: &str = r#"{"types":{},"forms":{},"constraints":{"C":{"rule":{"field":99}}}}"#;
 
 /// Writes declarations into a database, whatever they are.
-fn keep(host: &HostRuntime, database: &str, declarations: &str) -> Result<(), Fail> {
+pub(crate) fn keep(host: &HostRuntime, database: &str, declarations: &str) -> Result<(), Fail> {
     let mut connection = Connection::open(host, database)?;
     connection.execute(
         "UPDATE about SET declarations = ?1",

@@ -11,18 +11,10 @@ mod faults;
 #[cfg(test)]
 mod listing;
 #[cfg(test)]
-mod redeclaring;
-#[cfg(test)]
 mod refusals;
 #[cfg(test)]
 mod storing;
 #[cfg(test)]
 mod tables;
 #[cfg(test)]
-mod telling;
-#[cfg(test)]
-mod texts;
-#[cfg(test)]
 mod transcripts;
-#[cfg(test)]
-mod types;

@@ -2,40 +2,13 @@
 use crate::transcripts::{check, check_each};
 use std::test::Fail;
 
-/// The tables of version 1, which kept each bundle in one text, whatever declarations are handed in.
-#[test]
-fn the_first_tables_are_of_another_version(rt: HostRuntime) -> Result<(), Fail> {
-    check_each(
-        &rt,
-        rt.alloc(),
-        "{given} := declarations\n\n{given} := others",
-        r#"
-{about}
-CREATE TABLE record (id TEXT NOT NULL PRIMARY KEY, form TEXT NOT NULL, bundle TEXT NOT NULL)
-INSERT INTO about VALUES (1, 1, x'6465636c61726174696f6e73')
-INSERT INTO record VALUES ('r1', 'item', '<1>')
-
-open [{given}]
-= OtherVersion
-
-{show tables}
-= {about}
-= CREATE TABLE record (id TEXT NOT NULL PRIMARY KEY, form TEXT NOT NULL, bundle TEXT NOT NULL)
-{show about}
-= 1 1 [6465636C61726174696F6E73]
-SELECT id || ' ' || form || ' ' || bundle FROM record
-= r1 item <1>
-"#,
-    )
-}
-
 /// Statements that make the row of `about` another, the fault of each, and the row.
 const CHANGES: &str = "{change} := UPDATE about SET version = 3
 {fault} := OtherVersion
 {row} := 1 3 [6465636C61726174696F6E73]
 
 {change} := UPDATE about SET version = 1
-{fault} := OtherVersion
+{fault} := Store
 {row} := 1 1 [6465636C61726174696F6E73]
 
 {change} := UPDATE about SET version = 0

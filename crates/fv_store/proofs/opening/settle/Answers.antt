@@ -1,4 +1,5 @@
 use Rattle.fv_store.specs.Faults.{open_fault_of}
+use Rattle.fv_store.proofs.Migrations.{given_more}
 use Rattle.fv_store.proofs.Openings.{is_refusal}
 use Rattle.fv_store.proofs.Refusals.{handed_on}
 use Rattle.fv_store.proofs.opening.settle.Goals as goal
@@ -10,3 +11,6 @@ returns-in_err-create-clause-store_blank g c clean outside none =
 
 pub returns-then-is_blank-clause-fresh : goal.returns-then-is_blank-clause-fresh
 returns-then-is_blank-clause-fresh g c blank = (c.in_ok-text.ensures.items_if_clones_equal (λ x y e. e), c.in_ok-create.ensures.done blank)
+
+pub returns-clause-still : goal.returns-clause-still
+returns-clause-still g c = given_more _ _ c.kept.result c.kept.ensures.still

@@ -1,8 +1,7 @@
 use Rattle.std.proofs.Common.{[], ◌∙◌}
 use Rattle.sqlite.specs.Held.{state}
-use Rattle.fv_tables.specs.Causes.{IsShortAbout}
 use Rattle.fv_tables.specs.Creating.{IsBlank, IsMade, IsEmpty}
-use Rattle.fv_tables.proofs.Steps.{next_step, then_on_ok, frame_then, failed_then, next_cause}
+use Rattle.fv_tables.proofs.Steps.{next_step, frame_then, failed_then}
 use Rattle.fv_tables.proofs.Refusals.{handed_on}
 use Rattle.fv_tables.proofs.Creates.{blank_then, blank_half_then, led_on}
 use Rattle.fv_tables.proofs.creating.create_tables.Goals as goal
@@ -20,7 +19,7 @@ returns-clause-done g c clean inside =
     let first = c.in_ok-create_about.ensures.done clean1 inside in
     let second = next_step begin one two blank_then first (c.in_ok-create_record.ensures.done clean2 first.mode) in
     let third = next_step begin two three blank_half_then second (c.in_ok-create_object.ensures.done clean3 second.mode) in
-    then_on_ok begin three end c.insert_about.result (led_on IsBlank (IsMade []) (IsEmpty c.args.declarations.now)) third (c.insert_about.ensures.done clean third.mode)
+    next_step begin three end (led_on IsBlank (IsMade []) (IsEmpty c.args.declarations.now)) third (c.in_ok-insert_about.ensures.done clean third.mode)
 
 pub returns-in_err-create_about-clause-cause : goal.returns-in_err-create_about-clause-cause
 returns-in_err-create_about-clause-cause g c clean inside none =
@@ -50,8 +49,8 @@ returns-in_err-create_object-clause-cause g c clean inside none =
     (λ blank _ refused. failed_then begin two three clean2 (frame_then begin one two c.create_about.ensures.frame c.create_record.ensures.frame) c.create_object.ensures.frame.counts
     (c.in_err-create_object.ensures.cause clean second.mode (c.create_record.ensures.limit ∙ c.create_about.ensures.limit ∙ none) [] (second.change blank) refused))
 
-pub returns-clause-cause : goal.returns-clause-cause
-returns-clause-cause g c clean inside none =
+pub returns-in_err-insert_about-clause-cause : goal.returns-in_err-insert_about-clause-cause
+returns-in_err-insert_about-clause-cause g c clean inside none =
     let begin = state g.S.Store c.args.tx.now.conn.now in
     let one = state g.S.Store c.create_about.new.tx.conn.now in
     let two = state g.S.Store c.create_record.new.tx.conn.now in
@@ -63,5 +62,6 @@ returns-clause-cause g c clean inside none =
     let second = next_step begin one two blank_then first (c.in_ok-create_record.ensures.done clean2 first.mode) in
     let third = next_step begin two three blank_half_then second (c.in_ok-create_object.ensures.done clean3 second.mode) in
     let frames = frame_then begin two three (frame_then begin one two c.create_about.ensures.frame c.create_record.ensures.frame) c.create_object.ensures.frame in
-    next_cause (IsBlank begin.now) (IsMade [] three.now) (IsShortAbout c.args.declarations.now) begin three end clean3 frames c.insert_about.ensures.frame.counts third.change c.insert_about.result
-    (c.insert_about.ensures.cause clean third.mode (c.create_object.ensures.limit ∙ c.create_record.ensures.limit ∙ c.create_about.ensures.limit ∙ none))
+    handed_on _ c.from_residual-in_err-insert_about.result c.in_err-insert_about.field-0.0 c.from_residual-in_err-insert_about.ensures.1
+    (λ blank short refused. failed_then begin three end clean3 frames c.insert_about.ensures.frame.counts
+    (c.in_err-insert_about.ensures.cause clean third.mode (c.create_object.ensures.limit ∙ c.create_record.ensures.limit ∙ c.create_about.ensures.limit ∙ none) (third.change blank) short refused))

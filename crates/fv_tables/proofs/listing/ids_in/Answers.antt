@@ -1,8 +1,10 @@
-use Rattle.std.proofs.Common.{◌≡◌, ◌<◌, map, take, length, lit<, sym, ap, subst, ◌∙◌}
+use Rattle.std.proofs.Common.{IsUtf8, ◌≡◌, ◌<◌, map, take, length, lit<, sym, ap, subst, ◌∙◌}
 use Rattle.std.proofs.lemmas.List.{take_all}
 use Rattle.sqlite.specs.Order.{Row, column}
 use Rattle.fv_tables.proofs.Refusals.{handed_on}
-use Rattle.fv_tables.proofs.ShownIds.{same_ids, one_of}
+use Rattle.fv_tables.proofs.ShownIds.{same_ids}
+use Rattle.fv_tables.specs.Lists.{id_row}
+use Rattle.fv_tables.proofs.ShownRows.{one_shown}
 use Rattle.fv_tables.proofs.listing.ids_in.Goals as goal
 
 pub returns-clause-shown : goal.returns-clause-shown
@@ -15,5 +17,5 @@ pub returns-in_err-id-clause-cause : goal.returns-in_err-id-clause-cause
 returns-in_err-id-clause-cause c =
     handed_on _ c.from_residual-in_err-id.result c.in_err-id.field-0.0 c.from_residual-in_err-id.ensures.1
     (λ ids shows texts refused.
-    let it = one_of c.args.rows.now ids c.loop-row.row-index c.row-item.result c.loop-row-test.true c.row-item.is shows texts in
+    let it = one_shown id_row IsUtf8 c.args.rows.now ids c.loop-row.row-index c.row-item.result c.loop-row-test.true c.row-item.is shows texts in
     c.in_err-id.ensures.kind refused (subst (λ (r : Row). 0 < length r) (sym it.1) (lit< tt)) (it.0, ap (λ (r : Row). column r 0) it.1, it.2))

@@ -1,17 +1,17 @@
 use Rattle.std.proofs.Common.{length, ◌∙◌}
 use Rattle.sqlite.specs.Held.{state}
 use Rattle.fv_tables.specs.Changes.{objects_view}
-use Rattle.fv_tables.proofs.Replaces.{replace_step, spare_cause, rest_put_cause}
+use Rattle.fv_tables.proofs.Replaces.{replace_step, others_cause, rest_put_cause}
 use Rattle.fv_tables.proofs.Refusals.{handed_on}
 use Rattle.fv_tables.proofs.rows.replace_objects.Goals as goal
 
 pub returns-clause-done : goal.returns-clause-done
 returns-clause-done g c clean inside =
     let clean3 = c.put_objects.ensures.frame.clean clean in
-    let clean2 = c.spare_all.ensures.frame.clean clean3 in
+    let clean2 = c.drop_others.ensures.frame.clean clean3 in
     let read = c.in_ok-there.ensures.done clean2 inside in
-    let left = rw c.deref.ensures.value at (c.in_ok-spare_all.ensures.done clean3 read.mode) in
-    replace_step (state g.S.Store c.args.tx.now.conn.now) (state g.S.Store c.find_parts.new.tx.conn.now) (state g.S.Store c.spare_all.new.tx.conn.now) (state g.S.Store c.put_objects.new.tx.conn.now) c.args.id.now
+    let left = rw c.deref.ensures.value at (c.in_ok-drop_others.ensures.done clean3 read.mode) in
+    replace_step (state g.S.Store c.args.tx.now.conn.now) (state g.S.Store c.find_parts.new.tx.conn.now) (state g.S.Store c.drop_others.new.tx.conn.now) (state g.S.Store c.put_objects.new.tx.conn.now) c.args.id.now
     (objects_view c.args.objects.now) (objects_view c.in_ok-there.there.items) (length c.args.objects.now) c.put_objects.result (c.in_ok-there.ensures.found clean2 inside) read left
     (rw c.deref-2.ensures.value at (c.put_objects.ensures.done clean left.mode))
 
@@ -19,20 +19,20 @@ pub returns-in_err-there-clause-cause : goal.returns-in_err-there-clause-cause
 returns-in_err-there-clause-cause g c clean inside none =
     handed_on _ c.from_residual.result c.in_err-there.field-0.0 c.from_residual.ensures.1 (λ d t spelled apart owned has room short. c.in_err-there.ensures.cause clean inside none d t spelled)
 
-pub returns-in_err-spare_all-clause-cause : goal.returns-in_err-spare_all-clause-cause
-returns-in_err-spare_all-clause-cause g c clean inside none =
-    let clean2 = c.spare_all.ensures.frame.clean clean in
+pub returns-in_err-drop_others-clause-cause : goal.returns-in_err-drop_others-clause-cause
+returns-in_err-drop_others-clause-cause g c clean inside none =
+    let clean2 = c.drop_others.ensures.frame.clean clean in
     let read = c.in_ok-there.ensures.done clean2 inside in
-    handed_on _ c.from_residual-in_err-spare_all.result c.in_err-spare_all.field-0.0 c.from_residual-in_err-spare_all.ensures.1
-    (λ d t spelled apart owned has room short. spare_cause (state g.S.Store c.args.tx.now.conn.now) (state g.S.Store c.find_parts.new.tx.conn.now) (state g.S.Store c.spare_all.new.tx.conn.now) clean
-    c.find_parts.ensures.frame c.spare_all.ensures.frame read c.in_err-spare_all.field-0.0 (c.in_err-spare_all.ensures.cause clean read.mode (c.find_parts.ensures.limit ∙ none)) d t spelled owned)
+    handed_on _ c.from_residual-in_err-drop_others.result c.in_err-drop_others.field-0.0 c.from_residual-in_err-drop_others.ensures.1
+    (λ d t spelled apart owned has room short. others_cause (state g.S.Store c.args.tx.now.conn.now) (state g.S.Store c.find_parts.new.tx.conn.now) (state g.S.Store c.drop_others.new.tx.conn.now) clean
+    c.find_parts.ensures.frame c.drop_others.ensures.frame read c.in_err-drop_others.field-0.0 (c.in_err-drop_others.ensures.cause clean read.mode (c.find_parts.ensures.limit ∙ none)) d t spelled owned)
 
 pub returns-clause-cause : goal.returns-clause-cause
 returns-clause-cause g c clean inside none =
     let clean3 = c.put_objects.ensures.frame.clean clean in
-    let clean2 = c.spare_all.ensures.frame.clean clean3 in
+    let clean2 = c.drop_others.ensures.frame.clean clean3 in
     let read = c.in_ok-there.ensures.done clean2 inside in
-    let left = rw c.deref.ensures.value at (c.in_ok-spare_all.ensures.done clean3 read.mode) in
-    rest_put_cause (state g.S.Store c.args.tx.now.conn.now) (state g.S.Store c.find_parts.new.tx.conn.now) (state g.S.Store c.spare_all.new.tx.conn.now) (state g.S.Store c.put_objects.new.tx.conn.now) c.args.id.now
-    (objects_view c.args.objects.now) (objects_view c.in_ok-there.there.items) (length c.args.objects.now) clean c.find_parts.ensures.frame c.spare_all.ensures.frame c.put_objects.ensures.frame (c.in_ok-there.ensures.found clean2 inside) read left
-    c.put_objects.result (rw c.deref-2.ensures.value at (c.put_objects.ensures.cause clean left.mode (c.spare_all.ensures.limit ∙ c.find_parts.ensures.limit ∙ none)))
+    let left = rw c.deref.ensures.value at (c.in_ok-drop_others.ensures.done clean3 read.mode) in
+    rest_put_cause (state g.S.Store c.args.tx.now.conn.now) (state g.S.Store c.find_parts.new.tx.conn.now) (state g.S.Store c.drop_others.new.tx.conn.now) (state g.S.Store c.put_objects.new.tx.conn.now) c.args.id.now
+    (objects_view c.args.objects.now) (objects_view c.in_ok-there.there.items) (length c.args.objects.now) clean c.find_parts.ensures.frame c.drop_others.ensures.frame c.put_objects.ensures.frame (c.in_ok-there.ensures.found clean2 inside) read left
+    c.put_objects.result (rw c.deref-2.ensures.value at (c.put_objects.ensures.cause clean left.mode (c.drop_others.ensures.limit ∙ c.find_parts.ensures.limit ∙ none)))

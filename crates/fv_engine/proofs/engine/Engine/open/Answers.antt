@@ -1,12 +1,15 @@
-use Rattle.std.proofs.Common.{◌≡◌, Some, inr, sym, subst}
+use Rattle.std.proofs.Common.{◌≡◌, Some, false, inl, inr, ap, sym, subst, ◌∙◌}
 use Rattle.sqlite.specs.Held.{state}
 use Rattle.sqlite.specs.State.{HasCleanDisk}
+use Rattle.fv_declare_schema.specs.Declarations.{Declarations}
+use Rattle.fv_model_types.specs.Types.{Declared, has_deep}
 use Rattle.fv_store.specs.Faults.{IsAboutFault, about_fault}
 use Rattle.fv_store.specs.Records.{Contents}
 use Rattle.fv_store.specs.Stands.{Opens}
 use Rattle.fv_store.specs.declared.fault.OpenStoreFault.{OpenStoreFault}
 use Rattle.fv_engine.proofs.DeclaredOnce.{same_contents}
-use Rattle.fv_engine.proofs.Openings.{memory_apart, store_alone, store_cause, text_told}
+use Rattle.fv_engine.specs.Openings.{DeclaresSome, IsLeft}
+use Rattle.fv_engine.proofs.Openings.{left_by, memory_apart, store_alone, store_cause, text_alone, text_told}
 use Rattle.fv_engine.proofs.engine.Engine.open.Goals as goal
 
 pub returns-in-Err-open-clause-other_version : goal.returns-in-Err-open-clause-other_version
@@ -14,6 +17,15 @@ returns-in-Err-open-clause-other_version g c = λ is. c.in-Err-open.ensures.othe
 
 pub returns-in-Err-open-clause-store_known : goal.returns-in-Err-open-clause-store_known
 returns-in-Err-open-clause-store_known g c = λ is. c.in-Err-open.ensures.store_known (store_cause c.in-Err-open.fault _ _ c.store_fault.ensures.memory c.store_fault.ensures.other is)
+
+pub returns-in-Err-open-clause-store_first : goal.returns-in-Err-open-clause-store_first
+returns-in-Err-open-clause-store_first g c = λ is. c.in-Err-open.ensures.store_first (store_cause c.in-Err-open.fault _ _ c.store_fault.ensures.memory c.store_fault.ensures.other is)
+
+pub returns-in-Err-open-clause-left : goal.returns-in-Err-open-clause-left
+returns-in-Err-open-clause-left g c = inl c.in-Err-open.ensures.untouched
+
+pub returns-in-Err-open-clause-stays : goal.returns-in-Err-open-clause-stays
+returns-in-Err-open-clause-stays g c = λ k shallow opens. c.in-Err-open.ensures.stays k opens
 
 pub returns-in-Err-open-clause-store_blank : goal.returns-in-Err-open-clause-store_blank
 returns-in-Err-open-clause-store_blank g c = λ is. c.in-Err-open.ensures.store_blank (store_cause c.in-Err-open.fault _ _ c.store_fault.ensures.memory c.store_fault.ensures.other is)
@@ -32,7 +44,7 @@ returns-in-Err-open-clause-cause g c = λ fault is about clean version d tables.
 
 pub returns-in-Ok-in_force-clause-in_force : goal.returns-in-Ok-in_force-clause-in_force
 returns-in-Ok-in_force-clause-in_force g c = record {
-  opened = λ clean k opens. (c.in-Ok-open.ensures.opened k opens).1 clean;
+  opened = λ clean k opens. c.in-Ok-open.ensures.in_force clean k opens;
   told = λ clean version d tells. c.in-Ok-open.ensures.taken clean version d tells;
 }
 
@@ -40,7 +52,9 @@ pub returns-in-Ok-in_force-clause-opened : goal.returns-in-Ok-in_force-clause-op
 returns-in-Ok-in_force-clause-opened g c = λ known ds m declares opens.
     let now = rw c.declarations.ensures at c.in-Ok-in_force.ensures.taken in
     let same = same_contents _ known _ c.in-Ok-in_force.book ds m now declares in
-    (c.in-Ok-open.ensures.opened _ (subst (λ (k : Contents). Opens (state g.S.Store c.args.connection) c.args.declarations.now k) (sym same) opens)).0
+    let book : Declarations = c.in-Ok-in_force.book in
+    let shallow : has_deep book.types ≡ false = subst (λ (ts : Declared). has_deep ts ≡ false) (c.types.ensures ∙ ap (λ (d : Declarations). d.types) c.schema.ensures) c.are_shallow.ensures in
+    c.in-Ok-open.ensures.opened _ shallow (subst (λ (k : Contents). Opens (state g.S.Store c.args.connection) c.args.declarations.now k) (sym same) opens)
 
 pub returns-in-Err-in_force-clause-refused : goal.returns-in-Err-in_force-clause-refused
 returns-in-Err-in_force-clause-refused g c = λ fault is.
@@ -48,9 +62,20 @@ returns-in-Err-in_force-clause-refused g c = λ fault is.
     inr (
       (_, rw c.in-Ok.ensures at c.in-Ok-read_rulebook.ensures.taken),
       _,
-      record { opened = λ clean k opens. (c.in-Ok-open.ensures.opened k opens).1 (subst (λ s. HasCleanDisk (state g.S.Store s)) c.into_connection.ensures.same clean); told = λ clean version d tells. c.in-Ok-open.ensures.taken (subst (λ s. HasCleanDisk (state g.S.Store s)) c.into_connection.ensures.same clean) version d tells },
+      record { opened = λ clean k opens. c.in-Ok-open.ensures.in_force (subst (λ s. HasCleanDisk (state g.S.Store s)) c.into_connection.ensures.same clean) k opens; told = λ clean version d tells. c.in-Ok-open.ensures.taken (subst (λ s. HasCleanDisk (state g.S.Store s)) c.into_connection.ensures.same clean) version d tells },
       told,
     )
 
 pub returns-in-Err-in_force-clause-stays : goal.returns-in-Err-in_force-clause-stays
-returns-in-Err-in_force-clause-stays g c = λ k opens. inr (c.into_connection.ensures.holds k (c.in-Ok-open.ensures.opened k opens).0)
+returns-in-Err-in_force-clause-stays g c = λ k shallow opens. inr (inl (c.into_connection.ensures.holds k (c.in-Ok-open.ensures.opened k shallow opens)))
+
+pub returns-in-Err-in_force-clause-left : goal.returns-in-Err-in_force-clause-left
+returns-in-Err-in_force-clause-left g c =
+    let old = state g.S.Store c.args.connection in
+    let fault = c.in-Err-in_force.fault in
+    let told = c.in-Err-in_force.ensures.refused in
+    let known = g.R.RuleSet.known c.args.rules in
+    let some : DeclaresSome known c.args.declarations.now = (_, rw c.in-Ok.ensures at c.in-Ok-read_rulebook.ensures.taken) in
+    subst (λ s. IsLeft known c.args.declarations.now old (state g.S.Store s) fault) (sym c.into_connection.ensures.same)
+    (left_by known c.args.declarations.now old _ fault some (c.in-Ok-open.ensures.still (λ blank. told.0 (c.declarations.ensures ∙ c.in-Ok-open.ensures.fresh blank))) c.in-Ok-open.ensures.upgraded
+    (λ f is. text_alone _ fault f told.1 is))

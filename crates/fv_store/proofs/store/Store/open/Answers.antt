@@ -1,4 +1,4 @@
-use Rattle.std.proofs.Common.{List, ℕ, refl}
+use Rattle.std.proofs.Common.{refl}
 use Rattle.sqlite.specs.Held.{state}
 use Rattle.fv_store.proofs.Openings.{unlimited, opens_ok, opens_err, opens_text, opens_version}
 use Rattle.fv_store.proofs.store.Store.open.Goals as goal
@@ -10,17 +10,19 @@ pub returns-in-Err-clause-frame : goal.returns-in-Err-clause-frame
 returns-in-Err-clause-frame g c = unlimited (state g.S.Store c.args.connection) (state g.S.Store c.settle.new.conn) (rw c.set_step_limit.ensures at c.settle.ensures.frame)
 
 pub returns-in-Ok-clause-opened : goal.returns-in-Ok-clause-opened
-returns-in-Ok-clause-opened g c k opens =
+returns-in-Ok-clause-opened g c k shallow opens =
     let is = c.set_step_limit.ensures in
     let old = state g.S.Store c.args.connection in
     let new = state g.S.Store c.settle.new.conn in
-    let given = c.args.declarations.now in
-    let text : List ℕ = c.in-Ok.declarations.items in
-    let frame = unlimited old new (rw is at c.settle.ensures.frame) in
-    let fresh = rw is at c.in-Ok.ensures.fresh in (
-      opens_ok old new frame given text fresh (rw is at c.in-Ok.ensures.kept) k opens,
-      λ clean. opens_text old given text (frame.clean clean) (frame.was_open clean (c.in-Ok.ensures.open clean)) (λ blank. (fresh blank).0) (rw is at (c.in-Ok.ensures.taken clean)) k opens,
-    )
+    opens_ok old new (unlimited old new (rw is at c.settle.ensures.frame)) c.args.declarations.now c.in-Ok.declarations.items (rw is at c.in-Ok.ensures.fresh) (rw is at c.in-Ok.ensures.still) (rw is at c.in-Ok.ensures.upgraded) k shallow opens
+
+pub returns-in-Ok-clause-in_force : goal.returns-in-Ok-clause-in_force
+returns-in-Ok-clause-in_force g c clean k opens =
+    let is = c.set_step_limit.ensures in
+    let old = state g.S.Store c.args.connection in
+    let frame = unlimited old (state g.S.Store c.settle.new.conn) (rw is at c.settle.ensures.frame) in
+    let fresh = rw is at c.in-Ok.ensures.fresh in
+    opens_text old c.args.declarations.now c.in-Ok.declarations.items (frame.clean clean) (frame.was_open clean (c.in-Ok.ensures.open clean)) (λ blank. (fresh blank).0) (rw is at (c.in-Ok.ensures.taken clean)) k opens
 
 pub returns-in-Ok-clause-taken : goal.returns-in-Ok-clause-taken
 returns-in-Ok-clause-taken g c clean = rw c.set_step_limit.ensures at (c.in-Ok.ensures.taken clean)
@@ -42,9 +44,17 @@ returns-in-Err-clause-stays g c =
     opens_err (state g.S.Store c.args.connection) (state g.S.Store c.settle.new.conn) (unlimited _ _ (rw is at c.settle.ensures.frame)) (rw is at c.in-Err.ensures.untouched) c.args.declarations.now
 
 pub returns-in-Err-clause-store_known : goal.returns-in-Err-clause-store_known
-returns-in-Err-clause-store_known g c is clean outside version d tells =
+returns-in-Err-clause-store_known g c is clean outside version d tells second =
     let same = c.set_step_limit.ensures in
-    (rw same at (c.in-Err.ensures.store_known clean)) outside refl version d tells is
+    (rw same at (c.in-Err.ensures.store_known clean)) outside refl version d tells second is
+
+pub returns-in-Err-clause-store_first : goal.returns-in-Err-clause-store_first
+returns-in-Err-clause-store_first g c is clean outside d m keeps all short rows few =
+    let same = c.set_step_limit.ensures in
+    (rw same at (c.in-Err.ensures.store_first clean)) outside refl d m keeps all short rows few is
+
+pub returns-in-Ok-clause-upgraded : goal.returns-in-Ok-clause-upgraded
+returns-in-Ok-clause-upgraded g c = rw c.set_step_limit.ensures at c.in-Ok.ensures.upgraded
 
 pub returns-in-Err-clause-store_blank : goal.returns-in-Err-clause-store_blank
 returns-in-Err-clause-store_blank g c is clean outside blank short =

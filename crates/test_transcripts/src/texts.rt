@@ -8,8 +8,11 @@ fn replaced(alloc: Global, text: &str, line: &str) -> Result<String, Fail> {
     Ok(text.replace(alloc, name, meant)?)
 }
 
-/// The same for each of some lines in turn.
-pub(crate) fn expanded(alloc: Global, names: &str, text: &str) -> Result<String, Fail> {
+/// A text with names replaced in it.
+///
+/// Takes lines `NAME := TEXT`, and the text. Gives the text with, for each of these lines in turn, the line's
+/// text in the place of the name, wherever it stands.
+pub fn expanded(alloc: Global, names: &str, text: &str) -> Result<String, Fail> {
     let mut text = String::from_str(alloc, text)?;
     for line in names.trim().lines() {
         text = replaced(alloc, text.as_str(), line)?;

@@ -1,0 +1,104 @@
+-- What an open does to a database that isn't blank: one of version 1 is migrated, and any other stays.
+use Rattle.std.proofs.Common.{◌≡◌, ◌≢◌, ◌≤◌, ◌&&◌, nat_eq, length, ℕ, ℤ, pos, List, IsTrue, Result, Ok, Err, OnOk, inl, refl, sym, ap, subst, ◌∙◌}
+use Rattle.sqlite.specs.Schema.{Schema}
+use Rattle.sqlite_schema.specs.Names.{same_name}
+use Rattle.sqlite.specs.State.{State, HasCleanDisk}
+use Rattle.fv_tables.specs.Olds.{Olds}
+use Rattle.fv_tables.specs.Olds as first
+use Rattle.fv_tables.specs.Tables.{no_schema}
+use Rattle.fv_tables.specs.FirstTables.{old_schema}
+use Rattle.fv_tables.proofs.Steps.{failed_then}
+use Rattle.fv_upgrade.specs.Upgraded.{AllShort, AllUpgrade, HasFew, upgraded}
+use Rattle.fv_upgrade.specs.declared.fault.UpgradeFault.{UpgradeFault}
+use Rattle.fv_upgrade.specs.declared.fault.UpgradeFault.TheVariants.{Damaged, Database, Memory}
+use Rattle.fv_store.specs.declared.fault.OpenStoreFault.TheVariants as refusal
+use Rattle.fv_store.specs.Causes.{HasFailed, IsShortAbout}
+use Rattle.fv_store.specs.Faults.{upgrade_fault}
+use Rattle.fv_store.specs.Stands.{Frame, are_first, IsBlank, MayBeFirst, KeepsFirst, Stays, first_rows, first_version, HasFirstTables, TellsAbout}
+use Rattle.fv_store.specs.Steps.{IsCaused, IsOpenExcused, IsTaken, IsTakenAs, IsUpgraded}
+
+-- what is read leaves the rows of version 1
+pub first_kept : (old mid : State) → Stays old mid → (d : List ℕ) (m : Olds) → KeepsFirst old d m → KeepsFirst mid d m
+first_kept old mid stays d m keeps clean live =
+    let it = stays clean live in
+    let was = keeps it.0 it.1 in
+    (subst (λ db. first.SpellsFirst db (first_rows d) m) (sym it.2) was.0, subst (λ db. first.SpellsFirst db (first_rows d) m) (sym it.3) was.1)
+
+same_version : (a b : ℕ) → pos a ≡ pos b → a ≡ b
+same_version a b e = cc
+
+-- the version that was read is that of the row
+pub first_only : (s : State) (number : ℤ) (text : List ℕ) → IsTakenAs s number text → number ≡ pos first_version → (version : ℕ) (stored : List ℕ) → TellsAbout version stored s.now → version ≡ first_version
+first_only s number text taken first version stored tells = same_version version first_version (sym (taken version stored tells).1 ∙ first)
+
+-- and the tables that were counted are those that were there before the row was read
+pub first_tables : (old mid : State) (number : ℤ) (text : List ℕ) → HasCleanDisk mid → IsTrue mid.is_open → Stays old mid → HasFirstTables mid.now → IsTakenAs old number text → number ≡ pos first_version → MayBeFirst old.now
+first_tables old mid number text clean live stays two taken first = (subst HasFirstTables (stays clean live).2 two, first_only old number text taken first)
+
+first_shape : IsTrue (are_first old_schema.tables && (nat_eq (length old_schema.indexes) 1 && nat_eq (length old_schema.views) 0))
+unfolding same_name
+first_shape = refl
+
+-- of other tables no row is one of version 1
+pub other_tables : (old mid : State) → HasCleanDisk mid → IsTrue mid.is_open → Stays old mid → (HasFirstTables mid.now → ⊥) → (d : List ℕ) (m : Olds) → KeepsFirst old d m → ⊥
+other_tables old mid clean live stays other d m keeps =
+    let spelled = (first_kept old mid stays d m keeps clean live).0 in
+    other (subst (λ (s : Schema). IsTrue (are_first s.tables && (nat_eq (length s.indexes) 1 && nat_eq (length s.views) 0))) (sym spelled.schema) first_shape)
+
+pub only_text : (s : State) (number : ℤ) (text : List ℕ) → IsTakenAs s number text → IsTaken s text
+only_text s number text taken version stored tells = let it = taken version stored tells in (it.0, it.2)
+
+-- one of version 1 isn't left as it was
+pub not_first : (old new : State) (number : ℤ) (text : List ℕ) → Frame old new → (HasCleanDisk new → IsTrue new.is_open) → (HasCleanDisk new → IsTakenAs old number text)
+    → (number ≡ pos first_version → ⊥) → IsUpgraded old new
+not_first old new number text frame live taken other d m keeps = (λ clean. absurd (never clean), λ clean open_now. absurd (never clean))
+  where
+    never : HasCleanDisk new → ⊥
+    never clean =
+        let was = (keeps (frame.clean clean) (frame.was_open clean (live clean))).0 in
+        other ((taken clean) first_version d (inl was.schema, was.about)).1
+
+-- and a blank one isn't of version 1
+pub blank_upgraded : (old new : State) → Frame old new → (HasCleanDisk new → IsTrue new.is_open) → IsBlank old.now → IsUpgraded old new
+blank_upgraded old new frame live blank d m keeps = (λ clean. absurd (never clean), λ clean open_now. absurd (never clean))
+  where
+    zero_is_not_two : ◌≢◌ {A = ℕ} 0 2
+    zero_is_not_two e = cc
+
+    no_tables : no_schema ≡ old_schema → ⊥
+    no_tables e = zero_is_not_two (ap (λ (s : Schema). length s.tables) e)
+
+    never : HasCleanDisk new → ⊥
+    never clean = no_tables (sym blank ∙ (keeps (frame.clean clean) (frame.was_open clean (live clean))).0.schema)
+
+pub then_upgraded : (old mid new : State) → Stays old mid → IsUpgraded mid new → IsUpgraded old new
+then_upgraded old mid new stays made d m keeps = made d m (first_kept old mid stays d m keeps)
+
+pub stays_then : (a b c : State) → Stays a b → Stays b c → Stays a c
+stays_then a b c p q clean live =
+    let late = q clean live in
+    let early = p late.0 late.1 in
+    (early.0, early.1, late.2 ∙ early.2, late.3 ∙ early.3)
+
+-- ---- a migration that is refused
+
+-- it isn't refused for the row of `about`
+pub no_about_fault : (s : State) (e : UpgradeFault) → IsCaused s (upgrade_fault e)
+no_about_fault s Damaged is = absurd is
+no_about_fault s Database is = absurd is
+no_about_fault s Memory is = absurd is
+
+-- only a damaged row or the disk is the cause
+pub migration_excused : (old mid new : State) (e : UpgradeFault) → HasCleanDisk mid → Frame old mid → mid.faults ≤ new.faults → Stays old mid
+    → (e ≡ Damaged → (d : List ℕ) (m : Olds) → KeepsFirst mid d m → AllUpgrade m → ⊥)
+    → (e ≡ Database → (d : List ℕ) (m : Olds) → KeepsFirst mid d m → IsShortAbout d → AllShort (upgraded m) → HasFew m → HasFailed mid new)
+    → (d : List ℕ) (m : Olds) → KeepsFirst old d m → AllUpgrade m → IsShortAbout d → AllShort (upgraded m) → HasFew m → IsOpenExcused old new (upgrade_fault e)
+migration_excused old mid new Damaged clean frame counts stays damaged cause d m keeps all short rows few is = absurd (damaged refl d m (first_kept old mid stays d m keeps) all)
+migration_excused old mid new Database clean frame counts stays damaged cause d m keeps all short rows few is =
+    failed_then old mid new clean frame counts (cause refl d m (first_kept old mid stays d m keeps) short rows few)
+migration_excused old mid new Memory clean frame counts stays damaged cause d m keeps all short rows few is = let wrong : refusal.Memory ≡ refusal.Store = is in cc
+
+-- what holds of an answer holds under a premise more
+pub given_more : {X E : Type 0} (P Q : Type 0) (r : Result X E) → OnOk r P → OnOk r (Q → P)
+given_more P Q (Ok x) h = λ q. h
+given_more P Q (Err e) h = h

@@ -1,0 +1,25 @@
+use Rattle.std.proofs.Common.{◌≡◌, ◌∷◌, ◌++◌, ℕ, List, [], sym, ap, ◌∙◌}
+use Rattle.std.proofs.lemmas.List.{map-append}
+use Rattle.serde_json.specs.Data.{Data}
+use Rattle.fv_datum.specs.Members.{each_some}
+use Rattle.fv_datum.proofs.Fronts.{with_front}
+use Rattle.fv_json.specs.Documents.{view}
+use Rattle.fv_json.specs.MembersView.{members_left}
+use Rattle.fv_tables.specs.Changes.{object_view, objects_view}
+use Rattle.fv_upgrade.specs.Upgraded.{object_in}
+use Rattle.fv_upgrade.specs.declared.fault.UpgradeFault.TheVariants.{Damaged}
+use Rattle.fv_upgrade.proofs.Reading.{front_ok}
+use Rattle.fv_upgrade.proofs.records.object_rows.Goals as goal
+
+pub loop-name-preserved : goal.loop-name-preserved
+loop-name-preserved c =
+    let l = c.loop-name in
+    let front = objects_view l.rows.items in
+    let member : List ℕ × Data = (c.in-Some.name.now, view c.in-Some.value) in
+    let rest = members_left c.next.new.self in
+    let row = c.in_ok-object_row.field-0 in
+    let grown : objects_view c.push.new.self.items ≡ front ++ object_view row ∷ [] = ap objects_view c.in_ok-push.ensures.items ∙ map-append object_view l.rows.items (row ∷ []) in
+    ap (λ os. with_front os (each_some object_in rest)) grown
+    ∙ sym (front_ok object_in front member rest (object_view row) Damaged c.in_ok-object_row.ensures)
+    ∙ ap (λ ms. with_front front (each_some object_in ms)) (sym c.in-Some.ensures.steps)
+    ∙ l.invariant

@@ -1,0 +1,4 @@
+pub mod Upgraded
+pub mod Faults
+pub mod Writes
+pub mod Steps

@@ -1,0 +1,98 @@
+//! The records that rows of version 1 keep.
+ghost use Rattle.std.specs.Prelude.{◌≡◌, IfOk, option_map, string_bytes};
+ghost use Rattle.std.specs.Option.{ok_or};
+ghost use Rattle.fv_datum.specs.Members.{each_some, pairs};
+ghost use Rattle.fv_datum.specs.Outcomes.{Gives};
+ghost use Rattle.fv_json.specs.Documents.{view as json_view};
+ghost use Rattle.fv_json.specs.MembersView.{members_view};
+ghost use Rattle.fv_tables.specs.Changes.{object_view, objects_view};
+ghost use Rattle.fv_tables.specs.Olds.{old_view, olds_view};
+ghost use Rattle.fv_tables.specs.Stored.{rows_view};
+ghost use Rattle.fv_upgrade.specs.Steps.{named_in, new_view, news_view};
+ghost use Rattle.fv_upgrade.specs.Upgraded.{bundle_in, entry_of, object_in};
+ghost use Rattle.fv_upgrade.specs.declared.fault.UpgradeFault.TheVariants.{Damaged};
+
+use crate::fault::UpgradeFault;
+use crate::writing::object_text;
+use fv_json::{Document, Json, Members, has_only, object_at, text_at};
+use fv_tables::{ObjectRow, OldRow, RecordRows};
+use json::Scratch;
+use std::alloc::Global;
+
+/// A record with its id, as its rows keep it.
+#[derive(Drop)]
+pub(crate) struct NewRecord {
+    pub(crate) id: String,
+    pub(crate) rows: RecordRows,
+}
+
+/// The object of that name that a value is.
+fn object_row(alloc: Global, name: &str, value: &Json) -> Result<ObjectRow, UpgradeFault>
+    ensures { Gives UpgradeFault.Memory object_view result
+        (ok_or (object_in (name.now, json_view value.now)) Damaged) }
+{
+    if !has_only(value, &["fields", "type"]) {
+        return Err(UpgradeFault::Damaged);
+    }
+    let kind = text_at(value, "type").ok_or(UpgradeFault::Damaged)?;
+    let fields = object_at(value, "fields").ok_or(UpgradeFault::Damaged)?;
+    Ok(ObjectRow {
+        name: String::from_str(alloc, name)?,
+        kind: String::from_str(alloc, kind)?,
+        fields: object_text(alloc, fields)?,
+    })
+}
+
+/// The objects that members are, in the order of their names.
+fn object_rows(alloc: Global, objects: Members) -> Result<Vec<ObjectRow>, UpgradeFault>
+    ensures { Gives UpgradeFault.Memory (λ v. objects_view v.items) result
+        (ok_or (each_some object_in (pairs (members_view objects.entry))) Damaged) }
+{
+    let mut rows = Vec::with_capacity(alloc, objects.len())?;
+    for (name, value) in objects.iter() {
+        rows.push(object_row(alloc, name, &value)?)?;
+    }
+    Ok(rows)
+}
+
+/// The record of that form whose bundle a value is.
+fn record_rows(alloc: Global, form: String, value: &Json) -> Result<RecordRows, UpgradeFault>
+    ensures { Gives UpgradeFault.Memory rows_view result
+        (ok_or (option_map (entry_of (string_bytes form)) (bundle_in (json_view value.now))) Damaged) }
+{
+    if !has_only(value, &["objects", "root"]) {
+        return Err(UpgradeFault::Damaged);
+    }
+    let root = text_at(value, "root").ok_or(UpgradeFault::Damaged)?;
+    let objects = object_at(value, "objects").ok_or(UpgradeFault::Damaged)?;
+    Ok(RecordRows {
+        form,
+        root: String::from_str(alloc, root)?,
+        objects: object_rows(alloc, objects)?,
+    })
+}
+
+/// The record that a row is.
+fn record_of(alloc: Global, old: OldRow, scratch: &mut Scratch) -> Result<NewRecord, UpgradeFault>
+    ensures { Gives UpgradeFault.Memory new_view result (ok_or (named_in (old_view old)) Damaged) }
+{
+    let OldRow { id, form, bundle } = old;
+    let document = Document::read(alloc, bundle.as_str(), scratch)?;
+    let rows = record_rows(alloc, form, &document.root())?;
+    Ok(NewRecord { id, rows })
+}
+
+/// The records that rows are, each row dropped once it is read.
+///
+/// `Damaged` where one isn't the text of a bundle by its form; `Memory` at any place.
+pub(crate) fn records_of(alloc: Global, olds: Vec<OldRow>) -> Result<Vec<NewRecord>, UpgradeFault>
+    ensures { Gives UpgradeFault.Memory (λ v. news_view v.items) result
+        (ok_or (each_some named_in (olds_view olds.items)) Damaged) }
+{
+    let mut scratch = Scratch::new(alloc);
+    let mut records = Vec::with_capacity(alloc, olds.len())?;
+    for old in olds {
+        records.push(record_of(alloc, old, &mut scratch)?)?;
+    }
+    Ok(records)
+}
