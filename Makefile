@@ -1,5 +1,5 @@
 # Everything is done by the toolchain's command rt (see README.md).
-.PHONY: all demo test rows planted served
+.PHONY: all demo test rows planted served hostile
 
 # As many lanes as there are processors, or quarters of the free memory in GB where these are fewer.
 lanes := $(shell free=$$(awk '/MemAvailable/ { print int($$2 / 4194304) }' /proc/meminfo); \
@@ -26,10 +26,22 @@ rows:
 planted:
 	tests/planted.sh $(NAME)
 
-# Runs the program that `make` leaves: the manual's examples, files that it can't serve, pages of ids, hostile patterns, a hundred kills.
+# Runs the program that `make` leaves: the manual's examples, files that it can't serve, pages of ids, hostile patterns, a hundred kills,
+# files of version 1 and kills while one is migrated, the forms of examples/, the rental application, what
+# differs from Bean Validation.
 served:
 	tests/manual.py
 	tests/statuses.py
 	tests/pages.py
 	tests/matchers.py
 	tests/kills.py
+	tests/migration.py
+	tests/examples.py
+	tests/rental.py
+	tests/differences.py
+
+# Treats the program that `make` leaves as an enemy or a bad machine would: each request for memory refused, files and streams stopped at
+# each call, files that can't be served, kills, bytes that aren't what was written, the worst inputs within the limits. Prints its figures
+# at the end.
+hostile:
+	tests/hostile.py

@@ -1,13 +1,13 @@
-/* Preloaded into a program, refuses one of its requests for memory: the one whose number, from 1, is
- * in REFUSE_AT. When the program ends, the number of its requests is written to the file named by
- * REFUSE_COUNT. */
+/* Preloaded into a program, refuses one of its requests for memory, or all from one on. The file that
+ * REFUSE_PAGE names holds four numbers of eight bytes, which another process may read and write while
+ * the program runs: the first request that is refused, where 0 refuses none; the last one; how many
+ * there were; how many were refused. So one request of the program's start is refused where these stand
+ * there before it, and one of a single line where they are written while the program waits for it. */
 #define _GNU_SOURCE
-#include <dlfcn.h>
 #include <errno.h>
 #include <fcntl.h>
-#include <stdio.h>
 #include <stdlib.h>
-#include <string.h>
+#include <sys/mman.h>
 #include <unistd.h>
 
 extern void *__libc_malloc(size_t);
@@ -15,36 +15,31 @@ extern void *__libc_calloc(size_t, size_t);
 extern void *__libc_realloc(void *, size_t);
 extern void *__libc_memalign(size_t, size_t);
 
-static unsigned long requests;
-static unsigned long refused_at;
-static int ready;
+static volatile unsigned long long *page;
 
 __attribute__((constructor)) static void begin(void)
 {
-    const char *at = getenv("REFUSE_AT");
-    refused_at = at ? strtoul(at, NULL, 10) : 0;
-    requests = 0;
-    ready = 1;
-}
-
-__attribute__((destructor)) static void end(void)
-{
-    const char *path = getenv("REFUSE_COUNT");
-    char text[32];
-    int fd, length;
-    ready = 0;
-    if (!path || (fd = open(path, O_WRONLY | O_CREAT | O_TRUNC, 0600)) < 0)
-        return;
-    length = snprintf(text, sizeof text, "%lu\n", requests);
-    if (write(fd, text, (size_t) length) != length)
+    const char *path = getenv("REFUSE_PAGE");
+    void *there;
+    int fd;
+    if (!path || (fd = open(path, O_RDWR)) < 0)
+        _exit(99);
+    there = mmap(NULL, 32, PROT_READ | PROT_WRITE, MAP_SHARED, fd, 0);
+    if (there == MAP_FAILED)
         _exit(99);
     close(fd);
+    page = there;
 }
 
 static int refused(void)
 {
-    if (!ready || ++requests != refused_at)
+    unsigned long long number;
+    if (!page)
         return 0;
+    number = ++page[2];
+    if (page[0] == 0 || number < page[0] || number > page[1])
+        return 0;
+    ++page[3];
     errno = ENOMEM;
     return 1;
 }

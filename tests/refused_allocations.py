@@ -1,33 +1,287 @@
 #!/usr/bin/env python3
-"""Refuses each of formd's requests for memory in turn, on the demonstration's lines and some more.
+"""Refuses each of formd's requests for memory in turn: those of each command, taken and refused, of its start, and of an opening that migrates.
 
-Run it behind `make`, which leaves the program as crates/formd/out/formd. A run has one request
-refused: the first, the second, and so on, until a run asks for less. Each run must end well: every
-reply is the one that the lines so far call for, or the refusal for want of memory (C12), which
-changes nothing; where the program ends before its first line, that is status 4 and `formd: memory`.
+    tests/refused_allocations.py            the program that `make` leaves
+    tests/refused_allocations.py PROGRAM    another build of formd
 
-What the lines call for is worked out here, by the declarations in force and a map from ids to records.
+A line is sent with one of its requests refused: the first, the second, and so on, until it asks for less. Its
+reply has to be the one that it calls for, or the refusal for want of memory (C12), which changes nothing. Then
+the same line is sent again, with nothing refused, and has to be answered as it calls for; and a get of every id
+and a list have to show the records. The same where all requests from that one on are refused, until the reply is
+there. What each line calls for is worked out here, by the declarations in force and a map from ids to records. So
+over a database in memory, and over one in a file.
+
+A run whose start has one request refused serves its lines, or ends with status 4 and `formd: memory`; the next
+run, undisturbed, answers as ever. The same over a file of version 1: behind each run it is of version 1 or of
+version 2, with the same records, and a run that isn't disturbed finds them.
 """
 
 import json
+import mmap
 import os
+import select
+import shutil
+import sqlite3
+import struct
 import subprocess
 import sys
 import tempfile
-import time
 from pathlib import Path
 
 HERE = Path(__file__).resolve().parent
 FORMD = HERE.parent / "crates" / "formd"
+PROGRAM = Path(sys.argv[1] if len(sys.argv) > 1 else FORMD / "out" / "formd").resolve()
 MEMORY = {"error": "C12", "name": "Memory"}
+NO_DECLARATIONS = '{"types":{},"forms":{}}'
+IDS = ("r1", "r2", "r3", "r9")
+lost = 0
 
+
+def compact(value):
+    return json.dumps(value, separators=(",", ":"), sort_keys=True, ensure_ascii=False)
+
+
+def tell(text):
+    """What is wrong with a run, of which one thing is lost at most."""
+    global lost
+    lost += 1
+    if lost <= 20:
+        print(text, flush=True)
+
+
+# Declarations and what they call for
+
+TAG = "{{jakarta.validation.constraints.Null.message}} {nobody} must not be null"
+
+
+def declarations(most=3, more=False, count=True, form="item"):
+    """The demonstration's declarations with a message of parameters, groups, a sequence and a reference; a greatest size; a field more, and one less."""
+    fields = {
+        "name": {"type": "text", "constraints": [{"constraint": "NotNull"}, {"constraint": "Size", "with": {"min": 1, "max": most}}]},
+        "next": {"type": {"ref": "Item"}, "valid": True},
+        "tag": {"type": "text", "constraints": [{"constraint": "Tagged", "with": {"note": "{jakarta.validation.constraints.Null.message}"}, "groups": ["Tags"]}]},
+    }
+    if count:
+        fields["count"] = {"type": "integer", "constraints": [{"constraint": "Min", "with": {"value": 1}}]}
+    if more:
+        fields["more"] = {"type": "text"}
+    return json.dumps(
+        {
+            "types": {"Item": {"fields": fields}},
+            "forms": {form: {"root": "Item"}},
+            "groups": {"Tags": {}, "Both": {"sequence": ["Default", "Tags"]}},
+            "constraints": {"Tagged": {"attributes": {"note": {"kind": "text"}}, "compose": [{"constraint": "NotNull"}], "single": True, "message": "{app.tag}"}},
+            "messages": {"app.tag": "\\{{note}\\} {nobody} {jakarta.validation.constraints.NotNull.message}"},
+        }
+    )
+
+
+def violation(constraint, message, occurrence, path, value):
+    return {"constraint": constraint, "message": message, "occurrence": occurrence, "path": path, "value": value}
+
+
+def field_violations(declared, field, value, group, before=""):
+    """What a value violates in a field of an Item, in a group."""
+    places, path = declared["types"]["Item"]["fields"], before + field
+    first = 1 if "count" in places else 0
+    found = []
+    if group == "Default" and field == "count" and value is not None and value < 1:
+        found.append(violation("Min", "must be greater than or equal to 1", 0, path, value))
+    if group == "Default" and field == "name":
+        most = places["name"]["constraints"][1]["with"]["max"]
+        if value is None:
+            found.append(violation("NotNull", "must not be null", first, path, None))
+        elif not 1 <= len(value.encode("utf-16-le")) // 2 <= most:
+            found.append(violation("Size", f"size must be between 1 and {most}", first + 1, path, value))
+    if group == "Tags" and field == "tag" and value is None:
+        found.append(violation("Tagged", TAG, first + 2, path, None))
+    return found
+
+
+def graph_violations(declared, objects, name, group, before="", way=()):
+    """What the object of this name and those that it leads to violate in a group; none twice on one way."""
+    fields, found = objects[name]["fields"], []
+    for field in declared["types"]["Item"]["fields"]:
+        found += field_violations(declared, field, fields.get(field), group, before)
+    after = fields.get("next")
+    if after is not None and after not in (*way, name):
+        found += graph_violations(declared, objects, after, group, before + "next.", (*way, name))
+    return found
+
+
+def in_groups(groups, of_group):
+    """What a request of these groups finds, each violation once, by path and number; of the sequence Both only what its first failing group finds."""
+    found = []
+    for group in groups or ["Default"]:
+        if group == "Both":
+            found += of_group("Default") or of_group("Tags")
+        else:
+            found += of_group(group)
+    once = {(it["path"], it["occurrence"]): it for it in found}
+    return [once[key] for key in sorted(once, key=lambda key: (key[0].encode(), key[1]))]
+
+
+def record_violations(declared, record, groups=()):
+    _, bundle = record
+    return in_groups(groups, lambda group: graph_violations(declared, bundle["objects"], bundle["root"], group))
+
+
+def listed(declared, records, keys):
+    """Those of these records that have violations, by their ids."""
+    found = [{"id": key, "violations": record_violations(declared, records[key])} for key in sorted(keys)]
+    return [it for it in found if it["violations"]]
+
+
+# What each line calls for
+
+NO_RECORD = {"error": "C6", "name": "NoRecord"}
+
+
+def is_wrong_kind(field, value):
+    return value is not None and type(value) is not (int if field == "count" else str)
+
+
+def bundle_fault(declared, bundle):
+    """The first fault of a bundle whose objects are Items, if it has one: a field that isn't declared, a datum of another kind, a reference to nothing."""
+    given = [(field, value) for made in bundle["objects"].values() for field, value in made["fields"].items()]
+    if any(field not in declared["types"]["Item"]["fields"] for field, _ in given):
+        return "B4"
+    if any(is_wrong_kind(field, value) for field, value in given):
+        return "B5"
+    if any(field == "next" and value is not None and value not in bundle["objects"] for field, value in given):
+        return "B6"
+    return None
+
+
+def refusal_of_part(declared, records, part):
+    """The refusal of a put, a set or a remove before anything is judged, or the records behind it."""
+    key = part["id"]
+    if part["do"] == "put":
+        if part["form"] not in declared["forms"]:
+            return {"error": "C4", "name": "UnknownForm"}, records
+        fault = bundle_fault(declared, part["bundle"])
+        if fault:
+            return {"error": "C5", "fault": fault, "name": "Bundle"}, records
+        return None, {**records, key: (part["form"], part["bundle"])}
+    if key not in records:
+        return NO_RECORD, records
+    if part["do"] == "remove":
+        return None, {other: record for other, record in records.items() if other != key}
+    form, bundle = records[key]
+    if part["object"] not in bundle["objects"]:
+        return {"error": "C5", "fault": "B10", "name": "Bundle"}, records
+    made = bundle["objects"][part["object"]]
+    made = {**made, "fields": {**made["fields"], part["field"]: part["value"]}}
+    bundle = {**bundle, "objects": {**bundle["objects"], part["object"]: made}}
+    fault = bundle_fault(declared, bundle)
+    if fault:
+        return {"error": "C5", "fault": fault, "name": "Bundle"}, records
+    return None, {**records, key: (form, bundle)}
+
+
+def changed(declared, records, command):
+    """The reply to a put, a set, a remove or a batch, and the records behind it."""
+    after = records
+    for number, part in enumerate(command.get("parts", [command])):
+        refusal, after = refusal_of_part(declared, after, part)
+        if refusal:
+            return ({**refusal, "part": number} if "parts" in command else refusal), records
+    touched = {part["id"] for part in command.get("parts", [command])} & set(after)
+    found = listed(declared, after, touched)
+    if found:
+        return {"error": "C10", "name": "Violations", "records": found}, records
+    return {"ok": command["do"]}, after
+
+
+def redeclared(declared, records, text):
+    """The reply that a redeclare calls for, and the declarations in force behind it."""
+    try:
+        given = json.loads(text)
+    except ValueError:
+        return {"error": "C13", "fault": "F1", "name": "Declarations"}, declared
+    if not isinstance(given, dict):
+        return {"error": "C13", "fault": "F2", "name": "Declarations"}, declared
+    for key in sorted(records):
+        form, bundle = records[key]
+        fault = "C4" if form not in given["forms"] else bundle_fault(given, bundle)
+        if fault:
+            return {"error": "C14", "fault": fault, "id": key, "name": "Unfit"}, declared
+    found = listed(given, records, records)
+    if found:
+        return {"error": "C10", "name": "Violations", "records": found}, declared
+    return {"ok": "redeclare"}, given
+
+
+def without_nulls(bundle):
+    objects = {name: {**made, "fields": {field: value for field, value in made["fields"].items() if value is not None}} for name, made in bundle["objects"].items()}
+    return {**bundle, "objects": objects}
+
+
+def asked(declared, records, command):
+    """The reply to a command that changes nothing."""
+    do, groups = command["do"], command.get("groups", ())
+    known = {"Default", *declared["groups"]}
+    if do == "list":
+        if command["form"] not in declared["forms"]:
+            return {"error": "C4", "name": "UnknownForm"}
+        after, limit = command.get("after", ""), command.get("limit", 100)
+        return {"ids": [key for key in sorted(records) if records[key][0] == command["form"] and key > after][:limit], "ok": "list"}
+    if do == "checkvalue":
+        is_there = command["type"] == "Item" and command["field"] in declared["types"]["Item"]["fields"]
+        if is_there and is_wrong_kind(command["field"], command["value"]):
+            return {"error": "C5", "fault": "B5", "name": "Bundle"}
+    elif command["id"] not in records:
+        return NO_RECORD
+    if do == "get":
+        form, bundle = records[command["id"]]
+        return {"bundle": without_nulls(bundle), "form": form, "id": command["id"], "ok": "get"}
+    if not set(groups) <= known:
+        return {"error": "C7", "name": "UnknownGroup"}
+    if do == "check":
+        return {"ok": do, "violations": record_violations(declared, records[command["id"]], groups)}
+    if do == "checkfield":
+        made = records[command["id"]][1]["objects"].get(command["object"])
+        is_there = made is not None and command["field"] in declared["types"]["Item"]["fields"]
+    if not is_there:
+        return {"error": "C8", "name": "NoSuchField"}
+    value = command["value"] if do == "checkvalue" else made["fields"].get(command["field"])
+    return {"ok": do, "violations": in_groups(groups, lambda group: field_violations(declared, command["field"], value, group))}
+
+
+class Model:
+    """The declarations in force and the records."""
+
+    def __init__(self, declared, records):
+        self.declared, self.records = declared, records
+
+    def answer(self, line):
+        """The reply that a line calls for; what it changes is changed."""
+        if len(line) > 1048576:
+            return {"error": "C1", "name": "LineTooLong"}
+        try:
+            command = json.loads(line)
+        except ValueError:
+            return {"error": "C2", "name": "NotJson"}
+        do = command.get("do") if isinstance(command, dict) else None
+        if do in ("put", "set", "remove", "batch"):
+            reply, self.records = changed(self.declared, self.records, command)
+            return reply
+        if do == "redeclare":
+            reply, self.declared = redeclared(self.declared, self.records, command["text"])
+            return reply
+        if do in ("get", "list", "check", "checkfield", "checkvalue"):
+            return asked(self.declared, self.records, command)
+        return {"error": "C3", "name": "Shape"}
+
+
+# The lines
 
 def item(**fields):
     return {"type": "Item", "fields": fields}
 
 
-def put(key, root, **objects):
-    return {"do": "put", "id": key, "form": "item", "bundle": {"root": root, "objects": objects}}
+def put(key, root, form="item", **objects):
+    return {"do": "put", "id": key, "form": form, "bundle": {"root": root, "objects": objects}}
 
 
 def change(key, name, field, value):
@@ -38,171 +292,319 @@ def redeclare(text):
     return {"do": "redeclare", "text": text}
 
 
-def declarations(most, more=True, count=True):
-    """The demonstration's declarations with a greatest size, with a field more and without another."""
-    name = {"type": "text", "constraints": [{"constraint": "NotNull"}, {"constraint": "Size", "with": {"min": 1, "max": most}}]}
-    fields = {"name": name}
-    if count:
-        fields["count"] = {"type": "integer", "constraints": [{"constraint": "Min", "with": {"value": 1}}]}
-    if more:
-        fields["more"] = {"type": "text"}
-    return json.dumps({"types": {"Item": {"fields": fields}}, "forms": {"item": {"root": "Item"}}})
-
-
-# Behind the demonstration's lines: objects come, change and go, and so do declarations. Where one of these is refused, the others find what was there before it.
-MORE = [
-    put("r1", "a", a=item(count=2, name="ab"), b=item()),
-    put("r1", "c", a=item(count=3, name="a"), c=item(count=1, name="c")),
-    change("r1", "a", "count", 4),
-    {"do": "get", "id": "r1"},
-    {"do": "batch", "parts": [put("r2", "a", a=item(name="x")), change("r1", "a", "name", "abcd")]},
-    {"do": "get", "id": "r2"},
-    redeclare(declarations(4)),
-    change("r1", "a", "name", "abcd"),
-    put("r3", "a", a=item(name="abcd", more="x"), b=item(count=1)),
-    redeclare("{"),
-    redeclare(declarations(4, count=False)),
-    redeclare(declarations(4, more=False)),
-    redeclare(declarations(3)),
-    redeclare(declarations(0)[:-1]),
-    {"do": "get", "id": "r3"},
-    redeclare(declarations(5)),
-    change("r3", "a", "name", "abcde"),
-    {"do": "get", "id": "r3"},
-    {"do": "remove", "id": "r1"},
-    {"do": "get", "id": "r1"},
+# What is stored before each line: a record of one object, and one of three that refer to one another.
+FIRST = [put("r1", "a", a=item(count=1, name="abc")), put("r3", "b", a=item(name="x", next="b"), b=item(count=7, name="\u00e9", next="c"), c=item(name="c", tag="t", next="a"))]
+# Lines of each command that are taken, and lines that are refused, with what they are answered: `ok` or a code.
+LINES = [
+    ("put", "ok", put("r2", "a", a=item(count=2, name="ab", next="b"), b=item(name="z"))),
+    ("put", "ok", put("r3", "c", a=item(count=3, name="a"), c=item(count=1, name="c", next="a"))),
+    ("put", "C10", put("r1", "a", a=item(count=0, name="\U0001f600bc", next="b"), b=item())),
+    ("put", "C5", put("r2", "a", a=item(count=1.5, name="a"))),
+    ("put", "C4", put("r2", "a", "other", a=item(name="a"))),
+    ("set", "ok", change("r3", "b", "name", "b")),
+    ("set", "C10", change("r3", "a", "name", "abcd")),
+    ("set", "C5", change("r3", "z", "name", "a")),
+    ("set", "C6", change("r9", "a", "name", "a")),
+    ("remove", "ok", {"do": "remove", "id": "r3"}),
+    ("remove", "C6", {"do": "remove", "id": "r9"}),
+    ("batch", "ok", {"do": "batch", "parts": [put("r2", "a", a=item(name="abcd")), change("r2", "a", "name", "abc"), {"do": "remove", "id": "r3"}]}),
+    ("batch", "C6", {"do": "batch", "parts": [put("r2", "a", a=item(name="abcd")), change("r2", "a", "name", "abc"), {"do": "remove", "id": "r9"}]}),
+    ("batch", "C10", {"do": "batch", "parts": [put("r2", "a", a=item(name="abcd")), change("r1", "a", "count", 0)]}),
+    ("get", "ok", {"do": "get", "id": "r3"}),
+    ("get", "C6", {"do": "get", "id": "r9"}),
+    ("list", "ok", {"do": "list", "form": "item"}),
+    ("list", "C4", {"do": "list", "form": "other"}),
+    ("check", "ok", {"do": "check", "id": "r3", "groups": ["Default", "Tags"]}),
+    ("check", "ok", {"do": "check", "id": "r3", "groups": ["Both"]}),
+    ("check", "C7", {"do": "check", "id": "r3", "groups": ["Nobody"]}),
+    ("checkfield", "ok", {"do": "checkfield", "id": "r1", "object": "a", "field": "tag", "groups": ["Tags"]}),
+    ("checkfield", "C8", {"do": "checkfield", "id": "r1", "object": "a", "field": "zz"}),
+    ("checkvalue", "ok", {"do": "checkvalue", "type": "Item", "field": "tag", "value": None, "groups": ["Both"]}),
+    ("checkvalue", "C5", {"do": "checkvalue", "type": "Item", "field": "count", "value": "1"}),
+    ("redeclare", "ok", redeclare(declarations(4, more=True))),
+    ("redeclare", "C13", redeclare("[]")),
+    ("redeclare", "C14", redeclare(declarations(count=False))),
+    ("redeclare", "C14", redeclare(declarations(form="thing"))),
+    ("redeclare", "C10", redeclare(declarations(2))),
 ]
+# Lines that are no command's.
+ODD = [("no command", "C1", " " * 1048577), ("no command", "C2", "{"), ("no command", "C3", '{"do":"none"}')]
 
 
-def violations(declared, fields):
-    """The violations of an Item: Min 1 of count, if there is one, NotNull and Size of name."""
-    count, name = fields.get("count"), fields.get("name")
-    places = declared["types"]["Item"]["fields"]
-    first = 1 if "count" in places else 0
-    most = places["name"]["constraints"][1]["with"]["max"]
-    found = []
+class Page:
+    """The four numbers that the library and this script share."""
 
-    def add(path, constraint, occurrence, message, value):
-        found.append({"constraint": constraint, "message": message, "occurrence": occurrence, "path": path, "value": value})
+    def __init__(self, folder):
+        self.file, self.library = folder / "page", folder / "refuse.so"
+        self.file.write_bytes(bytes(32))
+        with open(self.file, "r+b") as file:
+            self.numbers = mmap.mmap(file.fileno(), 32)
+        subprocess.run(["gcc", "-O1", "-shared", "-fPIC", "-o", self.library, HERE / "refuse.c"], check=True)
+        self.environment = {**os.environ, "LD_PRELOAD": str(self.library), "REFUSE_PAGE": str(self.file)}
 
-    if count is not None and count < 1:
-        add("count", "Min", 0, "must be greater than or equal to 1", count)
-    if name is None:
-        add("name", "NotNull", first, "must not be null", None)
-    elif not 1 <= len(name.encode("utf-16-le")) // 2 <= most:
-        add("name", "Size", first + 1, f"size must be between 1 and {most}", name)
-    return found
+    def refuse(self, number, is_last=True):
+        """Of the requests from now on that of this number is refused, none where it is 0, and where it isn't the last one all behind it."""
+        self.numbers[:] = struct.pack("QQQQ", number, number if is_last else 2**63, 0, 0)
 
-
-def listed(declared, records, keys):
-    """Those of these records that have violations, by their ids."""
-    found = []
-    for key in sorted(keys):
-        _, bundle = records[key]
-        reasons = violations(declared, bundle["objects"][bundle["root"]]["fields"])
-        if reasons:
-            found.append({"id": key, "violations": reasons})
-    return found
+    def was_refused(self):
+        return struct.unpack("QQQQ", self.numbers[:])[3] > 0
 
 
-def unknown_field(declared, bundle):
-    """Whether an object has a field that its type hasn't."""
-    return any(set(made["fields"]) - set(declared["types"][made["type"]]["fields"]) for made in bundle["objects"].values())
+class Service:
+    """A run of the program, asked a line at a time."""
+
+    def __init__(self, page, words):
+        self.page = page
+        page.refuse(0)
+        self.formd = subprocess.Popen([PROGRAM, *words], stdin=subprocess.PIPE, stdout=subprocess.PIPE, env=page.environment)
+
+    def ask(self, line, refused=0, is_last=True):
+        """The reply to a line, of which one request for memory is refused, or all from one on, and whether one was."""
+        self.page.refuse(refused, is_last)
+        self.formd.stdin.write(line.encode() + b"\n")
+        self.formd.stdin.flush()
+        if not select.select([self.formd.stdout], [], [], 60)[0]:
+            sys.exit(f"{line:.200}, request {refused}: no reply in a minute")
+        reply = self.formd.stdout.readline().decode()
+        was = self.page.was_refused()
+        self.page.refuse(0)
+        if not reply.endswith("\n"):
+            sys.exit(f"{line:.200}, request {refused}: no reply, and status {self.formd.wait()}")
+        return reply[:-1], was
+
+    def end(self):
+        self.formd.stdin.close()
+        if self.formd.wait() != 0:
+            sys.exit("formd has failed")
 
 
-def redeclared(declared, records, text):
-    """The reply that a redeclare calls for, and the declarations in force behind it."""
-    try:
-        given = json.loads(text)
-    except ValueError:
-        return {"error": "C13", "fault": "F1", "name": "Declarations"}, declared
-    for key in sorted(records):
-        if unknown_field(given, records[key][1]):
-            return {"error": "C14", "fault": "B4", "id": key, "name": "Unfit"}, declared
-    found = listed(given, records, records)
-    if found:
-        return {"error": "C10", "name": "Violations", "records": found}, declared
-    return {"ok": "redeclare"}, given
+def agree(service, model, line, name):
+    """A line that isn't disturbed is answered as it calls for."""
+    reply, _ = service.ask(line)
+    wanted = compact(model.answer(line))
+    if reply != wanted:
+        tell(f"{name}: {line:.300}: {reply:.300} and not {wanted:.300}")
+    return reply == wanted
 
 
-def changed(records, part):
-    """The records behind a put, a set or a remove."""
-    key = part["id"]
-    if part["do"] == "put":
-        return {**records, key: (part["form"], part["bundle"])}
-    if part["do"] == "remove":
-        return {other: record for other, record in records.items() if other != key}
-    form, bundle = records[key]
-    made = bundle["objects"][part["object"]]
-    made = {**made, "fields": {**made["fields"], part["field"]: part["value"]}}
-    return {**records, key: (form, {**bundle, "objects": {**bundle["objects"], part["object"]: made}})}
-
-
-def wanted(declared, records, command):
-    """The reply that a command calls for, and the declarations and the records behind it."""
-    if command["do"] == "redeclare":
-        reply, declared = redeclared(declared, records, command["text"])
-        return reply, declared, records
-    if command["do"] == "get":
-        key = command["id"]
-        if key not in records:
-            return {"error": "C6", "name": "NoRecord"}, declared, records
-        return {"ok": "get", "id": key, "form": records[key][0], "bundle": records[key][1]}, declared, records
-    parts, after = command.get("parts", [command]), records
-    for part in parts:
-        if part["do"] != "put" and part["id"] not in after:
-            return {"error": "C6", "name": "NoRecord"}, declared, records
-        after = changed(after, part)
-        if part["do"] != "remove" and unknown_field(declared, after[part["id"]][1]):
-            return {"error": "C5", "fault": "B4", "name": "Bundle"}, declared, records
-    found = listed(declared, after, {part["id"] for part in parts} & set(after))
-    if found:
-        return {"error": "C10", "name": "Violations", "records": found}, declared, records
-    return {"ok": command["do"]}, declared, after
-
-
-def fault(commands, status, output, errors):
-    """What is wrong with a run, if anything is, and whether its want of memory showed."""
-    if status == 4 and not output:
-        return (None if errors == b"formd: memory\n" else f"status 4 with {errors!r}"), True
-    if status != 0:
-        return f"status {status} with {errors!r}", True
-    replies = [json.loads(line) for line in output.decode().splitlines()]
-    if len(replies) != len(commands):
-        return f"{len(replies)} replies to {len(commands)} lines", True
-    declared, records, wants = json.loads(declarations(3, more=False)), {}, 0
-    for number, (command, reply) in enumerate(zip(commands, replies)):
-        if reply == MEMORY:
+def one_line(service, model, name, line, is_last):
+    """Refuses each request of a line in turn, or all from it on: how many there were, and how many of the replies were C12."""
+    declared, records = model.declared, model.records
+    questions = [compact({"do": "get", "id": key}) for key in IDS] + [compact({"do": "list", "form": form}) for form in ("item", "thing")]
+    number = wants = 0
+    while True:
+        number += 1
+        reply, was = service.ask(line, number, is_last)
+        at = f"{name}, request {number}"
+        if was and reply == compact(MEMORY):
             wants += 1
-            continue
-        expected, declared, records = wanted(declared, records, command)
-        if reply != expected:
-            return f"line {number}: {reply} and not {expected}", True
-    return (None if wants <= 1 else f"{wants} refusals for one request"), wants == 1
+        else:
+            wanted = compact(model.answer(line))
+            if reply != wanted:
+                tell(f"{at}: {line:.300}: {reply:.300} and not {wanted:.300}")
+        for each in [line, *questions]:
+            agree(service, model, each, at)
+        if model.declared != declared:
+            agree(service, model, compact(redeclare(json.dumps(declared))), at)
+        parts = [{"do": "remove", "id": key} for key in model.records if key not in records]
+        parts += [{"do": "put", "id": key, "form": form, "bundle": bundle} for key, (form, bundle) in records.items() if model.records.get(key) != (form, bundle)]
+        if parts:
+            agree(service, model, compact({"do": "batch", "parts": parts}), at)
+        if (model.declared, model.records) != (declared, records):
+            sys.exit(f"{at}: what was there before isn't there again")
+        if not was:
+            return number - 1, wants
+
+
+def commands(folder, page):
+    """Each line over a database in memory and over one in a file: figures for each command."""
+    (folder / "d.json").write_text(declarations())
+    for store, words in ("in memory", []), ("in a file", served(folder / "d.json", folder / "g.db")):
+        service, model, figures = Service(page, words), Model(json.loads(declarations()), {}), {}
+        agree(service, Model(model.declared, {}), compact(redeclare(declarations())), "the first declarations")
+        for line in FIRST:
+            agree(service, model, compact(line), "the first records")
+        for name, code, line in LINES + ODD:
+            text = line if isinstance(line, str) else compact(line)
+            wanted = Model(model.declared, model.records).answer(text)
+            if code != wanted.get("error", "ok"):
+                sys.exit(f"{name}: {wanted} isn't {code}")
+            for is_last in True, False:
+                before = lost
+                found = one_line(service, model, f"{name} {code}, {store}", text, is_last)
+                figures.setdefault((name, is_last), []).append((*found, lost - before))
+        service.end()
+        for (name, is_last), found in figures.items():
+            refused, wants, bad = map(sum, zip(*found))
+            how = "each refused in its turn" if is_last else "each with all behind it"
+            print(f"{name}, {store}: {refused} requests for memory, {how}, {wants} of them answered C12; {bad} lost", flush=True)
+
+
+# The start
+
+def served(declared, file):
+    return ["serve", "--declarations", declared, "--database", file, "--now", "0"]
+
+
+def runs(page, words, lines, before=lambda: None):
+    """Runs with one request refused, the first, the second and so on, up to one that asks for less: the number of each, and the run."""
+    number, was = 0, True
+    while was:
+        number += 1
+        before()
+        page.refuse(number)
+        run = subprocess.run([PROGRAM, *words], input=lines, capture_output=True, env=page.environment, timeout=60)
+        was = page.was_refused()
+        yield number, run
+
+
+def starts(folder, page):
+    """Declarations that are read, an empty file that is made a database, and one that is opened, each with a request refused."""
+    given, none, kept, file = folder / "d.json", folder / "none.json", folder / "kept.db", folder / "g2.db"
+    given.write_text(declarations())
+    none.write_text(NO_DECLARATIONS)
+    early = last = bad = 0
+    for number, run in runs(page, ["declarations", given], b""):
+        if (run.returncode, run.stdout, run.stderr) == (4, b"", b"formd: memory\n"):
+            early += 1
+        elif (run.returncode, run.stdout, run.stderr) != (0, b"ok\n", b""):
+            bad += 1
+            tell(f"declarations, request {number}: {run}")
+        last = number
+    print(f"declarations, read: {last - 1} requests for memory, each refused in its turn, {early} ended with status 4; {bad} lost")
+    model = Model(json.loads(declarations()), {})
+    made = [compact(line) for line in FIRST]
+    filled = "".join(compact(model.answer(line)) + "\n" for line in made)
+    lines = [compact({"do": "get", "id": key}) for key in IDS] + [compact({"do": "list", "form": "item"})]
+    shown = [compact(model.answer(line)) for line in lines]
+    run = subprocess.run([PROGRAM, *served(given, kept)], input="".join(line + "\n" for line in made), capture_output=True, text=True)
+    if (run.returncode, run.stdout) != (0, filled):
+        sys.exit(f"the first records aren't made: {run}")
+
+    def over(name, declared, questions, wanted, source):
+        def before():
+            for left in folder.glob("g2.db*"):
+                left.unlink()
+            if source:
+                for it in folder.glob("kept.db*"):
+                    shutil.copy(it, folder / it.name.replace("kept", "g2"))
+
+        words, text = served(declared, file), "".join(line + "\n" for line in questions).encode()
+        early = shown = last = bad = 0
+        for number, run in runs(page, words, text, before):
+            last = number
+            replies = run.stdout.decode().splitlines()
+            wants = replies.count(compact(MEMORY))
+            if (run.returncode, run.stdout, run.stderr) == (4, b"", b"formd: memory\n"):
+                early += 1
+            elif run.returncode != 0 or run.stderr or wants > 1 or len(replies) != len(wanted) or any(it not in (right, compact(MEMORY)) for it, right in zip(replies, wanted)):
+                bad += 1
+                tell(f"{name}, request {number}: {run}")
+            shown += wants
+            again = subprocess.run([PROGRAM, *words], input=text, capture_output=True, timeout=60)
+            if (again.returncode, again.stderr, again.stdout.decode().splitlines()) != (0, b"", wanted):
+                bad += 1
+                tell(f"{name}, request {number}, once more: {again}")
+        print(f"{name}: {last - 1} requests for memory, each refused in its turn, {early} ended with status 4, {shown} had one reply C12; {bad} lost")
+
+    over("an empty file, opened", given, [compact({"do": "list", "form": "item"})], [compact({"ids": [], "ok": "list"})], False)
+    over("a file with records, opened", none, lines, shown, True)
+
+
+# A file of version 1
+
+# The tables of version 1, with records of one object and of more.
+FIRST_TABLES = """
+CREATE TABLE about (one INTEGER PRIMARY KEY CHECK (one = 1), version INTEGER NOT NULL, declarations BLOB NOT NULL);
+CREATE TABLE record (id TEXT NOT NULL PRIMARY KEY, form TEXT NOT NULL, bundle TEXT NOT NULL);
+"""
+FIRST_BUNDLES = {
+    "r1": '{"objects":{"a":{"fields":{"count":1,"name":"abc"},"type":"Item"}},"root":"a"}',
+    "r2": '{"objects":{"a":{"fields":{"name":"\u00e9"},"type":"Item"},"b":{"fields":{},"type":"Item"},"c":{"fields":{"count":-1},"type":"Item"}},"root":"b"}',
+    "r3": '{"objects":{"a":{"fields":{"name":"' + "x" * 6000 + '"},"type":"Item"}},"root":"a"}',
+}
+ROWS = {
+    1: "SELECT id, form, bundle FROM record ORDER BY id",
+    2: "SELECT id, form, root, name, kind, fields FROM record LEFT JOIN object ON rec = id ORDER BY id, name",
+}
+
+
+def first_file(file):
+    """Makes a file of version 1, in the place of one that is there."""
+    for left in file.parent.glob(f"{file.name}*"):
+        left.unlink()
+    base = sqlite3.connect(file)
+    base.executescript(FIRST_TABLES)
+    base.execute("INSERT INTO about VALUES (1, 1, ?)", (declarations(3).encode(),))
+    base.executemany("INSERT INTO record VALUES (?, 'item', ?)", FIRST_BUNDLES.items())
+    base.commit()
+    base.close()
+
+
+def version_of(file):
+    """The version of a file, whose rows have to be those of the records: SQLite looks at a copy of it and its log."""
+    with tempfile.TemporaryDirectory() as room:
+        for name in (file.name, f"{file.name}-wal"):
+            if (file.parent / name).exists():
+                shutil.copy(file.parent / name, Path(room) / name)
+        base = sqlite3.connect(Path(room) / file.name)
+        ((version, text),) = base.execute("SELECT version, declarations FROM about")
+        found = base.execute(ROWS[version]).fetchall()
+        base.close()
+    made = {key: json.loads(bundle) for key, bundle in FIRST_BUNDLES.items()}
+    first = [(key, "item", bundle) for key, bundle in FIRST_BUNDLES.items()]
+    second = [
+        (key, "item", bundle["root"], name, thing["type"], json.dumps(thing["fields"], separators=(",", ":"), ensure_ascii=False))
+        for key, bundle in made.items()
+        for name, thing in bundle["objects"].items()
+    ]
+    if text != declarations(3).encode() or found != (first if version == 1 else second):
+        sys.exit(f"version {version}: {found}")
+    return version
+
+
+def migration(folder, page):
+    """An opening that migrates, and a get of each record behind it."""
+    file = folder / "first.db"
+    (folder / "d.json").write_text(NO_DECLARATIONS)
+    words = served(folder / "d.json", file)
+    lines = "".join(f'{{"do":"get","id":"{key}"}}\n' for key in FIRST_BUNDLES).encode()
+    wanted = [{"ok": "get", "id": key, "form": "item", "bundle": json.loads(bundle)} for key, bundle in FIRST_BUNDLES.items()]
+    last, versions, early, shown = 0, {1: 0, 2: 0}, 0, 0
+    for number, run in runs(page, words, lines, lambda: first_file(file)):
+        if run.returncode == 4 and (run.stdout, run.stderr) == (b"", b"formd: memory\n"):
+            early += 1
+        else:
+            replies = [json.loads(line) for line in run.stdout.decode().splitlines()]
+            wants = [reply == MEMORY for reply in replies]
+            if run.returncode != 0 or sum(wants) > 1 or any(not want and reply != right for want, reply, right in zip(wants, replies, wanted, strict=True)):
+                sys.exit(f"request {number} of a migration: status {run.returncode} with {run.stderr!r}, {replies}")
+            shown += sum(wants)
+        version = version_of(file)
+        if version == 1 and run.returncode == 0:
+            sys.exit(f"request {number} of a migration: replies over version 1")
+        versions[version] += 1
+        again = subprocess.run([PROGRAM, *words], input=lines, capture_output=True, timeout=60)
+        if again.returncode != 0 or [json.loads(line) for line in again.stdout.decode().splitlines()] != wanted or version_of(file) != 2:
+            sys.exit(f"request {number} of a migration: opened again, status {again.returncode} with {again.stderr!r}, {again.stdout!r}")
+        last = number
+    print(f"{last - 1} requests for memory under a migration, each refused in its turn: {early} runs ended with status 4, {shown} had one reply C12; "
+          f"version 1 behind {versions[1]}, version 2 behind {versions[2] - 1}, and each opened to the same records")
 
 
 def main():
-    lines = (FORMD / "stdin").read_bytes() + "".join(json.dumps(command) + "\n" for command in MORE).encode()
-    commands = [json.loads(line) for line in lines.decode().splitlines()]
-    with tempfile.TemporaryDirectory() as folder:
-        library, counted = Path(folder) / "refuse.so", Path(folder) / "count"
-        subprocess.run(["gcc", "-O1", "-shared", "-fPIC", "-o", library, HERE / "refuse.c"], check=True)
-        number, shown, early = 0, 0, 0
-        begun = time.monotonic()
-        while True:
-            number += 1
-            environment = {**os.environ, "LD_PRELOAD": str(library), "REFUSE_AT": str(number), "REFUSE_COUNT": str(counted)}
-            run = subprocess.run([FORMD / "out" / "formd"], input=lines, capture_output=True, env=environment, timeout=60)
-            wrong, showed = fault(commands, run.returncode, run.stdout, run.stderr)
-            if wrong:
-                sys.exit(f"request {number}: {wrong}")
-            shown += showed
-            early += run.returncode == 4
-            if int(counted.read_text()) < number:
-                break
-    print(f"{number - 1} requests for memory, each refused in its turn: {early} runs ended with status 4 before their first line, "
-          f"{shown - early} had one reply C12, {number - 1 - shown} answered as ever; no other difference; {1000 * (time.monotonic() - begun) / number:.1f} ms a run")
+    if not PROGRAM.is_file():
+        sys.exit(f"{PROGRAM} isn't there: make it by `make`")
+    # (how long a disk takes doesn't matter here, so the files are in memory where the system has such a folder)
+    with tempfile.TemporaryDirectory(dir="/dev/shm" if os.access("/dev/shm", os.W_OK) else None) as name:
+        folder = Path(name)
+        page = Page(folder)
+        commands(folder, page)
+        starts(folder, page)
+        migration(folder, page)
+    print(f"requests for memory refused: {lost} lost")
+    return 1 if lost else 0
 
 
 if __name__ == "__main__":
-    main()
+    sys.exit(main())

@@ -5,7 +5,7 @@
     tests/statuses.py PROGRAM    with another build of formd
 
 A folder, a missing file, garbage, a file in use, one that may not be written, a disk that is full when
-the database is made or in the middle of puts, a pipe that nobody reads, tables of version 1, and a file
+the database is made or in the middle of puts, a pipe that nobody reads, tables of a later version, and a file
 whose own declarations aren't taken. Behind a full disk every put that was answered has to be in the file.
 And what SQLite finds in the file of a run that ended in order: the tables of docs/FORMATS.md, their rows
 behind each kind of change, the declarations behind a redeclare, and no fault.
@@ -30,7 +30,6 @@ OBJECT = (
     " PRIMARY KEY (rec, name))"
 )
 RECORD = "CREATE TABLE record (id TEXT NOT NULL PRIMARY KEY, form TEXT NOT NULL, root TEXT NOT NULL)"
-FIRST_RECORD = "CREATE TABLE record (id TEXT NOT NULL PRIMARY KEY, form TEXT NOT NULL, bundle TEXT NOT NULL)"
 # An order refers to a note and to a chain of lines, which may be null.
 ORDERS = """{"types":{
     "Order":{"fields":{"number":{"type":"integer"},"buyer":{"type":"text"},"first":{"type":{"ref":"Line"}},"note":{"type":{"ref":"Note"}}}},
@@ -212,27 +211,30 @@ def changes(folder):
     look("a batch that isn't made, object", rows(file, "object"), objects)
 
 
-def first_version(folder):
-    """Tables of version 1, which kept each bundle in one text, are refused and stay as they are."""
-    good, file = folder / "first.json", folder / "first.db"
+def later_version(folder):
+    """Tables of a version that the program doesn't know are refused and stay as they are."""
+    good, file = folder / "later.json", folder / "later.db"
     good.write_text(DECLARATIONS)
     base = sqlite3.connect(file)
-    base.execute(ABOUT)
-    base.execute(FIRST_RECORD)
-    base.execute("INSERT INTO about VALUES (1, 1, ?)", (DECLARATIONS.encode(),))
-    records = [(f"r{number}", "f", '{"objects":{"a":{"fields":{"t":"x"},"type":"T"}},"root":"a"}') for number in range(3)]
+    for table in (ABOUT, RECORD, OBJECT):
+        base.execute(table)
+    base.execute("INSERT INTO about VALUES (1, 3, ?)", (DECLARATIONS.encode(),))
+    records = [(f"r{number}", "f", "a") for number in range(3)]
+    objects = [(f"r{number}", "a", "T", '{"t":"x"}') for number in range(3)]
     base.executemany("INSERT INTO record VALUES (?, ?, ?)", records)
+    base.executemany("INSERT INTO object VALUES (?, ?, ?, ?)", objects)
     base.commit()
     base.close()
-    for name in ("version 1", "version 1, again"):
+    for name in ("version 3", "version 3, again"):
         ran = serve(good, file, put(1) + "\n")
         ended(name, ran, 4, "formd: store: OtherVersion\n")
         look(f"{name}, replies", ran.stdout, "")
-        look(f"{name}, tables", tables(file), [ABOUT, FIRST_RECORD])
-        look(f"{name}, about", rows(file, "about"), [(1, 1, DECLARATIONS.encode())])
+        look(f"{name}, tables", tables(file), [ABOUT, OBJECT, RECORD])
+        look(f"{name}, about", rows(file, "about"), [(1, 3, DECLARATIONS.encode())])
         look(f"{name}, record", rows(file, "record"), records)
+        look(f"{name}, object", rows(file, "object"), objects)
     good.write_text(DECLARATIONS + "\n")
-    ended("version 1 under other declarations", serve(good, file), 4, "formd: store: OtherVersion\n")
+    ended("version 3 under other declarations", serve(good, file), 4, "formd: store: OtherVersion\n")
 
 
 def redeclare(text):
@@ -318,7 +320,7 @@ def main():
         folder.chmod(0o755)
         files(folder)
         changes(folder)
-        first_version(folder)
+        later_version(folder)
         declared(folder)
         pipes(folder)
         full(folder)
