@@ -1,5 +1,5 @@
 # Everything is done by the toolchain's command rt (see README.md).
-.PHONY: all demo test rows planted served hostile
+.PHONY: all demo try test rows planted served hostile
 
 # As many lanes as there are processors, or quarters of the free memory in GB where these are fewer.
 lanes := $(shell free=$$(awk '/MemAvailable/ { print int($$2 / 4194304) }' /proc/meminfo); \
@@ -10,9 +10,14 @@ lanes := $(shell free=$$(awk '/MemAvailable/ { print int($$2 / 4194304) }' /proc
 all:
 	cd crates/formd && rt run < stdin
 
-# Runs the program on the demonstration's lines. This proves nothing.
+# Shows seven command lines of an order form, each with its reply. This proves nothing.
 demo:
-	cd crates/formd && rt try < stdin
+	tests/demonstrate.py examples/order.json examples/order.jsonl
+
+# Answers command lines under declarations of your own, over a database in memory, and says where a line is wrong:
+# make try DECLARATIONS=form.json < lines. This proves nothing and keeps nothing.
+try:
+	cd crates/formd && rt try -- rehearse --declarations "$(abspath $(DECLARATIONS))"
 
 # The merge gate: every proof from nothing, the must-fail edits, the tests, the programs' runs.
 test:
@@ -30,7 +35,10 @@ planted:
 # files of version 1 and kills while one is migrated, the forms of examples/, the rental application, what
 # differs from Bean Validation.
 served:
+	tests/readme.py
 	tests/manual.py
+	tests/rehearsal.py
+	tests/mistakes.py
 	tests/statuses.py
 	tests/pages.py
 	tests/matchers.py

@@ -4,7 +4,7 @@
     tests/statuses.py            with the program that `make` leaves
     tests/statuses.py PROGRAM    with another build of formd
 
-A folder, a missing file, garbage, a file in use, one that may not be written, a disk that is full when
+A start that is refused leaves no file that wasn't there. A folder, a missing file, garbage, a file in use, one that may not be written, a disk that is full when
 the database is made or in the middle of puts, a pipe that nobody reads, tables of a later version, and a file
 whose own declarations aren't taken. Behind a full disk every put that was answered has to be in the file.
 And what SQLite finds in the file of a run that ended in order: the tables of docs/FORMATS.md, their rows
@@ -52,9 +52,20 @@ def put(number, length=0):
     return json.dumps({"do": "put", "id": f"r{number}", "form": "f", "bundle": {"root": "a", "objects": {"a": {"type": "T", "fields": {"t": "x" * length}}}}})
 
 
+def around(database):
+    """The names of the files beside a database."""
+    folder = Path(database).parent
+    return sorted(file.name for file in folder.iterdir()) if folder.is_dir() else []
+
+
 def serve(declarations, database, lines="", **how):
+    """Serves. A start that is refused leaves no file that wasn't there."""
     words = [PROGRAM, "serve", "--declarations", declarations, "--database", database]
-    return subprocess.run(words, input=lines, capture_output=True, text=True, **how)
+    before = around(database)
+    ran = subprocess.run(words, input=lines, capture_output=True, text=True, **how)
+    if ran.returncode in (3, 4) and ran.stderr not in ("formd: read\n", "formd: write\n"):
+        look(f"files behind {ran.stderr.strip()}", around(database), before)
+    return ran
 
 
 def limited(size):
@@ -102,7 +113,17 @@ def files(folder):
     look("garbage stays", (folder / "garbage.db").read_bytes(), bytes(range(256)) * 64)
     (folder / "bad.json").write_text("{")
     ended("no JSON", serve(folder / "bad.json", folder / "a.db"), 3, "formd: declarations refused: F1 NotJson\n")
+    (folder / "journal.db-journal").write_bytes(b"left by another program")
+    ended("a journal and no database", serve(good, folder / "journal.db"), 4, cannot_open)
+    (folder / "odd.db-wal").mkdir()
+    ended("a folder in the log's place", serve(good, folder / "odd.db"), 4, cannot_open)
+    (folder / "nowhere.db").symlink_to(folder / "none.db")
+    ended("a link to nothing", serve(good, folder / "nowhere.db"), 4, cannot_open)
+    (folder / "nowhere.db").unlink()
     ended("an empty input", serve(good, folder / "b.db"), 0, "")
+    (folder / "linked.db").symlink_to(folder / "b.db")
+    (folder / "b.db-wal").unlink(missing_ok=True)
+    ended("no JSON, by a link to a database", serve(folder / "bad.json", folder / "linked.db"), 3, "formd: declarations refused: F1 NotJson\n")
     words = [PROGRAM, "serve", "--declarations", good, "--database", folder / "b.db"]
     with subprocess.Popen(words, stdin=subprocess.PIPE, stdout=subprocess.PIPE, text=True) as first:
         first.stdin.write(put(1) + "\n")

@@ -1,14 +1,30 @@
 //! The demonstration: declarations of one form of one type, with three constraints.
 use crate::failure::Failure;
-use crate::serving::answer_over;
-use fv_engine::FixedClock;
+use fv_engine::{Engine, FixedClock, serve};
 use fv_registry::RuleSet;
-use sqlite::Connection;
+use sqlite::{Connection, MemStore};
 use std::alloc::Global;
 use std::io::{Read, Write};
 
 pub(crate) const DECLARATIONS: &[u8] =
     br#"{"types":{"Item":{"fields":{"count":{"type":"integer","constraints":[{"constraint":"Min","with":{"value":1}}]},"name":{"type":"text","constraints":[{"constraint":"NotNull"},{"constraint":"Size","with":{"min":1,"max":3}}]}}}},"forms":{"item":{"root":"Item"}}}"#;
+
+/// An engine of these declarations over a new database in memory.
+pub(crate) fn in_memory<R: RuleSet + Drop>(
+    alloc: Global,
+    registry: R,
+    declarations: &[u8],
+) -> Result<Engine<R, MemStore>, Failure>
+    requires { R.means registry }
+{
+    let Ok(connection) = Connection::open_in_memory(alloc) else {
+        return Err(Failure::Memory);
+    };
+    match Engine::open(alloc, registry, declarations, connection) {
+        Ok(engine) => Ok(engine),
+        Err((fault, _)) => Err(Failure::from(fault)),
+    }
+}
 
 /// Serves the demonstration's declarations over a database in memory at the moment 0.
 pub(crate) fn serve_demonstration<R: RuleSet + Drop, I: Read, W: Write>(
@@ -19,18 +35,7 @@ pub(crate) fn serve_demonstration<R: RuleSet + Drop, I: Read, W: Write>(
 ) -> Result<(), Failure>
     requires { R.means registry }
 {
-    let Ok(connection) = Connection::open_in_memory(alloc) else {
-        return Err(Failure::Memory);
-    };
-    let clock = &mut FixedClock::new(0);
-    let (_, served) = answer_over(
-        alloc,
-        registry,
-        DECLARATIONS,
-        connection,
-        reader,
-        output,
-        clock,
-    );
-    served
+    let mut engine = in_memory(alloc, registry, DECLARATIONS)?;
+    serve(alloc, &mut engine, reader, output, &mut FixedClock::new(0))?;
+    Ok(())
 }

@@ -4,9 +4,12 @@
 mod clocks;
 mod declarations;
 mod demonstration;
+mod explaining;
 mod failure;
 mod files;
 mod given;
+mod made;
+mod rehearsing;
 mod running;
 mod serving;
 mod words;

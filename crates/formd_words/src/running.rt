@@ -1,6 +1,8 @@
 use crate::declarations::check_declarations;
 use crate::demonstration::serve_demonstration;
+use crate::explaining::explain_file;
 use crate::failure::Failure;
+use crate::rehearsing::rehearse_file;
 use crate::serving::serve_files;
 use crate::words::{Task, task_of};
 use clap::Error;
@@ -19,12 +21,13 @@ fn report_words<E: Write>(refused: &Error, error: &mut E) -> u8 {
 }
 
 /// Does what is asked.
-fn run_task<R: RuleSet + Drop, I: Read, W: Write, C: Clock>(
+fn run_task<R: RuleSet + Drop, I: Read, W: Write, E: Write, C: Clock>(
     rt: &HostRuntime,
     task: Task<'_>,
     registry: R,
     reader: &mut I,
     output: &mut W,
+    error: &mut E,
     clock: &mut C,
 ) -> Result<(), Failure>
     requires { R.means registry }
@@ -32,6 +35,12 @@ fn run_task<R: RuleSet + Drop, I: Read, W: Write, C: Clock>(
     match task {
         Task::Demonstration => serve_demonstration(rt.alloc(), registry, reader, output),
         Task::Declarations(path) => check_declarations(rt.alloc(), rt, path, &registry, output),
+        Task::Explain(path, as_json) => {
+            explain_file(rt.alloc(), rt, path, as_json, &registry, output)
+        }
+        Task::Rehearse(service) => {
+            rehearse_file(rt, service, registry, reader, output, error, clock)
+        }
         Task::Serve(service) => serve_files(rt, service, registry, reader, output, clock),
     }
 }
@@ -40,7 +49,10 @@ fn run_task<R: RuleSet + Drop, I: Read, W: Write, C: Clock>(
 /// declarations over a database in memory at the moment 0, the reader to the output writer;
 /// `declarations F` prints `ok` where the declarations of the file F are taken;
 /// `serve --declarations F --database G [--now N]` serves the database at the path G, at the moment N
-/// or at those of the clock, under its own declarations; under those of the file F where it is empty.
+/// or at those of the clock, under its own declarations; under those of the file F where it is empty;
+/// `explain F [--json]` writes what the declarations of the file F declare, or where their first fault
+/// is; `rehearse --declarations F [--now N]` serves a database in memory, and tells on the error writer
+/// where lines are wrong.
 ///
 /// Gives the exit status: 0 done; 2 the words weren't understood, or call for help, with a text on
 /// the error writer; 3 where the declarations are refused and 4 for any other failure, with a line
@@ -60,7 +72,7 @@ pub fn run_words<R: RuleSet + Drop, I: Read, W: Write, E: Write, C: Clock>(
         Ok(task) => task,
         Err(refused) => return report_words(&refused, error),
     };
-    match run_task(rt, task, registry, reader, output, clock) {
+    match run_task(rt, task, registry, reader, output, error, clock) {
         Ok(()) => 0,
         Err(failure) => failure.report(error),
     }

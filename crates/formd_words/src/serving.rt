@@ -1,40 +1,18 @@
 //! Serving: declarations from a file, over a database.
 use crate::failure::Failure;
 use crate::files::read_file;
+use crate::made::{NotOpened, absent_at, close_refused, open_database};
 use crate::words::Service;
 use fv_engine::{Clock, Engine, serve};
 use fv_registry::RuleSet;
-use sqlite::{Alter, Connection, Error, ErrorCode, File, FileStore};
-use std::alloc::Global;
 use std::io::{Read, Write};
 
-/// Opens the engine over a connection, answers the lines of the reader until its end, and gives the
-/// connection back.
-pub(crate) fn answer_over<R: RuleSet + Drop, S: Alter + Drop, I: Read, W: Write, C: Clock>(
-    alloc: Global,
-    registry: R,
-    declarations: &[u8],
-    connection: Connection<S>,
-    reader: &mut I,
-    output: &mut W,
-    clock: &mut C,
-) -> (Connection<S>, Result<(), Failure>)
-    requires { R.means registry }
-{
-    let mut engine = match Engine::open(alloc, registry, declarations, connection) {
-        Ok(engine) => engine,
-        Err((fault, connection)) => return (connection, Err(Failure::from(fault))),
-    };
-    let served = serve(alloc, &mut engine, reader, output, clock);
-    (engine.into_connection(), served.map_err(Failure::from))
-}
-
-/// Opens the database at a path, or makes it.
-fn open_database(rt: &HostRuntime, path: &str) -> Result<Connection<FileStore<File>>, Failure> {
-    match Connection::open(rt, path) {
-        Ok(connection) => Ok(connection),
-        Err(Error::SqliteFailure(ErrorCode::OutOfMemory)) => Err(Failure::Memory),
-        Err(_) => Err(Failure::CannotOpen),
+impl From<NotOpened> for Failure {
+    fn from(refused: NotOpened) -> Failure {
+        match refused {
+            NotOpened::Memory => Failure::Memory,
+            NotOpened::Refused => Failure::CannotOpen,
+        }
     }
 }
 
@@ -43,8 +21,9 @@ fn open_database(rt: &HostRuntime, path: &str) -> Result<Connection<FileStore<Fi
 ///
 /// Refused as declarations not readable, then as a database not opened, then by the fault of the
 /// file's declarations, then by that of the database, then by the fault of those that it keeps, then as
-/// not read or not written; for want of memory at any place. What was answered as stored is kept, also where the database isn't closed in order:
-/// the next opening finds it.
+/// not read or not written; for want of memory at any place. Where nothing is served, no file is left
+/// that wasn't there. What was answered as stored is kept, also where the database isn't closed in
+/// order: the next opening finds it.
 pub(crate) fn serve_files<R: RuleSet + Drop, I: Read, W: Write, C: Clock>(
     rt: &HostRuntime,
     service: Service<'_>,
@@ -57,29 +36,19 @@ pub(crate) fn serve_files<R: RuleSet + Drop, I: Read, W: Write, C: Clock>(
 {
     let alloc = rt.alloc();
     let declarations = read_file(alloc, rt, service.declarations)?;
-    let connection = open_database(rt, service.database)?;
-    let (connection, served) = match service.clock {
-        None => answer_over(
-            alloc,
-            registry,
-            &declarations,
-            connection,
-            reader,
-            output,
-            clock,
-        ),
-        Some(mut fixed) => {
-            answer_over(
-                alloc,
-                registry,
-                &declarations,
-                connection,
-                reader,
-                output,
-                &mut fixed,
-            )
+    let absent = absent_at(rt, service.database)?;
+    let connection = open_database(rt, service.database, &absent)?;
+    let mut engine = match Engine::open(alloc, registry, &declarations, connection) {
+        Ok(engine) => engine,
+        Err((fault, connection)) => {
+            close_refused(rt, &absent, connection);
+            return Err(Failure::from(fault));
         }
     };
-    let _ = connection.close();
-    served
+    let served = match service.clock {
+        None => serve(alloc, &mut engine, reader, output, clock),
+        Some(mut fixed) => serve(alloc, &mut engine, reader, output, &mut fixed),
+    };
+    let _ = engine.into_connection().close();
+    served.map_err(Failure::from)
 }

@@ -21,6 +21,7 @@ ghost use Rattle.fv_engine_reply.specs.Answers.{refused};
 ghost use Rattle.fv_engine_reply.specs.Texts.{answer_text};
 
 use fv_declare::DeclFault;
+use fv_declare_schema::Schema;
 use fv_engine_lines::{LIMIT, Responder};
 use fv_engine_machine::{SharedRules, read_rulebook, reply_to_line};
 use fv_engine_reply::{Refusal, Reply};
@@ -310,6 +311,13 @@ impl<R: RuleSet + Drop, S: Alter> Engine<R, S> {
         ensures same { self.new ≡ self.old }
     {
         Reply::line_too_long()
+    }
+
+    /// The declarations in force.
+    pub fn schema(&self) -> &Schema
+        ensures { result.now ≡ self.now.machine.declared }
+    {
+        self.book.schema()
     }
 
     /// The database, without the engine. It takes no memory.

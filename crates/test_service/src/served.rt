@@ -195,8 +195,15 @@ fn no_database_is_not_opened(rt: HostRuntime) -> Result<(), Fail> {
     remove(&rt, "formd_held.db")
 }
 
+/// Nothing stands at these paths.
+fn check_absent(rt: &impl Abort, host: &HostRuntime, paths: &[&str]) {
+    for path in paths {
+        assert!(rt; fs::symlink_metadata(host, *path).is_err(), "{path}");
+    }
+}
+
 /// The declarations are read, then the database is opened, then the declarations are judged, whatever
-/// the database keeps.
+/// the database keeps. Where nothing is served, no file is left that wasn't there.
 #[test]
 fn the_first_failure_is_told(rt: HostRuntime) -> Result<(), Fail> {
     fs::write(&rt, "formd_first.json", DECLARATIONS)?;
@@ -230,6 +237,14 @@ fn the_first_failure_is_told(rt: HostRuntime) -> Result<(), Fail> {
         GET,
         (3, "", refused),
     )?;
+    check(
+        &rt,
+        &rt,
+        ("formd_first_bad.json", "formd_new.db", ""),
+        GET,
+        (3, "", refused),
+    )?;
+    check_absent(&rt, &rt, &["formd_new.db", "formd_new.db-wal"]);
     fs::remove_file(&rt, "formd_first.json")?;
     fs::remove_file(&rt, "formd_first_bad.json")?;
     remove(&rt, "formd_first.db")

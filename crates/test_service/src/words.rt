@@ -23,6 +23,8 @@ Usage: formd [COMMAND]
 Commands:
   serve         Answers command lines over a database, under declarations.
   declarations  Reads declarations and prints ok where they are taken.
+  explain       Writes what declarations declare, with warnings, or where their first fault is.
+  rehearse      Answers command lines over a database in memory, and says on standard error where a line is wrong. Keeps nothing.
   help          Print this message or the help of the given subcommand(s)
 
 Options:
@@ -38,6 +40,46 @@ Arguments:
 
 Options:
   -h, --help  Print help
+";
+
+const EXPLAIN_HELP: &str =
+    "Writes what declarations declare, with warnings, or where their first fault is.
+
+Usage: formd explain [OPTIONS] <FILE>
+
+Arguments:
+  <FILE>  The file with the declarations
+
+Options:
+      --json  One JSON object a line
+  -h, --help  Print help
+";
+
+const REHEARSE_HELP: &str =
+    "Answers command lines over a database in memory, and says on standard error where a line is wrong. Keeps nothing.
+
+Usage: formd rehearse [OPTIONS] --declarations <FILE>
+
+Options:
+      --declarations <FILE>  The declarations
+      --now <SECONDS>        The moment of every command, in seconds since 1970 (the machine's clock where not given)
+  -h, --help                 Print help
+";
+
+const NOT_EXPLAINED: &str = "error: the following required arguments were not provided:
+  <FILE>
+
+Usage: formd explain <FILE>
+
+For more information, try '--help'.
+";
+
+const NOT_REHEARSED: &str = "error: the following required arguments were not provided:
+  --declarations <FILE>
+
+Usage: formd rehearse --declarations <FILE>
+
+For more information, try '--help'.
 ";
 
 const SERVE_HELP: &str = "Answers command lines over a database, under declarations.
@@ -193,7 +235,9 @@ fn words_that_are_not_understood_end_with_status_2(rt: HostRuntime) -> Result<()
     check(&rt, &rt, "serve\n--declarations\na", (2, "", NO_DATABASE))?;
     check(&rt, &rt, "--now", (2, "", NO_OPTION))?;
     check(&rt, &rt, "declarations", (2, "", NO_FILE))?;
-    check(&rt, &rt, "declarations\na\nb", (2, "", TWO_FILES))
+    check(&rt, &rt, "declarations\na\nb", (2, "", TWO_FILES))?;
+    check(&rt, &rt, "explain", (2, "", NOT_EXPLAINED))?;
+    check(&rt, &rt, "rehearse", (2, "", NOT_REHEARSED))
 }
 
 #[test]
@@ -203,7 +247,9 @@ fn words_that_call_for_help_end_with_status_2(rt: HostRuntime) -> Result<(), Fai
     check(&rt, &rt, "help", (2, "", HELP))?;
     check(&rt, &rt, "serve\n--help", (2, "", SERVE_HELP))?;
     check(&rt, &rt, "declarations\n--help", (2, "", DECLARATIONS_HELP))?;
-    check(&rt, &rt, "help\ndeclarations", (2, "", DECLARATIONS_HELP))
+    check(&rt, &rt, "help\ndeclarations", (2, "", DECLARATIONS_HELP))?;
+    check(&rt, &rt, "explain\n--help", (2, "", EXPLAIN_HELP))?;
+    check(&rt, &rt, "rehearse\n--help", (2, "", REHEARSE_HELP))
 }
 
 /// A run of `declarations` on a file at that path with these bytes ends so.
@@ -239,6 +285,80 @@ fn check_row(rt: &impl Abort, host: &HostRuntime, row: &str) -> Result<(), Fail>
         return check_file(rt, host, file, (0, "ok\n", ""));
     }
     check_refused(rt, host, file, wanted)
+}
+
+/// Declarations of one constraint, and what is explained of them.
+const ONE: &str =
+    r#"{"types":{"T":{"fields":{"f":{"type":"text","constraints":[{"constraint":"NotNull"}]}}}},"forms":{"g":{"root":"T"}}}"#;
+
+const EXPLAINED: &str =
+    r#"0 types.T.fields.f.constraints[0] NotNull groups Default message "must not be null"
+form g: root T; groups Default; reaches T through valid
+"#;
+
+/// Two lines with a datum of another kind, their replies, and where they are wrong.
+const ODD: &str =
+    r#"{"do":"put","id":"r1","form":"g","bundle":{"root":"v","objects":{"v":{"type":"T","fields":{"f":5.0}}}}}
+{"do":"checkvalue","type":"T","field":"f","value":[ ]}
+"#;
+
+const ODD_REPLIES: &str = r#"{"error":"C5","fault":"B5","name":"Bundle"}
+{"error":"C5","fault":"B5","name":"Bundle"}
+"#;
+
+const ODD_PLACES: &str = r#"line 1: C5 Bundle B5: object "v", field "f": 5.0 should be a text
+line 2: C5 Bundle B5: type "T", field "f": [ ] should be a text
+"#;
+
+/// Declarations that are refused, and the line on the error writer.
+const NO_TYPE: &str = r#"{"types":{},"forms":{"f":{"root":"T"}}}"#;
+
+const NO_TYPE_REFUSED: &str = "formd: declarations refused: F4 UnknownName\n";
+
+/// What is told of declarations, and where they are refused the status and the line on the error writer
+/// as ever; lines over a database in memory are answered as served ones are.
+#[test]
+fn declarations_are_explained_and_lines_rehearsed(rt: HostRuntime) -> Result<(), Fail> {
+    fs::write(&rt, "formd_one.json", ONE)?;
+    fs::write(&rt, "formd_no_type.json", NO_TYPE)?;
+    check(&rt, &rt, "explain\nformd_one.json", (0, EXPLAINED, ""))?;
+    check(
+        &rt,
+        &rt,
+        "rehearse\n--declarations\nformd_one.json\n--now\n0",
+        (0, NO_RECORD, ""),
+    )?;
+    let mut replies = Vec::new(rt.alloc());
+    let words = "rehearse\n--declarations\nformd_one.json\n--now\n0";
+    let (status, places) = ran(&rt, words, &mut ODD.as_bytes(), &mut replies)?;
+    check_ended(
+        &rt,
+        words,
+        (status, &replies, &places),
+        (0, ODD_REPLIES, ODD_PLACES),
+    );
+    check(
+        &rt,
+        &rt,
+        "rehearse\n--declarations\nformd_no_type.json",
+        (3, "", NO_TYPE_REFUSED),
+    )?;
+    check(&rt, &rt, "explain\nformd_missing.json", (4, "", NOT_READ))?;
+    let mut told = Vec::new(rt.alloc());
+    let words = "explain\n--json\nformd_no_type.json";
+    let (status, complaint) = ran(&rt, words, &mut GET, &mut told)?;
+    assert_eq!(rt;
+        (status, str::from_utf8(&complaint)),
+        (3, Ok(NO_TYPE_REFUSED))
+    );
+    assert!(rt;
+        told.starts_with(
+            b"{\"line\":\"fault\",\"code\":\"F4\",\"name\":\"UnknownName\",\"place\":\"forms.f.root\","
+        )
+    );
+    fs::remove_file(&rt, "formd_one.json")?;
+    fs::remove_file(&rt, "formd_no_type.json")?;
+    Ok(())
 }
 
 /// The faults of declarations, or `ok` where they are taken, and behind ": " the declarations.

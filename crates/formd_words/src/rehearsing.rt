@@ -1,0 +1,132 @@
+//! Rehearsing: lines answered over a database in memory, and in words where they are refused.
+ghost use Rattle.std.specs.Prelude.{⊤};
+ghost use Rattle.fv_datum.specs.Moments.{IsMoment};
+
+use crate::demonstration::in_memory;
+use crate::failure::Failure;
+use crate::files::read_file;
+use crate::words::Service;
+use fv_engine::{Clock, Engine, Reply};
+use fv_engine_lines::{Responder, Text, answer_lines};
+use fv_explain_line::{explain_refusal, record_asked};
+use fv_registry::RuleSet;
+use sqlite::MemStore;
+use std::alloc::{AllocError, Global};
+use std::io::{Read, Write};
+
+/// An engine in memory, and where it tells in words why it refuses a line.
+struct Rehearsal<'e, R: RuleSet, E: Write> {
+    engine: Engine<R, MemStore>,
+    error: &'e mut E,
+    /// How many lines were answered.
+    lines: u64,
+}
+
+impl<'e, R: RuleSet + Drop, E: Write> Drop for Rehearsal<'e, R, E> {
+    fn drop(self) {
+        let Rehearsal {
+            engine: _,
+            error: _,
+            lines: _,
+        } = self;
+    }
+}
+
+impl<'e, R: RuleSet + Drop, E: Write> Rehearsal<'e, R, E> {
+    /// The reply to a get of the record that is needed to tell why a line was refused, if one is.
+    fn record(
+        &mut self,
+        alloc: Global,
+        line: &[u8],
+        reply: &str,
+        now: i64,
+    ) -> Result<Option<Reply>, AllocError>
+        requires { IsMoment now }
+    {
+        let Some(id) = record_asked(alloc, line, reply)? else {
+            return Ok(None);
+        };
+        let get = format!(in alloc; "{{\"do\":\"get\",\"id\":\"{id}\"}}")?;
+        Ok(Some(self.engine.run(alloc, get.as_bytes(), now)))
+    }
+
+    /// Why a line was refused, in words.
+    fn words(
+        &mut self,
+        alloc: Global,
+        line: &[u8],
+        reply: &str,
+        now: i64,
+    ) -> Result<Option<String>, AllocError>
+        requires { IsMoment now }
+    {
+        let record = self.record(alloc, line, reply, now)?;
+        let shown = match &record {
+            Some(record) => Some(record.text()),
+            None => None,
+        };
+        explain_refusal(alloc, self.engine.schema(), line, reply, shown)
+    }
+
+    /// Writes why a line was refused. Nothing is written where there is nothing to tell, or no memory
+    /// to tell it with.
+    fn tell(&mut self, alloc: Global, line: &[u8], reply: &str, now: i64)
+        requires { IsMoment now }
+    {
+        if let Ok(Some(words)) = self.words(alloc, line, reply, now) {
+            let number = self.lines;
+            let _ = writeln!(self.error, "line {number}: {words}");
+        }
+    }
+}
+
+impl<'e, R: RuleSet + Drop, E: Write> Responder for Rehearsal<'e, R, E> {
+    type Reply = Reply;
+
+    // Nothing is promised of what the words say.
+    ghost step = { λ old line moment text new. ⊤ };
+
+    fn answer_line(&mut self, alloc: Global, line: &[u8], now: i64) -> Reply {
+        let reply = self.engine.run(alloc, line, now);
+        self.lines = self.lines.saturating_add(1);
+        self.tell(alloc, line, reply.text(), now);
+        reply
+    }
+
+    fn answer_long(&mut self, _now: i64) -> Reply {
+        self.lines = self.lines.saturating_add(1);
+        Reply::line_too_long()
+    }
+}
+
+/// Answers lines over a database in memory under the declarations of a file, until the reader's end,
+/// as a service over an empty database would, and tells on the error writer in one line of words why
+/// each line with C2, C3, C5, C8 or C9 was refused. Nothing is kept.
+///
+/// Refused as declarations not readable, then by their fault, then as not read or not written; for want
+/// of memory at any place.
+pub(crate) fn rehearse_file<R: RuleSet + Drop, I: Read, W: Write, E: Write, C: Clock>(
+    rt: &HostRuntime,
+    service: Service<'_>,
+    registry: R,
+    reader: &mut I,
+    output: &mut W,
+    error: &mut E,
+    clock: &mut C,
+) -> Result<(), Failure>
+    requires { R.means registry }
+{
+    let alloc = rt.alloc();
+    let declarations = read_file(alloc, rt, service.declarations)?;
+    let engine = in_memory(alloc, registry, &declarations)?;
+    let mut rehearsal = Rehearsal {
+        engine,
+        error,
+        lines: 0,
+    };
+    let answered = match service.clock {
+        None => answer_lines(alloc, &mut rehearsal, reader, output, clock),
+        Some(mut fixed) => answer_lines(alloc, &mut rehearsal, reader, output, &mut fixed),
+    };
+    answered.map_err(Failure::from)
+}

@@ -1,0 +1,6 @@
+mod Arms
+mod Drafts
+mod Finds
+mod Firsts
+mod Leads
+mod Seen

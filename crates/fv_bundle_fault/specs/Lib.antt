@@ -1,0 +1,7 @@
+pub mod Faults
+pub mod Given
+pub mod Places
+pub mod SearchViews
+pub mod Sought
+pub mod Told
+pub mod Views

@@ -1,0 +1,14 @@
+//! Where a bundle, or a datum by itself, has the fault for which it is refused: which object, which of its
+//! fields, and which value in that field's datum.
+#![tactic(auto)]
+
+mod descent;
+mod given;
+mod inside;
+mod objects;
+mod place;
+mod placing;
+mod search;
+
+pub use place::{FaultPlace, Inner};
+pub use placing::{place_in_bundle, place_in_value};

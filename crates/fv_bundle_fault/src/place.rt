@@ -1,0 +1,26 @@
+use fv_json::Json;
+use fv_model_types::TypeUse;
+
+/// One step from a datum to one that stands in it.
+#[derive(Clone, Copy, Debug, PartialEq, Eq)]
+pub enum Inner<'a> {
+    /// To an item of a list by its index, from 0, or to the content of an optional, whose index is 0.
+    Item(usize),
+    /// To the value of a map at a key.
+    Member(&'a str),
+}
+
+/// Where a bundle, or a datum by itself, has a fault.
+#[derive(Drop)]
+pub struct FaultPlace<'t, 'j, 'a> {
+    /// The object's name; none where the bundle as a whole has the fault, or a datum by itself.
+    pub object: Option<&'a str>,
+    /// The field's name as it is given; none where the object as a whole has the fault.
+    pub field: Option<&'a str>,
+    /// From the field's datum to the value that has the fault.
+    pub steps: Vec<Inner<'a>>,
+    /// What stands there.
+    pub value: Json<'j, 'a>,
+    /// What should stand there; none where the fault isn't one of a datum, or the field isn't declared.
+    pub type_use: Option<&'t TypeUse>,
+}

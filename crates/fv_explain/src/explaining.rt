@@ -1,0 +1,69 @@
+ghost use Rattle.std.specs.Prelude.{◌≡◌, None, Ok, Err, IfOk, IfSome};
+ghost use Rattle.fv_declare.specs.Declares.{Declares};
+ghost use Rattle.fv_declare_schema.specs.Declarations.{Declarations};
+
+use crate::fault::ExplainFault;
+use crate::lines::fault_line;
+use crate::taken::taken_lines;
+use fv_declare::{DeclFault, read_schema};
+use fv_explain_faults::locate;
+use fv_registry::RuleSet;
+use std::alloc::Global;
+use std::io::Write;
+
+/// Writes a line with its end.
+fn write_line<W: Write>(output: &mut W, line: &str) -> Result<(), ExplainFault> {
+    if output.write_all(line.as_bytes()).is_err() || output.write_all(b"\n").is_err() {
+        return Err(ExplainFault::Write);
+    }
+    Ok(())
+}
+
+/// Writes lines, each with its end.
+fn write_lines<W: Write>(output: &mut W, lines: &[String]) -> Result<(), ExplainFault> {
+    for line in lines {
+        write_line(output, line.as_str())?;
+    }
+    Ok(())
+}
+
+/// Flushes.
+fn flush<W: Write>(output: &mut W) -> Result<(), ExplainFault> {
+    match output.flush() {
+        Ok(()) => Ok(()),
+        Err(_) => Err(ExplainFault::Write),
+    }
+}
+
+/// Writes what declarations declare with some rules, a line each, plain or as a JSON object, and warnings
+/// behind it; or, where they are refused, one line: the place of the first fault, and what is wrong there.
+/// Answers that fault, which is the one of `read_schema`.
+///
+/// `Write` where a write or the flush at the end fails; `Memory` at any place.
+pub fn explain<R: RuleSet, W: Write>(
+    alloc: Global,
+    rules: &R,
+    bytes: &[u8],
+    as_json: bool,
+    output: &mut W,
+) -> Result<Option<DeclFault>, ExplainFault>
+    ensures taken { IfOk result (λ o. o ≡ None → ((s : Declarations) × Declares (R.known rules.now) bytes.now (Ok s))) }
+    ensures refused { IfOk result (λ o. IfSome o (λ f. Declares (R.known rules.now) bytes.now (Err f))) }
+{
+    match read_schema(alloc, rules, bytes) {
+        Ok(schema) => {
+            let lines = taken_lines(alloc, &schema, bytes, as_json)?;
+            write_lines(output, &lines)?;
+            flush(output)?;
+            Ok(None)
+        }
+        Err(DeclFault::Memory) => Err(ExplainFault::Memory),
+        Err(fault) => {
+            let found = locate(alloc, rules, bytes, fault)?;
+            let line = fault_line(alloc, as_json, fault, &found)?;
+            write_line(output, line.as_str())?;
+            flush(output)?;
+            Ok(Some(fault))
+        }
+    }
+}

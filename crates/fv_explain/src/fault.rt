@@ -1,0 +1,40 @@
+ghost use Rattle.std.specs.Prelude.{◌≡◌};
+ghost use Rattle.fv_explain.specs.FaultNames.{explain_fault_name};
+
+use std::alloc::{AllocError, AllocFailed};
+use thiserror::Error;
+
+/// Why an explanation ends early.
+#[derive(Clone, Copy, Debug, PartialEq, Eq, Error)]
+pub enum ExplainFault {
+    /// A write or a flush failed.
+    #[error("a write failed")]
+    Write,
+    /// An allocation was refused.
+    #[error("out of memory")]
+    Memory,
+}
+
+impl ExplainFault {
+    /// The fault's name.
+    pub fn name(&self) -> &str
+        ensures { result.now ≡ explain_fault_name self.now }
+    {
+        match self {
+            ExplainFault::Write => "Write",
+            ExplainFault::Memory => "Memory",
+        }
+    }
+}
+
+impl From<AllocError> for ExplainFault {
+    fn from(_e: AllocError) -> ExplainFault {
+        ExplainFault::Memory
+    }
+}
+
+impl<T: Drop> From<AllocFailed<T>> for ExplainFault {
+    fn from(_e: AllocFailed<T>) -> ExplainFault {
+        ExplainFault::Memory
+    }
+}

@@ -1,0 +1,50 @@
+//! The lines of declarations that are taken.
+use crate::constraints::add_constraints;
+use crate::fault::ExplainFault;
+use crate::forms::add_forms;
+use crate::groups::add_groups;
+use crate::lines::warning_line;
+use fv_declare_draft::{Draft, draft_of, uses_in};
+use fv_declare_schema::Schema;
+use fv_explain_places::use_places;
+use fv_explain_warnings::warnings;
+use fv_json::read_json;
+use json::Scratch;
+use std::alloc::{AllocError, Global};
+
+/// The lines of a draft that is taken, and of its warnings.
+fn draft_lines(
+    alloc: Global,
+    schema: &Schema,
+    draft: &Draft,
+    bytes: &[u8],
+    as_json: bool,
+) -> Result<Vec<String>, AllocError> {
+    let places = use_places(alloc, &draft.types, &uses_in(alloc, &draft.types)?)?;
+    let mut lines = Vec::new(alloc);
+    add_constraints(alloc, &mut lines, schema, &draft.messages, &places, as_json)?;
+    add_groups(alloc, &mut lines, schema.groups(), as_json)?;
+    add_forms(alloc, &mut lines, schema, &draft.forms, as_json)?;
+    for warning in &warnings(alloc, schema, bytes, &draft.messages, &places)? {
+        lines.push(warning_line(alloc, as_json, warning)?)?;
+    }
+    Ok(lines)
+}
+
+/// The lines of declarations that are taken as a schema: those of constraints, of groups and of forms, and
+/// warnings behind them.
+pub(crate) fn taken_lines(
+    alloc: Global,
+    schema: &Schema,
+    bytes: &[u8],
+    as_json: bool,
+) -> Result<Vec<String>, ExplainFault> {
+    let mut scratch = Scratch::new(alloc);
+    let Ok(document) = read_json(alloc, bytes, &mut scratch) else {
+        return Err(ExplainFault::Memory);
+    };
+    match draft_of(alloc, &document.root())? {
+        None => Ok(Vec::new(alloc)),
+        Some(draft) => Ok(draft_lines(alloc, schema, &draft, bytes, as_json)?),
+    }
+}

@@ -1,0 +1,41 @@
+//! A reply that refuses.
+
+use fv_json::Json;
+use fv_model::BundleFault;
+
+/// The parts of a reply that refuses: its code and name, the fault of a bundle, the part of a batch.
+#[derive(Clone, Copy)]
+pub(crate) struct ErrorReply<'a> {
+    pub(crate) code: &'a str,
+    pub(crate) name: &'a str,
+    pub(crate) fault: Option<&'a str>,
+    pub(crate) part: Option<u64>,
+}
+
+/// The refusal that a reply is, if it is one.
+pub(crate) fn refusal_of<'a>(reply: &Json<'_, 'a>) -> Option<ErrorReply<'a>> {
+    Some(ErrorReply {
+        code: reply.get("error")?.as_str()?,
+        name: reply.get("name")?.as_str()?,
+        fault: reply.get("fault").and_then(|told| told.as_str()),
+        part: reply.get("part").and_then(|told| told.as_u64()),
+    })
+}
+
+/// The fault of a bundle of that code.
+pub(crate) fn bundle_fault(code: &str) -> Option<BundleFault> {
+    match code {
+        "B0" => Some(BundleFault::Shape),
+        "B1" => Some(BundleFault::BadName),
+        "B2" => Some(BundleFault::RootMissing),
+        "B3" => Some(BundleFault::UnknownType),
+        "B4" => Some(BundleFault::UnknownField),
+        "B5" => Some(BundleFault::WrongKind),
+        "B6" => Some(BundleFault::DanglingRef),
+        "B7" => Some(BundleFault::RefType),
+        "B8" => Some(BundleFault::TooLarge),
+        "B9" => Some(BundleFault::RootType),
+        "B10" => Some(BundleFault::NoObject),
+        _ => None,
+    }
+}

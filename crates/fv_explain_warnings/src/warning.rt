@@ -1,0 +1,24 @@
+use crate::empty::add_empty;
+use crate::twice::add_twice;
+use crate::uses::add_uses;
+use fv_declare_draft::MessageDraft;
+use fv_declare_schema::Schema;
+use fv_explain_places::Found;
+use std::alloc::{AllocError, Global};
+
+/// The warnings of declarations, which stand in these bytes, with the messages and the places of uses that they
+/// have: members that stand twice; attributes of the house's rules that name no field of the kind; patterns that
+/// take more than ASCII; parameters of messages that nothing stands for; and groups in which no constraint stands.
+pub fn warnings(
+    alloc: Global,
+    schema: &Schema,
+    bytes: &[u8],
+    messages: &[MessageDraft],
+    places: &[String],
+) -> Result<Vec<Found>, AllocError> {
+    let mut warnings = Vec::new(alloc);
+    add_twice(alloc, &mut warnings, bytes)?;
+    add_uses(alloc, &mut warnings, schema, messages, places)?;
+    add_empty(alloc, &mut warnings, schema)?;
+    Ok(warnings)
+}

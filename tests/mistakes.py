@@ -1,0 +1,63 @@
+#!/usr/bin/env python3
+"""Runs mistakes that somebody wrote down who hadn't seen the program, and looks whether each is told where it is, in one line.
+
+    tests/mistakes.py            with the program that `make` leaves
+    tests/mistakes.py PROGRAM    with another build of formd
+
+`tests/data/mistakes/in_declarations.jsonl` has declarations, which `formd explain` has to refuse by one line or to take with a warning;
+`in_lines.jsonl` has lines, some behind others, under `declarations.json`, of which `formd rehearse` has to tell the last in one line.
+Of each `told` is the part of the answer that names the place.
+"""
+
+import json
+import subprocess
+import sys
+import tempfile
+from pathlib import Path
+
+ROOT = Path(__file__).resolve().parent.parent
+PROGRAM = Path(sys.argv[1] if len(sys.argv) > 1 else ROOT / "crates" / "formd" / "out" / "formd").resolve()
+DATA = ROOT / "tests" / "data" / "mistakes"
+
+
+def rows(name):
+    return [json.loads(line) for line in (DATA / name).read_text().splitlines()]
+
+
+def explained(row, folder):
+    """The line that tells of a mistake in declarations."""
+    file = folder / "declarations.json"
+    file.write_text(row["text"])
+    ran = subprocess.run([PROGRAM, "explain", file], capture_output=True, text=True)
+    lines = ran.stdout.splitlines()
+    if ran.returncode == 3:
+        return lines[0] if len(lines) == 1 else None
+    return next((line for line in lines if line.startswith("warning: ") and row["told"] in line), None)
+
+
+def rehearsed(row):
+    """The line that tells of a mistake in the last of some lines."""
+    lines = [*row.get("before", []), row["text"]]
+    words = [PROGRAM, "rehearse", "--declarations", DATA / "declarations.json", "--now", "0"]
+    ran = subprocess.run(words, input="".join(line + "\n" for line in lines), capture_output=True, text=True)
+    told = [words for words in ran.stderr.splitlines() if words.startswith(f"line {len(lines)}: ")]
+    return told[0] if len(told) == 1 else None
+
+
+def main():
+    if not PROGRAM.is_file():
+        raise SystemExit(f"{PROGRAM} isn't there: make it by `make`")
+    failed = 0
+    with tempfile.TemporaryDirectory() as name:
+        answers = [(row, explained(row, Path(name))) for row in rows("in_declarations.jsonl")]
+    answers += [(row, rehearsed(row)) for row in rows("in_lines.jsonl")]
+    for row, answer in answers:
+        if answer is None or row["told"] not in answer:
+            failed += 1
+            print(f"{row['what']}: wanted {row['told']}\n  found {answer}")
+    print(f"{len(answers)} mistakes, {failed} not told where they are")
+    return 1 if failed or not answers else 0
+
+
+if __name__ == "__main__":
+    sys.exit(main())

@@ -1,0 +1,64 @@
+#!/usr/bin/env python3
+"""Runs the commands and the lines that README.md shows, and compares what they answer with what it shows.
+
+    tests/readme.py            with the program that `make` leaves
+    tests/readme.py PROGRAM    with another build of formd
+
+Indented lines that begin with `formd` or `jq` are commands: they run in a new folder that has `order.json` of `examples/`, the same once more as
+`new.json`, and the lines of `examples/order.jsonl`, and have to end with status 0. The form is the indented text that begins with `{"types"`;
+an indented command line is followed by its reply, and the last reply is that of the put before it with the name that the text says.
+"""
+
+import json
+import os
+import re
+import subprocess
+import sys
+import tempfile
+from pathlib import Path
+
+ROOT = Path(__file__).resolve().parent.parent
+PROGRAM = Path(sys.argv[1] if len(sys.argv) > 1 else ROOT / "crates" / "formd" / "out" / "formd").resolve()
+
+
+def main():
+    if not PROGRAM.is_file():
+        raise SystemExit(f"{PROGRAM} isn't there: make it by `make`")
+    text = (ROOT / "README.md").read_text()
+    blocks = ["".join(line[4:] for line in block.splitlines(keepends=True)) for block in re.findall(r"(?:^    .*\n)+", text, re.MULTILINE)]
+    failed = count = 0
+    with tempfile.TemporaryDirectory() as name:
+        room = Path(name)
+        (room / "bin").mkdir()
+        (room / "bin" / "formd").symlink_to(PROGRAM)
+        environment = {**os.environ, "PATH": f"{room}/bin:{os.environ['PATH']}", "LC_ALL": "C.UTF-8"}
+        form = room / "form.json"
+        form.write_text(next(block for block in blocks if block.startswith('{"types"')))
+        lines, replies = [], []
+        for line in "".join(block for block in blocks if block.startswith('{"do"')).splitlines():
+            (lines if line.startswith('{"do"') else replies).append(line)
+        (refusal,) = [block.strip() for block in blocks if block.startswith('{"error"')]
+        long = json.loads(refusal)["records"][0]["violations"][0]["value"]
+        lines.append(lines[0].replace('"abc"', json.dumps(long, ensure_ascii=False)))
+        ran = subprocess.run(["formd", "rehearse", "--declarations", form, "--now", "0"], input="\n".join(lines), capture_output=True, text=True, env=environment)
+        count += len(lines)
+        if ran.stdout.splitlines() != [*replies, refusal]:
+            failed += 1
+            print(f"replies of README.md: printed {ran.stdout}")
+        order = (ROOT / "examples" / "order.json").read_text()
+        for file in "order.json", "new.json":
+            (room / file).write_text(order)
+        (room / "lines").write_text((ROOT / "examples" / "order.jsonl").read_text())
+        commands = [line for block in blocks for line in block.splitlines() if line.startswith(("formd ", "jq "))]
+        for command in commands:
+            count += 1
+            ran = subprocess.run(["bash", "-c", command.replace("[--now SECONDS]", "< /dev/null")], cwd=room, env=environment, capture_output=True, text=True, timeout=60)
+            if ran.returncode:
+                failed += 1
+                print(f"$ {command}\nstatus {ran.returncode}: {ran.stdout}{ran.stderr}")
+    print(f"{count} lines and commands of README.md, {failed} differ")
+    return 1 if failed or not commands else 0
+
+
+if __name__ == "__main__":
+    sys.exit(main())

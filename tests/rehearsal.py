@@ -1,0 +1,183 @@
+#!/usr/bin/env python3
+"""Makes the mistakes in command lines that a person makes, and looks where `formd rehearse` says that they are.
+
+    tests/rehearsal.py            with the program that `make` leaves
+    tests/rehearsal.py PROGRAM    with another build of formd
+
+Each mistake is a line, the code of its reply, and the words that stand on standard error for it, written by hand. A line without a mistake
+stands between them and has no words. The replies have to be those of `formd serve` over an empty database, byte for byte.
+"""
+
+import json
+import subprocess
+import sys
+import tempfile
+from pathlib import Path
+
+ROOT = Path(__file__).resolve().parent.parent
+PROGRAM = Path(sys.argv[1] if len(sys.argv) > 1 else ROOT / "crates" / "formd" / "out" / "formd").resolve()
+
+
+def field(kind, **more):
+    return {"type": kind, **more}
+
+
+VISIT = {
+    "age": field("integer"),
+    "at": field("instant"),
+    "day": field("date"),
+    "guests": field({"list": {"type": {"ref": "Person"}, "valid": True}}),
+    "host": field({"ref": "Person"}),
+    "name": field("text"),
+    "note": field({"optional": {"type": "text"}}),
+    "ok": field("boolean"),
+    "rent": field("decimal"),
+    "rooms": field({"map": {"type": "integer"}}),
+    "tags": field({"list": {"type": "text"}}),
+}
+PERSON = {"knows": field({"list": {"type": {"ref": "Person"}, "valid": True}}), "name": field("text")}
+DECLARATIONS = {"types": {"Visit": {"fields": VISIT}, "Person": {"fields": PERSON}}, "forms": {"visit": {"root": "Visit"}, "person": {"root": "Person"}}}
+FIELDS = "age, at, day, guests, host, name, note, ok, rent, rooms, tags"
+DECIMAL = 'a decimal in quotes, as "-12.50", with 18 digits before the point and 9 behind it at most, no plus sign and no leading zeros'
+WHOLE = "a whole number of 64 bits, without quotes"
+ID = "id: an id is a text of 1 to 64 ASCII letters, digits, _ and -"
+COMMANDS = "put, set, remove, batch, check, checkfield, checkvalue, get, list and redeclare"
+
+
+def line_of(**members):
+    return json.dumps(members, separators=(",", ":"), ensure_ascii=False)
+
+
+def put(objects, root="v", form="visit", key="v1"):
+    return line_of(do="put", id=key, form=form, bundle={"root": root, "objects": objects})
+
+
+def visit(**fields):
+    return put({"v": {"type": "Visit", "fields": fields}})
+
+
+def written(name, text):
+    """A put whose field is written by hand."""
+    return '{"do":"put","id":"v1","form":"visit","bundle":{"root":"v","objects":{"v":{"type":"Visit","fields":{"%s":%s}}}}}' % (name, text)
+
+
+def circle(count):
+    names = [f"p{number}" for number in range(count)]
+    return {name: {"type": "Person", "fields": {"knows": [other for other in names if other != name]}} for name in names}
+
+
+def odd(name, text, wanted, shown=None):
+    return written(name, text), "C5", f'C5 Bundle B5: object "v", field "{name}": {shown or text} should be {wanted}'
+
+
+BROKEN = '{"do":"get","id":"v1",}'
+BARE = '{"do":"get","id":v1}'
+LONG = "x" * 65537
+# A line, the code of its reply (or ok), and its words behind "line N: ", if it has any.
+MISTAKES = [
+    (visit(name="Ada", tags=["a", "b"]), "ok", None),
+    # No JSON.
+    ("", "C2", "C2 NotJson: an empty line"),
+    ('{"do":"put","id":"v1",', "C2", "C2 NotJson: the line ends before its JSON does"),
+    ("{'do':'get'}", "C2", "C2 NotJson: no JSON can go on at byte 1, counted from 0"),
+    (BROKEN, "C2", f"C2 NotJson: no JSON can go on at byte {len(BROKEN) - 1}, counted from 0"),
+    (BARE, "C2", f"C2 NotJson: no JSON can go on at byte {BARE.index('v1')}, counted from 0"),
+    # No command.
+    ("[]", "C3", "C3 Shape: a command is an object"),
+    (line_of(id="v1"), "C3", 'C3 Shape: the member "do" is missing'),
+    (line_of(do="delete", id="v1"), "C3", f'C3 Shape: do: no command "delete"; there are {COMMANDS}'),
+    (line_of(do="get"), "C3", 'C3 Shape: the member "id" of get is missing'),
+    (line_of(do="get", id="visit 1"), "C3", f"C3 Shape: {ID}"),
+    (line_of(do="get", id=7), "C3", f"C3 Shape: {ID}"),
+    (line_of(do="put", id="v1", from_="visit", bundle={}).replace("from_", "from"), "C3", 'C3 Shape: unknown member "from"; put has id, form, bundle'),
+    (line_of(do="put", id="v1", form="visit", bundle={"objects": {}}), "C3", 'C3 Shape: bundle: the member "root" is missing'),
+    (line_of(do="put", id="v1", form="visit", bundle={"name": "Ada"}), "C3", 'C3 Shape: bundle: unknown member "name"; a bundle has root and objects'),
+    (put({"v": {"fields": {}}}), "C3", 'C3 Shape: bundle.objects, object "v": the member "type" is missing'),
+    (put({"v": {"type": "Visit", "name": "Ada"}}), "C3", 'C3 Shape: bundle.objects, object "v": unknown member "name"; an object has type and fields'),
+    (line_of(do="set", id="v1", object="v", field="name"), "C3", 'C3 Shape: the member "value" of set is missing'),
+    (line_of(do="list", form="visit", limit=0), "C3", "C3 Shape: limit: not a whole number from 1 to 1000"),
+    (line_of(do="check", id="v1", groups="Default"), "C3", "C3 Shape: groups: not an array of texts"),
+    (line_of(do="batch", parts=[]), "C3", "C3 Shape: parts: a batch has 1 to 64 parts"),
+    (line_of(do="batch", parts=[{"do": "remove", "id": "v1"}, {"do": "get", "id": "v1"}]), "C3", "C3 Shape: parts[1]: do: a part is a put, a set or a remove"),
+    # Data of another kind.
+    odd("rent", "1450.00", DECIMAL),
+    odd("rent", '"1.450,00"', DECIMAL),
+    odd("age", '"41"', WHOLE),
+    odd("day", '"01.05.2024"', 'a day in quotes, as "2024-05-01"'),
+    odd("at", '"2024-05-01T10:00:00Z"', "a whole number of seconds since 1970, without quotes"),
+    odd("ok", '"yes"', "true or false"),
+    odd("name", "5", "a text"),
+    odd("tags", '"a"', "an array"),
+    odd("note", '"soon"', "[] or an array of one datum that isn't null"),
+    odd("note", "[null]", "[] or an array of one datum that isn't null"),
+    odd("host", "7", "the name of an object of the type Person, in quotes"),
+    (written("tags", '["a", 5]'), "C5", 'C5 Bundle B5: object "v", field "tags"[1]: 5 should be a text'),
+    (written("rooms", '{"K\\u00fcche": 1.5}'), "C5", f'C5 Bundle B5: object "v", field "rooms"["K\u00fcche"]: a number should be {WHOLE}'),
+    (written("rooms", '{"a\\"b": true}'), "C5", f'C5 Bundle B5: object "v", field "rooms"["a\\"b"]: true should be {WHOLE}'),
+    (written("rooms", '{"hall": 1, "attic": "2"}'), "C5", f'C5 Bundle B5: object "v", field "rooms"["attic"]: "2" should be {WHOLE}'),
+    # Names.
+    (visit(nmae="Ada"), "C5", f'C5 Bundle B4: object "v", field "nmae": the type Visit has no field "nmae"; it has {FIELDS}'),
+    (visit(host="ada"), "C5", 'C5 Bundle B6: object "v", field "host": "ada" names no object of the record'),
+    (visit(guests=["v"]), "C5", 'C5 Bundle B7: object "v", field "guests"[0]: "v" is of the type Visit and should be of the type Person'),
+    (put({"v": {"type": "Vist"}}), "C5", 'C5 Bundle B3: object "v": no type "Vist" is declared; there are Person, Visit'),
+    (put({"v": {"type": "Visit"}}, root="visit"), "C5", 'C5 Bundle B2: the root "visit" names no object; there are v'),
+    (put({"p": {"type": "Person"}}, root="p"), "C5", 'C5 Bundle B9: the root "p" is of the type Person and should be of the type Visit'),
+    (put({"my visit": {"type": "Visit"}}, root="my visit"), "C5", 'C5 Bundle B1: object "my visit": its name should be a letter or _, then letters, digits and _, 64 in all at most'),
+    # Sizes.
+    (visit(name=LONG), "C5", f'C5 Bundle B8: object "v", field "name": "{LONG[:59]}.. is over 65536 bytes or entries'),
+    (put({"v": {"type": "Visit"}, **{f"p{number}": {"type": "Person"} for number in range(256)}}), "C5", "C5 Bundle B8: there are more than 256 objects"),
+    # A record that is there.
+    (line_of(do="set", id="v1", object="visit", field="name", value="x"), "C5", 'C5 Bundle B10: the record has no object "visit"; it has v'),
+    (line_of(do="set", id="v1", object="v", field="nmae", value="x"), "C5", f'C5 Bundle B4: object "v", field "nmae": the type Visit has no field "nmae"; it has {FIELDS}'),
+    (line_of(do="set", id="v1", object="v", field="tags", value=["x", None, 7]), "C5", 'C5 Bundle B5: object "v", field "tags"[2]: 7 should be a text'),
+    (line_of(do="set", id="v1", object="v", field="host", value="v"), "C5", 'C5 Bundle B7: object "v", field "host": "v" is of the type Visit and should be of the type Person'),
+    (
+        line_of(do="batch", parts=[json.loads(put({"p": {"type": "Person"}}, root="p", form="person", key="p1")), {"do": "set", "id": "p1", "object": "p", "field": "age", "value": 5}]),
+        "C5",
+        'C5 Bundle B4, parts[1]: object "p", field "age": the type Person has no field "age"; it has knows, name',
+    ),
+    (line_of(do="checkfield", id="v1", object="v", field="nmae"), "C8", f'C8 NoSuchField: object "v", field "nmae": the type Visit has no field "nmae"; it has {FIELDS}'),
+    (line_of(do="checkfield", id="v1", object="w", field="name"), "C8", 'C8 NoSuchField: the record has no object "w"; it has v'),
+    (line_of(do="checkvalue", type="Vist", field="name", value="x"), "C8", 'C8 NoSuchField: no type "Vist" is declared; there are Person, Visit'),
+    (line_of(do="checkvalue", type="Visit", field="nmae", value="x"), "C8", f'C8 NoSuchField: the type Visit has no field "nmae"; it has {FIELDS}'),
+    (line_of(do="checkvalue", type="Visit", field="rent", value=1450), "C5", f'C5 Bundle B5: type "Visit", field "rent": 1450 should be {DECIMAL}'),
+    # Eight persons who list one another: 1 + 7 + 42 + 210 + 840 + 2,520 + 5,040 + 5,040 visits, all but the first through `knows`.
+    (put(circle(8), root="p0", form="person", key="p8"), "C9", "C9 TooManyVisits: 13700 visits, 4096 at most; 13699 of them through Person.knows"),
+    # What isn't a mistake of this kind has no words: the reply says all.
+    (line_of(do="get", id="v9"), "C6", None),
+    (line_of(do="get", id="v1"), "ok", None),
+]
+
+
+def run(*words, lines):
+    return subprocess.run([PROGRAM, *words], input="".join(line + "\n" for line in lines), capture_output=True, text=True)
+
+
+def main():
+    lines = [line for line, _, _ in MISTAKES]
+    with tempfile.TemporaryDirectory() as folder:
+        file = Path(folder) / "declarations.json"
+        file.write_text(json.dumps(DECLARATIONS))
+        rehearsed = run("rehearse", "--declarations", file, "--now", "0", lines=lines)
+        served = run("serve", "--declarations", file, "--database", Path(folder) / "served.db", "--now", "0", lines=lines)
+    failed = 0
+    if (rehearsed.returncode, rehearsed.stdout) != (0, served.stdout):
+        failed += 1
+        print(f"status {rehearsed.returncode}, or other replies than those of serve")
+    replies = [json.loads(reply) for reply in rehearsed.stdout.splitlines()]
+    told = {}
+    for words in rehearsed.stderr.splitlines():
+        number, _, rest = words.removeprefix("line ").partition(": ")
+        told.setdefault(int(number), []).append(rest)
+    for number, ((line, code, words), reply) in enumerate(zip(MISTAKES, replies, strict=True), 1):
+        found = told.get(number, [])
+        if reply.get("error", "ok") != code or found != ([words] if words else []):
+            failed += 1
+            print(f"line {number}: {line[:100]}\n  wanted {code} {words}\n  found {reply} {found}")
+    mistakes = sum(words is not None for _, _, words in MISTAKES)
+    print(f"{mistakes} mistakes in lines, {failed} told otherwise than wanted")
+    sys.exit(failed > 0)
+
+
+if __name__ == "__main__":
+    main()
