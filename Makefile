@@ -48,8 +48,9 @@ served:
 	tests/rental.py
 	tests/differences.py
 
-# Treats the program that `make` leaves as an enemy or a bad machine would: each request for memory refused, files and streams stopped at
-# each call, files that can't be served, kills, bytes that aren't what was written, the worst inputs within the limits. Prints its figures
-# at the end.
-hostile:
+# Treats formd as an enemy or a bad machine would: each request for memory refused, also of single calls of the libraries, files and streams
+# stopped at each call, files that can't be served, kills, bytes that aren't what was written, the worst inputs within the limits. Prints its
+# figures at the end. Makes formd and refused_calls first, with their proofs where these aren't kept; needs gcc and Python.
+hostile: all
+	cd crates/refused_calls && rt run < stdin > /dev/null
 	tests/hostile.py

@@ -1,7 +1,7 @@
 #!/usr/bin/env python3
 """Runs the scripts that treat formd as an enemy or a bad machine would, and prints their figures together at the end.
 
-    tests/hostile.py                      the program that `make` leaves
+    tests/hostile.py                      the program that `make` leaves, and refused_calls, which `make hostile` makes beside it
     tests/hostile.py PROGRAM              another build of formd
     tests/hostile.py PROGRAM SCRIPT ..    only the scripts of these names
 

@@ -1,8 +1,10 @@
 #!/usr/bin/env python3
-"""Refuses each of formd's requests for memory in turn: those of each command, taken and refused, of its start, and of an opening that migrates.
+"""Refuses each of formd's requests for memory in turn: those of each command, taken and refused, of its start, and of an opening that migrates;
+and those of single calls of the libraries.
 
-    tests/refused_allocations.py            the program that `make` leaves
-    tests/refused_allocations.py PROGRAM    another build of formd
+    tests/refused_allocations.py                  the programs that `make` and `rt run` in crates/refused_calls leave
+    tests/refused_allocations.py PROGRAM          another build of formd
+    tests/refused_allocations.py PROGRAM CALLS    and of refused_calls
 
 A line is sent with one of its requests refused: the first, the second, and so on, until it asks for less. Its
 reply has to be the one that it calls for, or the refusal for want of memory (C12), which changes nothing. Then
@@ -14,6 +16,9 @@ over a database in memory, and over one in a file.
 A run whose start has one request refused serves its lines, or ends with status 4 and `formd: memory`; the next
 run, undisturbed, answers as ever. The same over a file of version 1: behind each run it is of version 1 or of
 version 2, with the same records, and a run that isn't disturbed finds them.
+
+A call by itself answers what it does undisturbed, or that memory was refused; then the same call again, with nothing refused, answers as ever,
+and what stands in its database is what was there before the first, or what it makes.
 """
 
 import json
@@ -31,6 +36,7 @@ from pathlib import Path
 HERE = Path(__file__).resolve().parent
 FORMD = HERE.parent / "crates" / "formd"
 PROGRAM = Path(sys.argv[1] if len(sys.argv) > 1 else FORMD / "out" / "formd").resolve()
+CALLS = Path(sys.argv[2] if len(sys.argv) > 2 else HERE.parent / "crates" / "refused_calls" / "out" / "refused_calls").resolve()
 MEMORY = {"error": "C12", "name": "Memory"}
 NO_DECLARATIONS = '{"types":{},"forms":{}}'
 IDS = ("r1", "r2", "r3", "r9")
@@ -436,6 +442,8 @@ def commands(folder, page):
         service.end()
         for (name, is_last), found in figures.items():
             refused, wants, bad = map(sum, zip(*found))
+            if not refused and name != "no command":
+                tell(f"{name}, {store}: no request was refused")
             how = "each refused in its turn" if is_last else "each with all behind it"
             print(f"{name}, {store}: {refused} requests for memory, {how}, {wants} of them answered C12; {bad} lost", flush=True)
 
@@ -471,6 +479,8 @@ def starts(folder, page):
             bad += 1
             tell(f"declarations, request {number}: {run}")
         last = number
+    if last == 1:
+        tell("declarations: no request was refused")
     print(f"declarations, read: {last - 1} requests for memory, each refused in its turn, {early} ended with status 4; {bad} lost")
     model = Model(json.loads(declarations()), {})
     made = [compact(line) for line in FIRST]
@@ -505,6 +515,8 @@ def starts(folder, page):
             if (again.returncode, again.stderr, again.stdout.decode().splitlines()) != (0, b"", wanted):
                 bad += 1
                 tell(f"{name}, request {number}, once more: {again}")
+        if last == 1:
+            tell(f"{name}: no request was refused")
         print(f"{name}: {last - 1} requests for memory, each refused in its turn, {early} ended with status 4, {shown} had one reply C12; {bad} lost")
 
     over("an empty file, opened", given, [compact({"do": "list", "form": "item"})], [compact({"ids": [], "ok": "list"})], False)
@@ -588,17 +600,123 @@ def migration(folder, page):
         if again.returncode != 0 or [json.loads(line) for line in again.stdout.decode().splitlines()] != wanted or version_of(file) != 2:
             sys.exit(f"request {number} of a migration: opened again, status {again.returncode} with {again.stderr!r}, {again.stdout!r}")
         last = number
+    if last == 1:
+        tell("a migration: no request was refused")
     print(f"{last - 1} requests for memory under a migration, each refused in its turn: {early} runs ended with status 4, {shown} had one reply C12; "
           f"version 1 behind {versions[1]}, version 2 behind {versions[2] - 1}, and each opened to the same records")
 
 
+# Calls by themselves
+
+def shown(model):
+    """A get of each record, a list, and a checkvalue of a field that only some declarations have, on one line."""
+    questions = [{"do": "get", "id": key} for key in ("r1", "r2", "r3")] + [{"do": "list", "form": "item"}, {"do": "checkvalue", "type": "Item", "field": "more", "value": None}]
+    return " ".join(compact(model.answer(compact(line))) for line in questions)
+
+
+def calls():
+    """What each call by itself answers: the lines that tell it, the first of them told again when the call is made again, and those that tell instead that memory was refused."""
+    stored = Model(json.loads(declarations()), {})
+    stored.answer(compact(FIRST[0]))
+    stored.answer(compact(put("r3", "a", **FIRST[1]["bundle"]["objects"])))
+    new = put("r2", "a", a=item(count=2, name="ab", next="b"), b=item(name="z"))
+    made = Model(stored.declared, stored.records)
+    made.answer(compact(new))
+    changed = Model(made.declared, made.records)
+    changed.records = {**changed.records, "r3": ("item", {"root": "a", "objects": {**FIRST[1]["bundle"]["objects"], "c": item(name="z")}})}
+    del changed.records["r1"]
+    anew = Model(stored.declared, stored.records)
+    redeclared = compact(anew.answer(compact(redeclare(declarations(4, more=True)))))
+    long = compact(stored.answer(compact(put("r2", "a", a=item(count=2, name="abcd")))))
+    empty, before, behind = shown(Model(stored.declared, {})), shown(stored), shown(made)
+    ok, memory = compact({"ok": "put"}), compact(MEMORY)
+    stands = [f"stands {before}"]
+    # (the tables that a refused opening leaves)
+    second, first = "about object record", "about record"
+    r3 = compact(without_nulls(stored.records["r3"][1]))
+    return {
+        "read_schema": (f"read; next.tag: {TAG}; tag: {TAG}", [], ["Memory"]),
+        "read_schema refused": ("MessageCycle", [], ["Memory"]),
+        "walk": ("walked; next.tag 3; tag 3", [], ["Memory"]),
+        "walk refused": ("UnknownGroup", [], ["Memory"]),
+        "Store::open empty": (f"opened {empty}", [], ["Memory"]),
+        "Store::open": (f"opened {before}", [], [f"Memory {second}"]),
+        "Store::open migrating": (f"opened {before}", [], [f"Memory {first}"]),
+        "Store::open refused": (f"OtherVersion {first}", [], [f"Memory {first}"]),
+        "commit": (f"committed {shown(changed)}", [], [f"Memory {before}"]),
+        "get": (f"item {r3}", stands, ["Memory"]),
+        "get nothing": ("none", stands, ["Memory"]),
+        "list": ("listed r1 r3", stands, ["Memory"]),
+        "Engine::open empty": (f"opened {empty}", [f"stands {empty}"], ["Memory"]),
+        "Engine::open": (f"opened {before}", stands, [f"Memory {second}"]),
+        "Engine::open migrating": (f"opened {before}", stands, [f"Memory {first}", f"Memory {second}"]),
+        "Engine::open refused": (f"Declarations {second}", stands, [f"Memory {second}"]),
+        "run": (f"{ok} {behind}", [], [f"{memory} {before}"]),
+        "run refused": (f"{long} {before}", [], [f"{memory} {before}"]),
+        "run redeclare": (f"{redeclared} {shown(anew)}", [], [f"{memory} {before}"]),
+        "serve": (f"{ok} {behind}", [], [f"Memory {before}", f"{memory} {before}"]),
+    }
+
+
+class Calls:
+    """A run of the program of the calls."""
+
+    def __init__(self, page):
+        self.page = page
+        page.refuse(0)
+        self.run = subprocess.Popen([CALLS], stdin=subprocess.PIPE, stdout=subprocess.PIPE, env=page.environment)
+
+    def say(self, line, count):
+        """Gives it a line, and takes so many."""
+        self.run.stdin.write(line.encode() + b"\n")
+        self.run.stdin.flush()
+        if not select.select([self.run.stdout], [], [], 60)[0]:
+            sys.exit(f"{line!r}: no answer in a minute")
+        return [self.run.stdout.readline().decode().rstrip("\n") for _ in range(count)]
+
+    def make(self, name, count, refused):
+        """The lines that tell the answers, where one request of the call is refused, and whether one was."""
+        if self.say(name, 1) != ["ready"]:
+            sys.exit(f"{name}, request {refused}: not ready")
+        self.page.refuse(refused)
+        if self.say("", 1) != ["made"]:
+            sys.exit(f"{name}, request {refused}: not made, and status {self.run.wait()}")
+        was = self.page.was_refused()
+        self.page.refuse(0)
+        return self.say("", count), was
+
+    def end(self):
+        self.run.stdin.close()
+        if self.run.wait() != 0:
+            sys.exit(f"{CALLS} has failed")
+
+
+def by_themselves(page):
+    """Each call with each of its requests refused in turn."""
+    program = Calls(page)
+    for name, (wanted, stands, memory) in calls().items():
+        number, wants, before, was = 0, 0, lost, True
+        while was:
+            number += 1
+            (first, *rest), was = program.make(name, 2 + len(stands), number)
+            if rest != [wanted, *stands] or first not in ([wanted, *memory] if was else [wanted]):
+                tell(f"{name}, request {number}: {first:.300} and then {rest!r:.600}, not {wanted:.300}")
+            wants += first in memory
+        if number == 1:
+            tell(f"{name}: none of its requests was refused")
+        print(f"{name}, by itself: {number - 1} requests for memory, each refused in its turn, {wants} of them answered so; {lost - before} lost", flush=True)
+    program.end()
+
+
 def main():
-    if not PROGRAM.is_file():
-        sys.exit(f"{PROGRAM} isn't there: make it by `make`")
+    for program, how in (PROGRAM, "`make`"), (CALLS, "`rt run` in crates/refused_calls"):
+        if not program.is_file():
+            sys.exit(f"{program} isn't there: make it by {how}")
     # (how long a disk takes doesn't matter here, so the files are in memory where the system has such a folder)
     with tempfile.TemporaryDirectory(dir="/dev/shm" if os.access("/dev/shm", os.W_OK) else None) as name:
         folder = Path(name)
         page = Page(folder)
+        by_themselves(page)
         commands(folder, page)
         starts(folder, page)
         migration(folder, page)

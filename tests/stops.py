@@ -10,7 +10,7 @@ batch of a put and a remove, a remove, a redeclare, and an opening that migrates
 C12, or the opening is refused with status 4; then a run that isn't disturbed finds the records and declarations from before the
 command or from behind it, and from behind it where it was taken.
 
-Standard input and output take a few bytes a call and fail at each call in turn, over a list of all commands: what is written
+Standard input and output take 37 bytes a call and fail at each call in turn, over a list of all commands: what is written
 is the replies to the whole lines that were read, or the front of the replies that was taken; and the records are those behind the
 commands answered, or behind one more.
 """
@@ -110,14 +110,19 @@ def disk(folder, page, name, source, line, before, after, is_first_version=False
                 else:
                     end = "served" if line is None else "taken" if replies[0] == undisturbed else "refused"
                 if calls < number:
+                    if end not in ("taken", "served"):
+                        tell(f"{name}, undisturbed: {end}, {replies}")
                     break
                 ends[end] += 1
                 left = version_of(folder / "g.db") if is_first_version else 2
                 held = found(words)
-                if held != shown(after) and (end == "taken" or held != shown(before)):
+                may_be = [model for model, others in ((before, "taken"), (after, "not opened")) if end != others]
+                if held not in [shown(model) for model in may_be]:
                     tell(f"{at}, which was {end}: {held}")
                 if is_first_version and left == 1 and end == "served":
                     tell(f"{at}: served over version 1")
+            if number == 1:
+                tell(f"{name}: {NAMES[which]} is never stopped")
             figures = ", ".join(f"{times} {end}" for end, times in sorted(ends.items()))
             print(f"{name}: {NAMES[which]} stopped at each of {number - 1} calls{', half of the bytes of the first write written' if sign < 0 else ''}: {figures}; {lost - bad} lost", flush=True)
 
@@ -145,7 +150,7 @@ def disks(folder, page):
 
 
 def streams(folder, page):
-    """All commands, taken and refused, by streams of seven bytes a call."""
+    """All commands, taken and refused, by streams of 37 bytes a call."""
     (folder / "d.json").write_text(declarations())
     words = served(folder / "d.json", folder / "g.db")
     lines = [compact(line) for line in FIRST] + [compact(line) for _, _, line in LINES]
@@ -182,6 +187,8 @@ def streams(folder, page):
             held = found(words)
             if held not in [shown(model) for model in may_be]:
                 tell(f"{at}: {held}")
+        if number == 1:
+            tell(f"{NAMES[which]} is never stopped")
         print(f"{len(lines)} lines of all commands: {NAMES[which]} stopped at each of {number - 1} calls; {lost - bad} lost", flush=True)
 
 

@@ -130,6 +130,25 @@ def batch():
     return compact({"do": "batch", "parts": parts})
 
 
+def redeclare(declared):
+    return compact({"do": "redeclare", "text": compact(declared)})
+
+
+def grown(sets):
+    """A record that sets make as many times a line's size: a list of small texts for each of its fields."""
+    declared = of_fields({f"f{number}": {"type": {"list": {"type": "text"}}} for number in range(sets)})
+    text = compact(["x" * 14] * 60000)
+    lines = [f'{{"do":"set","id":"r","object":"a","field":"f{number}","value":{text}}}' for number in range(sets)]
+    return declared, [put("a", {"a": {"type": "T"}}), *lines]
+
+
+def busy_batch():
+    """Twenty puts in one line, each with 4,095 references to an object with 4,096 texts under a pattern."""
+    declared, (line,) = many_ways(texts_of("[a-z]+%.0s", 0), "a", 4096)
+    parts = [{**json.loads(line), "id": f"r{number}"} for number in range(20)]
+    return declared, [compact({"do": "batch", "parts": parts})]
+
+
 def padded(line, length=LINE):
     return line + " " * (length - len(line.encode()))
 
@@ -154,7 +173,7 @@ INPUTS = [
     ("a put of 1 MiB, padded", EASY, [padded(put("a", {"a": {"type": "T"}}))], "ok", None),
     ("a line of 1 MiB of small objects", EASY, ["[" + '{"":0},' * 149794 + "0]"], "C3", None),
     ("a line of 1 MiB of empty lists", EASY, ["[" + "[]," * 349524 + "0]"], "C3", None),
-    ("a list of 65,536 integers, stored and shown", HELD, [put("a", {"a": {"type": "T", "fields": {"v": [-(2**63)] * 40000}}}), '{"do":"get","id":"r"}'], "ok", None),
+    ("a list of 65,536 integers, stored and shown", HELD, [put("a", {"a": {"type": "T", "fields": {"v": [-(10**12)] * 65536}}}), '{"do":"get","id":"r"}'], "ok", None),
     ("a map of 65,536 entries, stored and shown", of_fields({"v": {"type": {"map": {"type": "integer"}}}}), [put("a", {"a": {"type": "T", "fields": {"v": {f"{at:06}": 7 for at in range(65536)}}}}), '{"do":"get","id":"r"}'], "ok", None),
     ("256 objects, each with a list of the 255 others", CROWD, [put("n0", {f"n{at}": {"type": "T", "fields": {"to": [f"n{to}" for to in range(256) if to != at]}} for at in range(256)})], "C9", None),
     ("a chain of 12 objects with 4,095 visits", CHAIN, [chain(12)], "ok", None),
@@ -175,10 +194,35 @@ INPUTS = [
     ("4,095 references to an object with 4,096 elements under a pattern", *many_ways(texts_of("[a-z]+%.0s", 0), "abc", 4096), "ok", None),
     ("4,095 references to an object with 65,536 elements under a pattern", *many_ways(texts_of("[a-z]+%.0s", 0), "abc"), "ok", TIME),
     ("4,095 references to an object with 65,536 elements under 16 constraints that hold", *many_ways({"type": "integer", "constraints": [{"constraint": "Min", "with": {"value": 1}}] * 16}, 7), "ok", TIME),
+    ("a batch of 20 puts, each with 4,095 references to an object with 4,096 elements under a pattern", *busy_batch(), "ok", TIME),
+    ("a record of 20 MB, shown", grown(20)[0], ['{"do":"get","id":"r"}'], "ok", None),
+    ("a record of 20 MB, a field set", grown(20)[0], ['{"do":"set","id":"r","object":"a","field":"f0","value":null}'], "ok", None),
+    ("a redeclare to 1,024 patterns of twenty letters, others of twenty in force", patterns("\\pL{20}%d"), [redeclare(patterns("\\pL{20}a%d"))], "ok", None),
+    ("a redeclare to 1,024 patterns of forty letters, others of forty in force", patterns("\\pL{40}%d"), [redeclare(patterns("\\pL{40}a%d"))], "ok", MEMORY),
+    ("an opening with 1,024 patterns of forty letters, of a file with others of forty", patterns("\\pL{40}a%d"), [], "ok", MEMORY),
     ("a text of 65,536 bytes under a pattern that fills the matcher's tables", of_fields({"v": texts_of(HOSTILE, 0)}), [value(f'"{AB}"')], "ok", None),
     ("a text of 65,536 bytes under 256 patterns that fill the matcher's tables", of_fields({"v": {"type": "text", "constraints": [texts_of(HOSTILE, at)["constraints"][0] for at in range(256)]}}), [value(f'"{AB}"')], "ok", None),
     ("a text of 65,536 bytes under 1,024 patterns that fill the matcher's tables", of_fields({"v": {"type": "text", "constraints": [texts_of(HOSTILE, at)["constraints"][0] for at in range(1024)]}}), [value(f'"{AB}"')], "ok", None),
 ]
+
+# What stands in the file before, where it isn't empty: the declarations it was made with, and the lines that were answered.
+BEFORE = {
+    "a record of 20 MB, shown": grown(20),
+    "a record of 20 MB, a field set": grown(20),
+    "an opening with 1,024 patterns of forty letters, of a file with others of forty": (patterns("\\pL{40}%d"), []),
+}
+
+
+def served(folder):
+    return [PROGRAM, "serve", "--declarations", folder / "d.json", "--database", folder / "g.db", "--now", "0"]
+
+
+def made(folder, declared, lines):
+    """Makes the file that an input finds."""
+    (folder / "d.json").write_text(compact(declared), encoding="utf-8")
+    run = subprocess.run(served(folder), input="".join(line + "\n" for line in lines).encode(), capture_output=True)
+    if run.returncode != 0 or run.stderr or run.stdout.count(b'{"ok":') != len(lines):
+        sys.exit(f"a file isn't made: {run}")
 
 
 def limited():
@@ -190,15 +234,16 @@ def limited():
 
 
 class Cost:
-    """A run over an empty file: what its lines and one more were answered, and the seconds and megabytes that it has taken."""
+    """A run over an empty file, or one that stands: what its lines and one more were answered, and the seconds and megabytes that it has taken."""
 
-    def __init__(self, folder, declared, lines):
+    def __init__(self, folder, declared, lines, before):
         for left in folder.iterdir():
             left.unlink()
+        if before:
+            made(folder, *before)
         (folder / "d.json").write_text(compact(declared), encoding="utf-8")
-        words = [PROGRAM, "serve", "--declarations", folder / "d.json", "--database", folder / "g.db", "--now", "0"]
         self.codes, self.megabytes, self.longest = [], 0, 0
-        self.formd = subprocess.Popen(words, stdin=subprocess.PIPE, stdout=subprocess.PIPE, stderr=subprocess.PIPE, preexec_fn=limited)
+        self.formd = subprocess.Popen(served(folder), stdin=subprocess.PIPE, stdout=subprocess.PIPE, stderr=subprocess.PIPE, preexec_fn=limited)
         try:
             for line in lines:
                 self.ask(line)
@@ -262,7 +307,7 @@ def main():
         for what, declared, lines, code, needs in INPUTS:
             if WORDS and not any(word in what for word in WORDS):
                 continue
-            cost = Cost(Path(name), declared, lines)
+            cost = Cost(Path(name), declared, lines, BEFORE.get(what))
             looked += 1
             over += needs is not None
             answer = " ".join(cost.codes[: len(lines)] or ["taken"]) if cost.status == 0 else cost.error.decode().strip() or "ended by the limit"

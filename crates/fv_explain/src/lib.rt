@@ -10,6 +10,7 @@ mod groups;
 mod lines;
 mod reach;
 mod taken;
+mod unreached;
 
 pub use explaining::explain;
 pub use fault::ExplainFault;

@@ -4,6 +4,7 @@ use crate::fault::ExplainFault;
 use crate::forms::add_forms;
 use crate::groups::add_groups;
 use crate::lines::warning_line;
+use crate::unreached::unreached;
 use fv_declare_draft::{Draft, draft_of, uses_in};
 use fv_declare_schema::Schema;
 use fv_explain_places::use_places;
@@ -26,6 +27,9 @@ fn draft_lines(
     add_groups(alloc, &mut lines, schema.groups(), as_json)?;
     add_forms(alloc, &mut lines, schema, &draft.forms, as_json)?;
     for warning in &warnings(alloc, schema, bytes, &draft.messages, &places)? {
+        lines.push(warning_line(alloc, as_json, warning)?)?;
+    }
+    for warning in &unreached(alloc, schema, &draft.forms)? {
         lines.push(warning_line(alloc, as_json, warning)?)?;
     }
     Ok(lines)

@@ -7,19 +7,19 @@ use std::alloc::{AllocError, Global};
 
 /// A template at its place.
 #[derive(Drop)]
-pub(crate) struct Placed<'a> {
+pub(crate) struct PlacedTemplate<'a> {
     pub(crate) place: String,
     pub(crate) template: &'a str,
 }
 
 /// Adds a template, if there is one.
 fn push<'a>(
-    templates: &mut Vec<Placed<'a>>,
+    templates: &mut Vec<PlacedTemplate<'a>>,
     place: String,
     template: Option<&'a str>,
 ) -> Result<(), AllocError> {
     if let Some(template) = template {
-        templates.push(Placed { place, template })?;
+        templates.push(PlacedTemplate { place, template })?;
     }
     Ok(())
 }
@@ -38,7 +38,7 @@ pub(crate) fn templates<'a>(
     alloc: Global,
     draft: &'a Draft<'a>,
     uses: &[Use<'a>],
-) -> Result<Vec<Placed<'a>>, AllocError> {
+) -> Result<Vec<PlacedTemplate<'a>>, AllocError> {
     let mut templates = Vec::new(alloc);
     let places = use_places(alloc, &draft.types, uses)?;
     for (given, place) in uses.iter().zip(&places) {
@@ -80,7 +80,7 @@ pub(crate) fn message_syntax<'a>(alloc: Global, draft: &'a Draft<'a>, uses: &[Us
             return found_at(place, String::from_str(alloc, text)?);
         }
     }
-    for Placed { place, template } in templates(alloc, draft, uses)? {
+    for PlacedTemplate { place, template } in templates(alloc, draft, uses)? {
         if !check_template(template) {
             let template = shown(alloc, template)?;
             let text = format!(in alloc;

@@ -1,8 +1,9 @@
 //! What is wrong with a bundle, or with a datum that is set or asked.
 
-use crate::words::{cut, fields_listed, members_listed, named, types_listed, wanted};
+use crate::words::{fields_listed, members_listed, types_listed, wanted};
 use fv_bundle_fault::{FaultPlace, Inner, place_in_bundle, place_in_value};
 use fv_declare_schema::Schema;
+use fv_explain_command::{cut, named};
 use fv_json::{Json, Members};
 use fv_model::{BundleFault, TypeId, TypeUse};
 use fv_text_place::{ValueStep, written_at};
@@ -99,7 +100,7 @@ fn place_words(alloc: Global, place: &FaultPlace) -> Result<String, AllocError> 
 }
 
 /// The name of the type of an object of a bundle.
-fn type_in<'a>(bundle: &Json<'_, 'a>, object: &str) -> Option<&'a str> {
+pub(crate) fn type_in<'a>(bundle: &Json<'_, 'a>, object: &str) -> Option<&'a str> {
     bundle.get("objects")?.get(object)?.get("type")?.as_str()
 }
 
@@ -112,7 +113,7 @@ fn objects_listed(alloc: Global, bundle: &Json) -> Result<String, AllocError> {
 }
 
 /// What is wrong with a field that its type doesn't have.
-fn unknown_field(
+pub(crate) fn unknown_field(
     alloc: Global,
     schema: &Schema,
     type_name: &str,
@@ -198,13 +199,11 @@ fn whole_words(
         }
         BundleFault::UnknownField => {
             let own = type_in(bundle, object).unwrap_or("");
-            {
-                let field = match place.field {
-                    Some(name) => name,
-                    None => "",
-                };
-                unknown_field(alloc, schema, own, field)
-            }
+            let field = match place.field {
+                Some(name) => name,
+                None => "",
+            };
+            unknown_field(alloc, schema, own, field)
         }
         BundleFault::RootType => {
             let own = type_in(bundle, named_root).unwrap_or("");

@@ -1,14 +1,15 @@
 //! A refusal in words.
 
-use crate::bundles::{member_of, missing_words, put_words, unknown_type, value_words};
+use crate::bundles::{
+    member_of, missing_words, put_words, type_in, unknown_field, unknown_type, value_words,
+};
 use crate::refusal::{ErrorReply, bundle_fault, refusal_of};
-use crate::shape::shape_words;
 use crate::visits::{Visits, place_named, visits_of};
-use crate::words::{fields_listed, named};
 use fv_declare_schema::Schema;
+use fv_explain_command::shape_words;
 use fv_groups::GroupId;
 use fv_json::{Document, Json, JsonFault, read_json};
-use fv_model::{Bundle, read_bundle, set_field};
+use fv_model::{Bundle, BundleFault, read_bundle, set_field};
 use fv_text_place::{ValueStep, json_fault_at};
 use json::Scratch;
 use std::alloc::{AllocError, Global};
@@ -108,6 +109,69 @@ pub fn record_asked(alloc: Global, line: &[u8], reply: &str) -> Result<Option<St
     }
 }
 
+/// What is wrong with the bundle of a put.
+fn put_data_words<'a>(
+    alloc: Global,
+    schema: &Schema,
+    line: &[u8],
+    before: &[ValueStep<'a>],
+    put: &Json<'_, 'a>,
+    fault: BundleFault,
+) -> Result<String, AllocError> {
+    let Some(bundle) = put.get("bundle") else {
+        return Ok(String::new(alloc));
+    };
+    let before = member_of(alloc, before, "bundle")?;
+    let form = text_in(put, "form");
+    put_words(alloc, schema, line, &before, form, &bundle, fault)
+}
+
+/// What is wrong with the datum of a set, or with its object or field. `stored` is the bundle that it is made in.
+fn set_data_words<'a>(
+    alloc: Global,
+    schema: &Schema,
+    line: &[u8],
+    before: &[ValueStep<'a>],
+    set: &Json<'_, 'a>,
+    fault: BundleFault,
+    stored: Option<Json>,
+) -> Result<String, AllocError> {
+    let (Some(value), Some(stored)) = (set.get("value"), stored) else {
+        return Ok(String::new(alloc));
+    };
+    let object = text_in(set, "object");
+    let field = text_in(set, "field");
+    let Some(type_name) = type_in(&stored, object) else {
+        return missing_words(alloc, schema, &stored, object, field);
+    };
+    let before = member_of(alloc, before, "value")?;
+    let stored = Some(stored);
+    let object = Some(object);
+    value_words(
+        alloc, schema, line, &before, object, type_name, field, &value, fault, stored,
+    )
+}
+
+/// What is wrong with the datum of a checkvalue.
+fn asked_data_words<'a>(
+    alloc: Global,
+    schema: &Schema,
+    line: &[u8],
+    before: &[ValueStep<'a>],
+    asked: &Json<'_, 'a>,
+    fault: BundleFault,
+) -> Result<String, AllocError> {
+    let Some(value) = asked.get("value") else {
+        return Ok(String::new(alloc));
+    };
+    let before = member_of(alloc, before, "value")?;
+    let type_name = text_in(asked, "type");
+    let field = text_in(asked, "field");
+    value_words(
+        alloc, schema, line, &before, None, type_name, field, &value, fault, None,
+    )
+}
+
 /// What is wrong with a datum or a bundle: C5. `before` leads to the part in the line, and `stored` is
 /// the bundle that a set is made in.
 fn data_words<'a>(
@@ -123,60 +187,9 @@ fn data_words<'a>(
         return Ok(String::new(alloc));
     };
     match text_in(part, "do") {
-        "put" => match part.get("bundle") {
-            Some(bundle) => put_words(
-                alloc,
-                schema,
-                line,
-                &member_of(alloc, before, "bundle")?,
-                text_in(part, "form"),
-                &bundle,
-                fault,
-            ),
-            None => Ok(String::new(alloc)),
-        },
-        "set" => {
-            let (Some(value), Some(stored)) = (part.get("value"), stored) else {
-                return Ok(String::new(alloc));
-            };
-            let object = text_in(part, "object");
-            let field = text_in(part, "field");
-            let type_name = stored
-                .get("objects")
-                .and_then(|objects| objects.get(object))
-                .and_then(|object| object.get("type"))
-                .and_then(|told| told.as_str());
-            match type_name {
-                Some(type_name) => value_words(
-                    alloc,
-                    schema,
-                    line,
-                    &member_of(alloc, before, "value")?,
-                    Some(object),
-                    type_name,
-                    field,
-                    &value,
-                    fault,
-                    Some(stored),
-                ),
-                None => missing_words(alloc, schema, &stored, object, field),
-            }
-        }
-        _ => match part.get("value") {
-            Some(value) => value_words(
-                alloc,
-                schema,
-                line,
-                &member_of(alloc, before, "value")?,
-                None,
-                text_in(part, "type"),
-                text_in(part, "field"),
-                &value,
-                fault,
-                None,
-            ),
-            None => Ok(String::new(alloc)),
-        },
+        "put" => put_data_words(alloc, schema, line, before, part, fault),
+        "set" => set_data_words(alloc, schema, line, before, part, fault, stored),
+        _ => asked_data_words(alloc, schema, line, before, part, fault),
     }
 }
 
@@ -197,14 +210,10 @@ fn field_words(
         };
     }
     let type_name = text_in(value, "type");
-    match schema.types().fields(type_name) {
-        Some(fields) => {
-            let field = named(alloc, field)?;
-            let list = fields_listed(alloc, fields)?;
-            format!(in alloc; "the type {type_name} has no field {field}; it has {list}")
-        }
-        None => unknown_type(alloc, schema, type_name),
+    if schema.types().fields(type_name).is_some() {
+        return unknown_field(alloc, schema, type_name, field);
     }
+    unknown_type(alloc, schema, type_name)
 }
 
 /// The groups of these names that are declared; `Default` where none is named.

@@ -4,7 +4,6 @@
 mod bundles;
 mod explain;
 mod refusal;
-mod shape;
 mod visits;
 mod words;
 

@@ -1,76 +1,9 @@
-//! Words.
+//! Words of declarations.
 
+use fv_explain_command::listed;
 use fv_json::Members;
 use fv_model::{Fields, TypeId, TypeUse, Types};
 use std::alloc::{AllocError, Global};
-
-/// How many characters of a value are shown.
-const SHOWN: usize = 60;
-
-/// Adds a character as it stands in a JSON text; a control character without a sign of its own as a
-/// space.
-fn push_escaped(text: &mut String, character: char) -> Result<(), AllocError> {
-    match character {
-        '"' => text.push_str("\\\""),
-        '\\' => text.push_str("\\\\"),
-        '\n' => text.push_str("\\n"),
-        '\r' => text.push_str("\\r"),
-        '\t' => text.push_str("\\t"),
-        _ if character.is_control() => text.push(' '),
-        _ => text.push(character),
-    }
-}
-
-/// The front of a text, each control character as a space, with an ellipsis where there is more.
-pub(crate) fn cut(alloc: Global, text: &str) -> Result<String, AllocError> {
-    let mut front = String::new(alloc);
-    for (count, character) in text.chars().enumerate() {
-        if count == SHOWN {
-            front.push_str("..")?;
-            break;
-        }
-        if character.is_control() {
-            front.push(' ')?;
-        } else {
-            front.push(character)?;
-        }
-    }
-    Ok(front)
-}
-
-/// A text in quotes, as it stands in JSON, cut as a value is.
-pub(crate) fn named(alloc: Global, name: &str) -> Result<String, AllocError> {
-    let mut quoted = String::new(alloc);
-    quoted.push('"')?;
-    for (count, character) in name.chars().enumerate() {
-        if count == SHOWN {
-            quoted.push_str("..")?;
-            break;
-        }
-        push_escaped(&mut quoted, character)?;
-    }
-    quoted.push('"')?;
-    Ok(quoted)
-}
-
-/// Names with commas between them, the first twelve.
-pub(crate) fn listed(alloc: Global, names: &[&str]) -> Result<String, AllocError> {
-    let mut list = String::new(alloc);
-    for (count, name) in names.iter().enumerate() {
-        if count == 12 {
-            list.push_str(", ..")?;
-            break;
-        }
-        if count > 0 {
-            list.push_str(", ")?;
-        }
-        list.push_str(name)?;
-    }
-    if list.is_empty() {
-        list.push_str("none")?;
-    }
-    Ok(list)
-}
 
 /// The names of a type's fields, with commas between them.
 pub(crate) fn fields_listed(alloc: Global, fields: &Fields) -> Result<String, AllocError> {
@@ -108,8 +41,9 @@ pub(crate) fn wanted(alloc: Global, type_use: &TypeUse) -> Result<String, AllocE
             "a decimal in quotes, as \"-12.50\", with 18 digits before the point and 9 behind it at most, no plus sign and no leading zeros"
         }
         TypeUse::Boolean => "true or false",
-        TypeUse::Date => "a day in quotes, as \"2024-05-01\"",
-        TypeUse::Instant => "a whole number of seconds since 1970, without quotes",
+        TypeUse::Date => "a day of the calendar in quotes, as \"2024-05-01\"",
+        TypeUse::Instant =>
+            "a whole number of seconds since 1970, from year 1 to 9999, without quotes",
         TypeUse::Ref(target) => {
             return format!(in alloc; "the name of an object of the type {target}, in quotes");
         }

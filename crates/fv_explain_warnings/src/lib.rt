@@ -6,6 +6,7 @@ mod parameters;
 mod patterns;
 mod rules;
 mod twice;
+mod unused;
 mod uses;
 mod warning;
 

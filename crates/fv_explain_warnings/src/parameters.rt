@@ -57,13 +57,13 @@ impl<'a> Left<'a> {
     }
 }
 
-/// The parameters of a template, and of the texts that it leads to, that are neither keys nor attributes.
-pub(crate) fn left_over(
+/// Goes over a template and the texts that it leads to.
+fn searched<'a>(
     alloc: Global,
-    messages: &[MessageDraft],
-    attributes: &Attrs,
+    messages: &'a [MessageDraft<'a>],
+    attributes: &'a Attrs,
     template: &str,
-) -> Result<Vec<String>, AllocError> {
+) -> Result<Left<'a>, AllocError> {
     let mut left = Left {
         messages,
         attributes,
@@ -80,12 +80,39 @@ pub(crate) fn left_over(
             left.template(alloc, message.template)?;
         }
     }
+    Ok(left)
+}
+
+/// The parameters of a template, and of the texts that it leads to, that are neither keys nor attributes.
+pub(crate) fn left_over<'a>(
+    alloc: Global,
+    messages: &'a [MessageDraft<'a>],
+    attributes: &'a Attrs,
+    template: &str,
+) -> Result<Vec<String>, AllocError> {
     let Left {
         messages: _,
         attributes: _,
         seen: _,
         met: _,
         left,
-    } = left;
+    } = searched(alloc, messages, attributes, template)?;
     Ok(left)
+}
+
+/// The numbers of the messages that a template leads to.
+pub(crate) fn led_to<'a>(
+    alloc: Global,
+    messages: &'a [MessageDraft<'a>],
+    attributes: &'a Attrs,
+    template: &str,
+) -> Result<Vec<usize>, AllocError> {
+    let Left {
+        messages: _,
+        attributes: _,
+        seen: _,
+        met,
+        left: _,
+    } = searched(alloc, messages, attributes, template)?;
+    Ok(met)
 }

@@ -14,8 +14,12 @@ fn class_of(letter: char) -> Option<(&'static str, &'static str)> {
     }
 }
 
-/// The first class of a regular expression that takes more than ASCII.
+/// The first class of a regular expression that takes more than ASCII. One that turns Unicode off for a part of
+/// itself isn't looked at.
 fn wide_class(regexp: &str) -> Option<(&'static str, &'static str)> {
+    if regexp.contains("(?-u") {
+        return None;
+    }
     let mut escaped = false;
     for character in regexp.chars() {
         if escaped {

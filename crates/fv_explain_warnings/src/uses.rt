@@ -2,7 +2,7 @@
 use crate::parameters::left_over;
 use crate::patterns::pattern_warning;
 use crate::rules::rule_warnings;
-use fv_constraint_tree::{Node, Test};
+use fv_constraint_tree::{Node, Occurrence, Test};
 use fv_declare_draft::MessageDraft;
 use fv_declare_schema::{Placed, Schema};
 use fv_explain_places::{Found, shown, who};
@@ -65,8 +65,25 @@ fn asks(node: &Node) -> bool {
     node.single || !matches!(node.test, Test::Nothing)
 }
 
-/// Adds the warnings of a use, with all that it is composed of. What stands below one that reports as one isn't
-/// reported.
+/// For each constraint of a use whether it may be reported itself. What stands below one that reports as one
+/// isn't.
+pub(crate) fn reporting(alloc: Global, occurrence: &Occurrence) -> Result<Vec<bool>, AllocError> {
+    let mut flags = Vec::new(alloc);
+    let mut silent: usize = 0;
+    for number in 0..occurrence.size() {
+        let Some(node) = occurrence.node(number) else {
+            break;
+        };
+        let heard = number >= silent;
+        flags.push(heard && asks(node))?;
+        if heard && node.single {
+            silent = number.saturating_add(node.below).saturating_add(1);
+        }
+    }
+    Ok(flags)
+}
+
+/// Adds the warnings of a use, with all that it is composed of.
 fn add_use(
     alloc: Global,
     warnings: &mut Vec<Found>,
@@ -77,26 +94,19 @@ fn add_use(
     let Some(root) = occurrence.node(0) else {
         return Ok(());
     };
-    let mut silent: usize = 0;
-    for number in 0..occurrence.size() {
+    for (number, reports) in reporting(alloc, occurrence)?.iter().enumerate() {
         let Some(node) = occurrence.node(number) else {
             break;
         };
         let who = who(alloc, root.constraint(), number, node.constraint())?;
-        let node_told = (who.as_str(), node);
-        let heard = number >= silent;
-        let reports = heard && asks(node);
         add_node(
             alloc,
             warnings,
             (types, messages),
             (place, placed),
-            node_told,
-            reports,
+            (who.as_str(), node),
+            *reports,
         )?;
-        if heard && node.single {
-            silent = number.saturating_add(node.below).saturating_add(1);
-        }
     }
     Ok(())
 }

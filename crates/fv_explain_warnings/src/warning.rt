@@ -1,5 +1,6 @@
 use crate::empty::add_empty;
 use crate::twice::add_twice;
+use crate::unused::add_unused;
 use crate::uses::add_uses;
 use fv_declare_draft::MessageDraft;
 use fv_declare_schema::Schema;
@@ -8,7 +9,8 @@ use std::alloc::{AllocError, Global};
 
 /// The warnings of declarations, which stand in these bytes, with the messages and the places of uses that they
 /// have: members that stand twice; attributes of the house's rules that name no field of the kind; patterns that
-/// take more than ASCII; parameters of messages that nothing stands for; and groups in which no constraint stands.
+/// take more than ASCII; parameters of messages that nothing stands for; groups in which no constraint stands; and
+/// messages that nothing shows.
 pub fn warnings(
     alloc: Global,
     schema: &Schema,
@@ -20,5 +22,6 @@ pub fn warnings(
     add_twice(alloc, &mut warnings, bytes)?;
     add_uses(alloc, &mut warnings, schema, messages, places)?;
     add_empty(alloc, &mut warnings, schema)?;
+    add_unused(alloc, &mut warnings, schema, messages)?;
     Ok(warnings)
 }

@@ -1,6 +1,5 @@
 //! Runs of the program's words over streams that fail, by rules of which none is there: what they end
 //! with, and what the error writer is told.
-use crate::rules::NoRules;
 use crate::streams::{NEVER, Reader, Writer};
 use formd_words::{FileFault, read_whole, run_words};
 use fv_engine::FixedClock;
@@ -9,6 +8,7 @@ use std::io::{ErrorKind, Read, Write};
 use std::process::Abort;
 use std::test::Fail;
 use std::{fs, str};
+use test_commands::NoRules;
 
 const GET: &[u8] = b"{\"do\":\"get\",\"id\":\"r1\"}\n";
 

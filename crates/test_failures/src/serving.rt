@@ -37,7 +37,7 @@ const OUTPUT: &str = r#"{"ok":"put"}
 
 /// Serves an input at some moments, and at 0 behind them, to a reader and a writer of that width that
 /// fail at those calls. Gives how it ends, what was written, and how often the clock was asked.
-fn served(
+pub(crate) fn served(
     alloc: Global,
     engine: &mut Service<MemStore>,
     moments: &[i64],
@@ -64,7 +64,7 @@ fn served(
 }
 
 /// How many lines have their end in the bytes.
-fn whole_lines(bytes: &[u8]) -> usize {
+pub(crate) fn whole_lines(bytes: &[u8]) -> usize {
     bytes.iter().filter(|byte| **byte == 10).count()
 }
 
@@ -176,6 +176,36 @@ fn a_writer_fails_at_each_call(rt: HostRuntime) -> Result<(), Fail> {
     Ok(())
 }
 
+/// What comes of the input where a writer takes nothing of a reply.
+fn served_in_vain(alloc: Global, engine: &mut Service<MemStore>) -> Result<(), ServeFault> {
+    let mut writer = Writer {
+        taken: Vec::new(alloc),
+        width: 0,
+        calls: 0,
+        fails_at: NEVER,
+        fails_flushes: false,
+    };
+    let mut clock = ListedClock {
+        moments: &[],
+        calls: 0,
+    };
+    serve(
+        alloc,
+        engine,
+        &mut INPUT.as_bytes(),
+        &mut writer,
+        &mut clock,
+    )
+}
+
+#[test]
+fn a_write_that_takes_nothing_is_a_failed_one(rt: HostRuntime) -> Result<(), Fail> {
+    let mut engine = opened(rt.alloc(), DECLARATIONS)?;
+    let ended = served_in_vain(rt.alloc(), &mut engine);
+    assert_eq!(rt; ended, Err(ServeFault::Write));
+    check_stands(&rt, rt.alloc(), &mut engine)
+}
+
 /// The calls behind the last would fail.
 #[test]
 fn streams_that_end_in_time_are_served(rt: HostRuntime) -> Result<(), Fail> {
@@ -213,63 +243,6 @@ fn bytes_that_come_one_by_one_are_answered(rt: HostRuntime) -> Result<(), Fail> 
     check_answered(&rt, rt.alloc(), made, (PUTS.as_bytes(), streams), ANSWERS)
 }
 
-/// A put, a redeclare that adds a field, and a get.
-const ANEW: &str =
-    r#"{"do":"put","id":"r1","form":"item","bundle":{"root":"a","objects":{"a":{"type":"Item","fields":{"count":1,"name":"abc"}}}}}
-{"do":"redeclare","text":"{\"types\":{\"Item\":{\"fields\":{\"count\":{\"type\":\"integer\"},\"name\":{\"type\":\"text\"},\"note\":{\"type\":\"text\"}}}},\"forms\":{\"item\":{\"root\":\"Item\"}}}"}
-{"do":"get","id":"r1"}
-"#;
-
-const ANEW_ANSWERS: &str = r#"{"ok":"put"}
-{"ok":"redeclare"}
-{"bundle":{"objects":{"a":{"fields":{"count":1,"name":"abc"},"type":"Item"}},"root":"a"},"form":"item","id":"r1","ok":"get"}
-"#;
-
-/// Tells which declarations are in force, by a field that the new ones have.
-const PROBE: &str = r#"{"do":"checkvalue","type":"Item","field":"note","value":null}"#;
-
-const OLD: &str = "{\"error\":\"C8\",\"name\":\"NoSuchField\"}\n";
-
-const NEW: &str = "{\"ok\":\"checkvalue\",\"violations\":[]}\n";
-
-/// A writer fails at a call: the redeclare is in force where it was reached, also without its reply.
-fn check_anew(rt: &impl Abort, alloc: Global, writes: usize, wanted: &str) -> Result<(), Fail> {
-    let mut engine = opened(alloc, DECLARATIONS)?;
-    let streams = (1, NEVER, writes);
-    let (ended, written, _) = served(alloc, &mut engine, &[], ANEW.as_bytes(), streams);
-    assert_eq!(rt; ended, Err(ServeFault::Write), "{writes}");
-    assert!(rt; ANEW_ANSWERS.as_bytes().starts_with(&written), "{writes}");
-    let probed = replies(alloc, &mut engine, PROBE)?;
-    assert_eq!(rt; probed.as_str(), wanted, "{writes}");
-    check_stands(rt, alloc, &mut engine)
-}
-
-/// The first reply takes 13 writes of a byte and a flush. The redeclare is made behind them.
-#[test]
-fn a_redeclare_stands_without_its_reply(rt: HostRuntime) -> Result<(), Fail> {
-    for writes in 0..14 {
-        check_anew(&rt, rt.alloc(), writes, OLD)?;
-    }
-    for writes in 14..ANEW_ANSWERS.len() + 3 {
-        check_anew(&rt, rt.alloc(), writes, NEW)?;
-    }
-    Ok(())
-}
-
-/// A redeclare that comes a byte a call, behind what it needs and before what needs it.
-#[test]
-fn a_redeclare_that_comes_bytewise_is_answered(rt: HostRuntime) -> Result<(), Fail> {
-    let made = (DECLARATIONS, [].as_slice());
-    let streams = (1, NEVER, NEVER);
-    check_answered(
-        &rt,
-        rt.alloc(),
-        made,
-        (ANEW.as_bytes(), streams),
-        ANEW_ANSWERS,
-    )
-}
-
 /// Adds the put with spaces behind it, so many bytes in all, and its end.
 fn add_padded(input: &mut Vec<u8>, alloc: Global, length: usize) -> Result<(), Fail> {
     let mut line = Vec::new(alloc);
@@ -296,6 +269,20 @@ const ODD_ANSWERS: &str = r#"{"ok":"put"}
 {"error":"C2","name":"NotJson"}
 {"bundle":{"objects":{"a":{"fields":{"count":1,"name":"abc"},"type":"Item"}},"root":"a"},"form":"item","id":"r1","ok":"get"}
 "#;
+
+/// Three mebibytes without the end of a line are one line that is too long, by any width.
+#[test]
+fn a_line_without_end_is_answered_once(rt: HostRuntime) -> Result<(), Fail> {
+    let mut input = Vec::new(rt.alloc());
+    input.resize(3145728, b'x')?;
+    let made = (DECLARATIONS, [].as_slice());
+    let wanted = "{\"error\":\"C1\",\"name\":\"LineTooLong\"}\n";
+    for width in [1, 4096, NEVER] {
+        let streams = (width, NEVER, NEVER);
+        check_answered(&rt, rt.alloc(), made, (&input, streams), wanted)?;
+    }
+    Ok(())
+}
 
 /// Byte by byte, and as much as is asked for.
 #[test]

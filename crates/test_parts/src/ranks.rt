@@ -2,6 +2,7 @@
 use crate::groups_given::{built, named};
 use crate::tables::{Rows, check, check_rows};
 use std::alloc::Global;
+use std::process::Abort;
 use std::test::Fail;
 
 /// The plain groups that a row's group stands for, from a row's groups and a name, with `/` between.
@@ -34,9 +35,9 @@ fn sequences_stand_for_plain_groups(rt: HostRuntime) -> Result<(), Fail> {
 }
 
 /// Two hundred sequences, each but the last with the next one twice as its members, and the last with
-/// two plain groups.
-fn doubling(alloc: Global) -> Result<String, Fail> {
-    let mut text = String::from_str(alloc, "A: ; B: ; S199 = B A B")?;
+/// plain groups.
+fn doubling(alloc: Global, last: &str) -> Result<String, Fail> {
+    let mut text = format!(in alloc; "A: ; B: ; S199 = {last}")?;
     for index in 0..199 {
         let next = index + 1;
         text.push_str(format!(in alloc; "; S{index} = S{next} S{next}")?.as_str())?;
@@ -44,12 +45,17 @@ fn doubling(alloc: Global) -> Result<String, Fail> {
     Ok(text)
 }
 
-#[test]
-fn long_sequences_are_read_at_once(rt: HostRuntime) -> Result<(), Fail> {
-    let alloc = rt.alloc();
-    let groups = built(alloc, doubling(alloc)?.as_str())?;
+/// The first of the sequences stands for these groups.
+fn check_doubling(rt: &impl Abort, alloc: Global, last: &str, wanted: &str) -> Result<(), Fail> {
+    let groups = built(alloc, doubling(alloc, last)?.as_str())?;
     let first = groups.find("S0").ok_or("a sequence")?;
     let found = named(alloc, &groups, groups.ranks(first))?;
-    check(&rt, found.as_str(), "B A", "two hundred sequences");
+    check(rt, found.as_str(), wanted, "two hundred sequences");
     Ok(())
+}
+
+#[test]
+fn long_sequences_are_read_at_once(rt: HostRuntime) -> Result<(), Fail> {
+    check_doubling(&rt, rt.alloc(), "B A B", "B A")?;
+    check_doubling(&rt, rt.alloc(), "A", "A")
 }

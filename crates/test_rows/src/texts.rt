@@ -1,7 +1,8 @@
 //! Words between brackets, which stand for longer texts: `⟦3: "f#":1⟧` for the items `"f0":1`,
 //! `"f1":1` and `"f2":1` with commas between, `⟦7..9: "f#":#+1⟧` for `"f7":8` and `"f8":9`, `⟦200× [⟧`
-//! for 200 times `[`, `⟦char a0⟧` for the character of that hexadecimal number, and `⟦NAME⟧` for what
-//! a file's line `NAME := TEXT` defines.
+//! for 200 times `[`, `⟦3 others "f#": "f#":[@]⟧` for the items `"f0":["f1","f2"]`, `"f1":["f0","f2"]` and
+//! `"f2":["f0","f1"]`, `⟦char a0⟧` for the character of that hexadecimal number, and `⟦NAME⟧` for what a
+//! file's line `NAME := TEXT` defines.
 use anyhow::{Context, Error, Result};
 use std::alloc::Global;
 use std::collections::BTreeMap;
@@ -39,6 +40,40 @@ fn push_items(alloc: Global, out: &mut String, range: &str, item: &str) -> Resul
     Ok(())
 }
 
+/// The items of all numbers below one but for another, with commas between.
+fn others(alloc: Global, count: u32, number: u32, item: &str) -> Result<String> {
+    let mut text = String::new(alloc);
+    for other in 0..count {
+        if other != number {
+            if !text.is_empty() {
+                text.push(',')?;
+            }
+            text.push_str(numbered(alloc, item, other)?.as_str())?;
+        }
+    }
+    Ok(text)
+}
+
+/// Adds an item for each number below one, with commas between; in the place of its `@` the items of the
+/// other numbers.
+fn push_with_others(
+    alloc: Global,
+    out: &mut String,
+    count: &str,
+    (other, item): (&str, &str),
+) -> Result<()> {
+    let count = count.parse::<u32>()?;
+    for number in 0..count {
+        if number > 0 {
+            out.push(',')?;
+        }
+        let item = numbered(alloc, item, number)?;
+        let others = others(alloc, count, number, other)?;
+        out.push_str(item.as_str().replace(alloc, "@", others.as_str())?.as_str())?;
+    }
+    Ok(())
+}
+
 /// Adds the character of a hexadecimal number.
 fn push_char(out: &mut String, number: &str) -> Result<()> {
     let code = u32::from_str_radix(number, 16)?;
@@ -51,6 +86,10 @@ fn push_char(out: &mut String, number: &str) -> Result<()> {
 fn push_word(alloc: Global, out: &mut String, names: &Names, word: &str) -> Result<()> {
     if let Some((count, text)) = word.split_once("× ") {
         return push_times(out, count, text);
+    }
+    if let Some((count, items)) = word.split_once(" others ") {
+        let items = items.split_once(": ").context("others without an item")?;
+        return push_with_others(alloc, out, count, items);
     }
     if let Some((count, item)) = word.split_once(": ") {
         return push_items(alloc, out, count, item);

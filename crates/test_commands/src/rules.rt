@@ -7,7 +7,7 @@ use fv_registry::RuleSet;
 
 /// No rules at all.
 #[derive(Drop)]
-pub(crate) struct NoRules;
+pub struct NoRules;
 
 impl RuleSet for NoRules {
     ghost meaning = { record { decides = λ _ _ _. true; decides_object = λ _ _ _. true } };

@@ -313,7 +313,7 @@ fn parts_words(alloc: Global, value: &Json) -> Result<Option<String>, AllocError
 
 /// What keeps a JSON value from being a command, by the first member that does; nothing where it is
 /// one.
-pub(crate) fn shape_words(alloc: Global, value: &Json) -> Result<Option<String>, AllocError> {
+pub fn shape_words(alloc: Global, value: &Json) -> Result<Option<String>, AllocError> {
     if let Some(words) = alone_words(alloc, value)? {
         return Ok(Some(words));
     }

@@ -1,11 +1,17 @@
 //! A disk that fails from one of its calls on, under an opening that migrates a database of version 1: what
 //! stands on the disk is of version 1 or of version 2, whole, with the same records.
-use crate::files::{DECLARATIONS, NEVER, closed, fused, mended, replied_over};
-use sqlite::{Alter, Connection, FileStore, Files, Options, Row};
+use crate::files::{Side, closed, connected, empty, mended};
+use crate::stops::{End, MOST, Stopped, check_left, run_stopped};
+use sqlite::{Alter, Connection, Files, Row};
 use sqlite_disk::{Crash, Fuse, Memory};
 use std::alloc::Global;
 use std::process::Abort;
 use std::test::Fail;
+use test_commands::{Command, Script, Shown};
+
+/// The declarations of the database.
+const DECLARATIONS: &str =
+    r#"{"types":{"Item":{"fields":{"name":{"type":"text"}}}},"forms":{"item":{"root":"Item"}}}"#;
 
 /// The tables of version 1 with three records.
 const FIRST: &str = r#"
@@ -17,18 +23,25 @@ INSERT INTO record VALUES ('r2', 'item', '{"objects":{"a":{"fields":{"name":"two
 INSERT INTO record VALUES ('r3', 'item', '{"objects":{"a":{"fields":{},"type":"Item"},"b":{"fields":{},"type":"Item"}},"root":"b"}');
 "#;
 
-/// Asks for all records.
-const LOOKS: &str = r#"{"do":"get","id":"r1"}
-{"do":"get","id":"r2"}
-{"do":"get","id":"r3"}
-{"do":"list","form":"item"}"#;
+/// The records and their ids, whatever was answered before.
+const RECORDS: Shown = &[
+    r#"{"bundle":{"objects":{"a":{"fields":{"name":"one"},"type":"Item"},"b":{"fields":{},"type":"Item"}},"root":"a"},"form":"item","id":"r1","ok":"get"}"#,
+    r#"{"bundle":{"objects":{"a":{"fields":{"name":"two"},"type":"Item"}},"root":"a"},"form":"item","id":"r2","ok":"get"}"#,
+    r#"{"bundle":{"objects":{"a":{"fields":{},"type":"Item"},"b":{"fields":{},"type":"Item"}},"root":"b"},"form":"item","id":"r3","ok":"get"}"#,
+    r#"{"ids":["r1","r2","r3"],"ok":"list"}"#,
+    r#"{"error":"C8","name":"NoSuchField"}"#,
+];
 
-const SHOWN: &str =
-    r#"{"bundle":{"objects":{"a":{"fields":{"name":"one"},"type":"Item"},"b":{"fields":{},"type":"Item"}},"root":"a"},"form":"item","id":"r1","ok":"get"}
-{"bundle":{"objects":{"a":{"fields":{"name":"two"},"type":"Item"}},"root":"a"},"form":"item","id":"r2","ok":"get"}
-{"bundle":{"objects":{"a":{"fields":{},"type":"Item"},"b":{"fields":{},"type":"Item"}},"root":"b"},"form":"item","id":"r3","ok":"get"}
-{"ids":["r1","r2","r3"],"ok":"list"}
-"#;
+/// An opening with a command behind it that finds a record.
+const GET: Script = Script {
+    declarations: DECLARATIONS,
+    before: RECORDS,
+    commands: &[Command {
+        line: r#"{"do":"get","id":"r2"}"#,
+        reply: r#"{"bundle":{"objects":{"a":{"fields":{"name":"two"},"type":"Item"}},"root":"a"},"form":"item","id":"r2","ok":"get"}"#,
+        after: RECORDS,
+    }],
+};
 
 /// The version of the tables, and the declarations.
 const ABOUT: &str = "SELECT version || ' ' || CAST(declarations AS TEXT) FROM about";
@@ -106,116 +119,83 @@ fn check_whole<S: Alter>(
     let about = shown(alloc, connection, ABOUT)?;
     let (version, declarations) = about.split_once(' ').ok_or("a version")?;
     assert_eq!(rt; declarations.trim_end(), DECLARATIONS);
-    let is_migrated = version != "1";
+    let is_migrated = version == "2";
+    assert!(rt; is_migrated || version == "1", "{version}");
     let held = if is_migrated { SECOND_HELD } else { FIRST_HELD };
     check_shown(rt, alloc, connection, (TABLES, held.tables))?;
     check_shown(rt, alloc, connection, (held.query, held.records))?;
     Ok(is_migrated)
 }
 
-/// The database of the files.
-fn connected(alloc: Global, files: Files<Memory>) -> Result<Connection<FileStore<Memory>>, Fail> {
-    if !files.may_be_used() {
-        return Err(Fail::new("files that can't be used"));
-    }
-    match Connection::open_files(alloc, files, Options::new(1)) {
-        Ok(connection) => Ok(connection),
-        Err((error, _)) => Err(Fail::from(error)),
-    }
-}
-
 /// A log and a database file of version 1.
 fn of_version_1(alloc: Global) -> Result<Files<Memory>, Fail> {
-    let files = Files {
-        log: Memory::new(alloc),
-        db: Memory::new(alloc),
-    };
-    let mut connection = connected(alloc, files)?;
+    let mut connection = connected(alloc, empty(alloc))?;
     connection.execute_batch(FIRST)?;
     Ok(closed(connection))
 }
 
 /// What stands on the disk is whole, of version 2 where an engine was opened, and an engine over it finds all
-/// records.
-fn check_left(
+/// records. Tells whether it is of version 2.
+fn check_migrated(
     rt: &impl Abort,
     alloc: Global,
     files: &Files<Fuse<Memory>>,
-    was_opened: bool,
-) -> Result<(), Fail> {
+    (end, stop): (End, (Side, u64)),
+) -> Result<bool, Fail> {
     let mut connection = connected(alloc, mended(alloc, files)?)?;
     let is_migrated = check_whole(rt, alloc, &mut connection)?;
-    assert!(rt; is_migrated || !was_opened);
-    let (text, _) = replied_over(alloc, mended(alloc, files)?, LOOKS)?;
-    assert_eq!(rt; text.as_str(), SHOWN);
-    Ok(())
+    assert!(rt; is_migrated || !matches!(end, End::Answered(_)), "{stop:?}");
+    check_left(rt, alloc, &GET, files, (end, stop))?;
+    Ok(is_migrated)
 }
 
-/// Each reply is what is wanted, or tells that the database refused.
-fn check_replies(rt: &impl Abort, text: &str) {
-    for (reply, wanted) in text.lines().zip(SHOWN.lines()) {
-        assert!(rt; reply == wanted || reply == r#"{"error":"C11","name":"Store"}"#);
-    }
-}
-
-/// How the opening ends: `t`, all records are shown; `r`, some aren't; `s`, the store refuses; `-`, there is
-/// no database.
-fn outcome(rt: &impl Abort, text: &str) -> char {
-    if text.is_empty() {
-        return '-';
-    }
-    if text == "Store" {
-        return 's';
-    }
-    check_replies(rt, text);
-    if text == SHOWN { 't' } else { 'r' }
-}
-
-/// Adds how an opening ends over copies of the files that fail after so many calls of the log and of the
-/// database file. What stands is looked at as it was written, and then without what wasn't synced.
-fn add_outcome(
-    outcomes: &mut String,
+/// An opening over copies of the files, of which one fails after so many calls. What stands is looked at as
+/// it was written, and then without what wasn't synced. Tells whether no file has failed, and whether what
+/// stands at last is of version 2.
+fn looked_at(
     rt: &impl Abort,
     alloc: Global,
-    (files, calls): (&Files<Memory>, (u64, u64)),
-) -> Result<(), Fail> {
-    let (text, mut files) = replied_over(alloc, fused(alloc, files, calls)?, LOOKS)?;
-    let ended = outcome(rt, text.as_str());
-    let was_opened = ended == 't' || ended == 'r';
-    check_left(rt, alloc, &files, was_opened)?;
+    files: &Files<Memory>,
+    stop: (Side, u64),
+) -> Result<(bool, bool), Fail> {
+    let Stopped {
+        end,
+        mut files,
+        is_whole,
+    } = run_stopped(rt, alloc, &GET, files, stop)?;
+    check_migrated(rt, alloc, &files, (end, stop))?;
     files.log.crash();
     files.db.crash();
-    check_left(rt, alloc, &files, was_opened)?;
-    outcomes.push(ended)?;
-    Ok(())
+    let is_migrated = check_migrated(rt, alloc, &files, (end, stop))?;
+    Ok((is_whole, is_migrated))
 }
 
-/// More calls of either file than an opening with the gets behind it makes.
-const CALLS: u64 = 120;
+/// One of the files fails from its first call on, then from its second, and so on until an opening and the
+/// get behind it meet no failure. Tells whether version 1 stood behind a failure, and whether version 2 did.
+fn check_openings(rt: &impl Abort, alloc: Global, side: Side) -> Result<(bool, bool), Fail> {
+    let files = of_version_1(alloc)?;
+    let (mut is_old, mut is_new) = (false, false);
+    for calls in 0..MOST {
+        let (is_whole, is_migrated) = looked_at(rt, alloc, &files, (side, calls))?;
+        if is_whole {
+            return Ok((is_old, is_new));
+        }
+        is_old = is_old || !is_migrated;
+        is_new = is_new || is_migrated;
+    }
+    Err(Fail::new("an opening that doesn't come to its end"))
+}
 
-/// There is no database at first, then the store refuses, and at last all is migrated.
+/// A migration is one transaction in the log: before its end version 1 stands, and behind it version 2.
 #[test]
 fn a_log_fails_at_each_call_under_a_migration(rt: HostRuntime) -> Result<(), Fail> {
-    let files = of_version_1(rt.alloc())?;
-    let mut outcomes = String::new(rt.alloc());
-    for calls in 0..CALLS {
-        add_outcome(&mut outcomes, &rt, rt.alloc(), (&files, (calls, NEVER)))?;
-    }
-    assert!(rt; outcomes.starts_with('-'), "{outcomes}");
-    assert!(rt; outcomes.contains('s'), "{outcomes}");
-    assert!(rt; outcomes.ends_with('t'), "{outcomes}");
+    let stood = check_openings(&rt, rt.alloc(), Side::Log)?;
+    assert_eq!(rt; stood, (true, true));
     Ok(())
 }
 
-/// The same of the database file.
 #[test]
 fn a_database_file_fails_at_each_call_under_a_migration(rt: HostRuntime) -> Result<(), Fail> {
-    let files = of_version_1(rt.alloc())?;
-    let mut outcomes = String::new(rt.alloc());
-    for calls in 0..CALLS {
-        add_outcome(&mut outcomes, &rt, rt.alloc(), (&files, (NEVER, calls)))?;
-    }
-    assert!(rt; outcomes.starts_with('-'), "{outcomes}");
-    assert!(rt; outcomes.ends_with('t'), "{outcomes}");
+    check_openings(&rt, rt.alloc(), Side::Database)?;
     Ok(())
 }
