@@ -23,9 +23,9 @@ try:
 test:
 	RT_JOBS=$(lanes) rt ci
 
-# Compares the rows of crates/test_rows/data, without a proof.
+# Compares the rows of tests/data/rows with what the program answers that `make` leaves.
 rows:
-	cd crates/test_rows && rt try --seconds 1800 $$(sed 's|.*|--data &=data/&|' args) -- $$(cat args)
+	tests/rows.py
 
 # Tries the wrong bodies that the gate doesn't try: make planted, or make planted NAME=fv_model.
 planted:

@@ -2,7 +2,8 @@
 //! the house.
 #![tactic(auto)]
 
-use formd_words::{Failure, MachineClock, given_words, run_words};
+use formd_task::MachineClock;
+use formd_words::{Failure, given_words, run_words};
 use fv_datum::{Attrs, Datum};
 use fv_house::{house_registry, luhn, not_after, one_of, sum_is};
 use fv_model::Object;

@@ -2,13 +2,6 @@
 use Rattle.std.specs.Prelude.{ℕ, List, codes}
 use Rattle.formd_words.specs.declared.failure.Failure.{Failure}
 use Rattle.formd_words.specs.declared.failure.Failure.TheVariants as failure
-use Rattle.formd_words.specs.declared.files.FileFault.{FileFault}
-use Rattle.formd_words.specs.declared.files.FileFault.TheVariants as file
-
--- the name of a fault of a file
-abbrev pub file_fault_name : FileFault → List ℕ
-file_fault_name file.Unreadable = codes "Unreadable"
-file_fault_name file.Memory = codes "Memory"
 
 -- the name of what ended the program early
 abbrev pub failure_name : Failure → List ℕ

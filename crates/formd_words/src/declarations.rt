@@ -2,7 +2,7 @@ ghost use Rattle.std.specs.Prelude.{OnOk, codes};
 ghost use Rattle.std.specs.Io.KnownBytes.{Appends};
 
 use crate::failure::Failure;
-use crate::files::read_file;
+use formd_task::read_file;
 use fv_declare::read_schema;
 use fv_registry::RuleSet;
 use std::alloc::Global;

@@ -1,5 +1,5 @@
 use crate::failure::Failure;
-use crate::files::read_file;
+use formd_task::read_file;
 use fv_explain::{ExplainFault, explain};
 use fv_registry::RuleSet;
 use std::alloc::Global;

@@ -1,7 +1,7 @@
 ghost use Rattle.std.specs.Prelude.{◌≡◌};
 ghost use Rattle.formd_words.specs.FaultNames.{failure_name};
 
-use crate::files::FileFault;
+use formd_task::FileFault;
 use fv_declare::DeclFault;
 use fv_engine::{OpenFault, ServeFault};
 use fv_store::OpenStoreFault;

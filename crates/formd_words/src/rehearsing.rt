@@ -4,8 +4,7 @@ ghost use Rattle.fv_datum.specs.Moments.{IsMoment};
 
 use crate::demonstration::in_memory;
 use crate::failure::Failure;
-use crate::files::read_file;
-use crate::words::Service;
+use formd_task::{Service, read_file};
 use fv_engine::{Clock, Engine, Reply};
 use fv_engine_lines::{Responder, Text, answer_lines};
 use fv_explain_line::{explain_refusal, record_asked};

@@ -4,7 +4,7 @@ use crate::explaining::explain_file;
 use crate::failure::Failure;
 use crate::rehearsing::rehearse_file;
 use crate::serving::serve_files;
-use crate::words::{Task, task_of};
+use formd_task::{Task, task_of};
 use clap::Error;
 use clap::error::ErrorKind;
 use fv_engine::Clock;

@@ -1,8 +1,6 @@
 //! Serving: declarations from a file, over a database.
 use crate::failure::Failure;
-use crate::files::read_file;
-use crate::made::{NotOpened, absent_at, close_refused, open_database};
-use crate::words::Service;
+use formd_task::{NotOpened, Service, absent_at, close_refused, open_database, read_file};
 use fv_engine::{Clock, Engine, serve};
 use fv_registry::RuleSet;
 use std::io::{Read, Write};

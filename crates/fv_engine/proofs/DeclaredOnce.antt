@@ -1,9 +1,9 @@
 -- What a text declares: its types and the roots of its forms are told by the text.
 use Rattle.std.proofs.Common.{◌≡◌, ℕ, List, [], ◌∷◌, Some, Ok, map, inl, inr, sym, ap, ◌∙◌}
-use Rattle.fv_declare.specs.Declares.{Declares, IsAnswer, OfTrees, faults}
-use Rattle.fv_declare.specs.Schemas.{IsDeclared, form_declared}
-use Rattle.fv_declare.specs.Types.{types_declared}
-use Rattle.fv_declare.specs.declared.fault.DeclFault.{DeclFault}
+use Rattle.fv_declare_judging.specs.Declares.{Declares, IsAnswer, OfTrees, faults}
+use Rattle.fv_declare_judging.specs.Schemas.{IsDeclared, form_declared}
+use Rattle.fv_declare_judging.specs.Types.{types_declared}
+use Rattle.fv_declare_judging.specs.declared.fault.DeclFault.{DeclFault}
 use Rattle.fv_declare_schema.specs.Declarations.{Declarations}
 use Rattle.fv_engine_machine.specs.Machines.{contents}
 use Rattle.fv_registry.specs.Rules.{Known}

@@ -38,7 +38,7 @@ use Rattle.fv_engine_pending.specs.declared.fault.PartFault.{PartFault}
 use Rattle.fv_engine_pending.specs.declared.fault.PartFault.TheVariants as part
 use Rattle.fv_registry.specs.Meanings.{Meanings}
 use Rattle.fv_registry.specs.Rules.{Known}
-use Rattle.fv_declare.specs.Declares.{Declares}
+use Rattle.fv_declare_judging.specs.Declares.{Declares}
 use Rattle.fv_engine_pending.specs.Again.{AllReadAgain}
 use Rattle.fv_engine_pending.proofs.Again.{again_extended}
 use Rattle.fv_model.specs.Writing.{bundle_json}

@@ -1,8 +1,8 @@
 -- The fault of an engine that isn't opened.
 use Rattle.std.proofs.Common.{◌≡◌, ◌≢◌, ◌⊎◌, ℕ, List, Bool, true, false, bytes_eq, inl, inr, refl, sym, subst, ◌∙◌}
 use Rattle.std.proofs.lemmas.Slice.Eq.{bytes_eq-Decides}
-use Rattle.fv_declare.specs.declared.fault.DeclFault.{DeclFault}
-use Rattle.fv_declare.specs.declared.fault.DeclFault.TheVariants as decl
+use Rattle.fv_declare_judging.specs.declared.fault.DeclFault.{DeclFault}
+use Rattle.fv_declare_judging.specs.declared.fault.DeclFault.TheVariants as decl
 use Rattle.sqlite.specs.State.{State, HasCleanDisk}
 use Rattle.fv_store.specs.Stands.{MayBeFirst, Stays}
 use Rattle.fv_store.specs.Steps.{IsUpgraded}

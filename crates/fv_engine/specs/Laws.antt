@@ -8,7 +8,7 @@ use Rattle.fv_engine_machine.specs.Causes.{HasRoomFor}
 use Rattle.fv_engine_machine.specs.Machines.{Machine}
 use Rattle.fv_engine_command.specs.Commands.{put, Request, alone, get, check, check_field, asked, redeclare, asks}
 use Rattle.fv_datum.specs.Lookup.{at_name}
-use Rattle.fv_declare.specs.Declares.{Declares}
+use Rattle.fv_declare_judging.specs.Declares.{Declares}
 use Rattle.fv_engine_machine.specs.Redeclaring.{Reign}
 use Rattle.fv_engine_machine.specs.Rejudging.{HasFewIds}
 use Rattle.fv_model.specs.Extends.{Extends}

@@ -1,8 +1,8 @@
 -- Which declarations are in force in a database that is opened, and what a refusal leaves of it.
 use Rattle.std.specs.Prelude.{◌≡◌, ◌≢◌, ◌⊎◌, ℕ, List, None, Ok, Err}
 use Rattle.sqlite.specs.State.{State, HasCleanDisk}
-use Rattle.fv_declare.specs.Declares.{Declares}
-use Rattle.fv_declare.specs.declared.fault.DeclFault.{DeclFault}
+use Rattle.fv_declare_judging.specs.Declares.{Declares}
+use Rattle.fv_declare_judging.specs.declared.fault.DeclFault.{DeclFault}
 use Rattle.fv_declare_schema.specs.Declarations.{Declarations}
 use Rattle.fv_registry.specs.Rules.{Known}
 use Rattle.fv_store.specs.Faults.{about_fault}

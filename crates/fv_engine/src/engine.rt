@@ -9,7 +9,7 @@ ghost use Rattle.fv_store.specs.Steps.{IsUpgraded};
 ghost use Rattle.fv_tables.specs.Olds.{Olds};
 ghost use Rattle.fv_upgrade.specs.Upgraded.{AllShort, AllUpgrade, HasFew, upgraded};
 ghost use Rattle.fv_store.specs.Stock.{stock_state};
-ghost use Rattle.fv_declare.specs.Declares.{Declares};
+ghost use Rattle.fv_declare_judging.specs.Declares.{Declares};
 ghost use Rattle.fv_engine.specs.Laws.{ShowsWhatWasPut, ChangesNoGet, ListsSome, MayChangePlaces, LeavesNothingToList, FailsWhereShut, FailsForRoomAlone, ShowsTheSame, LeavesNothingAtAll, FitsWhereAdded};
 ghost use Rattle.fv_engine.specs.Openings.{DeclaresSome, IsInForce, IsLeft, IsMisdeclared};
 ghost use Rattle.fv_engine_machine.specs.Machines.{contents};

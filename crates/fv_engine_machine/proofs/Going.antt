@@ -1,7 +1,7 @@
 -- What a call makes of the service.
 use Rattle.std.proofs.Common.{◌≡◌, ℕ, List, Ok, refl, sym, subst, ◌∙◌}
 use Rattle.sqlite.specs.State.{State, HasCleanDisk}
-use Rattle.fv_declare.specs.Declares.{Declares}
+use Rattle.fv_declare_judging.specs.Declares.{Declares}
 use Rattle.fv_declare_schema.specs.Declarations.{Declarations}
 use Rattle.fv_engine_machine.specs.Machines.{Machine, StandsFor, over, Becomes}
 use Rattle.fv_engine_machine.specs.Services.{GoesOn, Keeps, Service, serving, with_mapped}

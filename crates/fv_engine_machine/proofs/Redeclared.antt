@@ -1,9 +1,9 @@
 -- The exits of a redeclare.
 use Rattle.std.proofs.Common.{◌≡◌, ◌≢◌, ◌⊎◌, ℕ, ℤ, List, [], Bool, true, false, Ok, Err, inl, inr, refl, sym, ap, subst, ◌∙◌, arith, string_bytes}
 use Rattle.sqlite.specs.State.{State, HasCleanDisk}
-use Rattle.fv_declare.specs.Declares.{Declares}
-use Rattle.fv_declare.specs.declared.fault.DeclFault.{DeclFault}
-use Rattle.fv_declare.specs.declared.fault.DeclFault.TheVariants as decl
+use Rattle.fv_declare_judging.specs.Declares.{Declares}
+use Rattle.fv_declare_judging.specs.declared.fault.DeclFault.{DeclFault}
+use Rattle.fv_declare_judging.specs.declared.fault.DeclFault.TheVariants as decl
 use Rattle.fv_declare_schema.specs.Declarations.{Declarations}
 use Rattle.fv_engine_command.specs.Commands.{redeclare}
 use Rattle.fv_engine_machine.specs.Judging.{AreListingsOf}

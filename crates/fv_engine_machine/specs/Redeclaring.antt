@@ -1,7 +1,7 @@
 -- Declarations are changed: what a text does to those in force and to the records under them.
 use Rattle.std.specs.Prelude.{◌≡◌, ◌≢◌, ◌⊎◌, ℕ, ℤ, List, [], Some, Ok, Err}
-use Rattle.fv_declare.specs.Declares.{Declares}
-use Rattle.fv_declare.specs.declared.fault.DeclFault.{DeclFault}
+use Rattle.fv_declare_judging.specs.Declares.{Declares}
+use Rattle.fv_declare_judging.specs.declared.fault.DeclFault.{DeclFault}
 use Rattle.fv_declare_schema.specs.Declarations.{Declarations}
 use Rattle.fv_engine_machine.specs.Judging.{AreListingsOf, OneIsOverAmong}
 use Rattle.fv_engine_machine.specs.Rejudging.{IsFirstUnfit}

@@ -3,7 +3,7 @@ use Rattle.std.specs.Prelude.{◌≡◌, ◌⊎◌, ◌≤◌, ℕ, ℤ, IsTrue,
 use Rattle.sqlite.specs.Disk.{MoreFaults}
 use Rattle.sqlite.specs.State.{State, HasCleanDisk}
 use Rattle.fv_declare_schema.specs.Declarations.{Declarations}
-use Rattle.fv_declare.specs.Declares.{Declares}
+use Rattle.fv_declare_judging.specs.Declares.{Declares}
 use Rattle.fv_engine_command.specs.Commands.{Asked, redeclare, of_records, asks}
 use Rattle.fv_engine_machine.specs.Causes.{StoreHasFailed, Handles}
 use Rattle.fv_engine_machine.specs.Machines.{Machine, StandsFor, over, with_map}

@@ -1,7 +1,7 @@
 //! Declarations are changed by a command.
 ghost use Rattle.std.specs.Prelude.{◌≡◌, ◌≢◌, false, IfOk, IfErr, MatchResult, Ok, Err};
 ghost use Rattle.fv_datum.specs.Moments.{IsMoment};
-ghost use Rattle.fv_declare.specs.Declares.{Declares};
+ghost use Rattle.fv_declare_judging.specs.Declares.{Declares};
 ghost use Rattle.fv_declare_schema.specs.Declarations.{Declarations};
 ghost use Rattle.fv_engine_command.specs.Commands.{redeclare};
 ghost use Rattle.fv_engine_machine.specs.Keeping.{told_pass};

@@ -1,6 +1,6 @@
 -- What a command is answered.
 use Rattle.std.specs.Prelude.{ℕ, List}
-use Rattle.fv_declare.specs.declared.fault.DeclFault.{DeclFault}
+use Rattle.fv_declare_judging.specs.declared.fault.DeclFault.{DeclFault}
 use Rattle.fv_model.specs.Bundles.{Bundled}
 use Rattle.fv_validate.specs.Violations.{Reported}
 use Rattle.fv_engine_reply.specs.declared.answer.Done.{Done}

@@ -4,7 +4,7 @@ use Rattle.std.specs.Option.{option_map_or}
 use Rattle.serde_json.specs.Data as json
 use Rattle.serde_json.specs.View.{items_of}
 use Rattle.serde_json.specs.Written.{compact_text}
-use Rattle.fv_declare.specs.FaultNames.{decl_fault_code}
+use Rattle.fv_declare_judging.specs.FaultNames.{decl_fault_code}
 use Rattle.fv_model.specs.FaultNames.{bundle_fault_code}
 use Rattle.fv_model_types.specs.Writing.{datum_json}
 use Rattle.fv_model.specs.Writing.{bundle_json}

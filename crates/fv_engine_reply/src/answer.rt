@@ -1,7 +1,7 @@
 ghost use Rattle.std.specs.Prelude.{◌≡◌};
 ghost use Rattle.fv_engine_reply.specs.Texts.{misfit_code, refusal_told};
 
-use fv_declare::DeclFault;
+use fv_declare_judging::DeclFault;
 use fv_model::{Bundle, BundleFault};
 use fv_validate::Violation;
 

@@ -14,7 +14,7 @@ ghost use Rattle.serde_json.specs.Written.{compact_text, has_float};
 use crate::answer::{Judged, Misfit, Refusal};
 use crate::reply::Reply;
 use fv_datum::{DatumFault, write_datum};
-use fv_declare::DeclFault;
+use fv_declare_judging::DeclFault;
 use fv_model::{Bundle, BundleFault};
 use fv_model_text::{quoted, write_text};
 use fv_validate::Violation;

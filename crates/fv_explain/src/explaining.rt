@@ -1,5 +1,5 @@
 ghost use Rattle.std.specs.Prelude.{◌≡◌, None, Ok, Err, IfOk, IfSome};
-ghost use Rattle.fv_declare.specs.Declares.{Declares};
+ghost use Rattle.fv_declare_judging.specs.Declares.{Declares};
 ghost use Rattle.fv_declare_schema.specs.Declarations.{Declarations};
 
 use crate::fault::ExplainFault;

@@ -2,11 +2,11 @@ use Rattle.std.proofs.Common.{◌≡◌, Some, Ok, Err, sym, ap, subst, ◌∙�
 use Rattle.std.proofs.lemmas.Result.{IfOk-weaker, IfErr-weaker, err_from_is_err_and}
 use Rattle.fv_datum.specs.Parsing.{json_of}
 use Rattle.fv_json.specs.Documents.{document_view, view as json_view}
-use Rattle.fv_declare.specs.Declares.{Declares}
-use Rattle.fv_declare.specs.declared.fault.DeclFault.{DeclFault}
-use Rattle.fv_declare.proofs.InOrder.{declared_ordered}
-use Rattle.fv_declare.proofs.Steps.{ok_found}
-use Rattle.fv_declare.proofs.Turns.{unread, declared_by}
+use Rattle.fv_declare_judging.specs.Declares.{Declares}
+use Rattle.fv_declare_judging.specs.declared.fault.DeclFault.{DeclFault}
+use Rattle.fv_declare_judging.proofs.InOrder.{declared_ordered}
+use Rattle.fv_declare_judging.proofs.Steps.{ok_found}
+use Rattle.fv_declare_judging.proofs.Turns.{unread, declared_by}
 use Rattle.fv_declare.proofs.reading.read_schema.Goals as goal
 
 pub returns-in_err-document-clause-refused : goal.returns-in_err-document-clause-refused

@@ -1,0 +1,9 @@
+-- The names of faults.
+use Rattle.std.specs.Prelude.{ℕ, List, codes}
+use Rattle.formd_task.specs.declared.files.FileFault.{FileFault}
+use Rattle.formd_task.specs.declared.files.FileFault.TheVariants as file
+
+-- the name of a fault of a file
+abbrev pub file_fault_name : FileFault → List ℕ
+file_fault_name file.Unreadable = codes "Unreadable"
+file_fault_name file.Memory = codes "Memory"

@@ -1,0 +1,112 @@
+-- What is found on the way to a schema; for private clauses.
+use Rattle.std.specs.Prelude.{◌≡◌, ℕ, ◌+◌, ◌<◌, List, [], ◌∷◌, length, drop, Bool, true, false, Option, Some, None, option_map, if◌then◌else◌, Result}
+use Rattle.std.specs.List.{AllByRecursion, list_any}
+use Rattle.serde_json.specs.Data as json
+use Rattle.fv_datum.specs.Outcomes.{first}
+use Rattle.fv_datum.specs.Parsing.{json_of}
+use Rattle.fv_declare_judging.specs.Conditions.{unknown_root, unknown_name}
+use Rattle.fv_declare_judging.specs.Declares.{draft_in, faults, IsAnswer, Declares}
+use Rattle.fv_declare_judging.specs.Naming.{bad_name}
+use Rattle.fv_declare_judging.specs.Types.{types_declared}
+use Rattle.fv_declare_draft.specs.AllCascades.{Cascade, cascades_in}
+use Rattle.fv_declare_draft.specs.Drafts.{FieldDraft, Drafted}
+use Rattle.fv_declare_draft.specs.Places.{PlacedCascade}
+use Rattle.fv_model_types.specs.Types.{Declared, kind_of, too_many}
+use Rattle.fv_constraint_tree.specs.Nodes.{Node}
+use Rattle.fv_constraint_tree.specs.Trees.{Tree, size}
+use Rattle.fv_declare_schema.specs.Declarations.{Placed, Declarations}
+use Rattle.fv_declare_schema.specs.Ordered.{held_inside}
+use Rattle.fv_declare_groups.specs.Grouping.{groups_in, is_misplaced, IsGrouping}
+use Rattle.fv_declare_groups.specs.Numbered.{groups_named}
+use Rattle.fv_groups.specs.Groups.{Groups}
+use Rattle.fv_message.specs.Table.{Messages, all_messages}
+use Rattle.fv_message.specs.declared.fault.MessageFault.{MessageFault}
+use Rattle.fv_message.specs.declared.fault.MessageFault.TheVariants as message
+use Rattle.fv_declare_draft.specs.AllUses.{Use, uses_in}
+use Rattle.fv_registry.specs.Rules.{Known}
+use Rattle.fv_declare_judging.specs.declared.fault.DeclFault.{DeclFault}
+use Rattle.fv_declare_judging.specs.declared.fault.DeclFault.TheVariants.{BadName, UnknownName}
+
+-- the answer by these faults to each text of which a draft is read
+unfoldable pub IsAnswerTo : Known → Drafted → List DeclFault → Result Declarations DeclFault → Type 0
+IsAnswerTo k d rest answer = (bytes : List ℕ) → draft_in bytes ≡ Some d → IsAnswer k bytes rest answer
+
+-- the answer to each text that is a JSON value
+unfoldable pub DeclaredBy : Known → json.Data → Result Declarations DeclFault → Type 0
+DeclaredBy k j answer = (bytes : List ℕ) → json_of bytes ≡ Some j → Declares k bytes answer
+
+-- the faults that a draft can have: all but those of a text that is none
+abbrev pub draft_faults : List DeclFault
+draft_faults = drop 2 faults
+
+-- those that are looked for where names and groups stand as they may
+abbrev pub composition_faults : List DeclFault
+composition_faults = drop 11 faults
+
+-- those that are looked for where no constraint is composed of itself either
+abbrev pub tree_faults : List DeclFault
+tree_faults = drop 12 faults
+
+-- what can be wrong with names, in the order in which it is answered
+abbrev pub name_conditions : Drafted → List (Bool × DeclFault)
+name_conditions d = (bad_name d, BadName) ∷ (unknown_name d, UnknownName) ∷ []
+
+-- a limit on messages is passed
+abbrev pub is_wordy : Option MessageFault → Bool
+is_wordy (Some message.TooLarge) = true
+is_wordy _ = false
+
+-- types, unless there are too many of them or of the fields of one, or too many containers stand one in another
+abbrev pub unless_many : Declared → Option Declared
+unless_many ts = if too_many ts then None else Some ts
+
+-- a fault of messages is want of memory
+abbrev pub lacks_memory : Option MessageFault → Bool
+lacks_memory (Some message.Memory) = true
+lacks_memory _ = false
+
+-- each cascade stands fewer steps inside than those after it
+abbrev pub AreDeepening : List PlacedCascade → Type 0
+AreDeepening [] = Unit {0}
+AreDeepening (c ∷ cs) = AllByRecursion (λ d. length c.steps < length d.steps) cs × AreDeepening cs
+
+-- the steps of each use and of each cascade in a field lead in what the field holds to data of its kind, and the cascades go inwards
+abbrev pub IsLed : FieldDraft → Type 0
+IsLed f =
+    AllByRecursion (λ u. option_map kind_of (held_inside u.steps f.type) ≡ Some u.kind) f.uses
+    × AllByRecursion (λ c. option_map kind_of (held_inside c.steps f.type) ≡ Some c.kind) f.cascades
+    × AreDeepening f.cascades
+
+-- the same, of the fields of each type
+abbrev pub AreLed : Drafted → Type 0
+AreLed d = AllByRecursion (λ t. AllByRecursion IsLed t.fields) d.types
+
+-- uses with their groups and trees at their places, in order, where the root of the first tree has a number
+abbrev pub placed_from : Groups → ℕ → List Use → List (Tree Node) → List Placed
+placed_from gs n (u ∷ us) (t ∷ ts) =
+    record { type = u.type; place = u.place; number = n; groups = groups_named gs u.draft.groups; tree = t } ∷ placed_from gs (n + size t) us ts
+placed_from gs n _ _ = []
+
+-- the names of a draft are known and stand as they may, and so do its groups; these are its types, unless there are too many, its uses,
+-- its groups and its cascades
+pub record IsChecked (d : Drafted) (ts : Option Declared) (us : List Use) (gs : Groups) (cs : List Cascade) : Type 0 where
+  pub named : first (name_conditions d) ≡ None
+  pub types : ts ≡ unless_many (types_declared d)
+  pub led : AreLed d
+  pub uses : us ≡ uses_in d.types
+  pub groups : IsGrouping d gs cs
+
+-- a draft's names and places are as they may be
+pub record IsInOrder (d : Drafted) : Type 0 where
+  pub named : bad_name d ≡ false
+  pub led : AreLed d
+  pub roots : unknown_root (types_declared d) d.forms ≡ false
+  pub placed : list_any (is_misplaced (groups_in d)) (cascades_in d.types) ≡ false
+
+-- these are a draft's types, groups, messages, uses and cascades
+pub record AreOfDraft (d : Drafted) (ts : Declared) (gs : Groups) (ms : Messages) (us : List Use) (cs : List Cascade) : Type 0 where
+  pub types : ts ≡ types_declared d
+  pub groups : gs ≡ groups_in d
+  pub messages : ms ≡ all_messages d.messages
+  pub uses : us ≡ uses_in d.types
+  pub cascades : cs ≡ cascades_in d.types
