@@ -1,9 +1,9 @@
 #!/usr/bin/env python3
 """Compares thousands of rows of examples with what the program answers: declarations taken or refused, values, bundles, whole commands.
 
-    tests/rows.py                       the files of tests/data/rows, with the program that `make` leaves
-    tests/rows.py FILE ..               these files
-    tests/rows.py --program PROGRAM ..  with another build of formd
+    tests/rows.py                    with the program that `make` leaves
+    tests/rows.py PROGRAM            with another build of formd
+    tests/rows.py PROGRAM FILE ..    these files in place of those of tests/data/rows
 
 A file begins with lines `NAME := TEXT`, then come tables, each of which begins with a line `## KIND HEAD`; lines that begin with "# " are
 comments. `wrong.rows` has rows of each kind that don't hold: each has to be told as one that differs.
@@ -14,7 +14,6 @@ Words between brackets stand for longer texts: `⟦3: "f#":1⟧` for the items `
 the file says of the name.
 """
 
-import argparse
 import json
 import os
 import re
@@ -26,7 +25,7 @@ from pathlib import Path
 
 ROOT = Path(__file__).resolve().parent.parent
 DATA = ROOT / "tests" / "data" / "rows"
-PROGRAM = ROOT / "crates" / "formd" / "out" / "formd"
+PROGRAM = Path(sys.argv[1] if len(sys.argv) > 1 else ROOT / "crates" / "formd" / "out" / "formd").resolve()
 GET = '{"do":"get","id":"r1"}'
 SHOWN = 400
 
@@ -395,16 +394,10 @@ def judge(file, pool):
 
 
 def main():
-    global PROGRAM
-    words = argparse.ArgumentParser(description=__doc__.split("\n")[0])
-    words.add_argument("--program", type=Path, default=PROGRAM)
-    words.add_argument("files", nargs="*", type=Path, metavar="FILE")
-    given = words.parse_args()
-    PROGRAM = given.program.resolve()
     if not PROGRAM.is_file():
         raise SystemExit(f"{PROGRAM} isn't there: make it by `make`")
     with ThreadPoolExecutor(os.cpu_count()) as pool:
-        counts = [judge(file, pool) for file in given.files or sorted(DATA.glob("*.rows"))]
+        counts = [judge(file, pool) for file in map(Path, sys.argv[2:] or sorted(DATA.glob("*.rows")))]
     total, wrong = map(sum, zip(*counts))
     print(f"{total} rows, {wrong} wrong")
     return 1 if wrong or not total else 0
