@@ -19,9 +19,10 @@ demo:
 try:
 	cd crates/formd && rt try -- rehearse --declarations "$(abspath $(DECLARATIONS))"
 
-# The merge gate: every proof from nothing, the must-fail edits, the tests, the programs' runs.
+# The merge gate: the limits of the house, `rt ci` (every proof from nothing, the must-fail edits, the tests, the programs' runs), and then scripts
+# over the programs that it built. With `make test lanes=` each proof takes as many processors as no other one waits for.
 test:
-	RT_JOBS=$(lanes) rt ci
+	RT_JOBS=$(lanes) tests/gate.py
 
 # Compares the rows of crates/test_rows/data, without a proof.
 rows:
@@ -31,7 +32,7 @@ rows:
 planted:
 	tests/planted.sh $(NAME)
 
-# Runs the program that `make` leaves: the manual's examples, files that it can't serve, pages of ids, hostile patterns, a hundred kills,
+# Runs the program that `make` leaves, longer than `make test` does: its words, the manual's examples, files that it can't serve, pages of ids, hostile patterns, a hundred kills,
 # files of version 1 and kills while one is migrated, the forms of examples/, the rental application, what
 # differs from Bean Validation.
 served:
@@ -39,6 +40,7 @@ served:
 	tests/manual.py
 	tests/rehearsal.py
 	tests/mistakes.py
+	tests/words.py
 	tests/statuses.py
 	tests/pages.py
 	tests/matchers.py
