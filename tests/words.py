@@ -67,33 +67,32 @@ class Row:
         self.kind, _, self.text = line.partition(" ")
         self.below = {mark: [] for mark in MARKS}
 
-    def name_and_rest(self):
-        name, _, rest = self.text.partition(" ")
-        return name, rest
-
     def look(self, folder):
         """Does what the row says in a folder."""
-        name, rest = self.name_and_rest()
-        if self.kind == "$":
-            status = int((self.below["?"] or ["0"])[0])
-            run(folder, shlex.split(self.text), self.below[">"] or [GET], (status, text_of(self.below["<"]), text_of(self.below["!"])))
-        elif self.kind == "file":
-            (folder / name).write_text(rest)
-        elif self.kind == "sql":
-            selected(folder / name, rest)
-        elif self.kind == "ask":
-            look(self.text, selected(folder / name, rest), self.below["<"])
-        elif self.kind == "gone":
-            (folder / name).unlink()
-        elif self.kind == "none":
-            look(self.text, (folder / name).exists(), False)
-        elif self.kind == "taken":
-            declare(folder, self.text.encode())
-        elif self.kind in ("refused", "garbled"):
-            fault, _, text = self.text.partition(": ")
-            declare(folder, text.encode() if self.kind == "refused" else text.encode().decode("unicode_escape").encode("latin-1"), fault)
-        else:
-            raise SystemExit(f"{ROWS}: no row is of the kind {self.kind!r}")
+        name, _, rest = self.text.partition(" ")
+        fault, _, declarations = self.text.partition(": ")
+        match self.kind:
+            case "$":
+                status = int(*self.below["?"] or "0")
+                run(folder, shlex.split(self.text), self.below[">"] or [GET], (status, text_of(self.below["<"]), text_of(self.below["!"])))
+            case "file":
+                (folder / name).write_text(rest)
+            case "sql":
+                selected(folder / name, rest)
+            case "ask":
+                look(self.text, selected(folder / name, rest), self.below["<"])
+            case "gone":
+                (folder / name).unlink()
+            case "none":
+                look(self.text, (folder / name).exists(), False)
+            case "taken":
+                declare(folder, self.text.encode())
+            case "refused":
+                declare(folder, declarations.encode(), fault)
+            case "garbled":
+                declare(folder, declarations.encode().decode("unicode_escape").encode("latin-1"), fault)
+            case kind:
+                raise SystemExit(f"{ROWS}: no row is of the kind {kind!r}")
 
 
 def sections():
