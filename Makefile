@@ -19,9 +19,10 @@ demo:
 try:
 	cd crates/formd && rt try -- rehearse --declarations "$(abspath $(DECLARATIONS))"
 
-# The merge gate: every proof from nothing, the must-fail edits, the tests, the programs' runs.
+# The merge gate: the limits of the house, `rt ci` (every proof from nothing, the must-fail edits, the tests, the programs' runs), and then scripts
+# over the programs that it built. With `make test lanes=` each proof takes as many processors as no other one waits for.
 test:
-	RT_JOBS=$(lanes) rt ci
+	RT_JOBS=$(lanes) tests/gate.py
 
 # Compares the rows of tests/data/rows with what the program answers that `make` leaves.
 rows:
@@ -31,14 +32,15 @@ rows:
 planted:
 	tests/planted.sh $(NAME)
 
-# Runs the program that `make` leaves: the manual's examples, files that it can't serve, pages of ids, hostile patterns, a hundred kills,
-# files of version 1 and kills while one is migrated, the forms of examples/, the rental application, what
-# differs from Bean Validation.
-served:
+# Runs the program that `make` leaves, longer than `make test` does: rows, its words, the manual's examples, files that it can't serve, pages of ids,
+# hostile patterns, a hundred kills, files of version 1 and kills while one is migrated, the forms of examples/, the rental application, what differs
+# from Bean Validation.
+served: rows
 	tests/readme.py
 	tests/manual.py
 	tests/rehearsal.py
 	tests/mistakes.py
+	tests/words.py
 	tests/statuses.py
 	tests/pages.py
 	tests/matchers.py

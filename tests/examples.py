@@ -1,8 +1,9 @@
 #!/usr/bin/env python3
 """Runs the forms of `examples/`, in Flask and in Node, over a program, as a browser would, and compares what they answer.
 
-    tests/examples.py            with the program that `make` leaves
-    tests/examples.py PROGRAM    with another build of formd
+    tests/examples.py                 with the program that `make` leaves
+    tests/examples.py PROGRAM         with another build of formd
+    tests/examples.py PROGRAM NAME    flask alone, or node
 
 Needs `flask` (Debian: python3-flask) and `node`; what isn't there is said and left out.
 """
@@ -100,7 +101,8 @@ def main():
     if shutil.which("node"):
         servers["node"] = lambda port: ["node", str(ROOT / "examples" / "node" / "server.js")]
     wrong = 0
-    for name in ("flask", "node"):
+    wanted = sys.argv[2:] or ["flask", "node"]
+    for name in wanted:
         if name not in servers:
             print(f"{name} isn't installed: its example is left out")
             continue
@@ -119,7 +121,7 @@ def main():
             if sum(counts) != 7 or 0 in counts:
                 wrong += 1
                 print(f"{name}: the files keep {counts} records")
-    print(f"{len(servers)} forms run, {wrong} answers differ")
+    print(f"{len(servers.keys() & set(wanted))} forms run, {wrong} answers differ")
     return 1 if wrong else 0
 
 

@@ -1,8 +1,10 @@
 #!/usr/bin/env python3
 """Kills formd 100 times amid puts and removes, and 100 times amid redeclares, and looks at what its file then holds.
 
-    tests/kills.py             the program that `make` leaves
-    tests/kills.py PROGRAM     another build of formd
+    tests/kills.py                       the program that `make` leaves
+    tests/kills.py PROGRAM               another build of formd
+    tests/kills.py PROGRAM SEED          with other random numbers
+    tests/kills.py PROGRAM SEED KILLS    with another number of kills of each kind
 
 Each run of the program is sent puts, of some objects each, and a few removes, some at a time, and
 killed (SIGKILL) after some microseconds or once a number of them is answered. Then the file has to
@@ -11,7 +13,7 @@ and nothing else may be there. SQLite looks at a copy of the file and its log, w
 integrity and of keys; the next run of the program looks again, by gets. Redeclares go between two
 declarations that fit all records, each with another number of spaces behind it: the file has to hold those
 of a front of the redeclares that has all answered ones, and all records. Prints the seed of its random
-numbers, which is its only other argument.
+numbers.
 """
 
 import json
@@ -27,7 +29,7 @@ from pathlib import Path
 ROOT = Path(__file__).resolve().parent.parent
 PROGRAM = Path(sys.argv[1] if len(sys.argv) > 1 else ROOT / "crates" / "formd" / "out" / "formd").resolve()
 SEED = int(sys.argv[2]) if len(sys.argv) > 2 else 1
-KILLS = 100
+KILLS = int(sys.argv[3]) if len(sys.argv) > 3 else 100
 IDS = 40
 DECLARATIONS = '{"types":{"Item":{"fields":{"count":{"type":"integer","constraints":[{"constraint":"Min","with":{"value":1}}]},"text":{"type":"text"}}}},"forms":{"item":{"root":"Item"}}}'
 OTHERS = '{"types":{"Item":{"fields":{"count":{"type":"integer"},"more":{"type":"date"},"text":{"type":"text"}}}},"forms":{"item":{"root":"Item"},"other":{"root":"Item"}}}'

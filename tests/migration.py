@@ -1,9 +1,10 @@
 #!/usr/bin/env python3
 """Opens files of version 1 with formd, which migrates them, and looks at what they then hold.
 
-    tests/migration.py                     the program that `make` leaves
-    tests/migration.py PROGRAM             another build of formd
-    tests/migration.py PROGRAM RECORDS     with another number of records than 100,000 where it is killed
+    tests/migration.py                          the program that `make` leaves
+    tests/migration.py PROGRAM                  another build of formd
+    tests/migration.py PROGRAM RECORDS          with another number of records than 100,000 where it is killed
+    tests/migration.py PROGRAM RECORDS KILLS    and another number of kills than twenty, an even one
 
 A file that the program of version 1 made, with data of every kind (tests/data/version1): its tables, its
 declarations and each reply are looked at behind one opening and behind the next. Files that aren't taken: one of
@@ -29,7 +30,7 @@ ROOT = Path(__file__).resolve().parent.parent
 DATA = ROOT / "tests" / "data" / "version1"
 PROGRAM = Path(sys.argv[1] if len(sys.argv) > 1 else ROOT / "crates" / "formd" / "out" / "formd").resolve()
 RECORDS = int(sys.argv[2]) if len(sys.argv) > 2 else 100_000
-KILLS = 20
+KILLS = int(sys.argv[3]) if len(sys.argv) > 3 else 20
 SEED = 1
 ABOUT = "CREATE TABLE about (one INTEGER PRIMARY KEY CHECK (one = 1), version INTEGER NOT NULL, declarations BLOB NOT NULL)"
 FIRST_RECORD = "CREATE TABLE record (id TEXT NOT NULL PRIMARY KEY, form TEXT NOT NULL, bundle TEXT NOT NULL)"

@@ -2,9 +2,10 @@
 """Refuses each of formd's requests for memory in turn: those of each command, taken and refused, of its start, and of an opening that migrates;
 and those of single calls of the libraries.
 
-    tests/refused_allocations.py                  the programs that `make` and `rt run` in crates/refused_calls leave
-    tests/refused_allocations.py PROGRAM          another build of formd
-    tests/refused_allocations.py PROGRAM CALLS    and of refused_calls
+    tests/refused_allocations.py                       the programs that `make` and `rt run` in crates/refused_calls leave
+    tests/refused_allocations.py PROGRAM               another build of formd
+    tests/refused_allocations.py PROGRAM CALLS         and of refused_calls
+    tests/refused_allocations.py PROGRAM CALLS EACH    of the requests only the first, and of the others one in so many
 
 A line is sent with one of its requests refused: the first, the second, and so on, until it asks for less. Its
 reply has to be the one that it calls for, or the refusal for want of memory (C12), which changes nothing. Then
@@ -21,6 +22,7 @@ A call by itself answers what it does undisturbed, or that memory was refused; t
 and what stands in its database is what was there before the first, or what it makes.
 """
 
+import itertools
 import json
 import mmap
 import os
@@ -37,6 +39,8 @@ HERE = Path(__file__).resolve().parent
 FORMD = HERE.parent / "crates" / "formd"
 PROGRAM = Path(sys.argv[1] if len(sys.argv) > 1 else FORMD / "out" / "formd").resolve()
 CALLS = Path(sys.argv[2] if len(sys.argv) > 2 else HERE.parent / "crates" / "refused_calls" / "out" / "refused_calls").resolve()
+EACH = int(sys.argv[3]) if len(sys.argv) > 3 else 1
+TURNS = itertools.count()
 MEMORY = {"error": "C12", "name": "Memory"}
 NO_DECLARATIONS = '{"types":{},"forms":{}}'
 IDS = ("r1", "r2", "r3", "r9")
@@ -337,6 +341,12 @@ LINES = [
 ODD = [("no command", "C1", " " * 1048577), ("no command", "C2", "{"), ("no command", "C3", '{"do":"none"}')]
 
 
+def numbers():
+    """The numbers of the requests that are refused, one a run: each, or the first and then one in so many, from another one on each time."""
+    yield 1
+    yield from itertools.count(2 + 7 * next(TURNS) % EACH, EACH)
+
+
 class Page:
     """The four numbers that the library and this script share."""
 
@@ -397,9 +407,8 @@ def one_line(service, model, name, line, is_last):
     """Refuses each request of a line in turn, or all from it on: how many there were, and how many of the replies were C12."""
     declared, records = model.declared, model.records
     questions = [compact({"do": "get", "id": key}) for key in IDS] + [compact({"do": "list", "form": form}) for form in ("item", "thing")]
-    number = wants = 0
-    while True:
-        number += 1
+    refused = wants = 0
+    for number in numbers():
         reply, was = service.ask(line, number, is_last)
         at = f"{name}, request {number}"
         if was and reply == compact(MEMORY):
@@ -419,7 +428,8 @@ def one_line(service, model, name, line, is_last):
         if (model.declared, model.records) != (declared, records):
             sys.exit(f"{at}: what was there before isn't there again")
         if not was:
-            return number - 1, wants
+            return refused, wants
+        refused += 1
 
 
 def commands(folder, page):
@@ -456,14 +466,14 @@ def served(declared, file):
 
 def runs(page, words, lines, before=lambda: None):
     """Runs with one request refused, the first, the second and so on, up to one that asks for less: the number of each, and the run."""
-    number, was = 0, True
-    while was:
-        number += 1
+    for number in numbers():
         before()
         page.refuse(number)
         run = subprocess.run([PROGRAM, *words], input=lines, capture_output=True, env=page.environment, timeout=60)
         was = page.was_refused()
         yield number, run
+        if not was:
+            break
 
 
 def starts(folder, page):
@@ -478,7 +488,7 @@ def starts(folder, page):
         elif (run.returncode, run.stdout, run.stderr) != (0, b"ok\n", b""):
             bad += 1
             tell(f"declarations, request {number}: {run}")
-        last = number
+        last += 1
     if last == 1:
         tell("declarations: no request was refused")
     print(f"declarations, read: {last - 1} requests for memory, each refused in its turn, {early} ended with status 4; {bad} lost")
@@ -502,7 +512,7 @@ def starts(folder, page):
         words, text = served(declared, file), "".join(line + "\n" for line in questions).encode()
         early = shown = last = bad = 0
         for number, run in runs(page, words, text, before):
-            last = number
+            last += 1
             replies = run.stdout.decode().splitlines()
             wants = replies.count(compact(MEMORY))
             if (run.returncode, run.stdout, run.stderr) == (4, b"", b"formd: memory\n"):
@@ -599,7 +609,7 @@ def migration(folder, page):
         again = subprocess.run([PROGRAM, *words], input=lines, capture_output=True, timeout=60)
         if again.returncode != 0 or [json.loads(line) for line in again.stdout.decode().splitlines()] != wanted or version_of(file) != 2:
             sys.exit(f"request {number} of a migration: opened again, status {again.returncode} with {again.stderr!r}, {again.stdout!r}")
-        last = number
+        last += 1
     if last == 1:
         tell("a migration: no request was refused")
     print(f"{last - 1} requests for memory under a migration, each refused in its turn: {early} runs ended with status 4, {shown} had one reply C12; "
@@ -695,16 +705,18 @@ def by_themselves(page):
     """Each call with each of its requests refused in turn."""
     program = Calls(page)
     for name, (wanted, stands, memory) in calls().items():
-        number, wants, before, was = 0, 0, lost, True
-        while was:
-            number += 1
+        refused, wants, before = 0, 0, lost
+        for number in numbers():
             (first, *rest), was = program.make(name, 2 + len(stands), number)
             if rest != [wanted, *stands] or first not in ([wanted, *memory] if was else [wanted]):
                 tell(f"{name}, request {number}: {first:.300} and then {rest!r:.600}, not {wanted:.300}")
             wants += first in memory
-        if number == 1:
+            if not was:
+                break
+            refused += 1
+        if not refused:
             tell(f"{name}: none of its requests was refused")
-        print(f"{name}, by itself: {number - 1} requests for memory, each refused in its turn, {wants} of them answered so; {lost - before} lost", flush=True)
+        print(f"{name}, by itself: {refused} requests for memory, each refused in its turn, {wants} of them answered so; {lost - before} lost", flush=True)
     program.end()
 
 

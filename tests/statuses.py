@@ -14,6 +14,7 @@ behind each kind of change, the declarations behind a redeclare, and no fault.
 import json
 import os
 import resource
+import shutil
 import signal
 import sqlite3
 import subprocess
@@ -58,9 +59,9 @@ def around(database):
     return sorted(file.name for file in folder.iterdir()) if folder.is_dir() else []
 
 
-def serve(declarations, database, lines="", **how):
+def serve(declarations, database, lines="", program=PROGRAM, **how):
     """Serves. A start that is refused leaves no file that wasn't there."""
-    words = [PROGRAM, "serve", "--declarations", declarations, "--database", database]
+    words = [program, "serve", "--declarations", declarations, "--database", database]
     before = around(database)
     ran = subprocess.run(words, input=lines, capture_output=True, text=True, **how)
     if ran.returncode in (3, 4) and ran.stderr not in ("formd: read\n", "formd: write\n"):
@@ -138,8 +139,10 @@ def files(folder):
     if os.getuid() == 0:
         for file in folder.iterdir():
             file.chmod(0o444)
+        # (where the program lies nobody may not get to it)
+        copied = shutil.copy(PROGRAM, folder / "formd")
         folder.chmod(0o555)
-        ended("read-only", serve(good, folder / "b.db", user=NOBODY, group=NOBODY, extra_groups=[]), 4, cannot_open)
+        ended("read-only", serve(good, folder / "b.db", program=copied, user=NOBODY, group=NOBODY, extra_groups=[]), 4, cannot_open)
         folder.chmod(0o755)
 
 

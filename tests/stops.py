@@ -1,8 +1,9 @@
 #!/usr/bin/env python3
 """Stops formd's files, its standard input and its standard output at each of its calls in turn, and looks at what then stands.
 
-    tests/stops.py            the program that `make` leaves
-    tests/stops.py PROGRAM    another build of formd
+    tests/stops.py                  the program that `make` leaves
+    tests/stops.py PROGRAM          another build of formd
+    tests/stops.py PROGRAM short    stops only one of both files under each command, the log and the database's in turn
 
 Of the database file and of its log each call fails from the first one on, then from the second, and so on until a run
 meets none; and the same with half of the bytes of the first write that fails. So over an opening of empty files, a put, a set, a
@@ -15,6 +16,7 @@ is the replies to the whole lines that were read, or the front of the replies th
 commands answered, or behind one more.
 """
 
+import itertools
 import json
 import mmap
 import os
@@ -31,6 +33,7 @@ from refused_allocations import FIRST, FIRST_BUNDLES, IDS, LINES, NO_DECLARATION
 
 HERE = Path(__file__).resolve().parent
 DATABASE, LOG, INPUT, OUTPUT = range(4)
+FILES = itertools.cycle([(LOG,), (DATABASE,)] if "short" in sys.argv[2:] else [(DATABASE, LOG)])
 NAMES = ("the database file", "the log", "standard input", "standard output")
 REFUSALS = ('{"error":"C11","name":"Store"}', '{"error":"C12","name":"Memory"}')
 NOT_OPENED = (b"formd: cannot open database\n", b"formd: store: Store\n", b"formd: memory\n")
@@ -93,7 +96,7 @@ def disk(folder, page, name, source, line, before, after, is_first_version=False
     """A command over both files, each stopped at each call."""
     words, lines = served(folder / "d.json", folder / "g.db"), b"" if line is None else line.encode() + b"\n"
     undisturbed = None if line is None else compact(Model(before.declared, before.records).answer(line))
-    for which in (DATABASE, LOG):
+    for which in next(FILES):
         for sign in (1, -1):
             ends, number, bad = Counter(), 0, lost
             while True:

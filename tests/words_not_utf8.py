@@ -2,8 +2,10 @@
 """Runs formd with words that aren't UTF-8: each run must end with status 2, as for any words that
 aren't understood, with nothing on standard output and the text below on standard error.
 
-Run it behind `make`, which leaves the program as crates/formd/out/formd; another program may be named
-by a word. No test of the gate reaches this: a program's words there are UTF-8.
+    tests/words_not_utf8.py            with the program that `make` leaves
+    tests/words_not_utf8.py PROGRAM    with another build of formd
+
+No test in Rattle reaches this: a program's words there are UTF-8.
 """
 
 import subprocess

@@ -1,0 +1,182 @@
+#!/usr/bin/env python3
+"""The merge gate: the house's limits and the paths in documents, `rt ci`, and then the scripts over the programs that it built.
+
+    tests/gate.py        with RT_JOBS as `make test` sets it, or without it, where a proof that no other one competes with takes more processors
+
+Where a limit or a path is wrong nothing else is run. The scripts run side by side, one a processor, each in a form of a few minutes at most; `make served` and `make hostile`
+run the long forms. A script whose needs aren't on the machine is left out by name and counts as skipped. The last line counts all: `rt ci`'s own figures, and one for each script.
+"""
+
+import importlib.util
+import os
+import re
+import shutil
+import signal
+import subprocess
+import sys
+import tempfile
+import time
+from collections import Counter
+from pathlib import Path
+from typing import NamedTuple
+
+HERE = Path(__file__).resolve().parent
+ROOT = HERE.parent
+FORMD, CALLS = (ROOT / "crates" / name / "out" / name for name in ("formd", "refused_calls"))
+MODULES = ("flask",)
+SECONDS = 480
+
+
+class Script(NamedTuple):
+    """A script: its words behind the program, and what it needs of the machine."""
+
+    name: str
+    words: tuple = ()
+    needs: tuple = ()
+
+    def __str__(self):
+        return " ".join([f"tests/{self.name}.py", *(str(word) for word in self.words if word != CALLS)])
+
+    def lacking(self):
+        return [need for need in self.needs if not (importlib.util.find_spec(need) if need in MODULES else shutil.which(need))]
+
+
+# The longest first.
+SCRIPTS = [
+    Script("rows"),
+    Script("stops", ("short",), ("gcc",)),
+    Script("refused_allocations", (CALLS, 40), ("gcc",)),
+    Script("migration", (5000, 8)),
+    Script("kills", (1, 20)),
+    Script("manual", (), ("bash", "jq", "sqlite3")),
+    Script("pages"),
+    Script("statuses"),
+    Script("matchers"),
+    Script("examples", ("flask",), ("flask", "sqlite3")),
+    Script("examples", ("node",), ("node", "sqlite3")),
+    Script("words"),
+    Script("differences"),
+    Script("mistakes"),
+    Script("readme", (), ("bash", "jq")),
+    Script("words_not_utf8"),
+    Script("rental"),
+    Script("rehearsal"),
+]
+
+
+class Run:
+    """A script at work, which writes into a file."""
+
+    def __init__(self, script):
+        words = [sys.executable, "-u", HERE / f"{script.name}.py", FORMD, *map(str, script.words)]
+        self.output, self.begun, self.seconds, self.why = tempfile.TemporaryFile("w+", errors="replace"), time.monotonic(), 0, ""
+        how = {"stdin": subprocess.DEVNULL, "stdout": self.output, "stderr": subprocess.STDOUT, "env": {**os.environ, "PYTHONUTF8": "1"}}
+        self.process = subprocess.Popen(words, start_new_session=True, **how)
+
+    def has_ended(self):
+        """Whether it has, also where its time is over."""
+        ended, self.seconds = self.process.poll(), time.monotonic() - self.begun
+        if ended is None and self.seconds > SECONDS:
+            self.kill()
+            self.why = f"not done within {SECONDS} s"
+        elif ended:
+            self.why = f"status {ended}"
+        return ended is not None or self.why != ""
+
+    def kill(self):
+        """Ends it with all that it has started."""
+        os.killpg(self.process.pid, signal.SIGKILL)
+        self.process.wait()
+
+    def said(self):
+        self.output.seek(0)
+        return "".join(f"    {line}\n" for line in self.output.read().splitlines())
+
+
+def ran(scripts):
+    """Runs scripts side by side, and gives each with its run in their order, once those before it have ended."""
+    waiting, running, ended = list(scripts), {}, {}
+    try:
+        for script in scripts:
+            while script not in ended:
+                while waiting and len(running) < len(os.sched_getaffinity(0)):
+                    begun = waiting.pop(0)
+                    running[begun] = Run(begun)
+                time.sleep(0.05)
+                for other in [other for other, run in running.items() if run.has_ended()]:
+                    ended[other] = running.pop(other)
+            yield script, ended[script]
+    finally:
+        for run in running.values():
+            run.kill()
+
+
+def prove():
+    """Runs `rt ci`, whose output passes through: how many passed there, and how many failed."""
+    last = ""
+    with subprocess.Popen(["rt", "ci"], cwd=ROOT, stdin=subprocess.DEVNULL, stdout=subprocess.PIPE, text=True, errors="replace") as run:
+        for line in run.stdout:
+            print(line, end="", flush=True)
+            last = line.strip() or last
+    counted = re.fullmatch(r"(\d+) passed, (\d+) failed", last)
+    passed, failed = map(int, counted.groups()) if counted else (0, 1)
+    return passed, max(failed, int(run.returncode != 0))
+
+
+class Tally:
+    """What has passed, has failed and was skipped, and what to say of it at the end."""
+
+    def __init__(self):
+        self.counts, self.told = Counter(), []
+
+    def add(self, name, why=""):
+        self.counts["failed" if why else "passed"] += 1
+        if why:
+            self.told.append(f"FAILED: {name}: {why}")
+
+    def end(self):
+        """Prints the last lines, and gives the exit status."""
+        skipped = f", {self.counts['skipped']} skipped" if self.counts["skipped"] else ""
+        print("\n".join([*self.told, f"{self.counts['passed']} passed, {self.counts['failed']} failed{skipped}"]))
+        return 1 if self.counts["failed"] else 0
+
+
+def run_first(tally):
+    """What takes seconds and needs no program."""
+    for name in "house", "links":
+        ended = subprocess.run([sys.executable, HERE / f"{name}.py"], stdin=subprocess.DEVNULL).returncode
+        tally.add(f"tests/{name}.py", f"status {ended}" if ended else "")
+
+
+def run_scripts(tally):
+    lacking = {script: script.lacking() for script in SCRIPTS}
+    for script, run in ran([script for script in SCRIPTS if not lacking[script]]):
+        print(f"{script}: {run.why or 'passed'}, {run.seconds:.0f} s\n{run.said()}", end="", flush=True)
+        tally.add(script, run.why)
+    for script, needs in lacking.items():
+        if needs:
+            tally.counts["skipped"] += 1
+            tally.told.append(f"skipped: {script}: {' and '.join(needs)} isn't on this machine")
+
+
+def main():
+    tally = Tally()
+    run_first(tally)
+    if tally.counts["failed"]:
+        return tally.end()
+    begun = time.monotonic()
+    passed, failed = prove()
+    tally.counts.update(passed=passed, failed=failed)
+    if failed:
+        tally.told.append(f"FAILED: rt ci: {failed}")
+    middle = time.monotonic()
+    if FORMD.is_file():
+        run_scripts(tally)
+    else:
+        tally.add("the scripts", f"{FORMD.relative_to(ROOT)} isn't there")
+    print(f"rt ci {middle - begun:.0f} s, the scripts {time.monotonic() - middle:.0f} s")
+    return tally.end()
+
+
+if __name__ == "__main__":
+    sys.exit(main())

@@ -1,0 +1,179 @@
+#!/usr/bin/env python3
+"""Runs formd with the words that it takes and that it doesn't, and looks at its exit status and at every byte that it writes.
+
+    tests/words.py            with the program that `make` leaves
+    tests/words.py PROGRAM    with another build of formd
+
+The runs stand in tests/data/words.rows, whose head says how they are written. Those whose files are made by a rule stand here: declarations of too many forms, of as many bytes as are
+read and of one more, of 100 KB, which a database keeps whole; and hundreds of records that one run stores and shows.
+"""
+
+import re
+import shlex
+import sqlite3
+import subprocess
+import sys
+import tempfile
+from pathlib import Path
+
+ROOT = Path(__file__).resolve().parent.parent
+ROWS = ROOT / "tests" / "data" / "words.rows"
+PROGRAM = Path(sys.argv[1] if len(sys.argv) > 1 else ROOT / "crates" / "formd" / "out" / "formd").resolve()
+GET = '{"do":"get","id":"r1"}'
+MARKS = "><!?"
+DECLARATIONS = '{"types":{"Item":{"fields":{"count":{"type":"integer"}}}},"forms":{"item":{"root":"Item"}}}'
+MOST_BYTES = 16_777_216
+failed = count = 0
+
+
+def look(name, found, wanted):
+    global failed, count
+    count += 1
+    if found != wanted:
+        failed += 1
+        print(f"{name:.300}:\n  wanted {wanted!r:.2000}\n  found  {found!r:.2000}")
+
+
+def text_of(lines):
+    return "".join(line + "\n" for line in lines)
+
+
+def run(folder, words, lines, wanted):
+    """A run of these words over these lines ends so: its status and both texts."""
+    ran = subprocess.run([PROGRAM, *words], input=text_of(lines).encode(), capture_output=True, cwd=folder, timeout=120)
+    status, output, error = wanted
+    look(f"formd {shlex.join(words)}", (ran.returncode, ran.stdout, ran.stderr), (status, output.encode(), error.encode()))
+
+
+def declare(folder, declarations, fault=None):
+    """`declarations` takes these bytes, or refuses them by a fault."""
+    (folder / "declared.json").write_bytes(declarations)
+    run(folder, ["declarations", "declared.json"], [GET], (3, "", f"formd: declarations refused: {fault}\n") if fault else (0, "ok\n", ""))
+
+
+def selected(file, statement):
+    """What SQLite finds by a statement, a row a line; what it changes is written."""
+    base = sqlite3.connect(file)
+    found = ["|".join(map(str, row)) for row in base.execute(statement)]
+    base.commit()
+    base.close()
+    return found
+
+
+class Row:
+    """A row of the file: its kind, its text, and the lines below it by their marks."""
+
+    def __init__(self, line):
+        self.kind, _, self.text = line.partition(" ")
+        self.below = {mark: [] for mark in MARKS}
+
+    def look(self, folder):
+        """Does what the row says in a folder."""
+        name, _, rest = self.text.partition(" ")
+        fault, _, declarations = self.text.partition(": ")
+        match self.kind:
+            case "$":
+                status = int(*self.below["?"] or "0")
+                run(folder, shlex.split(self.text), self.below[">"] or [GET], (status, text_of(self.below["<"]), text_of(self.below["!"])))
+            case "file":
+                (folder / name).write_text(rest)
+            case "sql":
+                selected(folder / name, rest)
+            case "ask":
+                look(self.text, selected(folder / name, rest), self.below["<"])
+            case "gone":
+                (folder / name).unlink()
+            case "none":
+                look(self.text, (folder / name).exists(), False)
+            case "taken":
+                declare(folder, self.text.encode())
+            case "refused":
+                declare(folder, declarations.encode(), fault)
+            case "garbled":
+                declare(folder, declarations.encode().decode("unicode_escape").encode("latin-1"), fault)
+            case kind:
+                raise SystemExit(f"{ROWS}: no row is of the kind {kind!r}")
+
+
+def sections():
+    """The rows of each section, with the texts for the names in brackets."""
+    texts, found = {}, []
+    for line in (line for line in ROWS.read_text().split("\n") if line and line[0] != "#"):
+        line = re.sub("⟦(\\w+)⟧", lambda name: texts[name[1]], line)
+        name, sign, text = line.partition(" := ")
+        if sign and re.fullmatch(r"\w+", name):
+            texts[name] = text
+        elif line.startswith("== "):
+            found.append([])
+        elif line[0] in MARKS:
+            found[-1][-1].below[line[0]].append(line[2:])
+        else:
+            found[-1].append(Row(line))
+    return found
+
+
+def in_a_folder(look_at):
+    with tempfile.TemporaryDirectory() as name:
+        look_at(Path(name))
+
+
+def sizes(folder):
+    """As many forms and bytes as there may be, and one more."""
+    for number, fault in (256, None), (257, "F14 TooLarge"):
+        forms = ",".join(f'"f{at}":{{"root":"T"}}' for at in range(number))
+        declare(folder, f'{{"types":{{"T":{{"fields":{{}}}}}},"forms":{{{forms}}}}}'.encode(), fault)
+    declare(folder, b" " * MOST_BYTES, "F1 NotJson")
+    declare(folder, DECLARATIONS.encode().ljust(MOST_BYTES))
+    (folder / "more.json").write_bytes(DECLARATIONS.encode().ljust(MOST_BYTES + 1))
+    run(folder, ["declarations", "more.json"], [GET], (4, "", "formd: cannot read declarations\n"))
+
+
+def put(number):
+    return f'{{"do":"put","id":"r{number}","form":"item","bundle":{{"root":"a","objects":{{"a":{{"type":"Item","fields":{{"count":{number}}}}}}}}}}}'
+
+
+def get(number):
+    return f'{{"do":"get","id":"r{number}"}}'
+
+
+def shown(number):
+    return f'{{"bundle":{{"objects":{{"a":{{"fields":{{"count":{number}}},"type":"Item"}}}},"root":"a"}},"form":"item","id":"r{number}","ok":"get"}}'
+
+
+def serve(folder, declarations, lines, replies):
+    run(folder, ["serve", "--declarations", declarations, "--database", "g.db"], lines, (0, text_of(replies), ""))
+
+
+def long_declarations(folder):
+    """A database keeps long declarations whole, also where longer ones are handed in."""
+    kept = DECLARATIONS + " " * 100_000
+    (folder / "long.json").write_text(kept)
+    (folder / "longer.json").write_text(kept + " ")
+    serve(folder, "long.json", [put(1)], ['{"ok":"put"}'])
+    for declarations in "longer.json", "long.json":
+        serve(folder, declarations, [get(1)], [shown(1)])
+        look("declarations of 100 KB are kept", selected(folder / "g.db", "SELECT CAST(declarations AS TEXT) FROM about"), [kept])
+
+
+def many_records(folder):
+    """Hundreds of records, shown from the last to the first by the run that puts them and by the next one."""
+    (folder / "d.json").write_text(DECLARATIONS)
+    numbers = range(500)
+    gets, replies = list(map(get, reversed(numbers))), list(map(shown, reversed(numbers)))
+    serve(folder, "d.json", [*map(put, numbers), *gets], ['{"ok":"put"}'] * len(numbers) + replies)
+    serve(folder, "d.json", gets, replies)
+
+
+def main():
+    if not PROGRAM.is_file():
+        raise SystemExit(f"{PROGRAM} isn't there: make it by `make`")
+    for section in sections():
+        in_a_folder(lambda folder: [row.look(folder) for row in section])
+    for looks in sizes, long_declarations, many_records:
+        in_a_folder(looks)
+    print(f"{count} looked at, {failed} differ")
+    return 1 if failed or not count else 0
+
+
+if __name__ == "__main__":
+    sys.exit(main())
