@@ -1,11 +1,6 @@
 # Everything is done by the toolchain's command rt (see README.md).
 .PHONY: all demo try test rows planted served hostile
 
-# As many lanes as there are processors, or quarters of the free memory in GB where these are fewer.
-lanes := $(shell free=$$(awk '/MemAvailable/ { print int($$2 / 4194304) }' /proc/meminfo); \
-	cpus=$$(nproc); if [ $$free -lt $$cpus ]; then cpus=$$free; fi; \
-	if [ $$cpus -lt 1 ]; then cpus=1; fi; echo $$cpus)
-
 # Proves formd and the crates that it stands on, runs it, and leaves it as crates/formd/out/formd.
 all:
 	cd crates/formd && rt run < stdin
@@ -20,9 +15,9 @@ try:
 	cd crates/formd && rt try -- rehearse --declarations "$(abspath $(DECLARATIONS))"
 
 # The merge gate: the limits of the house, `rt ci` (every proof from nothing, the must-fail edits, the tests, the programs' runs), and then scripts
-# over the programs that it built. With `make test lanes=` each proof takes as many processors as no other one waits for.
+# over the programs that it built. A proof takes the processors that no other one waits for; with RT_JOBS=2 two run side by side, one processor each.
 test:
-	RT_JOBS=$(lanes) tests/gate.py
+	tests/gate.py
 
 # Compares the rows of tests/data/rows with what the program answers that `make` leaves.
 rows:

@@ -1,7 +1,8 @@
 #!/usr/bin/env python3
 """The merge gate: the house's limits and the paths in documents, `rt ci`, and then the scripts over the programs that it built.
 
-    tests/gate.py        with RT_JOBS as `make test` sets it, or without it, where a proof that no other one competes with takes more processors
+    tests/gate.py              as many proofs side by side as there are processors and memory; one that no other competes with takes up to four
+    RT_JOBS=2 tests/gate.py    two proofs side by side, whatever the memory, a processor each
 
 Where a limit or a path is wrong nothing else is run. The scripts run side by side, one a processor, each in a form of a few minutes at most; `make served` and `make hostile`
 run the long forms. A script whose needs aren't on the machine is left out by name and counts as skipped. The last line counts all: `rt ci`'s own figures, and one for each script.
