@@ -1,4 +1,4 @@
-//! The texts of faults: one of each type that no other text of a fault goes into.
+//! The texts of faults, one of each type; those of most types stand whole in `test_walks`.
 use crate::given::check;
 use fv_builtin::BuiltinFault;
 use fv_constraint::FlattenFault;

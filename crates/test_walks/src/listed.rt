@@ -95,10 +95,10 @@ fn of_datum(
     (type_name, field): (&str, &str),
     datum: &Datum,
 ) -> Result<String, Fail> {
-    let types = book.schema().types();
-    let type_id = types.find(type_name).ok_or("a type")?;
-    let object = single(alloc, types, type_id, field, datum)?.ok_or("an object")?;
-    let group = book.schema().groups().find("Default").ok_or("a group")?;
+    let schema = book.schema();
+    let type_id = schema.types().find(type_name).ok_or("a type")?;
+    let object = single(alloc, schema.types(), type_id, field, datum)?.ok_or("an object")?;
+    let group = schema.groups().find("Default").ok_or("a group")?;
     let local = local_of(alloc, book, &object, group)?;
     let asked = Vec::new(alloc);
     let listed = validate_value(alloc, book, type_name, field, datum, &asked, 0);

@@ -1,7 +1,7 @@
 //! Rules of which one is there: the rule 3 of the house, of two dates in order.
 ghost use Rattle.std.proofs.Props.{props};
 ghost use Rattle.std.specs.Prelude.{[], ◌∷◌, true};
-ghost use Rattle.fv_house.specs.House.{not_after};
+ghost use Rattle.fv_house.specs.Objects.{not_after};
 
 use fv_datum::{Attrs, Datum, Kind};
 use fv_house::not_after;
