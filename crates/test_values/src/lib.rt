@@ -1,15 +1,13 @@
-//! Tests of data, types, bundles, built-in constraints and registries as no line of the service reaches
-//! them: calls of the crates below, over tables of examples from outside, whose wanted answers are
-//! written down and never taken from the program. A table is a text with a row a line, and `given` says
-//! how kinds and types stand there; what a line of the service shows stands among the rows of `test_rows`.
+//! Calls of the crates that know no declarations, each over a few rows from outside: what their
+//! contracts say is proved, but not that they say what is meant, nor that a call succeeds where there is
+//! memory. A table is a text with a row a line, `GIVEN => WANTED`. What a line of the service shows
+//! stands among the rows of `test_rows`.
 #![tactic(auto)]
 
 #[cfg(test)]
+mod builtins;
+#[cfg(test)]
 mod bundles;
-#[cfg(test)]
-mod changes;
-#[cfg(test)]
-mod constraints;
 #[cfg(test)]
 mod data;
 #[cfg(test)]
@@ -17,8 +15,14 @@ mod faults;
 #[cfg(test)]
 mod given;
 #[cfg(test)]
+mod groups;
+#[cfg(test)]
+mod messages;
+#[cfg(test)]
+mod paths;
+#[cfg(test)]
+mod places;
+#[cfg(test)]
+mod reports;
+#[cfg(test)]
 mod rules;
-#[cfg(test)]
-mod texts;
-#[cfg(test)]
-mod types;

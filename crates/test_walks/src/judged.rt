@@ -1,24 +1,63 @@
-//! What both walks find in a bundle, as texts.
+//! The declarations of all rows, and what rows give as texts.
 ghost use Rattle.std.specs.Prelude.{IfOk};
 ghost use Rattle.fv_model.specs.Views.{bundle_view};
 ghost use Rattle.fv_model.specs.WellTyped.{IsWellTyped};
 
-use crate::strict::Strict;
-use fv_datum::Datum;
+use crate::ordered::Ordered;
 use fv_declare::{Schema, read_schema};
 use fv_json::Document;
-use fv_listing::list_failures;
 use fv_local::Rulebook;
 use fv_model::{Bundle, read_bundle};
-use fv_walk::{Failure, WalkFault, groups_named, visits, walk, walk_counted};
 use json::Scratch;
 use std::alloc::Global;
+use std::process::Abort;
 use std::test::Fail;
 
-/// What objects are judged by, by a text of declarations.
-pub(crate) fn book_of(alloc: Global, declarations: &str) -> Result<Rulebook<Strict>, Fail> {
-    let schema = read_schema(alloc, &Strict, declarations.as_bytes())?;
-    Ok(Rulebook::new(alloc, Strict, schema)?)
+/// The declarations. Their constraints are numbered by types, fields and uses: 0 and 1 those of `Acct`, 2 and 3
+/// of `Child`, 4 to 6 of `Item`, 7 and 8 of `Kid`, 9 of `Leg`, 10 of `Node`, 11 to 16 of `V`.
+const DECLARATIONS: &str = r#"{"types":{
+    "Acct":{"fields":{
+        "sub":{"type":{"ref":"Acct"},"valid":true},
+        "x":{"type":"text","constraints":[{"constraint":"NotNull"}]},
+        "y":{"type":"text","constraints":[{"constraint":"NotNull","groups":["Strict"]}]}},
+        "sequence":["Acct","Strict"]},
+    "Child":{"fields":{
+        "a":{"type":"text","constraints":[{"constraint":"NotNull","groups":["A"]}]},
+        "b":{"type":"text","constraints":[{"constraint":"NotNull","groups":["B"]}]}}},
+    "Item":{"fields":{
+        "count":{"type":"integer","constraints":[{"constraint":"Min","with":{"value":1}}]},
+        "name":{"type":"text","constraints":[{"constraint":"NotNull"},{"constraint":"Size","with":{"min":1,"max":3}}]}}},
+    "K":{"fields":{"to":{"type":{"list":{"type":{"ref":"K"},"valid":true}}}}},
+    "Kid":{"fields":{
+        "d":{"type":"text","constraints":[{"constraint":"NotNull"}]},
+        "o":{"type":"text","constraints":[{"constraint":"NotNull","groups":["Other"]}]}}},
+    "Leg":{"fields":{"from":{"type":"date"},"to":{"type":"date"}},"constraints":[{"constraint":"Span"}]},
+    "Link":{"fields":{"next":{"type":{"ref":"Link"},"valid":true,"convert":{"A":"S","B":"S","Default":"S"}}}},
+    "Node":{"fields":{
+        "code":{"type":"text","constraints":[{"constraint":"NotNull"}]},
+        "left":{"type":{"ref":"Node"},"valid":true},
+        "right":{"type":{"ref":"Node"},"valid":true},
+        "self":{"type":{"ref":"Node"},"valid":true}}},
+    "Parent":{"fields":{"kids":{"type":{"list":{"type":{"ref":"Child"},"valid":true,"convert":{"Default":"Steps"}}}}}},
+    "Top":{"fields":{"c":{"type":{"ref":"Kid"},"valid":true,"convert":{"Default":"Other","Other":"Full"}}}},
+    "Trip":{"fields":{"legs":{"type":{"list":{"type":{"ref":"Leg"},"valid":true}}}}},
+    "V":{"fields":{
+        "d":{"type":"decimal","constraints":[{"constraint":"Digits","with":{"fraction":1,"integer":2}}]},
+        "e":{"type":"decimal","constraints":[{"constraint":"DecimalMin","with":{"inclusive":false,"value":"0.5"}}]},
+        "m":{"type":{"map":{"type":"text"},"keys":[{"constraint":"Size","with":{"max":2}}]}},
+        "n":{"type":"decimal","constraints":[{"constraint":"Min","with":{"value":1}}]},
+        "opts":{"type":{"list":{"type":{"optional":{"type":"text","constraints":[{"constraint":"NotNull"}]}}}}},
+        "t":{"type":"text","constraints":[{"constraint":"NotBlank"}]}}}},
+    "groups":{"A":{},"B":{},"Full":{"inherits":["Default"]},"Other":{},"S":{"sequence":["A","B"]},
+        "Steps":{"sequence":["A","B"]},"Strict":{}},
+    "constraints":{"Span":{"attributes":{"end":{"default":"to","kind":"text"},"start":{"default":"from","kind":"text"}},
+        "message":"start after end","rule":{"object":3}}},
+    "forms":{}}"#;
+
+/// What objects are judged by.
+pub(crate) fn book_of(alloc: Global) -> Result<Rulebook<Ordered>, Fail> {
+    let schema = read_schema(alloc, &Ordered, DECLARATIONS.as_bytes())?;
+    Ok(Rulebook::new(alloc, Ordered, schema)?)
 }
 
 /// The bundle that a text is.
@@ -31,7 +70,7 @@ pub(crate) fn bundle_of(alloc: Global, schema: &Schema, text: &str) -> Result<Bu
 }
 
 /// The names in a text.
-fn names_of(alloc: Global, names: &str) -> Result<Vec<String>, Fail> {
+pub(crate) fn names_of(alloc: Global, names: &str) -> Result<Vec<String>, Fail> {
     let mut asked = Vec::new(alloc);
     for name in names.split_whitespace() {
         asked.push(String::from_str(alloc, name)?)?;
@@ -39,117 +78,7 @@ fn names_of(alloc: Global, names: &str) -> Result<Vec<String>, Fail> {
     Ok(asked)
 }
 
-/// A value that fails: null, or the name of an object.
-fn value_text(value: &Datum) -> &str {
-    match value {
-        Datum::Null => "null",
-        Datum::Ref(name) => name.as_str(),
-        _ => "another",
-    }
-}
-
-/// A failure: its path, its number and its value.
-fn failure_text(alloc: Global, failure: &Failure) -> Result<String, Fail> {
-    let path = failure.path.write(alloc)?;
-    let number = failure.number;
-    let value = value_text(&failure.value);
-    Ok(format!(in alloc; "{path} {number} {value}\n")?)
-}
-
-/// The failures, sorted, each once.
-fn failures_text(alloc: Global, failures: &[Failure]) -> Result<String, Fail> {
-    let mut lines = Vec::new(alloc);
-    for failure in failures {
-        lines.push(failure_text(alloc, failure)?)?;
-    }
-    lines.sort_unstable();
-    lines.dedup();
-    let mut text = String::new(alloc);
-    for line in &lines {
-        text.push_str(line.as_str())?;
-    }
-    Ok(text)
-}
-
-/// What the list of visits finds in a bundle.
-fn listed_text(
-    alloc: Global,
-    book: &Rulebook<Strict>,
-    bundle: &Bundle,
-    asked: &[String],
-) -> Result<String, Fail>
-    requires { IsWellTyped book.now.types (bundle_view bundle.now) }
-{
-    let groups = groups_named(alloc, book.schema().groups(), asked)?;
-    let failures = list_failures(alloc, book, bundle, &groups, 0)?;
-    failures_text(alloc, &failures)
-}
-
-/// What both find in a bundle: the walk, and behind it the list of visits.
-fn both_of(
-    alloc: Global,
-    book: &Rulebook<Strict>,
-    bundle: &Bundle,
-    asked: &[String],
-) -> Result<(String, String), Fail>
-    requires { IsWellTyped book.now.types (bundle_view bundle.now) }
-{
-    let walked = failures_text(alloc, &walk(alloc, book, bundle, asked, 0)?)?;
-    let listed = listed_text(alloc, book, bundle, asked)?;
-    Ok((walked, listed))
-}
-
-/// How many visits there are in a bundle, and how many are entered.
-fn counts_of(
-    alloc: Global,
-    book: &Rulebook<Strict>,
-    bundle: &Bundle,
-    asked: &[String],
-) -> Result<(usize, usize), WalkFault> {
-    let all = visits(alloc, book.schema(), bundle, asked)?;
-    let entered = walk_counted(alloc, book, bundle, asked, 0)?.entered;
-    Ok((all, entered))
-}
-
-/// What the walk finds in a bundle by declarations for groups, and what the list of visits finds.
-pub(crate) fn both_found(
-    alloc: Global,
-    declarations: &str,
-    bundle: &str,
-    asked: &str,
-) -> Result<(String, String), Fail> {
-    let book = book_of(alloc, declarations)?;
-    let schema = book.schema();
-    let bundle = bundle_of(alloc, schema, bundle)?;
-    both_of(alloc, &book, &bundle, &names_of(alloc, asked)?)
-}
-
-/// The name of a fault, where the walk has the same.
-fn fault_text(
-    alloc: Global,
-    book: &Rulebook<Strict>,
-    bundle: &Bundle,
-    asked: &[String],
-    fault: WalkFault,
-) -> Result<String, Fail> {
-    match walk(alloc, book, bundle, asked, 0) {
-        Err(other) if other == fault => Ok(String::from_str(alloc, fault.name())?),
-        _ => Ok(String::from_str(alloc, "the walk answers something else")?),
-    }
-}
-
-/// How many visits there are, and how many are entered; or the name of the fault.
-pub(crate) fn counts_text(
-    alloc: Global,
-    declarations: &str,
-    bundle: &str,
-    asked: &str,
-) -> Result<String, Fail> {
-    let book = book_of(alloc, declarations)?;
-    let bundle = bundle_of(alloc, book.schema(), bundle)?;
-    let asked = names_of(alloc, asked)?;
-    match counts_of(alloc, &book, &bundle, &asked) {
-        Ok((all, entered)) => Ok(format!(in alloc; "{all} {entered}")?),
-        Err(fault) => fault_text(alloc, &book, &bundle, &asked, fault),
-    }
+/// What is found for a row is what is wanted of it.
+pub(crate) fn check(rt: &impl Abort, found: &str, wanted: &str, row: &str) {
+    assert_eq!(rt; found, wanted, "{row}");
 }

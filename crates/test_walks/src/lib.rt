@@ -1,15 +1,9 @@
-//! Tests of the walk of a bundle against a plain list of its visits, on small worlds made at random and
-//! on worked examples, of which the numbers of visits are written down as well; what fails in one object
-//! by itself; violations as they are listed; the texts of faults; and worked examples of traces and
-//! violations, each the contract of a function that does nothing.
+//! Tests of what is judged by declarations, over worked examples whose wanted answers are written down:
+//! how many visits a request has and enters, what fails in a bundle by the walk and by a plain list of
+//! its visits, what fails in one object by itself, and violations as they are listed; and worked examples
+//! of traces and violations, each the contract of a function that does nothing.
 #![tactic(auto)]
 
-#[cfg(test)]
-mod alone;
-#[cfg(test)]
-mod bundles;
-#[cfg(test)]
-mod declarations;
 #[cfg(test)]
 mod faults;
 #[cfg(test)]
@@ -17,14 +11,10 @@ mod judged;
 #[cfg(test)]
 mod listed;
 #[cfg(test)]
-mod random;
-#[cfg(test)]
-mod rows;
-#[cfg(test)]
-mod strict;
+mod ordered;
 mod trace_rows;
 #[cfg(test)]
-mod worlds;
+mod walked;
 
 pub use trace_rows::{
     conversion_takes_place_once, group_asked_for_beside_default, object_fails_at_its_own_path,

@@ -1,17 +1,19 @@
-//! Rules of which one is there, and no object passes it.
+//! Rules of which one is there: the rule 3 of the house, of two dates in order.
 ghost use Rattle.std.proofs.Props.{props};
-ghost use Rattle.std.specs.Prelude.{[], ◌∷◌, true, false};
+ghost use Rattle.std.specs.Prelude.{[], ◌∷◌, true};
+ghost use Rattle.fv_house.specs.Objects.{not_after};
 
 use fv_datum::{Attrs, Datum, Kind};
+use fv_house::not_after;
 use fv_model::Object;
 use fv_registry::RuleSet;
 
-/// The rule 3 of objects, which none passes.
+/// The rule 3 of objects.
 #[derive(Drop)]
-pub(crate) struct Strict;
+pub(crate) struct Ordered;
 
-impl RuleSet for Strict {
-    ghost meaning = { record { decides = λ _ _ _. true; decides_object = λ _ _ _. false } };
+impl RuleSet for Ordered {
+    ghost meaning = { record { decides = λ _ _ _. true; decides_object = λ _ object attrs. not_after object attrs } };
 
     ghost means = { λ _. Unit {0} };
 
@@ -23,8 +25,12 @@ impl RuleSet for Strict {
         None
     }
 
-    fn answer_object(&self, rule: u32, _object: &Object, _attrs: &Attrs) -> Option<bool> {
-        if rule == 3 { Some(false) } else { None }
+    fn answer_object(&self, rule: u32, object: &Object, attrs: &Attrs) -> Option<bool> {
+        if rule == 3 {
+            Some(not_after(object, attrs))
+        } else {
+            None
+        }
     }
 
     fn takes(&self, _rule: u32, _kind: Kind) -> bool {

@@ -1,9 +1,7 @@
 -- What the rules of tests mean.
-use Rattle.std.specs.Prelude.{ℕ, ℤ, pos, Bool, true, false, length, nat_le, int_le, codes, if◌then◌else◌, ◌==◌}
-use Rattle.std.specs.Str.{bytes_eq}
+use Rattle.std.specs.Prelude.{ℕ, ℤ, pos, Bool, true, false, length, nat_le, int_le, if◌then◌else◌, ◌==◌}
 use Rattle.fv_datum.specs.Attributes.{Attributes}
 use Rattle.fv_datum.specs.Data.{Data, null, text, integer}
-use Rattle.fv_model.specs.Bundles.{Thing}
 
 -- null, or an integer of at least that number
 abbrev pub at_least : ℤ → Data → Bool
@@ -17,14 +15,6 @@ short null = true
 short (text t) = nat_le (length t) 3
 short _ = false
 
--- an object of the type Item
-abbrev pub is_item : Thing → Bool
-is_item o = bytes_eq o.type_name (codes "Item")
-
 -- rules of data: 100 has the number 18
 abbrev pub trial : ℕ → Data → Attributes → Bool
 trial rule d attrs = if rule == 100 then at_least (pos 18) d else (if rule == 200 then short d else true)
-
--- rules of objects: all are the same
-abbrev pub trial_object : ℕ → Thing → Attributes → Bool
-trial_object rule o attrs = is_item o

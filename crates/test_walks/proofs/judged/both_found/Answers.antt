@@ -1,8 +1,0 @@
-use Rattle.std.proofs.Common.{subst}
-use Rattle.fv_declare_schema.specs.Declarations.{Declarations}
-use Rattle.fv_model.specs.Views.{bundle_view}
-use Rattle.fv_model.specs.WellTyped.{IsWellTyped}
-use Rattle.test_walks.proofs.judged.both_found.Goals as goal
-
-pub both_of-requires : goal.both_of-requires
-both_of-requires c = subst (λ (ds : Declarations). IsWellTyped ds.types (bundle_view c.in_ok-bundle.bundle)) c.schema-schema.ensures c.in_ok-bundle.ensures
