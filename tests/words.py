@@ -5,9 +5,11 @@
     tests/words.py PROGRAM    with another build of formd
 
 The runs stand in tests/data/words.rows, whose head says how they are written. Those whose files are made by a rule stand here: declarations of too many forms, of as many bytes as are
-read and of one more, of 100 KB, which a database keeps whole; and hundreds of records that one run stores and shows.
+read and of one more, of 100 KB, which a database keeps whole; hundreds of records that one run stores and shows; and streams that fail at once: an input that is a folder,
+an output that is a full disk.
 """
 
+import os
 import re
 import shlex
 import sqlite3
@@ -164,12 +166,30 @@ def many_records(folder):
     serve(folder, "d.json", gets, replies)
 
 
+def failing_streams(folder):
+    """A read that fails, and a write, end each word that reads or writes with status 4."""
+    (folder / "d.json").write_text(DECLARATIONS)
+    served = ["serve", "--declarations", "d.json", "--database", "g.db"]
+
+    def ended(words, status, error, **streams):
+        ran = subprocess.run([PROGRAM, *words], stderr=subprocess.PIPE, cwd=folder, timeout=120, **streams)
+        look(f"formd {shlex.join(words)}", (ran.returncode, ran.stderr), (status, error))
+
+    for words in [], served, ["rehearse", "--declarations", "d.json"]:
+        no_file = os.open(folder, os.O_RDONLY)
+        ended(words, 4, b"formd: read\n", stdin=no_file, stdout=subprocess.DEVNULL)
+        os.close(no_file)
+    for words in [], served, ["rehearse", "--declarations", "d.json"], ["declarations", "d.json"], ["explain", "d.json"]:
+        with open("/dev/full", "wb") as full:
+            ended(words, 4, b"formd: write\n", input=GET.encode(), stdout=full)
+
+
 def main():
     if not PROGRAM.is_file():
         raise SystemExit(f"{PROGRAM} isn't there: make it by `make`")
     for section in sections():
         in_a_folder(lambda folder: [row.look(folder) for row in section])
-    for looks in sizes, long_declarations, many_records:
+    for looks in sizes, long_declarations, many_records, failing_streams:
         in_a_folder(looks)
     print(f"{count} looked at, {failed} differ")
     return 1 if failed or not count else 0

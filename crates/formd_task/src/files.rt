@@ -57,11 +57,7 @@ pub fn read_whole<R: Read + Drop>(alloc: Global, reader: R) -> Result<Vec<u8>, F
 }
 
 /// The bytes of the file at a path, 16,777,216 at most. A folder isn't readable.
-pub fn read_file<F: Files>(
-    alloc: Global,
-    files: &F,
-    path: &str,
-) -> Result<Vec<u8>, FileFault>
+pub fn read_file<F: Files>(alloc: Global, files: &F, path: &str) -> Result<Vec<u8>, FileFault>
     ensures limit { IfOk result (λ bytes. length bytes.items ≤ 16777216) }
 {
     read_whole(alloc, fs::open(files, path)?)

@@ -125,11 +125,7 @@ fn leave(rt: &HostRuntime, absent: &Absent, left: Leftover<File>) {
 
 /// Closes a database under which no service was opened, and leaves no file that wasn't there. A log
 /// goes only where all that it has is in the database.
-pub fn close_refused(
-    rt: &HostRuntime,
-    absent: &Absent,
-    connection: Connection<FileStore<File>>,
-) {
+pub fn close_refused(rt: &HostRuntime, absent: &Absent, connection: Connection<FileStore<File>>) {
     match connection.close_files() {
         Ok(files) => {
             let Files { log, db } = files;

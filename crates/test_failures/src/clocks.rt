@@ -1,5 +1,5 @@
 //! The machine's clock over sources of the tests' own.
-use formd_words::MachineClock;
+use formd_task::MachineClock;
 use fv_engine::Clock;
 use std::cell::Cell;
 use std::io;

@@ -10,7 +10,7 @@ mod engines;
 #[cfg(test)]
 mod interrupted;
 #[cfg(test)]
-mod running;
+mod reading;
 #[cfg(test)]
 mod serving;
 #[cfg(test)]

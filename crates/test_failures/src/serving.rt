@@ -56,7 +56,6 @@ pub(crate) fn served(
         width,
         calls: 0,
         fails_at: writes,
-        fails_flushes: false,
     };
     let mut clock = ListedClock { moments, calls: 0 };
     let ended = serve(alloc, engine, &mut reader, &mut writer, &mut clock);
@@ -183,7 +182,6 @@ fn served_in_vain(alloc: Global, engine: &mut Service<MemStore>) -> Result<(), S
         width: 0,
         calls: 0,
         fails_at: NEVER,
-        fails_flushes: false,
     };
     let mut clock = ListedClock {
         moments: &[],

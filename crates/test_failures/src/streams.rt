@@ -55,14 +55,13 @@ impl Read for Reader<'_> {
 }
 
 /// Takes so many bytes a call, and fails at the call of a number, counted from 0; a flush is a call
-/// too, and may fail at once.
+/// too.
 #[derive(Drop)]
 pub(crate) struct Writer {
     pub(crate) taken: Vec<u8>,
     pub(crate) width: usize,
     pub(crate) calls: usize,
     pub(crate) fails_at: usize,
-    pub(crate) fails_flushes: bool,
 }
 
 impl Writer {
@@ -86,9 +85,6 @@ impl Write for Writer {
     }
 
     fn flush(&mut self) -> io::Result<()> {
-        if self.fails_flushes {
-            return Err(Error::from(ErrorKind::Other));
-        }
         self.call()
     }
 }
