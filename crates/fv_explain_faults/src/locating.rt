@@ -2,8 +2,8 @@ use crate::attributes::definition_attributes;
 use crate::limits::too_large;
 use crate::occurrences::{Wanted, occurrence};
 use crate::templates::{message_cycle, message_syntax};
-use fv_declare_judging::DeclFault;
 use fv_declare_draft::{Draft, draft_of, uses_in};
+use fv_declare_judging::DeclFault;
 use fv_explain_names::{
     bad_name, conversion_misplaced, cyclic_composition, cyclic_inheritance, cyclic_sequence,
     default_in_sequence, empty_constraint, sequence_lacks_type, sequence_misused, unknown_group,
