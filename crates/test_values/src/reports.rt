@@ -59,16 +59,30 @@ fn flattened<R: RuleSet>(
         return Err("a constraint".into());
     }
     let given = attributes(alloc, with)?;
+    let message: Option<&str> = None;
     let used = Use {
         constraint,
-        message: None,
+        message,
         given: &given,
         place,
     };
     Ok(flatten(alloc, rules, definitions, &used)?)
 }
 
-/// Nodes by their numbers, each with its constraint and its message.
+/// A node by its number, with its constraint and its message.
+fn node_told(
+    alloc: Global,
+    messages: &Messages,
+    occurrence: &Occurrence,
+    number: usize,
+) -> Result<String, Fail> {
+    let node = occurrence.node(number).ok_or("a node")?;
+    let constraint = node.constraint();
+    let message = messages.text(alloc, node.message(), &node.attributes)?;
+    Ok(format!(in alloc; "{number} {constraint} {message};")?)
+}
+
+/// Nodes by their numbers.
 fn told(alloc: Global, occurrence: &Occurrence, numbers: &[usize]) -> Result<String, Fail> {
     if numbers.is_empty() {
         return Ok(String::from_str(alloc, "nothing fails")?);
@@ -76,12 +90,30 @@ fn told(alloc: Global, occurrence: &Occurrence, numbers: &[usize]) -> Result<Str
     let messages = Messages::read(alloc, IndexMap::new(alloc))?;
     let mut text = String::new(alloc);
     for number in numbers {
-        let node = occurrence.node(*number).ok_or("a node")?;
-        let constraint = node.constraint();
-        let message = messages.text(alloc, node.message(), &node.attributes)?;
-        write!(text, "{number} {constraint} {message};")?;
+        text.push_str(node_told(alloc, &messages, occurrence, *number)?.as_str())?;
     }
     Ok(text)
+}
+
+/// What is reported of the first of some data.
+fn of_data<R: RuleSet>(
+    alloc: Global,
+    rules: &Ruled<R>,
+    occurrence: &Occurrence,
+    data: &[Datum],
+) -> Result<String, Fail> {
+    if !occurrence.fits(&rules.rules) {
+        return Err("a constraint of these rules".into());
+    }
+    if passes_all(alloc, occurrence, data, 0)? {
+        return Ok(String::from_str(alloc, "passes")?);
+    }
+    let datum = data.first().ok_or("a datum")?;
+    told(
+        alloc,
+        occurrence,
+        &report(alloc, rules, occurrence, datum, 0)?,
+    )
 }
 
 /// What is reported of a text.
@@ -94,18 +126,29 @@ fn of_text<R: RuleSet>(
 ) -> Result<String, Fail> {
     let place = Target::Data(Kind::Text);
     let occurrence = flattened(alloc, &rules.rules, definitions, used, place)?;
+    let data = vec![in alloc; datum_of(alloc, &TypeUse::Text, text)?]?;
+    of_data(alloc, rules, &occurrence, &data)
+}
+
+/// What is reported of an object with these fields.
+fn of_fields<R: RuleSet>(
+    alloc: Global,
+    rules: &Ruled<R>,
+    occurrence: &Occurrence,
+    fields: &str,
+) -> Result<String, Fail> {
     if !occurrence.fits(&rules.rules) {
         return Err("a constraint of these rules".into());
     }
-    let data = vec![in alloc; datum_of(alloc, &TypeUse::Text, text)?]?;
-    if passes_all(alloc, &occurrence, &data, 0)? {
-        return Ok(String::from_str(alloc, "passes")?);
-    }
-    let datum = data.first().ok_or("a datum")?;
+    let text = format!(in alloc;
+        r#"{{"root":"a","objects":{{"a":{{"type":"Leg","fields":{fields}}}}}}}"#
+    )?;
+    let bundle = bundle_of(alloc, &built(alloc, TYPE)?, text.as_str())?;
+    let object = bundle.object("a").ok_or("an object")?;
     told(
         alloc,
-        &occurrence,
-        &report(alloc, rules, &occurrence, datum, 0)?,
+        occurrence,
+        &report_object(alloc, rules, occurrence, object, 0)?,
     )
 }
 
@@ -118,19 +161,7 @@ fn of_object<R: RuleSet>(
     fields: &str,
 ) -> Result<String, Fail> {
     let occurrence = flattened(alloc, &rules.rules, definitions, used, Target::Object)?;
-    if !occurrence.fits(&rules.rules) {
-        return Err("a constraint of these rules".into());
-    }
-    let text = format!(in alloc;
-        r#"{{"root":"a","objects":{{"a":{{"type":"Leg","fields":{fields}}}}}}}"#
-    )?;
-    let bundle = bundle_of(alloc, &built(alloc, TYPE)?, text.as_str())?;
-    let object = bundle.object("a").ok_or("an object")?;
-    told(
-        alloc,
-        &occurrence,
-        &report_object(alloc, rules, &occurrence, object, 0)?,
-    )
+    of_fields(alloc, rules, &occurrence, fields)
 }
 
 /// What is reported for what a row gives.
