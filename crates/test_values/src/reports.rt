@@ -1,5 +1,5 @@
 //! What constraints report of data and of objects, by the rules of the house.
-use crate::given::{attributes, built, bundle_of, check, datum_of};
+use crate::given::{attributes, built, bundle_of, check, datum_of, type_use};
 use fv_constraint::{Occurrence, Use, composes_unknown, flatten, meant_by, report, report_object};
 use fv_constraint_tree::{Target, passes_all};
 use fv_datum::{Attrs, Datum, Kind};
@@ -7,7 +7,7 @@ use fv_declare_definition::{Definition, definitions_of};
 use fv_house::{house_registry, luhn, not_after, one_of, sum_is};
 use fv_json::Document;
 use fv_message::Messages;
-use fv_model::{Object, TypeUse};
+use fv_model::Object;
 use fv_registry::{FieldCall, ObjectCall, RuleSet, Ruled};
 use indexmap::IndexMap;
 use json::Scratch;
@@ -27,7 +27,7 @@ const DEFINITIONS: &str = r#"{
     "Sum":{"attributes":{"first":{"kind":"text"},"second":{"kind":"text"},"total":{"kind":"text"}},"rule":{"object":4}}
 }"#;
 
-/// A constraint, attributes, and a text or null, or the fields of an object: the numbers of what fails, each with
+/// A constraint, perhaps with a message behind `'`, attributes, and a text or null, or the fields of an object: the numbers of what fails, each with
 /// its constraint and its message. Where nothing fails, `passes` if that is known without the rules.
 const REPORTS: &str = r#"
 Outer {"top":2} "abc" => 1 Inner at most 2;
@@ -38,6 +38,7 @@ Luhn {} "79927398713" => nothing fails
 Luhn {} "79927398710" => 0 Luhn {Luhn.message};
 Luhn {} "" => 0 Luhn {Luhn.message};
 Luhn {} null => nothing fails
+Luhn'{none}! {} "1" => 0 Luhn {none}!;
 Span {"start":"from","end":"to"} {"from":"2024-02-02","to":"2024-02-01"} => 0 Span start after end;
 Span {"start":"from","end":"to"} {"from":"2024-02-02","to":"2024-02-02"} => nothing fails
 Sum {"first":"a","second":"b","total":"c"} {"a":9223372036854775807,"b":1,"c":-9223372036854775808} => 0 Sum {Sum.message};
@@ -47,22 +48,36 @@ Sum {"first":"a","second":"b","total":"c"} {"a":9223372036854775807,"b":1} => no
 /// The type of the objects.
 const TYPE: &str = "Leg = a: I, b: I, c: I, from: E, to: E";
 
+/// Of `NAME'MESSAGE` the name.
+fn name_in(used: &str) -> &str {
+    match used.split_once("'") {
+        Some((name, _)) => name,
+        None => used,
+    }
+}
+
+/// Of `NAME'MESSAGE` the message.
+fn message_in(used: &str) -> Option<&str> {
+    let (_, message) = used.split_once("'")?;
+    Some(message)
+}
+
 /// What a use of a constraint is flattened to at a place.
 fn flattened<R: RuleSet>(
     alloc: Global,
     rules: &R,
     definitions: &BTreeMap<String, Definition>,
-    (constraint, with): (&str, &str),
+    (used, with): (&str, &str),
     place: Target,
 ) -> Result<Occurrence, Fail> {
+    let constraint = name_in(used);
     if composes_unknown(definitions) || meant_by(definitions, constraint).is_none() {
         return Err("a constraint".into());
     }
     let given = attributes(alloc, with)?;
-    let message: Option<&str> = None;
     let used = Use {
         constraint,
-        message,
+        message: message_in(used),
         given: &given,
         place,
     };
@@ -126,7 +141,8 @@ fn of_text<R: RuleSet>(
 ) -> Result<String, Fail> {
     let place = Target::Data(Kind::Text);
     let occurrence = flattened(alloc, &rules.rules, definitions, used, place)?;
-    let data = vec![in alloc; datum_of(alloc, &TypeUse::Text, text)?]?;
+    let held = type_use(alloc, "T")?;
+    let data = vec![in alloc; datum_of(alloc, &held, text)?]?;
     of_data(alloc, rules, &occurrence, &data)
 }
 
