@@ -26,16 +26,21 @@ const PLACES: &str = r#"
 3  => [] null;
 "#;
 
+/// The step of a letter.
+fn step_of(letter: char) -> Step {
+    match letter {
+        'e' => Step::Element,
+        'k' => Step::Key,
+        'v' => Step::Value,
+        _ => Step::Content,
+    }
+}
+
 /// Steps as letters.
 fn steps_of(alloc: Global, letters: &str) -> Result<Vec<Step>, Fail> {
     let mut steps = Vec::new(alloc);
     for letter in letters.chars() {
-        steps.push(match letter {
-            'e' => Step::Element,
-            'k' => Step::Key,
-            'v' => Step::Value,
-            _ => Step::Content,
-        })?;
+        steps.push(step_of(letter))?;
     }
     Ok(steps)
 }

@@ -1,5 +1,5 @@
 //! What constraints report of data and of objects, by the rules of the house.
-use crate::given::{attributes, built, bundle_of, check, datum_of};
+use crate::given::{attributes, built, bundle_of, check, datum_of, type_use};
 use fv_constraint::{Occurrence, Use, composes_unknown, flatten, meant_by, report, report_object};
 use fv_constraint_tree::{Target, passes_all};
 use fv_datum::{Attrs, Datum, Kind};
@@ -7,7 +7,7 @@ use fv_declare_definition::{Definition, definitions_of};
 use fv_house::{house_registry, luhn, not_after, one_of, sum_is};
 use fv_json::Document;
 use fv_message::Messages;
-use fv_model::{Object, TypeUse};
+use fv_model::Object;
 use fv_registry::{FieldCall, ObjectCall, RuleSet, Ruled};
 use indexmap::IndexMap;
 use json::Scratch;
@@ -27,7 +27,7 @@ const DEFINITIONS: &str = r#"{
     "Sum":{"attributes":{"first":{"kind":"text"},"second":{"kind":"text"},"total":{"kind":"text"}},"rule":{"object":4}}
 }"#;
 
-/// A constraint, attributes, and a text or null, or the fields of an object: the numbers of what fails, each with
+/// A constraint, perhaps with a message behind `'`, attributes, and a text or null, or the fields of an object: the numbers of what fails, each with
 /// its constraint and its message. Where nothing fails, `passes` if that is known without the rules.
 const REPORTS: &str = r#"
 Outer {"top":2} "abc" => 1 Inner at most 2;
@@ -38,6 +38,7 @@ Luhn {} "79927398713" => nothing fails
 Luhn {} "79927398710" => 0 Luhn {Luhn.message};
 Luhn {} "" => 0 Luhn {Luhn.message};
 Luhn {} null => nothing fails
+Luhn'{none}! {} "1" => 0 Luhn {none}!;
 Span {"start":"from","end":"to"} {"from":"2024-02-02","to":"2024-02-01"} => 0 Span start after end;
 Span {"start":"from","end":"to"} {"from":"2024-02-02","to":"2024-02-02"} => nothing fails
 Sum {"first":"a","second":"b","total":"c"} {"a":9223372036854775807,"b":1,"c":-9223372036854775808} => 0 Sum {Sum.message};
@@ -47,28 +48,56 @@ Sum {"first":"a","second":"b","total":"c"} {"a":9223372036854775807,"b":1} => no
 /// The type of the objects.
 const TYPE: &str = "Leg = a: I, b: I, c: I, from: E, to: E";
 
+/// Of `NAME'MESSAGE` the name.
+fn name_in(used: &str) -> &str {
+    match used.split_once("'") {
+        Some((name, _)) => name,
+        None => used,
+    }
+}
+
+/// Of `NAME'MESSAGE` the message.
+fn message_in(used: &str) -> Option<&str> {
+    let (_, message) = used.split_once("'")?;
+    Some(message)
+}
+
 /// What a use of a constraint is flattened to at a place.
 fn flattened<R: RuleSet>(
     alloc: Global,
     rules: &R,
     definitions: &BTreeMap<String, Definition>,
-    (constraint, with): (&str, &str),
+    (used, with): (&str, &str),
     place: Target,
 ) -> Result<Occurrence, Fail> {
+    let constraint = name_in(used);
     if composes_unknown(definitions) || meant_by(definitions, constraint).is_none() {
         return Err("a constraint".into());
     }
     let given = attributes(alloc, with)?;
     let used = Use {
         constraint,
-        message: None,
+        message: message_in(used),
         given: &given,
         place,
     };
     Ok(flatten(alloc, rules, definitions, &used)?)
 }
 
-/// Nodes by their numbers, each with its constraint and its message.
+/// A node by its number, with its constraint and its message.
+fn node_told(
+    alloc: Global,
+    messages: &Messages,
+    occurrence: &Occurrence,
+    number: usize,
+) -> Result<String, Fail> {
+    let node = occurrence.node(number).ok_or("a node")?;
+    let constraint = node.constraint();
+    let message = messages.text(alloc, node.message(), &node.attributes)?;
+    Ok(format!(in alloc; "{number} {constraint} {message};")?)
+}
+
+/// Nodes by their numbers.
 fn told(alloc: Global, occurrence: &Occurrence, numbers: &[usize]) -> Result<String, Fail> {
     if numbers.is_empty() {
         return Ok(String::from_str(alloc, "nothing fails")?);
@@ -76,12 +105,30 @@ fn told(alloc: Global, occurrence: &Occurrence, numbers: &[usize]) -> Result<Str
     let messages = Messages::read(alloc, IndexMap::new(alloc))?;
     let mut text = String::new(alloc);
     for number in numbers {
-        let node = occurrence.node(*number).ok_or("a node")?;
-        let constraint = node.constraint();
-        let message = messages.text(alloc, node.message(), &node.attributes)?;
-        write!(text, "{number} {constraint} {message};")?;
+        text.push_str(node_told(alloc, &messages, occurrence, *number)?.as_str())?;
     }
     Ok(text)
+}
+
+/// What is reported of the first of some data.
+fn of_data<R: RuleSet>(
+    alloc: Global,
+    rules: &Ruled<R>,
+    occurrence: &Occurrence,
+    data: &[Datum],
+) -> Result<String, Fail> {
+    if !occurrence.fits(&rules.rules) {
+        return Err("a constraint of these rules".into());
+    }
+    if passes_all(alloc, occurrence, data, 0)? {
+        return Ok(String::from_str(alloc, "passes")?);
+    }
+    let datum = data.first().ok_or("a datum")?;
+    told(
+        alloc,
+        occurrence,
+        &report(alloc, rules, occurrence, datum, 0)?,
+    )
 }
 
 /// What is reported of a text.
@@ -94,18 +141,30 @@ fn of_text<R: RuleSet>(
 ) -> Result<String, Fail> {
     let place = Target::Data(Kind::Text);
     let occurrence = flattened(alloc, &rules.rules, definitions, used, place)?;
+    let held = type_use(alloc, "T")?;
+    let data = vec![in alloc; datum_of(alloc, &held, text)?]?;
+    of_data(alloc, rules, &occurrence, &data)
+}
+
+/// What is reported of an object with these fields.
+fn of_fields<R: RuleSet>(
+    alloc: Global,
+    rules: &Ruled<R>,
+    occurrence: &Occurrence,
+    fields: &str,
+) -> Result<String, Fail> {
     if !occurrence.fits(&rules.rules) {
         return Err("a constraint of these rules".into());
     }
-    let data = vec![in alloc; datum_of(alloc, &TypeUse::Text, text)?]?;
-    if passes_all(alloc, &occurrence, &data, 0)? {
-        return Ok(String::from_str(alloc, "passes")?);
-    }
-    let datum = data.first().ok_or("a datum")?;
+    let text = format!(in alloc;
+        r#"{{"root":"a","objects":{{"a":{{"type":"Leg","fields":{fields}}}}}}}"#
+    )?;
+    let bundle = bundle_of(alloc, &built(alloc, TYPE)?, text.as_str())?;
+    let object = bundle.object("a").ok_or("an object")?;
     told(
         alloc,
-        &occurrence,
-        &report(alloc, rules, &occurrence, datum, 0)?,
+        occurrence,
+        &report_object(alloc, rules, occurrence, object, 0)?,
     )
 }
 
@@ -118,19 +177,7 @@ fn of_object<R: RuleSet>(
     fields: &str,
 ) -> Result<String, Fail> {
     let occurrence = flattened(alloc, &rules.rules, definitions, used, Target::Object)?;
-    if !occurrence.fits(&rules.rules) {
-        return Err("a constraint of these rules".into());
-    }
-    let text = format!(in alloc;
-        r#"{{"root":"a","objects":{{"a":{{"type":"Leg","fields":{fields}}}}}}}"#
-    )?;
-    let bundle = bundle_of(alloc, &built(alloc, TYPE)?, text.as_str())?;
-    let object = bundle.object("a").ok_or("an object")?;
-    told(
-        alloc,
-        &occurrence,
-        &report_object(alloc, rules, &occurrence, object, 0)?,
-    )
+    of_fields(alloc, rules, &occurrence, fields)
 }
 
 /// What is reported for what a row gives.
