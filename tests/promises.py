@@ -26,8 +26,8 @@ WENT = {
     "fv_occurrence": "fv_constraint_tree", "fv_flatten": "fv_constraint fv_constraint_tree",
     "fv_constraint": "fv_constraint fv_declare_definition", "fv_definition": "fv_declare_definition fv_datum",
     "fv_draft": "fv_declare_draft", "fv_uses": "fv_declare_draft fv_declare_schema fv_declare",
-    "fv_grouping": "fv_declare_groups fv_declare_schema", "fv_naming": "fv_declare", "fv_wording": "fv_declare",
-    "fv_declare": "fv_declare fv_declare_schema", "fv_reach": "fv_local", "fv_property": "fv_walk",
+    "fv_grouping": "fv_declare_groups fv_declare_schema", "fv_naming": "fv_declare_judging", "fv_wording": "fv_declare_judging",
+    "fv_declare": "fv_declare fv_declare_judging fv_declare_schema", "fv_reach": "fv_local", "fv_property": "fv_walk",
     "fv_request": "fv_walk_request", "fv_spot": "fv_walk_request", "fv_turns": "fv_walk_traces",
 }
 # Types that have another name now.
