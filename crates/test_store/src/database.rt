@@ -29,12 +29,17 @@ pub(crate) fn connected(alloc: Global, file: Memory) -> Result<Database> {
     }
 }
 
-/// A database whose files are closed, so that all of it is in the one, and which is opened again.
-pub(crate) fn reopened(alloc: Global, database: Database) -> Result<Database> {
+/// The file of a database, all of it written there.
+fn closed(database: Database) -> Result<Memory> {
     match database.close_files() {
-        Ok(files) => connected(alloc, files.db),
+        Ok(Files { log: _, db }) => Ok(db),
         Err((error, _)) => Err(Error::from(error)),
     }
+}
+
+/// A database whose files are closed, so that all of it is in the one, and which is opened again.
+pub(crate) fn reopened(alloc: Global, database: Database) -> Result<Database> {
+    connected(alloc, closed(database)?)
 }
 
 /// Tells what a database answers to a line: the texts that a query shows, or nothing of statements.
