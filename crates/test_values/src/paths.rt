@@ -1,6 +1,6 @@
 //! Texts, and the paths that they are.
 use crate::given::{Rows, check_rows};
-use fv_path::{Node, Path, read};
+use fv_path::{Path, read};
 use std::alloc::Global;
 use std::test::Fail;
 
@@ -20,13 +20,14 @@ a[4294967296] => none
 a[0][1] => none
 "#;
 
-/// A path of the same nodes, each of them popped from the path and pushed onto another.
+/// The nodes of a path, each popped, and pushed onto what is left of it again.
 fn rebuilt(alloc: Global, mut path: Path) -> Result<Path, Fail> {
-    let mut nodes: Vec<Node> = Vec::new(alloc);
-    while let Some(node) = path.pop() {
-        nodes.push(node)?;
+    let mut nodes = Vec::new(alloc);
+    for _ in 0..path.nodes().len() {
+        nodes.push(path.pop().ok_or("a node")?)?;
     }
-    while let Some(node) = nodes.pop() {
+    nodes.reverse();
+    for node in nodes {
         if !path.can_push(&node) {
             return Err("a node that may follow".into());
         }
