@@ -8,7 +8,7 @@ use fv_datum::{Datum, write_datum};
 use fv_groups::GroupId;
 use fv_json::Document;
 use fv_local::Rulebook;
-use fv_model::{Object, TypeUse, read_value, single};
+use fv_model::{Fields, Object, read_value, single};
 use fv_validate::{ValidateFault, Violation, validate, validate_property, validate_value};
 use json::Scratch;
 use std::alloc::Global;
@@ -106,10 +106,11 @@ fn of_datum(
     Ok(format!(in alloc; "{local:?} {listed}")?)
 }
 
-/// The datum that a JSON value is.
-fn datum_of(alloc: Global, held: &TypeUse, value: &str) -> Result<Datum, Fail> {
+/// The datum that a JSON value is in a field.
+fn datum_of(alloc: Global, fields: &Fields, field: &str, value: &str) -> Result<Datum, Fail> {
     let mut scratch = Scratch::new(alloc);
     let value = Document::read(alloc, value, &mut scratch)?;
+    let held = fields.get(field).ok_or("a field")?;
     Ok(read_value(alloc, held, &value.root())?)
 }
 
@@ -122,8 +123,7 @@ fn of_value(
 ) -> Result<String, Fail> {
     let (type_name, field) = place.split_once(' ').ok_or("a field")?;
     let fields = book.schema().types().fields(type_name).ok_or("a type")?;
-    let held = fields.get(field).ok_or("a field")?;
-    let datum = datum_of(alloc, held, value)?;
+    let datum = datum_of(alloc, fields, field, value)?;
     of_datum(alloc, book, (type_name, field), &datum)
 }
 
