@@ -29,14 +29,16 @@ SECONDS = 480
 
 
 class Script(NamedTuple):
-    """A script: its words behind the program, and what it needs of the machine."""
+    """A script: its words behind the program, what it needs of the machine, and which build of the program it runs."""
 
     name: str
     words: tuple = ()
     needs: tuple = ()
+    program: Path = FORMD
 
     def __str__(self):
-        return " ".join([f"tests/{self.name}.py", *(str(word) for word in self.words if word != CALLS)])
+        build = [] if self.program == FORMD else [self.program.name]
+        return " ".join([f"tests/{self.name}.py", *build, *(str(word) for word in self.words if word != CALLS)])
 
     def lacking(self):
         return [need for need in self.needs if not (importlib.util.find_spec(need) if need in MODULES else shutil.which(need))]
@@ -45,6 +47,7 @@ class Script(NamedTuple):
 # The longest first.
 SCRIPTS = [
     Script("rows"),
+    Script("rows", program=FORMD.with_name("formd.by-rattle")),
     Script("stops", ("short",), ("gcc",)),
     Script("refused_allocations", (CALLS, 40), ("gcc",)),
     Script("migration", (5000, 8)),
@@ -69,7 +72,7 @@ class Run:
     """A script at work, which writes into a file."""
 
     def __init__(self, script):
-        words = [sys.executable, "-u", HERE / f"{script.name}.py", FORMD, *map(str, script.words)]
+        words = [sys.executable, "-u", HERE / f"{script.name}.py", script.program, *map(str, script.words)]
         self.output, self.begun, self.seconds, self.why = tempfile.TemporaryFile("w+", errors="replace"), time.monotonic(), 0, ""
         how = {"stdin": subprocess.DEVNULL, "stdout": self.output, "stderr": subprocess.STDOUT, "env": {**os.environ, "PYTHONUTF8": "1"}}
         self.process = subprocess.Popen(words, start_new_session=True, **how)
