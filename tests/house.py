@@ -11,7 +11,7 @@ import re
 import sys
 from collections import Counter, defaultdict
 
-CHAIN, LINES, FUNCTIONS, EDITS, CITATIONS, PATHS = 16, 1_500, 100, 41, 150, 20_000
+CHAIN, LINES, FUNCTIONS, EDITS, CITATIONS, PATHS = 16, 1_500, 100, 41, 164, 20_000
 
 # The types whose name two libraries have, and how many have it: this list may only shrink.
 SHARED = {"Part": 4, "Draft": 3, "Course": 2, "Failure": 2, "GroupDraft": 2, "Node": 2, "Place": 2, "Spot": 2, "Step": 2, "Use": 2}
@@ -72,14 +72,10 @@ def most_paths(below):
     return max((paths(crate), crate) for crate in below)
 
 
-def is_of_tests(crate):
-    return crate == "fv_listing" or crate.startswith("test_")
-
-
 def citations(below):
-    """How often libraries cite the proofs of another that has dependences of its own: what is general stands in those without."""
+    """How often crates cite the proofs of another that has dependences of its own: what is general stands in those without."""
     cited = Counter()
-    for crate in (crate for crate in below if not is_of_tests(crate)):
+    for crate in below:
         for text in (text for folder in ("src", "specs", "proofs") for ending in (".rt", ".antt") for text in texts(crate, folder, ending)):
             cited.update(other for other in CITED.findall(text) if other != crate and below.get(other))
     return cited

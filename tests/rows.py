@@ -242,7 +242,8 @@ def told(table, folder):
         ran = subprocess.run([PROGRAM, "explain", *words, file], capture_output=True, text=True)
         refused = ran.stderr.removeprefix("formd: declarations refused: ").strip()
         is_told = refused in ran.stdout or all(f'"{part}"' in ran.stdout for part in refused.split(" "))
-        found = ran.stdout.splitlines() + ([] if is_told and ran.returncode in (0, 3) else [f"status {ran.returncode}: {ran.stderr}"])
+        is_fault = any(re.search(r': F\d+ \w+: |^\{"line":"fault"', line) for line in wanted)
+        found = ran.stdout.splitlines() + ([] if is_told and ran.returncode == (3 if is_fault else 0) else [f"status {ran.returncode}: {ran.stderr}"])
         yield row, "\n".join(wanted), "\n".join(found)
 
 
