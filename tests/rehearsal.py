@@ -79,9 +79,9 @@ MISTAKES = [
     # No JSON.
     ("", "C2", "C2 NotJson: an empty line"),
     ('{"do":"put","id":"v1",', "C2", "C2 NotJson: the line ends before its JSON does"),
-    ("{'do':'get'}", "C2", "C2 NotJson: no JSON can go on at byte 1, counted from 0"),
-    (BROKEN, "C2", f"C2 NotJson: no JSON can go on at byte {len(BROKEN) - 1}, counted from 0"),
-    (BARE, "C2", f"C2 NotJson: no JSON can go on at byte {BARE.index('v1')}, counted from 0"),
+    ("{'do':'get'}", "C2", "C2 NotJson: no JSON can go on at column 2"),
+    (BROKEN, "C2", f"C2 NotJson: no JSON can go on at column {len(BROKEN)}"),
+    (BARE, "C2", f"C2 NotJson: no JSON can go on at column {BARE.index('v1') + 1}"),
     # No command.
     ("[]", "C3", "C3 Shape: a command is an object"),
     (line_of(id="v1"), "C3", 'C3 Shape: the member "do" is missing'),
@@ -100,7 +100,7 @@ MISTAKES = [
     (line_of(do="batch", parts=[]), "C3", "C3 Shape: parts: a batch has 1 to 64 parts"),
     (line_of(do="batch", parts=[{"do": "remove", "id": "v1"}, {"do": "get", "id": "v1"}]), "C3", "C3 Shape: parts[1]: do: a part is a put, a set or a remove"),
     # Data of another kind.
-    odd("rent", "1450.00", DECIMAL),
+    odd("rent", "1450.00", DECIMAL, "1450.0"),
     odd("rent", '"1.450,00"', DECIMAL),
     odd("age", '"41"', WHOLE),
     odd("day", '"01.05.2024"', 'a day of the calendar in quotes, as "2024-05-01"'),
@@ -112,7 +112,7 @@ MISTAKES = [
     odd("note", "[null]", "[] or an array of one datum that isn't null"),
     odd("host", "7", "the name of an object of the type Person, in quotes"),
     (written("tags", '["a", 5]'), "C5", 'C5 Bundle B5: object "v", field "tags"[1]: 5 should be a text'),
-    (written("rooms", '{"K\\u00fcche": 1.5}'), "C5", f'C5 Bundle B5: object "v", field "rooms"["K\u00fcche"]: a number should be {WHOLE}'),
+    (written("rooms", '{"K\\u00fcche": 1.5}'), "C5", f'C5 Bundle B5: object "v", field "rooms"["K\u00fcche"]: 1.5 should be {WHOLE}'),
     (written("rooms", '{"a\\"b": true}'), "C5", f'C5 Bundle B5: object "v", field "rooms"["a\\"b"]: true should be {WHOLE}'),
     (written("rooms", '{"hall": 1, "attic": "2"}'), "C5", f'C5 Bundle B5: object "v", field "rooms"["attic"]: "2" should be {WHOLE}'),
     # Names.

@@ -4,9 +4,9 @@
 
 use formd_task::MachineClock;
 use formd_words::{Failure, given_words, run_words};
+use fv_bundle::Object;
 use fv_datum::{Attrs, Datum};
 use fv_house::{house_registry, luhn, not_after, one_of, sum_is};
-use fv_model::Object;
 use fv_registry::{FieldCall, ObjectCall};
 use std::process::ExitCode;
 

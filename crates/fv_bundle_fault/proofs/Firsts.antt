@@ -8,7 +8,7 @@ use Rattle.fv_datum.specs.Name.{names}
 use Rattle.fv_datum.specs.Outcomes.{first, unless_fault}
 use Rattle.fv_datum.proofs.Lists.{length_read}
 use Rattle.fv_model.specs.Draft.{Part, part_of, Drafted, draft_of}
-use Rattle.fv_model.specs.Limits.{most_objects}
+use Rattle.fv_bundle.specs.Limits.{most_objects}
 use Rattle.fv_model.specs.Reading.{conditions, has_flaw, object_types, bundle_of, bundle_read}
 use Rattle.fv_model.specs.declared.fault.BundleFault.{BundleFault}
 use Rattle.fv_model.specs.declared.fault.BundleFault.TheVariants.{Shape, TooLarge}

@@ -2,8 +2,8 @@
 use Rattle.std.specs.Prelude.{◌≡◌, true, Some}
 use Rattle.std.specs.Borrow.{Bor}
 use Rattle.serde_json.specs.Data as json
-use Rattle.fv_json.specs.Documents.{view as json_view}
-use Rattle.fv_json.specs.declared.value.Json.{Json}
+use Rattle.serde_json.specs.View.{view as json_view}
+use Rattle.serde_json.specs.declared.value.Value.{Value}
 use Rattle.fv_model_types.specs.Flaws.{Flaw}
 use Rattle.fv_model_types.specs.Names.{object_types_view}
 use Rattle.fv_model_types.specs.Types.{TypeUse, type_use_view}
@@ -19,5 +19,5 @@ abbrev pub sought : Search → Flaw
 sought s = flaw_of s.fault (object_types_view s.type_names.now)
 
 -- a value that has the flaw stands one step inside another, with its type use
-abbrev pub IsNext : Flaw → TypeUse → json.Data → Inner × Bor code.TypeUse × Json → Type 0
-IsNext flaw u j n = IsInside (inner_view n.0) u j (type_use_view n.1.now) (json_view n.2) × (flaw (Some (type_use_view n.1.now)) (json_view n.2) ≡ true)
+abbrev pub IsNext : Flaw → TypeUse → json.Data → Inner × Bor code.TypeUse × Bor Value → Type 0
+IsNext flaw u j n = IsInside (inner_view n.0) u j (type_use_view n.1.now) (json_view n.2.now) × (flaw (Some (type_use_view n.1.now)) (json_view n.2.now) ≡ true)

@@ -2,7 +2,7 @@
 use Rattle.std.specs.Prelude.{ℕ, List, length, ◌||◌, nat_lt, Bool, false, Option}
 use Rattle.std.specs.List.{list_any}
 use Rattle.serde_json.specs.Data as json
-use Rattle.fv_model.specs.Limits.{most_objects}
+use Rattle.fv_bundle.specs.Limits.{most_objects}
 use Rattle.fv_model.specs.declared.fault.BundleFault.{BundleFault}
 use Rattle.fv_model.specs.declared.fault.BundleFault.TheVariants.{BadName, RootMissing, UnknownType, UnknownField, WrongKind, DanglingRef, RefType, TooLarge, RootType}
 use Rattle.fv_model_types.specs.Types.{Declared}

@@ -1,5 +1,5 @@
-use fv_json::Json;
 use fv_model_types::TypeUse;
+use serde_json::Value;
 
 /// One step from a datum to one that stands in it.
 #[derive(Clone, Copy, Debug, PartialEq, Eq)]
@@ -12,7 +12,7 @@ pub enum Inner<'a> {
 
 /// Where a bundle, or a datum by itself, has a fault.
 #[derive(Drop)]
-pub struct FaultPlace<'t, 'j, 'a> {
+pub struct FaultPlace<'t, 'a> {
     /// The object's name; none where the bundle as a whole has the fault, or a datum by itself.
     pub object: Option<&'a str>,
     /// The field's name as it is given; none where the object as a whole has the fault.
@@ -20,7 +20,7 @@ pub struct FaultPlace<'t, 'j, 'a> {
     /// From the field's datum to the value that has the fault.
     pub steps: Vec<Inner<'a>>,
     /// What stands there.
-    pub value: Json<'j, 'a>,
+    pub value: &'a Value,
     /// What should stand there; none where the fault isn't one of a datum, or the field isn't declared.
     pub type_use: Option<&'t TypeUse>,
 }

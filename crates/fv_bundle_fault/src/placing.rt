@@ -1,7 +1,6 @@
-ghost use Rattle.std.specs.Prelude.{◌≡◌, ◌≢◌, IfOk, IfSome, IsSome, Some, None, Err, option_map, is_some, not, false, if◌then◌else◌};
+ghost use Rattle.std.specs.Prelude.{◌≡◌, ◌≢◌, IfOk, IfSome, IsSome, Some, None, Err, option_map, is_some, not, false, if◌then◌else◌, length, nat_lt};
 ghost use Rattle.std.specs.Option.{option_map_or};
-ghost use Rattle.fv_json.specs.Documents.{view as json_view};
-ghost use Rattle.fv_json.specs.MembersView.{member_view, members_view};
+ghost use Rattle.serde_json.specs.View.{view as json_view, members_view};
 ghost use Rattle.fv_datum.specs.Lookup.{at_name};
 ghost use Rattle.fv_datum.specs.Members.{pairs};
 ghost use Rattle.fv_model.specs.Reading.{bundle_read};
@@ -14,26 +13,23 @@ ghost use Rattle.fv_bundle_fault.specs.Given.{objects_in, root_in};
 ghost use Rattle.fv_bundle_fault.specs.Places.{IsAlone, of_bundle, of_object};
 ghost use Rattle.fv_bundle_fault.specs.Sought.{HasFlaw, flaw_of};
 ghost use Rattle.fv_bundle_fault.specs.Told.{has_fault};
-ghost use Rattle.fv_bundle_fault.specs.Views.{place_view};
+ghost use Rattle.fv_bundle_fault.specs.Views.{member_view, place_view};
 
 use crate::given::{root_of, type_names};
 use crate::objects::{Member, badly_named, untyped};
 use crate::place::FaultPlace;
 use crate::search::Search;
-use fv_json::{Json, Members, object_at};
+use fv_datum::object_at;
 use fv_model::BundleFault;
 use fv_model_types::{TypeId, TypeNames, TypeUse, Types, is_other, type_at};
+use serde_json::{Map, Value};
 use std::alloc::{AllocError, Global};
 
 /// The most objects.
 const MOST_OBJECTS: usize = 256;
 
 /// The bundle as a whole, where it has a fault.
-fn of_bundle<'t, 'j, 'a>(
-    alloc: Global,
-    value: &Json<'j, 'a>,
-    faulty: bool,
-) -> Option<FaultPlace<'t, 'j, 'a>>
+fn of_bundle<'t, 'a>(alloc: Global, value: &'a Value, faulty: bool) -> Option<FaultPlace<'t, 'a>>
     ensures { option_map place_view result ≡ if faulty then Some (of_bundle (json_view value.now)) else None }
 {
     if !faulty {
@@ -43,16 +39,13 @@ fn of_bundle<'t, 'j, 'a>(
         object: None,
         field: None,
         steps: Vec::new(alloc),
-        value: *value,
+        value,
         type_use: None,
     })
 }
 
 /// An object as a whole, where one has a fault.
-fn of_object<'t, 'j, 'a>(
-    alloc: Global,
-    found: Option<Member<'j, 'a>>,
-) -> Option<FaultPlace<'t, 'j, 'a>>
+fn of_object<'t, 'a>(alloc: Global, found: Option<Member<'a>>) -> Option<FaultPlace<'t, 'a>>
     ensures { option_map place_view result ≡ option_map (λ m. of_object (member_view m)) found.entry }
 {
     let (name, value) = found?;
@@ -66,7 +59,7 @@ fn of_object<'t, 'j, 'a>(
 }
 
 /// Whether the root names no object.
-fn lacks_root(value: &Json, type_names: &TypeNames) -> bool
+fn lacks_root(value: &Value, type_names: &TypeNames) -> bool
     ensures { result ≡ not (is_some (at_name (root_in (json_view value.now)) (object_types_view type_names.now))) }
 {
     type_at(type_names, root_of(value)).is_none()
@@ -76,7 +69,7 @@ fn lacks_root(value: &Json, type_names: &TypeNames) -> bool
 fn has_other_root(
     types: &Types,
     asked: Option<TypeId>,
-    value: &Json,
+    value: &Value,
     type_names: &TypeNames,
 ) -> bool
     ensures { result ≡ option_map_or (λ type. is_other type (at_name (root_in (json_view value.now)) (object_types_view type_names.now)))
@@ -88,16 +81,23 @@ fn has_other_root(
     }
 }
 
+/// Whether there are more objects than a bundle may have.
+fn are_too_many(objects: &Map<String, Value>) -> bool
+    ensures { result ≡ nat_lt 256 (length (pairs (members_view objects.now.entries))) }
+{
+    objects.len() > MOST_OBJECTS
+}
+
 /// The place where the objects of a bundle, or the bundle as a whole, have a fault.
-fn place_among<'t, 'j, 'a>(
+fn place_among<'t, 'a>(
     alloc: Global,
     types: &'t Types,
     asked: Option<TypeId>,
-    value: &Json<'j, 'a>,
-    objects: Members<'j, 'a>,
+    value: &'a Value,
+    objects: &'a Map<String, Value>,
     fault: BundleFault,
-) -> Result<Option<FaultPlace<'t, 'j, 'a>>, AllocError>
-    requires { objects_in (json_view value.now) ≡ pairs (members_view objects) }
+) -> Result<Option<FaultPlace<'t, 'a>>, AllocError>
+    requires { objects_in (json_view value.now) ≡ pairs (members_view objects.now.entries) }
     ensures told { IfOk result (λ r. is_some r ≡ has_fault (types_view types.now)
         (option_map (λ t. name_at (types_view types.now) t.index) asked) (json_view value.now) fault) }
     ensures placed { IfOk result (λ r. IfSome r (λ p. HasFault (types_view types.now)
@@ -118,7 +118,7 @@ fn place_among<'t, 'j, 'a>(
         | BundleFault::DanglingRef
         | BundleFault::RefType => search.place_in_objects(types, objects),
         BundleFault::TooLarge => {
-            if objects.len() > MOST_OBJECTS {
+            if are_too_many(objects) {
                 return Ok(of_bundle(alloc, value, true));
             }
             search.place_in_objects(types, objects)
@@ -137,13 +137,13 @@ fn place_among<'t, 'j, 'a>(
 ///
 /// There is a place where `read_bundle` refuses the bundle by the fault, but none for `Shape`. Refused where
 /// an allocation is.
-pub fn place_in_bundle<'t, 'j, 'a>(
+pub fn place_in_bundle<'t, 'a>(
     alloc: Global,
     types: &'t Types,
     asked: Option<TypeId>,
-    value: &Json<'j, 'a>,
+    value: &'a Value,
     fault: BundleFault,
-) -> Result<Option<FaultPlace<'t, 'j, 'a>>, AllocError>
+) -> Result<Option<FaultPlace<'t, 'a>>, AllocError>
     ensures placed { IfOk result (λ r. IfSome r (λ p. HasFault (types_view types.now)
         (option_map (λ t. name_at (types_view types.now) t.index) asked) (json_view value.now) fault (place_view p))) }
     ensures found { IfOk result (λ r. bundle_read (types_view types.now)
@@ -161,13 +161,13 @@ pub fn place_in_bundle<'t, 'j, 'a>(
 ///
 /// There is a place where `read_value` or `set_field` refuses the datum by the fault. For `read_value`, which
 /// looks up no reference, no object is needed. Refused where an allocation is.
-pub fn place_in_value<'t, 'j, 'a>(
+pub fn place_in_value<'t, 'a>(
     alloc: Global,
     type_use: &'t TypeUse,
     type_names: &TypeNames,
-    value: &Json<'j, 'a>,
+    value: &'a Value,
     fault: BundleFault,
-) -> Result<Option<FaultPlace<'t, 'j, 'a>>, AllocError>
+) -> Result<Option<FaultPlace<'t, 'a>>, AllocError>
     ensures placed { IfOk result (λ r. IfSome r (λ p. HasFlaw (flaw_of fault (object_types_view type_names.now))
         (Some (type_use_view type_use.now)) (json_view value.now) (place_view p))) }
     ensures alone { IfOk result (λ r. IfSome r (λ p. IsAlone (place_view p))) }

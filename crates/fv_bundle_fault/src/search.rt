@@ -1,14 +1,14 @@
 //! Whether a datum has the flaw that is looked for.
 ghost use Rattle.std.specs.Prelude.{◌≡◌, Some, IfOk, option_map};
-ghost use Rattle.fv_json.specs.Documents.{view as json_view};
+ghost use Rattle.serde_json.specs.View.{view as json_view};
 ghost use Rattle.fv_model_types.specs.Flaws.{misfits};
 ghost use Rattle.fv_model_types.specs.Types.{type_use_view};
 ghost use Rattle.fv_bundle_fault.specs.SearchViews.{sought};
 
 use fv_datum::DatumFault;
-use fv_json::Json;
 use fv_model::BundleFault;
 use fv_model_types::{TypeNames, TypeUse, flaws_of, read_use};
+use serde_json::Value;
 use std::alloc::{AllocError, Global};
 
 /// What is looked for: the flaw that a fault is, among objects whose types have these names.
@@ -20,7 +20,7 @@ pub(crate) struct Search<'s, 'n> {
 }
 
 /// Whether a value spells no datum of a type use.
-fn misfits(alloc: Global, type_use: &TypeUse, value: &Json) -> Result<bool, AllocError>
+fn misfits(alloc: Global, type_use: &TypeUse, value: &Value) -> Result<bool, AllocError>
     ensures { IfOk result (λ b. b ≡ misfits (Some (type_use_view type_use.now)) (json_view value.now)) }
 {
     match read_use(alloc, type_use, value) {
@@ -32,7 +32,7 @@ fn misfits(alloc: Global, type_use: &TypeUse, value: &Json) -> Result<bool, Allo
 
 impl Search<'_, '_> {
     /// Whether a value of a type use has the flaw.
-    pub(crate) fn has_flaw(&self, type_use: &TypeUse, value: &Json) -> Result<bool, AllocError>
+    pub(crate) fn has_flaw(&self, type_use: &TypeUse, value: &Value) -> Result<bool, AllocError>
         ensures { IfOk result (λ b. b ≡ sought self.now (Some (type_use_view type_use.now)) (json_view value.now)) }
     {
         match self.fault {
@@ -48,7 +48,7 @@ impl Search<'_, '_> {
     pub(crate) fn has_flaw_at(
         &self,
         type_use: Option<&TypeUse>,
-        value: &Json,
+        value: &Value,
     ) -> Result<bool, AllocError>
         ensures { IfOk result (λ b. b ≡ sought self.now (option_map (λ u. type_use_view u.now) type_use.entry) (json_view value.now)) }
     {

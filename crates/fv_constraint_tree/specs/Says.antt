@@ -3,7 +3,7 @@ use Rattle.std.specs.Prelude.{ℤ, Bool, true, not}
 use Rattle.fv_builtin.specs.Says as builtin
 use Rattle.fv_datum.specs.Attributes.{Attributes}
 use Rattle.fv_datum.specs.Data.{Data}
-use Rattle.fv_model.specs.Bundles.{Thing}
+use Rattle.fv_bundle.specs.Bundles.{Thing}
 use Rattle.fv_registry.specs.Meanings.{Meanings}
 use Rattle.fv_constraint_tree.specs.Nodes.{Test, built_in, by_rule, by_object_rule, Node}
 

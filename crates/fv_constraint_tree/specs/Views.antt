@@ -2,7 +2,7 @@
 use Rattle.std.specs.Prelude.{ℕ, string_bytes}
 use Rattle.fv_builtin.specs.Views.{builtin_view}
 use Rattle.fv_datum.specs.View.{view}
-use Rattle.fv_model.specs.Views.{object_view}
+use Rattle.fv_bundle.specs.Views.{object_view}
 use Rattle.fv_constraint_tree.specs.Nodes as spec
 use Rattle.fv_constraint_tree.specs.Says as says
 use Rattle.fv_constraint_tree.specs.declared.node.Node.{Node}

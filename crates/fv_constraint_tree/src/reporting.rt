@@ -3,7 +3,7 @@ ghost use Rattle.std.specs.Prelude.{◌≡◌, ◌≤◌, ◌⊎◌, ◌↔◌, 
 ghost use Rattle.std.specs.List.{list_all, list_any};
 ghost use Rattle.fv_datum.specs.Moments.{IsMoment};
 ghost use Rattle.fv_datum.specs.View.{view};
-ghost use Rattle.fv_model.specs.Views.{object_view};
+ghost use Rattle.fv_bundle.specs.Views.{object_view};
 ghost use Rattle.fv_constraint_tree.specs.Fits.{test_fits, fits};
 ghost use Rattle.fv_constraint_tree.specs.Reports.{is_bad, violated};
 ghost use Rattle.fv_constraint_tree.specs.Says.{of_datum, of_object, refuses};
@@ -13,8 +13,8 @@ ghost use Rattle.fv_constraint_tree.specs.Views.{node_view, test_view, subject_v
 use crate::node::Node;
 use crate::occurrence::Occurrence;
 use crate::subject::{Subject, says};
+use fv_bundle::Object;
 use fv_datum::Datum;
-use fv_model::Object;
 use fv_registry::{RuleSet, Ruled};
 use std::alloc::{AllocError, Global};
 

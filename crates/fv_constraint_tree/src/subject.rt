@@ -2,15 +2,15 @@
 ghost use Rattle.std.specs.Prelude.{◌≡◌, IfOk, true};
 ghost use Rattle.fv_datum.specs.Moments.{IsMoment};
 ghost use Rattle.fv_datum.specs.View.{view};
-ghost use Rattle.fv_model.specs.Views.{object_view};
+ghost use Rattle.fv_bundle.specs.Views.{object_view};
 ghost use Rattle.fv_registry.specs.Rules.{knows_field, knows_object};
 ghost use Rattle.fv_constraint_tree.specs.Fits.{test_fits};
 ghost use Rattle.fv_constraint_tree.specs.Says.{says};
 ghost use Rattle.fv_constraint_tree.specs.Views.{test_view, subject_view};
 
 use crate::node::{Node, Test};
+use fv_bundle::Object;
 use fv_datum::{Attrs, Datum};
-use fv_model::Object;
 use fv_registry::{RuleSet, Ruled};
 use std::alloc::{AllocError, Global};
 

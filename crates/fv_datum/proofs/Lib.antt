@@ -11,3 +11,4 @@ pub mod Sorted
 pub mod Spelled
 pub mod Unfit
 pub mod Utf8
+pub mod Values

@@ -1,5 +1,5 @@
-//! Data: what the field of a record holds, its kinds, names and attributes, and the JSON that is
-//! written of it.
+//! Data: what the field of a record holds, its kinds, names and attributes, the JSON that is
+//! written of it and the JSON that spells it. JSON is read and written by `serde_json`.
 #![tactic(auto)]
 
 mod attribute_kind;
@@ -8,9 +8,13 @@ mod datum;
 mod day;
 mod decimal;
 mod fault;
+mod forms;
 mod kind;
 mod moment;
 mod name;
+mod name_lists;
+mod parsing;
+mod reading;
 mod writing;
 
 pub use attribute_kind::AttributeKind;
@@ -19,7 +23,11 @@ pub use datum::Datum;
 pub use day::{day_of, today};
 pub use decimal::{are_digits, decimal_units};
 pub use fault::DatumFault;
+pub use forms::{has_only, object_at, text_at};
 pub use kind::Kind;
 pub use moment::{LAST_MOMENT, moment_ok};
 pub use name::{Name, is_name};
+pub use name_lists::{names_in, names_of, told_names_of};
+pub use parsing::{JsonFault, read_json, read_text};
+pub use reading::{read_datum, spells_datum};
 pub use writing::{is_null, key_of, keys_fit, write_datum};

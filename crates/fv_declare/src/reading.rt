@@ -1,29 +1,25 @@
 ghost use Rattle.std.specs.Prelude.{◌≡◌, ◌≢◌, true, Ok, Err, IfOk, IfErr};
 ghost use Rattle.std.specs.Option.{ok_or};
-ghost use Rattle.fv_json.specs.Documents.{document_view};
+ghost use Rattle.serde_json.specs.View.{view as json_view};
 ghost use Rattle.fv_datum.specs.Outcomes.{Gives};
 ghost use Rattle.fv_datum.specs.Parsing.{json_of};
 ghost use Rattle.fv_declare_judging.specs.Declares.{Declares};
 ghost use Rattle.fv_declare_schema.specs.Fits.{fits};
 ghost use Rattle.fv_declare_schema.specs.Ordered.{AreOrdered};
 
+use fv_datum::{JsonFault, read_json};
 use fv_declare_judging::{DeclFault, schema_of};
 use fv_declare_schema::Schema;
-use fv_json::{Document, JsonFault, read_json};
 use fv_registry::RuleSet;
-use json::Scratch;
+use serde_json::Value;
 use std::alloc::Global;
 
 /// The JSON value that bytes are.
-fn document_of<'a>(
-    alloc: Global,
-    bytes: &'a [u8],
-    scratch: &'a mut Scratch,
-) -> Result<Document<'a>, DeclFault>
-    ensures { Gives DeclFault.Memory document_view result (ok_or (json_of bytes.now) DeclFault.NotJson) }
+fn value_of(alloc: Global, bytes: &[u8]) -> Result<Value, DeclFault>
+    ensures { Gives DeclFault.Memory json_view result (ok_or (json_of bytes.now) DeclFault.NotJson) }
 {
-    match read_json(alloc, bytes, scratch) {
-        Ok(document) => Ok(document),
+    match read_json(alloc, bytes) {
+        Ok(value) => Ok(value),
         Err(JsonFault::NotJson) => Err(DeclFault::NotJson),
         Err(JsonFault::Memory) => Err(DeclFault::Memory),
     }
@@ -42,7 +38,6 @@ pub fn read_schema<R: RuleSet>(alloc: Global, rules: &R, bytes: &[u8]) -> Result
     ensures fits { IfOk result (λ s. fits (R.known rules.now) s ≡ true) }
     ensures refused { IfErr result (λ f. f ≢ DeclFault.Memory → Declares (R.known rules.now) bytes.now (Err f)) }
 {
-    let mut scratch = Scratch::new(alloc);
-    let document = document_of(alloc, bytes, &mut scratch)?;
-    schema_of(alloc, rules, &document.root())
+    let value = value_of(alloc, bytes)?;
+    schema_of(alloc, rules, &value)
 }

@@ -1,39 +1,32 @@
--- Lists and maps that are made one by one of the items of an array or the members of an object.
-use Rattle.std.proofs.Common.{◌≡◌, ℕ, List, [], ◌∷◌, ◌++◌, map, Option, Some, String, sym, ap, ◌∙◌, append_assoc, append-nil}
+-- A map that is made entry by entry of the entries of another, under the same names.
+use Rattle.std.proofs.Common.{◌≡◌, ℕ, List, [], ◌∷◌, ◌++◌, map, Option, Some, String, string_bytes, string_cmp, sym, ap, ◌∙◌, append_assoc}
 use Rattle.std.proofs.lemmas.List.{map-append}
-use Rattle.fv_json.specs.MembersView.{members_view}
-use Rattle.fv_json.specs.declared.members.Members.{Members}
+use Rattle.std.specs.declared.alloc.Global.{Global}
+use Rattle.std.specs.List.Sorted.{IsStrictlySortedBy}
+use Rattle.std.specs.Map.{keys_of}
 use Rattle.fv_datum.specs.Members.{each_some}
 use Rattle.fv_datum.specs.Ascending.{IsAscending}
+use Rattle.fv_datum.specs.EntryNames.{names_of}
 use Rattle.fv_datum.proofs.Fronts.{with_front, front_more}
-use Rattle.fv_declare_definition.specs.MemberNames.{member_names}
+use Rattle.fv_datum.proofs.Sorted.{names-ascend}
 
--- the names of an object's members ascend
-pub members_ascend : (ms : Members) → IsAscending (member_names (members_view ms))
-members_ascend ms = ms.ordered.0
+-- the name of the next entry is above those before it
+pub next_above : {X V : Type 0} (all it rest : List (String Global × X)) (es : List (String Global × V)) (k : String Global) (x : X) → IsStrictlySortedBy string_cmp (keys_of all) → it ≡ (k, x) ∷ rest
+    → names_of es ++ names_of it ≡ names_of all → (more : List (List ℕ)) × IsAscending (names_of es ++ string_bytes k ∷ more)
+next_above all it rest es k x sorted steps names =
+    let whole : names_of es ++ string_bytes k ∷ names_of rest ≡ names_of all = ap (λ ns. names_of es ++ ns) (sym (ap names_of steps)) ∙ names in
+    let ascends : IsAscending (names_of es ++ string_bytes k ∷ names_of rest) = rw whole (names-ascend all sorted) in
+    (names_of rest, ascends)
 
--- one more is made, and what is made of all stays
-pub more_made : {X Y Z : Type 0} (f : Z → Option Y) (view : X → Y) (made new : List X) (x : X) (left rest : List Z) (z : Z) (whole : Option (List Y)) → new ≡ made ++ x ∷ [] → left ≡ z ∷ rest
-    → f z ≡ Some (view x) → with_front (map view made) (each_some f left) ≡ whole → with_front (map view new) (each_some f rest) ≡ whole
-more_made f view made new x left rest z whole put steps is before =
-    ap (λ front. with_front front (each_some f rest)) (ap (map view) put ∙ map-append view made (x ∷ [])) ∙ sym (front_more f (map view made) z rest (view x) is)
-    ∙ ap (λ zs. with_front (map view made) (each_some f zs)) (sym steps) ∙ before
+module _ {V : Type 0} (es new : List (String Global × V)) (key : String Global) (v : V) (put : new ≡ es ++ (key, v) ∷ []) where
+  pub more_names : {X : Type 0} (all it rest : List (String Global × X)) (k : String Global) (x : X) → it ≡ (k, x) ∷ rest → string_bytes key ≡ string_bytes k
+      → names_of es ++ names_of it ≡ names_of all → names_of new ++ names_of rest ≡ names_of all
+  more_names all it rest k x steps same names =
+      ap (λ ns. ns ++ names_of rest) (ap names_of put ∙ map-append (λ e. string_bytes e.0) es ((key, v) ∷ []) ∙ ap (λ n. names_of es ++ n ∷ []) same)
+      ∙ append_assoc (names_of es) (string_bytes k ∷ []) (names_of rest) ∙ ap (λ ns. names_of es ++ ns) (sym (ap names_of steps)) ∙ names
 
--- it has the name of the member that it is made of, and the names of all stay
-pub more_names : {X Z : Type 0} (name : X → List ℕ) (all : List (List ℕ)) (made new : List X) (x : X) (left rest : List (List ℕ × Z)) (m : List ℕ × Z) → new ≡ made ++ x ∷ [] → left ≡ m ∷ rest
-    → name x ≡ m.0 → map name made ++ map (λ n. n.0) left ≡ all → map name new ++ map (λ n. n.0) rest ≡ all
-more_names name all made new x left rest m put steps is before =
-    ap (λ ns. ns ++ map (λ n. n.0) rest) (ap (map name) put ∙ map-append name made (x ∷ []) ∙ ap (λ n. map name made ++ n ∷ []) is)
-    ∙ append_assoc (map name made) (m.0 ∷ []) (map (λ n. n.0) rest) ∙ ap (λ ns. map name made ++ map (λ n. n.0) ns) (sym steps) ∙ before
-
--- the name of the next member is above those before it
-pub next_above : {Z : Type 0} (all before : List (List ℕ)) (left rest : List (List ℕ × Z)) (m : List ℕ × Z) → IsAscending all → left ≡ m ∷ rest → before ++ map (λ n. n.0) left ≡ all
-    → (more : List (List ℕ)) × IsAscending (before ++ m.0 ∷ more)
-next_above all before left rest m ascends steps names =
-    let whole : before ++ m.0 ∷ map (λ n. n.0) rest ≡ all = ap (λ ns. before ++ map (λ n. n.0) ns) (sym steps) ∙ names in
-    let above : IsAscending (before ++ m.0 ∷ map (λ n. n.0) rest) = rw whole ascends in
-    (map (λ n. n.0) rest, above)
-
--- where no member is left, the names are those of all
-pub all_named : {Z : Type 0} (all before : List (List ℕ)) (left : List (List ℕ × Z)) → left ≡ [] → before ++ map (λ n. n.0) left ≡ all → before ≡ all
-all_named all before left none names = sym (append-nil before) ∙ ap (λ ns. before ++ map (λ n. n.0) ns) (sym none) ∙ names
+  pub more_made : {Y Z : Type 0} (f : Z → Option Y) (view : String Global × V → Y) (left more : List Z) (z : Z) (whole : Option (List Y)) → left ≡ z ∷ more → f z ≡ Some (view (key, v))
+      → with_front (map view es) (each_some f left) ≡ whole → with_front (map view new) (each_some f more) ≡ whole
+  more_made f view left more z whole steps found made =
+      ap (λ front. with_front front (each_some f more)) (ap (map view) put ∙ map-append view es ((key, v) ∷ [])) ∙ sym (front_more f (map view es) z more (view (key, v)) found)
+      ∙ ap (λ zs. with_front (map view es) (each_some f zs)) (sym steps) ∙ made

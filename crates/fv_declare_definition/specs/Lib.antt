@@ -1,5 +1,4 @@
 pub mod Attributes
 pub mod DefinitionViews
 pub mod Definitions
-pub mod MemberNames
 pub mod Written

@@ -3,8 +3,7 @@
 ghost use Rattle.std.specs.Prelude.{◌≡◌, IfOk, [], Some, None, false, map, option_map};
 ghost use Rattle.std.specs.Option.{option_map_or};
 ghost use Rattle.serde_json.specs.Find.{as_bool};
-ghost use Rattle.fv_json.specs.Documents.{view as json_view};
-ghost use Rattle.fv_json.specs.MembersView.{members_view};
+ghost use Rattle.serde_json.specs.View.{view as json_view, members_view};
 ghost use Rattle.fv_datum.specs.Attributes.{attribute_view};
 ghost use Rattle.fv_datum.specs.Forms.{each_member};
 ghost use Rattle.fv_datum.specs.Lookup.{at_name};
@@ -18,8 +17,8 @@ use crate::attributes::attribute_of;
 use crate::composing::composings_of;
 use crate::definition::{AttributeDefinition, Definition, Rule};
 use crate::message::own_message_of;
-use fv_datum::{Attribute, AttributeKind};
-use fv_json::{Json, Members, has_only};
+use fv_datum::{Attribute, AttributeKind, has_only, text_at};
+use serde_json::{Map, Value};
 use std::alloc::{AllocError, Global};
 use std::collections::BTreeMap;
 
@@ -37,14 +36,14 @@ fn kind_named(name: &str) -> Option<AttributeKind>
 }
 
 /// An attribute's default: none where it has no such member.
-fn default_of(alloc: Global, told: Option<Json>) -> Result<Option<Option<Attribute>>, AllocError>
+fn default_of(alloc: Global, told: Option<&Value>) -> Result<Option<Option<Attribute>>, AllocError>
     ensures { IfOk result (λ o. option_map (λ d. option_map attribute_view d) o
         ≡ option_map_or (λ j. option_map (λ a. Some a) (spec_attribute j))
-        (option_map json_view told.entry) (Some None)) }
+        (option_map (λ v. json_view v.now) told.entry) (Some None)) }
 {
     match told {
         None => Ok(Some(None)),
-        Some(value) => match attribute_of(alloc, &value)? {
+        Some(value) => match attribute_of(alloc, value)? {
             None => Ok(None),
             Some(attribute) => Ok(Some(Some(attribute))),
         },
@@ -54,7 +53,7 @@ fn default_of(alloc: Global, told: Option<Json>) -> Result<Option<Option<Attribu
 /// `{"kind":KIND,"default":VALUE}`, `default` may be missing.
 fn attribute_definition_of(
     alloc: Global,
-    value: &Json,
+    value: &Value,
 ) -> Result<Option<AttributeDefinition>, AllocError>
     ensures { (name : _) → IfOk result (λ o. option_map (λ a. (name, attribute_definition_view a)) o
         ≡ attribute_definition_of (name, json_view value.now)) }
@@ -62,11 +61,7 @@ fn attribute_definition_of(
     if !has_only(value, &["kind", "default"]) {
         return Ok(None);
     }
-    let Some(kind) = value
-        .get("kind")
-        .and_then(|told| told.as_str())
-        .and_then(kind_named)
-    else {
+    let Some(kind) = text_at(value, "kind").and_then(kind_named) else {
         return Ok(None);
     };
     match default_of(alloc, value.get("default"))? {
@@ -77,16 +72,16 @@ fn attribute_definition_of(
 
 fn attribute_definitions_in(
     alloc: Global,
-    members: Members,
+    members: &Map<String, Value>,
 ) -> Result<Option<BTreeMap<String, AttributeDefinition>>, AllocError>
     ensures { IfOk result (λ o. option_map (λ m. map attribute_entry m.entries) o
-        ≡ each_some attribute_definition_of (pairs (members_view members.entry))) }
+        ≡ each_some attribute_definition_of (pairs (members_view members.now.entries))) }
 {
     let mut attributes = BTreeMap::new(alloc);
     for (name, value) in members.iter() {
-        match attribute_definition_of(alloc, &value)? {
+        match attribute_definition_of(alloc, value)? {
             None => return Ok(None),
-            Some(attribute) => add_last(alloc, &mut attributes, name, attribute)?,
+            Some(attribute) => add_last(&mut attributes, name, attribute)?,
         }
     }
     Ok(Some(attributes))
@@ -95,10 +90,10 @@ fn attribute_definitions_in(
 /// The attributes of a declared constraint: none where it has no such member.
 fn attribute_definitions_of(
     alloc: Global,
-    told: Option<Json>,
+    told: Option<&Value>,
 ) -> Result<Option<BTreeMap<String, AttributeDefinition>>, AllocError>
     ensures { IfOk result (λ o. option_map (λ m. map attribute_entry m.entries) o
-        ≡ option_map_or (each_member attribute_definition_of) (option_map json_view told.entry) (Some [])) }
+        ≡ option_map_or (each_member attribute_definition_of) (option_map (λ v. json_view v.now) told.entry) (Some [])) }
 {
     let Some(value) = told else {
         return Ok(Some(BTreeMap::new(alloc)));
@@ -119,24 +114,24 @@ fn number_in(number: i64) -> Option<u32>
     Some(number as u32)
 }
 
-fn rule_number_of(value: &Json) -> Option<u32>
+fn rule_number_of(value: &Value) -> Option<u32>
     ensures { result ≡ rule_number_of (json_view value.now) }
 {
     number_in(value.as_i64()?)
 }
 
 /// The rule's number at a member that is the only one.
-fn rule_number_at(value: &Json, name: &str) -> Option<u32>
+fn rule_number_at(value: &Value, name: &str) -> Option<u32>
     ensures { result ≡ rule_number_at name.now (json_view value.now) }
 {
     if !has_only(value, &[name]) {
         return None;
     }
-    rule_number_of(&value.get(name)?)
+    rule_number_of(value.get(name)?)
 }
 
 /// `{"field":N}` or `{"object":N}`.
-fn rule_of(value: &Json) -> Option<Rule>
+fn rule_of(value: &Value) -> Option<Rule>
     ensures { option_map rule_view result ≡ spec_rule (json_view value.now) }
 {
     match rule_number_at(value, "field") {
@@ -149,14 +144,14 @@ fn rule_of(value: &Json) -> Option<Rule>
 }
 
 /// The rule of a declared constraint: none where it has no such member.
-fn told_rule_of(told: Option<Json>) -> Option<Option<Rule>>
+fn told_rule_of(told: Option<&Value>) -> Option<Option<Rule>>
     ensures { option_map (λ r. option_map rule_view r) result
-        ≡ option_map_or (λ j. option_map (λ r. Some r) (spec_rule j)) (option_map json_view told.entry)
+        ≡ option_map_or (λ j. option_map (λ r. Some r) (spec_rule j)) (option_map (λ v. json_view v.now) told.entry)
         (Some None) }
 {
     match told {
         None => Some(None),
-        Some(value) => match rule_of(&value) {
+        Some(value) => match rule_of(value) {
             None => None,
             Some(rule) => Some(Some(rule)),
         },
@@ -164,8 +159,8 @@ fn told_rule_of(told: Option<Json>) -> Option<Option<Rule>>
 }
 
 /// Whether a declared constraint reports as one: not where it has no such member.
-fn single_of(told: Option<Json>) -> Option<bool>
-    ensures { result ≡ option_map_or as_bool (option_map json_view told.entry) (Some false) }
+fn single_of(told: Option<&Value>) -> Option<bool>
+    ensures { result ≡ option_map_or as_bool (option_map (λ v. json_view v.now) told.entry) (Some false) }
 {
     match told {
         None => Some(false),
@@ -175,7 +170,7 @@ fn single_of(told: Option<Json>) -> Option<bool>
 
 /// `{"attributes":{..},"compose":[..],"rule":RULE,"single":BOOL,"message":TEMPLATE}`, all may be
 /// missing.
-fn definition_of(alloc: Global, value: &Json) -> Result<Option<Definition>, AllocError>
+fn definition_of(alloc: Global, value: &Value) -> Result<Option<Definition>, AllocError>
     ensures { (name : _) → IfOk result (λ o. option_map (λ d. (name, definition_view d)) o
         ≡ spec_definition (name, json_view value.now)) }
 {
@@ -211,16 +206,16 @@ fn definition_of(alloc: Global, value: &Json) -> Result<Option<Definition>, Allo
 
 fn definitions_in(
     alloc: Global,
-    members: Members,
+    members: &Map<String, Value>,
 ) -> Result<Option<BTreeMap<String, Definition>>, AllocError>
     ensures { IfOk result (λ o. option_map (λ m. map definition_entry m.entries) o
-        ≡ each_some spec_definition (pairs (members_view members.entry))) }
+        ≡ each_some spec_definition (pairs (members_view members.now.entries))) }
 {
     let mut definitions = BTreeMap::new(alloc);
     for (name, value) in members.iter() {
-        match definition_of(alloc, &value)? {
+        match definition_of(alloc, value)? {
             None => return Ok(None),
-            Some(definition) => add_last(alloc, &mut definitions, name, definition)?,
+            Some(definition) => add_last(&mut definitions, name, definition)?,
         }
     }
     Ok(Some(definitions))
@@ -229,10 +224,10 @@ fn definitions_in(
 /// The declared constraints: none where there is no such member.
 pub fn definitions_of(
     alloc: Global,
-    told: Option<Json>,
+    told: Option<&Value>,
 ) -> Result<Option<BTreeMap<String, Definition>>, AllocError>
     ensures { IfOk result (λ o. option_map (λ m. map definition_entry m.entries) o
-        ≡ option_map_or (each_member spec_definition) (option_map json_view told.entry) (Some [])) }
+        ≡ option_map_or (each_member spec_definition) (option_map (λ v. json_view v.now) told.entry) (Some [])) }
 {
     let Some(value) = told else {
         return Ok(Some(BTreeMap::new(alloc)));

@@ -1,13 +1,13 @@
 //! Messages. Where a value is not of the form, a function here answers `None`.
 ghost use Rattle.std.specs.Prelude.{◌≡◌, IfOk, option_map, string_bytes};
-ghost use Rattle.fv_json.specs.Documents.{view as json_view};
+ghost use Rattle.serde_json.specs.View.{view as json_view};
 ghost use Rattle.fv_declare_definition.specs.Written.{message_of as spec_message};
 
-use fv_json::Json;
+use serde_json::Value;
 use std::alloc::{AllocError, Global};
 
 /// The template of a message, by the member `message` of a value: none where it has no such member.
-pub fn message_of<'a>(value: &Json<'_, 'a>) -> Option<Option<&'a str>>
+pub fn message_of<'a>(value: &'a Value) -> Option<Option<&'a str>>
     ensures { option_map (λ o. option_map (λ t. t.now) o) result ≡ spec_message (json_view value.now) }
 {
     match value.get("message") {
@@ -22,7 +22,7 @@ pub fn message_of<'a>(value: &Json<'_, 'a>) -> Option<Option<&'a str>>
 /// The same template, as a text of its own.
 pub(crate) fn own_message_of(
     alloc: Global,
-    value: &Json,
+    value: &Value,
 ) -> Result<Option<Option<String>>, AllocError>
     ensures { IfOk result (λ o. option_map (λ m. option_map string_bytes m) o ≡ spec_message (json_view value.now)) }
 {

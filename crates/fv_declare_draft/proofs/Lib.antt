@@ -1,3 +1,2 @@
-pub mod Entries
 pub mod Gathered
 pub mod PlaceMembers

@@ -1,7 +1,7 @@
 //! Places: what they hold, and the uses of constraints and the cascades there and inside them.
 ghost use Rattle.std.specs.Prelude.{◌≡◌, ◌∷◌, ◌++◌, [], IfOk, map, option_map, option_and_then, codes};
 ghost use Rattle.serde_json.specs.Find.{get};
-ghost use Rattle.fv_json.specs.Documents.{view as json_view};
+ghost use Rattle.serde_json.specs.View.{view as json_view};
 ghost use Rattle.fv_datum.specs.Forms.{map2};
 ghost use Rattle.fv_datum.specs.Lookup.{at_name};
 ghost use Rattle.fv_extract.specs.Views.{step_view};
@@ -14,10 +14,10 @@ ghost use Rattle.fv_declare_draft.specs.Uses.{uses_of as spec_uses};
 use crate::cascades::cascade_of;
 use crate::draft::{CascadeDraft, PlacedCascade, PlacedUse, UseDraft};
 use crate::uses::uses_of;
-use fv_datum::Kind;
+use fv_datum::{Kind, has_only, text_at};
 use fv_extract::Step;
-use fv_json::{Json, has_only};
 use fv_model_types::TypeUse;
+use serde_json::Value;
 use std::alloc::{AllocError, Global};
 
 /// What a place holds, and the uses and cascades there and inside it.
@@ -44,10 +44,10 @@ fn plain_use(name: &str) -> Option<TypeUse>
 }
 
 /// The references that the member `ref` says.
-fn reference_of(alloc: Global, value: &Json) -> Result<Option<TypeUse>, AllocError>
+fn reference_of(alloc: Global, value: &Value) -> Result<Option<TypeUse>, AllocError>
     ensures { IfOk result (λ o. option_map type_use_view o ≡ spec_reference (json_view value.now)) }
 {
-    match value.get("ref").and_then(|told| told.as_str()) {
+    match text_at(value, "ref") {
         None => Ok(None),
         Some(target) => Ok(Some(TypeUse::Ref(String::from_str(alloc, target)?))),
     }
@@ -132,7 +132,7 @@ fn cascades_before<'a>(
 pub(crate) fn place_of<'a>(
     alloc: Global,
     steps: &[Step],
-    value: &Json<'_, 'a>,
+    value: &'a Value,
 ) -> Result<Option<Held<'a>>, AllocError>
     ensures { IfOk result (λ o. option_map held_view o ≡ option_map (gathered (map step_view steps.now)) (spec_place (json_view value.now))) }
 {
@@ -154,7 +154,7 @@ pub(crate) fn place_of<'a>(
             uses,
             cascades,
         },
-    ) = held_of(alloc, steps, &told)?
+    ) = held_of(alloc, steps, told)?
     else {
         return Ok(None);
     };
@@ -174,7 +174,7 @@ fn place_in<'a>(
     steps: &[Step],
     step: Step,
     name: &str,
-    value: &Json<'_, 'a>,
+    value: &'a Value,
 ) -> Result<Option<Held<'a>>, AllocError>
     ensures { IfOk result (λ o. option_map held_view o
         ≡ option_map (gathered (map step_view steps.now ++ step_view step ∷ [])) (option_and_then spec_place (get name.now (json_view value.now)))) }
@@ -182,7 +182,7 @@ fn place_in<'a>(
     let Some(inner) = value.get(name) else {
         return Ok(None);
     };
-    place_of(alloc, &further(alloc, steps, step)?, &inner)
+    place_of(alloc, &further(alloc, steps, step)?, inner)
 }
 
 /// Lists of what their elements' place holds.
@@ -190,7 +190,7 @@ fn place_in<'a>(
 fn list_of<'a>(
     alloc: Global,
     steps: &[Step],
-    value: &Json<'_, 'a>,
+    value: &'a Value,
 ) -> Result<Option<Held<'a>>, AllocError>
     ensures { IfOk result (λ o. option_map held_view o ≡ option_map (inside (map step_view steps.now))
         (option_map spec_list (option_and_then spec_place (get (codes "list") (json_view value.now))))) }
@@ -216,7 +216,7 @@ fn list_of<'a>(
 fn optional_of<'a>(
     alloc: Global,
     steps: &[Step],
-    value: &Json<'_, 'a>,
+    value: &'a Value,
 ) -> Result<Option<Held<'a>>, AllocError>
     ensures { IfOk result (λ o. option_map held_view o ≡ option_map (inside (map step_view steps.now))
         (option_map spec_optional (option_and_then spec_place (get (codes "optional") (json_view value.now))))) }
@@ -242,7 +242,7 @@ fn optional_of<'a>(
 fn map_of<'a>(
     alloc: Global,
     steps: &[Step],
-    value: &Json<'_, 'a>,
+    value: &'a Value,
 ) -> Result<Option<Held<'a>>, AllocError>
     ensures { IfOk result (λ o. option_map held_view o ≡ option_map (inside (map step_view steps.now))
         (map2 a_map (spec_uses (codes "keys") (json_view value.now)) (option_and_then spec_place (get (codes "map") (json_view value.now))))) }
@@ -276,7 +276,7 @@ fn map_of<'a>(
 fn held_of<'a>(
     alloc: Global,
     steps: &[Step],
-    value: &Json<'_, 'a>,
+    value: &'a Value,
 ) -> Result<Option<Held<'a>>, AllocError>
     ensures { IfOk result (λ o. option_map held_view o ≡ option_map (inside (map step_view steps.now)) (spec_held (json_view value.now))) }
 {

@@ -1,28 +1,28 @@
 //! The draft that a JSON value is. Where a value is not of the form, a function here answers
 //! `None`.
 ghost use Rattle.std.specs.Prelude.{◌≡◌, IfOk, IfSome, map, option_map};
-ghost use Rattle.fv_json.specs.Documents.{view as json_view};
-ghost use Rattle.fv_json.specs.MembersView.{members_view};
+ghost use Rattle.serde_json.specs.View.{view as json_view, members_view};
 ghost use Rattle.fv_datum.specs.Members.{pairs, each_some};
 ghost use Rattle.fv_declare_draft.specs.Drafts.{field_of as spec_field, type_of as spec_type, form_of as spec_form, draft_of as spec_draft};
 ghost use Rattle.fv_declare_draft.specs.DraftViews.{field_view, type_view, form_view, draft_view};
 ghost use Rattle.fv_datum.specs.Ascending.{IsAscending};
-ghost use Rattle.fv_declare_definition.specs.MemberNames.{member_names};
+ghost use Rattle.fv_datum.specs.EntryNames.{names_of};
 
 use crate::draft::{Draft, FieldDraft, FormDraft, TypeDraft};
 use crate::groups::groups_of;
 use crate::messages::messages_of;
 use crate::places::{Held, place_of};
 use crate::uses::uses_of;
+use fv_datum::{has_only, names_of, object_at, text_at, told_names_of};
 use fv_declare_definition::definitions_of;
-use fv_json::{Json, Members, has_only, names_of, told_names_of};
+use serde_json::{Map, Value};
 use std::alloc::{AllocError, Global};
 
 /// A field with its place.
 fn field_of<'a>(
     alloc: Global,
     name: &'a str,
-    value: &Json<'_, 'a>,
+    value: &'a Value,
 ) -> Result<Option<FieldDraft<'a>>, AllocError>
     ensures exact { IfOk result (λ o. option_map field_view o ≡ spec_field (name.now, json_view value.now)) }
     ensures name { IfOk result (λ o. IfSome o (λ x. x.name.now ≡ name.now)) }
@@ -46,16 +46,16 @@ fn field_of<'a>(
 
 fn fields_of<'a>(
     alloc: Global,
-    members: Members<'_, 'a>,
+    members: &'a Map<String, Value>,
 ) -> Result<Option<Vec<FieldDraft<'a>>>, AllocError>
     ensures exact { IfOk result (λ o. option_map (λ v. map field_view v.items) o
-        ≡ each_some spec_field (pairs (members_view members.entry))) }
-    ensures names { IfOk result (λ o. IfSome o (λ v. map (λ x. x.name.now) v.items ≡ member_names (members_view members.entry))) }
+        ≡ each_some spec_field (pairs (members_view members.now.entries))) }
+    ensures names { IfOk result (λ o. IfSome o (λ v. map (λ x. x.name.now) v.items ≡ names_of members.now.entries)) }
     ensures ascend { IfOk result (λ o. IfSome o (λ v. IsAscending (map (λ x. x.name.now) v.items))) }
 {
     let mut fields = Vec::with_capacity(alloc, members.len())?;
     for (name, value) in members.iter() {
-        match field_of(alloc, name, &value)? {
+        match field_of(alloc, name.as_str(), value)? {
             None => return Ok(None),
             Some(field) => fields.push(field)?,
         }
@@ -67,7 +67,7 @@ fn fields_of<'a>(
 fn type_of<'a>(
     alloc: Global,
     name: &'a str,
-    value: &Json<'_, 'a>,
+    value: &'a Value,
 ) -> Result<Option<TypeDraft<'a>>, AllocError>
     ensures exact { IfOk result (λ o. option_map type_view o ≡ spec_type (name.now, json_view value.now)) }
     ensures name { IfOk result (λ o. IfSome o (λ x. x.name.now ≡ name.now)) }
@@ -75,7 +75,7 @@ fn type_of<'a>(
     if !has_only(value, &["fields", "constraints", "sequence"]) {
         return Ok(None);
     }
-    let Some(fields) = value.get("fields").and_then(|told| told.as_object()) else {
+    let Some(fields) = object_at(value, "fields") else {
         return Ok(None);
     };
     let Some(fields) = fields_of(alloc, fields)? else {
@@ -97,16 +97,16 @@ fn type_of<'a>(
 
 fn types_of<'a>(
     alloc: Global,
-    members: Members<'_, 'a>,
+    members: &'a Map<String, Value>,
 ) -> Result<Option<Vec<TypeDraft<'a>>>, AllocError>
     ensures exact { IfOk result (λ o. option_map (λ v. map type_view v.items) o
-        ≡ each_some spec_type (pairs (members_view members.entry))) }
-    ensures names { IfOk result (λ o. IfSome o (λ v. map (λ x. x.name.now) v.items ≡ member_names (members_view members.entry))) }
+        ≡ each_some spec_type (pairs (members_view members.now.entries))) }
+    ensures names { IfOk result (λ o. IfSome o (λ v. map (λ x. x.name.now) v.items ≡ names_of members.now.entries)) }
     ensures ascend { IfOk result (λ o. IfSome o (λ v. IsAscending (map (λ x. x.name.now) v.items))) }
 {
     let mut types = Vec::with_capacity(alloc, members.len())?;
     for (name, value) in members.iter() {
-        match type_of(alloc, name, &value)? {
+        match type_of(alloc, name.as_str(), value)? {
             None => return Ok(None),
             Some(declared) => types.push(declared)?,
         }
@@ -118,7 +118,7 @@ fn types_of<'a>(
 fn form_of<'a>(
     alloc: Global,
     name: &'a str,
-    value: &Json<'_, 'a>,
+    value: &'a Value,
 ) -> Result<Option<FormDraft<'a>>, AllocError>
     ensures exact { IfOk result (λ o. option_map form_view o ≡ spec_form (name.now, json_view value.now)) }
     ensures name { IfOk result (λ o. IfSome o (λ x. x.name.now ≡ name.now)) }
@@ -126,7 +126,7 @@ fn form_of<'a>(
     if !has_only(value, &["root", "groups"]) {
         return Ok(None);
     }
-    let Some(root) = value.get("root").and_then(|told| told.as_str()) else {
+    let Some(root) = text_at(value, "root") else {
         return Ok(None);
     };
     match names_of(alloc, value.get("groups"))? {
@@ -137,16 +137,16 @@ fn form_of<'a>(
 
 fn forms_of<'a>(
     alloc: Global,
-    members: Members<'_, 'a>,
+    members: &'a Map<String, Value>,
 ) -> Result<Option<Vec<FormDraft<'a>>>, AllocError>
     ensures exact { IfOk result (λ o. option_map (λ v. map form_view v.items) o
-        ≡ each_some spec_form (pairs (members_view members.entry))) }
-    ensures names { IfOk result (λ o. IfSome o (λ v. map (λ x. x.name.now) v.items ≡ member_names (members_view members.entry))) }
+        ≡ each_some spec_form (pairs (members_view members.now.entries))) }
+    ensures names { IfOk result (λ o. IfSome o (λ v. map (λ x. x.name.now) v.items ≡ names_of members.now.entries)) }
     ensures ascend { IfOk result (λ o. IfSome o (λ v. IsAscending (map (λ x. x.name.now) v.items))) }
 {
     let mut forms = Vec::with_capacity(alloc, members.len())?;
     for (name, value) in members.iter() {
-        match form_of(alloc, name, &value)? {
+        match form_of(alloc, name.as_str(), value)? {
             None => return Ok(None),
             Some(form) => forms.push(form)?,
         }
@@ -157,7 +157,7 @@ fn forms_of<'a>(
 /// The draft that a JSON value is, where it has the form of declarations:
 /// `{"types":{..},"forms":{..},"groups":{..},"constraints":{..},"messages":{..}}`, only `types` and
 /// `forms` are required.
-pub fn draft_of<'a>(alloc: Global, value: &Json<'_, 'a>) -> Result<Option<Draft<'a>>, AllocError>
+pub fn draft_of<'a>(alloc: Global, value: &'a Value) -> Result<Option<Draft<'a>>, AllocError>
     ensures { IfOk result (λ o. option_map draft_view o ≡ spec_draft (json_view value.now)) }
 {
     if !has_only(
@@ -166,10 +166,10 @@ pub fn draft_of<'a>(alloc: Global, value: &Json<'_, 'a>) -> Result<Option<Draft<
     ) {
         return Ok(None);
     }
-    let Some(types) = value.get("types").and_then(|told| told.as_object()) else {
+    let Some(types) = object_at(value, "types") else {
         return Ok(None);
     };
-    let Some(forms) = value.get("forms").and_then(|told| told.as_object()) else {
+    let Some(forms) = object_at(value, "forms") else {
         return Ok(None);
     };
     let Some(types) = types_of(alloc, types)? else {

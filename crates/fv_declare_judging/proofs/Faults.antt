@@ -1,10 +1,12 @@
 -- The first fault of a draft's wording, by that of its messages.
 use Rattle.std.proofs.Common.{◌≡◌, ◌≢◌, ◌↔◌, Bool, true, false, IsTrue, Some, None, Result, Ok, Err, IfOk, IfErr, MatchResult, inl, inr, refl, sym, subst, ◌∙◌, true≢false}
+use Rattle.std.specs.Result.{result_err}
 use Rattle.fv_declare_draft.specs.Drafts.{Drafted}
 use Rattle.fv_message.specs.Judged.{IsLarge, IsMisspelt, AreSound, IsFault}
 use Rattle.fv_message.specs.Table.{Messages, all_messages}
 use Rattle.fv_message.specs.declared.fault.MessageFault.{MessageFault}
 use Rattle.fv_message.specs.declared.fault.MessageFault.TheVariants.{TooLarge, MessageSyntax, MessageCycle, Memory}
+use Rattle.fv_declare_judging.specs.Judging.{lacks_memory}
 use Rattle.fv_declare_judging.specs.Templates.{templates, has_long, HasMisspelt}
 use Rattle.fv_declare_judging.specs.Wording.{IsTooLarge, IsIllWritten, IsFirstFault, judged_with}
 
@@ -51,3 +53,12 @@ module _ (d : Drafted) where
   pub refused : (told : Result Messages MessageFault) → IsJudged told → IfErr told (λ f. f ≢ Memory → IsFirstFault d (Some f))
   refused (Ok m) h = tt
   refused (Err fault) h = h
+
+  -- what is told of the wording is its first fault, where memory wasn't refused
+  pub first_fault : (told : Result Messages MessageFault) → lacks_memory (result_err told) ≡ false → IfOk told (λ m. (m ≡ all_messages d.messages) × IsFirstFault d None)
+      → IfErr told (λ f. f ≢ Memory → IsFirstFault d (Some f)) → IsFirstFault d (result_err told)
+  first_fault (Ok m) kept taken refused = taken.1
+  first_fault (Err TooLarge) kept taken refused = refused (λ e. cc)
+  first_fault (Err MessageSyntax) kept taken refused = refused (λ e. cc)
+  first_fault (Err MessageCycle) kept taken refused = refused (λ e. cc)
+  first_fault (Err Memory) kept taken refused = cc

@@ -1,5 +1,5 @@
 -- Declarations in which no constraint is composed of itself, from the count of their trees' nodes to the answer.
-use Rattle.std.proofs.Common.{◌≡◌, ℕ, ◌≤◌, ◌||◌, ◌⊎◌, inl, inr, List, length, map, zip, drop, min, nat_lt, Bool, true, false, Option, Some, None, if◌then◌else◌, Result, Ok, Err, refl, sym, ap, subst, ◌∙◌, arith}
+use Rattle.std.proofs.Common.{◌≡◌, ℕ, ◌≤◌, ◌||◌, ◌⊎◌, inl, inr, List, length, map, zip, drop, min, nat_lt, Bool, true, false, Option, Some, None, is_some, option_map, if◌then◌else◌, Result, Ok, Err, refl, sym, ap, subst, ◌∙◌, arith}
 use Rattle.std.proofs.lemmas.Bool.{ltb-false}
 use Rattle.std.proofs.lemmas.Bool.Decides.{nat_tests}
 use Rattle.std.proofs.lemmas.List.{length-map}
@@ -14,7 +14,10 @@ use Rattle.fv_constraint.specs.Read.{IsReadTree}
 use Rattle.fv_constraint.specs.declared.fault.FlattenFault.{FlattenFault}
 use Rattle.fv_message.specs.declared.fault.MessageFault.{MessageFault}
 use Rattle.fv_message.specs.declared.fault.MessageFault.TheVariants as message
+use Rattle.fv_constraint_tree.specs.TargetFits.{tree_fits}
 use Rattle.fv_model_types.specs.Types.{Declared, too_many}
+use Rattle.fv_model_types.specs.TypesView.{types_view}
+use Rattle.fv_model_types.specs.declared.types.Types.{Types}
 use Rattle.fv_constraint_tree.specs.Nodes.{Node}
 use Rattle.fv_constraint_tree.specs.Trees.{Tree}
 use Rattle.fv_registry.specs.Rules.{Known}
@@ -24,7 +27,7 @@ use Rattle.fv_declare_judging.specs.Declares.{draft_in, OfDraft, faults, IsAnswe
 use Rattle.fv_declare_judging.specs.Schemas.{IsDeclared}
 use Rattle.fv_declare_judging.specs.Types.{types_declared}
 use Rattle.fv_declare_judging.specs.FaultNames.{flatten_fault, message_fault}
-use Rattle.fv_declare_judging.specs.Judging.{IsAnswerTo, tree_faults, is_wordy, unless_many}
+use Rattle.fv_declare_judging.specs.Judging.{IsAnswerTo, AreRead, tree_faults, is_wordy, unless_many}
 use Rattle.fv_declare_draft.specs.AllUses.{Use, uses_in}
 use Rattle.fv_declare_judging.specs.Used.{used}
 use Rattle.fv_declare_judging.specs.declared.fault.DeclFault.{DeclFault}
@@ -58,11 +61,18 @@ some_if true ts us e = cc
 some_if false ts us e = let same : ts ≡ us = cc in (refl, sym same)
 
 -- there are too many where there are none
-pub many : (ts : Declared) → unless_many ts ≡ None → too_many ts ≡ true
-many ts e = none_if (too_many ts) ts e
+pub many : (ts : Declared) (o : Option Types) → option_map types_view o ≡ unless_many ts → is_some o ≡ false → too_many ts ≡ true
+many ts None e none = none_if (too_many ts) ts (sym e)
+many ts (Some types) e none = cc
 
-pub few_types : (ts us : Declared) → unless_many ts ≡ Some us → (too_many ts ≡ false) × (us ≡ ts)
-few_types ts us e = some_if (too_many ts) ts us e
+-- and else there are few
+pub few_types : (ts : Declared) (o : Option Types) → option_map types_view o ≡ unless_many ts → is_some o ≡ true → too_many ts ≡ false
+few_types ts None e some = cc
+few_types ts (Some types) e some = (some_if (too_many ts) ts (types_view types) (sym e)).0
+
+-- which are those that are there
+pub same_types : (ts : Declared) (o : Option Types) (types : Types) → option_map types_view o ≡ unless_many ts → o ≡ Some types → types_view types ≡ ts
+same_types ts o types e is = (some_if (too_many ts) ts (types_view types) (sym e ∙ ap (option_map types_view) is)).1
 
 -- ---- the answers
 
@@ -171,11 +181,11 @@ module _ (k : Known) (d : Drafted) (worded : Option MessageFault) (judged : IsFi
         each_tree = zip_long _ (used_in d) is.0 is.1
 
         -- there is a tree for each use
-        pub each : (us : List Use) → us ≡ uses_in d.types → length os ≡ length us
-        each us same = zipped_long (used_in d) is.0 os each_tree all_read ∙ length-map (uses_in d.types) used ∙ ap length (sym same)
+        each : length os ≡ length (uses_in d.types)
+        each = zipped_long (used_in d) is.0 os each_tree all_read ∙ length-map (uses_in d.types) used
 
         -- and the trees have no more than 1,024 nodes
-        pub few_nodes : count_nodes os ≤ 1024
+        few_nodes : count_nodes os ≤ 1024
         few_nodes =
             let same : count_nodes os ≡ count_nodes is.0 = same_count (used_in d) is.0 os each_tree all_read in
             let trees : count_nodes is.0 ≡ count_nodes c.0 = ap count_nodes (sym (unique d.definitions (used_in d) c.0 is.0 c.1 is.1)) in
@@ -184,10 +194,13 @@ module _ (k : Known) (d : Drafted) (worded : Option MessageFault) (judged : IsFi
             omega arith
 
         -- what is declared by them is the answer, where nothing is wrong with the wording
-        pub taken : (ds : Declarations) → worded ≡ None → ((ts : List (Tree Planned)) → AllZip (λ u o. IsReadTree u.0.place u.1 o) (zip (used_in d) ts) os → IsDeclared d ts ds) → IsAnswerTo k d tree_faults (Ok ds)
-        taken ds well all =
+        taken : worded ≡ None → (ds : Declarations) → ((ts : List (Tree Planned)) → AllZip (λ u o. IsReadTree u.0.place u.1 o) (zip (used_in d) ts) os → IsDeclared d ts ds) → IsAnswerTo k d tree_faults (Ok ds)
+        taken well ds all =
             behind (Ok ds) (λ bytes of. right k bytes d of unique is.0 is.1 os is.2 (Ok ds)
             (declared k bytes d of unique is.0 is.1 (os, all_read) (subst (IsFirstFault d) well judged) ds (all is.0 all_read)))
+
+        pub are_read : worded ≡ None → AllZip (λ u o. tree_fits k u.place o ≡ true) (used_in d) os → AreRead k d tree_faults os
+        are_read well fit = record { each = each; few = few_nodes; fit = fit; declared = taken well }
 
         -- and else what is wrong with it
         pub misworded : (f : MessageFault) → worded ≡ Some f → IsAnswerTo k d tree_faults (Err (message_fault f))

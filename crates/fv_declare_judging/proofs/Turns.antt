@@ -1,9 +1,11 @@
 -- The answer by the faults that come later is that by those before them too, where none of these holds.
-use Rattle.std.proofs.Common.{◌≡◌, ◌≢◌, inl, inr, List, [], ◌∷◌, drop, Bool, true, false, Option, Some, None, Result, Err, refl, ap, ◌∙◌}
+use Rattle.std.proofs.Common.{◌≡◌, ◌≢◌, inl, inr, List, [], ◌∷◌, drop, Bool, true, false, Option, Some, None, Result, Ok, Err, refl, ap, ◌∙◌}
 use Rattle.std.specs.Prelude.{ℕ, option_and_then}
 use Rattle.std.specs.Option.{ok_or}
 use Rattle.serde_json.specs.Data as json
 use Rattle.fv_constraint.specs.Composed.{IsCyclic}
+use Rattle.fv_constraint_tree.specs.Nodes.{Node}
+use Rattle.fv_constraint_tree.specs.Trees.{Tree}
 use Rattle.fv_datum.specs.Outcomes.{first}
 use Rattle.fv_datum.specs.Parsing.{json_of}
 use Rattle.fv_declare_draft.specs.Drafts.{Drafted, draft_of}
@@ -16,7 +18,7 @@ use Rattle.fv_registry.specs.Rules.{Known}
 use Rattle.fv_declare_judging.specs.Conditions.{unknown_name}
 use Rattle.fv_declare_judging.specs.Declares.{draft_in, faults, IsAnswer, Declares}
 use Rattle.fv_declare_judging.specs.FaultNames.{grouping_fault}
-use Rattle.fv_declare_judging.specs.Judging.{IsAnswerTo, DeclaredBy, draft_faults, composition_faults, tree_faults, name_conditions}
+use Rattle.fv_declare_judging.specs.Judging.{IsAnswerTo, AreRead, DeclaredBy, draft_faults, composition_faults, tree_faults, name_conditions}
 use Rattle.fv_declare_judging.specs.Naming.{bad_name}
 use Rattle.fv_declare_judging.specs.declared.fault.DeclFault.{DeclFault}
 use Rattle.fv_declare_judging.specs.declared.fault.DeclFault.TheVariants.{NotJson, Shape, BadName, UnknownName, CyclicComposition}
@@ -33,6 +35,9 @@ module _ (k : Known) (d : Drafted) where
   pub acyclic : (IsCyclic d.definitions → ⊥) → (answer : Result Declarations DeclFault) → IsAnswerTo k d tree_faults answer → IsAnswerTo k d composition_faults answer
   unfolding IsAnswerTo
   acyclic never answer h = λ bytes is. inr (not_of_draft k bytes d is (λ e. IsCyclic e.definitions) never, h bytes is)
+
+  pub acyclic_read : (IsCyclic d.definitions → ⊥) → (os : List (Tree Node)) → AreRead k d tree_faults os → AreRead k d composition_faults os
+  acyclic_read never os r = record { each = r.each; few = r.few; fit = r.fit; declared = λ ds h. acyclic never (Ok ds) (r.declared ds h) }
 
   -- ---- names and groups
 

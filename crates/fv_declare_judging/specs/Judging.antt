@@ -1,25 +1,24 @@
 -- What is found on the way to a schema; for private clauses.
-use Rattle.std.specs.Prelude.{◌≡◌, ℕ, ◌+◌, ◌<◌, List, [], ◌∷◌, length, drop, Bool, true, false, Option, Some, None, option_map, if◌then◌else◌, Result}
-use Rattle.std.specs.List.{AllByRecursion, list_any}
+use Rattle.std.specs.Prelude.{◌≡◌, ℕ, ◌+◌, ◌<◌, ◌≤◌, List, [], ◌∷◌, length, drop, zip, Bool, true, false, Option, Some, None, option_map, if◌then◌else◌, Result, Ok}
+use Rattle.std.specs.List.{AllByRecursion, AllZip}
+use Rattle.fv_constraint.specs.Composed.{Planned}
+use Rattle.fv_constraint.specs.Read.{IsReadTree}
+use Rattle.fv_constraint_tree.specs.TargetFits.{tree_fits}
 use Rattle.serde_json.specs.Data as json
-use Rattle.fv_datum.specs.Outcomes.{first}
 use Rattle.fv_datum.specs.Parsing.{json_of}
-use Rattle.fv_declare_judging.specs.Conditions.{unknown_root, unknown_name}
+use Rattle.fv_declare_judging.specs.Conditions.{unknown_name, used_in}
 use Rattle.fv_declare_judging.specs.Declares.{draft_in, faults, IsAnswer, Declares}
 use Rattle.fv_declare_judging.specs.Naming.{bad_name}
-use Rattle.fv_declare_judging.specs.Types.{types_declared}
-use Rattle.fv_declare_draft.specs.AllCascades.{Cascade, cascades_in}
+use Rattle.fv_declare_judging.specs.Schemas.{IsDeclared}
 use Rattle.fv_declare_draft.specs.Drafts.{FieldDraft, Drafted}
 use Rattle.fv_declare_draft.specs.Places.{PlacedCascade}
 use Rattle.fv_model_types.specs.Types.{Declared, kind_of, too_many}
 use Rattle.fv_constraint_tree.specs.Nodes.{Node}
 use Rattle.fv_constraint_tree.specs.Trees.{Tree, size}
-use Rattle.fv_declare_schema.specs.Declarations.{Placed, Declarations}
+use Rattle.fv_declare_schema.specs.Declarations.{Placed, Declarations, count_nodes}
 use Rattle.fv_declare_schema.specs.Ordered.{held_inside}
-use Rattle.fv_declare_groups.specs.Grouping.{groups_in, is_misplaced, IsGrouping}
 use Rattle.fv_declare_groups.specs.Numbered.{groups_named}
 use Rattle.fv_groups.specs.Groups.{Groups}
-use Rattle.fv_message.specs.Table.{Messages, all_messages}
 use Rattle.fv_message.specs.declared.fault.MessageFault.{MessageFault}
 use Rattle.fv_message.specs.declared.fault.MessageFault.TheVariants as message
 use Rattle.fv_declare_draft.specs.AllUses.{Use, uses_in}
@@ -87,26 +86,12 @@ placed_from gs n (u ∷ us) (t ∷ ts) =
     record { type = u.type; place = u.place; number = n; groups = groups_named gs u.draft.groups; tree = t } ∷ placed_from gs (n + size t) us ts
 placed_from gs n _ _ = []
 
--- the names of a draft are known and stand as they may, and so do its groups; these are its types, unless there are too many, its uses,
--- its groups and its cascades
-pub record IsChecked (d : Drafted) (ts : Option Declared) (us : List Use) (gs : Groups) (cs : List Cascade) : Type 0 where
-  pub named : first (name_conditions d) ≡ None
-  pub types : ts ≡ unless_many (types_declared d)
-  pub led : AreLed d
-  pub uses : us ≡ uses_in d.types
-  pub groups : IsGrouping d gs cs
-
--- a draft's names and places are as they may be
-pub record IsInOrder (d : Drafted) : Type 0 where
-  pub named : bad_name d ≡ false
-  pub led : AreLed d
-  pub roots : unknown_root (types_declared d) d.forms ≡ false
-  pub placed : list_any (is_misplaced (groups_in d)) (cascades_in d.types) ≡ false
-
--- these are a draft's types, groups, messages, uses and cascades
-pub record AreOfDraft (d : Drafted) (ts : Declared) (gs : Groups) (ms : Messages) (us : List Use) (cs : List Cascade) : Type 0 where
-  pub types : ts ≡ types_declared d
-  pub groups : gs ≡ groups_in d
-  pub messages : ms ≡ all_messages d.messages
-  pub uses : us ≡ uses_in d.types
-  pub cascades : cs ≡ cascades_in d.types
+-- trees that the uses of a draft are read to: there is one for each, they have no more than 1,024 nodes, and each fits where it is used;
+-- what is declared by them is the answer by these faults
+pub record AreRead (k : Known) (d : Drafted) (rest : List DeclFault) (os : List (Tree Node)) : Type 0 where
+  pub each : length os ≡ length (uses_in d.types)
+  pub few : count_nodes os ≤ 1024
+  pub fit : AllZip (λ u o. tree_fits k u.place o ≡ true) (used_in d) os
+  pub declared : (ds : Declarations)
+      → ((ts : List (Tree Planned)) → AllZip (λ u o. IsReadTree u.0.place u.1 o) (zip (used_in d) ts) os → IsDeclared d ts ds)
+      → IsAnswerTo k d rest (Ok ds)

@@ -3,6 +3,7 @@ pub mod Declares
 pub mod FaultNames
 pub mod Judging
 pub mod Naming
+pub mod Parts
 pub mod Schemas
 pub mod Templates
 pub mod Types

@@ -14,19 +14,20 @@ ghost use Rattle.fv_declare_schema.specs.Declarations.{count_nodes};
 ghost use Rattle.fv_declare_judging.specs.Conditions.{unknown_root, used_in};
 ghost use Rattle.fv_declare_judging.specs.Schemas.{form_declared, form_grouped, IsDeclared};
 ghost use Rattle.fv_declare_schema.specs.Fits.{fits};
-ghost use Rattle.fv_declare_judging.specs.Judging.{IsInOrder, AreOfDraft, placed_from};
+ghost use Rattle.fv_declare_judging.specs.Judging.{placed_from};
+ghost use Rattle.fv_declare_judging.specs.Parts.{IsChecked, IsWhole, IsNumbered};
 ghost use Rattle.fv_declare_schema.specs.PlacedView.{placed_view};
 ghost use Rattle.fv_declare_schema.specs.SchemaView.{forms_view, form_groups_view};
 ghost use Rattle.fv_declare_draft.specs.UseViews.{use_view, cascade_view};
 
 use crate::fault::DeclFault;
+use crate::parts::Parts;
 use fv_constraint_tree::Occurrence;
 use fv_declare_draft::{Cascade, Draft, FormDraft, Use};
-use fv_declare_groups::{groups_named, sequences_of, valid_places};
-use fv_declare_schema::{Form, Placed, Schema};
-use fv_groups::Groups;
-use fv_message::Messages;
-use fv_model::{TypeId, Types};
+use fv_declare_groups::{Grouping, groups_named, sequences_of, valid_places};
+use fv_declare_schema::{Form, Placed, Schema, ValidPlace};
+use fv_groups::{GroupId, Groups};
+use fv_model_types::{TypeId, Types};
 use indexmap::IndexMap;
 use std::alloc::{AllocError, Global};
 
@@ -85,21 +86,55 @@ fn forms_for(
     Ok(declared)
 }
 
-/// The schema that a draft without fault declares. The types, groups, messages and cascades are the
-/// draft's, and the trees are those of its uses.
+/// What a schema has beside the types, groups and messages, in which types and groups stand by their
+/// numbers.
+#[derive(Drop)]
+struct Numbers {
+    occurrences: Vec<Placed>,
+    sequences: Vec<Option<Vec<GroupId>>>,
+    valid_places: Vec<ValidPlace>,
+    forms: IndexMap<String, Form>,
+}
+
+/// What a draft says of uses, sequences, valid places and forms, by the numbers of types and groups.
+fn numbered(
+    alloc: Global,
+    draft: &Draft,
+    uses: &[Use],
+    types: &Types,
+    groups: &Groups,
+    cascades: &[Cascade],
+    trees: Vec<Occurrence>,
+) -> Result<Numbers, DeclFault>
+    requires known { unknown_root (types_view types.now) (draft_view draft.now).forms ≡ false }
+    requires each { length trees.items ≡ length uses.now }
+    requires few { count_nodes trees.items ≤ 1024 }
+    ensures taken { IfOk result (λ n. IsNumbered (draft_view draft.now) (types_view types.now) groups.now
+        (map use_view uses.now) (map cascade_view cascades.now) trees.items n) }
+    ensures refused { IfErr result (λ f. f ≡ DeclFault.Memory) }
+{
+    let occurrences = place_all(alloc, groups, uses, trees)?;
+    let sequences = sequences_of(alloc, groups, &draft.types)?;
+    let valid_places = valid_places(alloc, groups, cascades)?;
+    let forms = forms_for(alloc, types, groups, &draft.forms)?;
+    Ok(Numbers {
+        occurrences,
+        sequences,
+        valid_places,
+        forms,
+    })
+}
+
+/// The schema that a draft without fault declares, of its parts and of the trees of its uses.
 pub(crate) fn build(
     alloc: Global,
     draft: &Draft,
-    types: Types,
-    groups: Groups,
-    messages: Messages,
     uses: &[Use],
-    cascades: &[Cascade],
+    parts: Parts,
     trees: Vec<Occurrence>,
 ) -> Result<Schema, DeclFault>
-    requires draft { IsInOrder (draft_view draft.now) }
-    requires parts { AreOfDraft (draft_view draft.now) (types_view types) groups messages (map use_view uses.now)
-        (map cascade_view cascades.now) }
+    requires checked { IsChecked (draft_view draft.now) (map use_view uses.now) parts }
+    requires whole { IsWhole parts }
     requires each { length trees.items ≡ length uses.now }
     requires few { count_nodes trees.items ≤ 1024 }
     ensures taken { IfOk result (λ s. (ts : List (Tree Planned))
@@ -109,17 +144,21 @@ pub(crate) fn build(
         → AllZip (λ u o. tree_fits k u.place o ≡ true) (used_in (draft_view draft.now)) trees.items → fits k s ≡ true) }
     ensures refused { IfErr result (λ f. f ≡ DeclFault.Memory) }
 {
-    let forms = forms_for(alloc, &types, &groups, &draft.forms)?;
-    let occurrences = place_all(alloc, &groups, uses, trees)?;
-    let sequences = sequences_of(alloc, &groups, &draft.types)?;
-    let valid_places = valid_places(alloc, &groups, cascades)?;
+    let (Some(types), Ok(messages)) = (parts.types, parts.wording) else {
+        unreachable!()
+    };
+    let Grouping { graph, cascades } = parts.groups;
+    let Ok(groups) = graph.finish(alloc) else {
+        return Err(DeclFault::Memory);
+    };
+    let numbered = numbered(alloc, draft, uses, &types, &groups, &cascades, trees)?;
     Ok(Schema::new(
         types,
-        occurrences,
-        forms,
+        numbered.occurrences,
+        numbered.forms,
         groups,
-        sequences,
-        valid_places,
+        numbered.sequences,
+        numbered.valid_places,
         messages,
     ))
 }

@@ -1,36 +1,31 @@
-//! Declarations whose names are known and stand as they may: the trees that their uses are composed to, and the schema, or
+//! Declarations whose names are known and stand as they may: the trees that their uses are composed to, or
 //! the first fault.
-ghost use Rattle.std.specs.Prelude.{◌≡◌, ◌≢◌, ◌||◌, List, nat_lt, None, Ok, Err, IfOk, IfErr, map, min, is_some, not, true, false, option_map};
-ghost use Rattle.std.specs.List.{list_any};
+ghost use Rattle.std.specs.Prelude.{◌≡◌, ◌≢◌, ◌||◌, List, nat_lt, Ok, Err, IfOk, IfErr, map, min, is_some, not, true, false};
+ghost use Rattle.std.specs.List.{AllZip, list_any};
 ghost use Rattle.std.specs.Result.{result_err};
-ghost use Rattle.fv_constraint.specs.Composed.{Planned, IsCyclic};
+ghost use Rattle.fv_constraint.specs.Composed.{Planned};
 ghost use Rattle.fv_constraint.specs.Meanings.{meant_by};
 ghost use Rattle.fv_declare_draft.specs.DraftViews.{draft_view};
-ghost use Rattle.fv_constraint.specs.Flattening.{AreTreesOfUses};
-ghost use Rattle.fv_constraint.specs.UseViews.{use_view as flat_use_view};
+ghost use Rattle.fv_constraint.specs.Flattening.{AreTreesOfUses, FlattensAll};
 ghost use Rattle.fv_declare_groups.specs.Grouping.{groups_in};
-ghost use Rattle.fv_message.specs.Table.{all_messages};
-ghost use Rattle.fv_model_types.specs.TypesView.{types_view};
+ghost use Rattle.fv_constraint_tree.specs.TargetFits.{tree_fits};
 ghost use Rattle.fv_constraint_tree.specs.Trees.{Tree};
 ghost use Rattle.fv_declare_schema.specs.Declarations.{count_nodes};
 ghost use Rattle.fv_declare_judging.specs.Conditions.{has_many};
-ghost use Rattle.fv_declare_schema.specs.Fits.{fits};
-ghost use Rattle.fv_declare_judging.specs.Judging.{IsAnswerTo, composition_faults, tree_faults, IsChecked, is_wordy, lacks_memory};
+ghost use Rattle.fv_declare_judging.specs.Judging.{IsAnswerTo, AreRead, composition_faults, tree_faults, is_wordy, lacks_memory};
+ghost use Rattle.fv_declare_judging.specs.Parts.{IsChecked, IsWhole};
 ghost use Rattle.fv_declare_judging.specs.Used.{used};
-ghost use Rattle.fv_declare_draft.specs.UseViews.{use_view, cascade_view};
-ghost use Rattle.fv_declare_judging.specs.Wording.{IsFirstFault};
+ghost use Rattle.fv_declare_draft.specs.UseViews.{use_view};
 
-use crate::build::build;
 use crate::fault::DeclFault;
+use crate::parts::Parts;
 use crate::used::used_in;
-use crate::wording::wording;
-use fv_constraint::{Composition, flatten_all, has_empty, trees_are_unique};
+use fv_constraint::{Composition, FlattenFault, flatten_all, has_empty, trees_are_unique};
+use fv_constraint_tree::Occurrence;
 use fv_declare_draft::{Draft, Use};
-use fv_declare_groups::{Grouping, has_long_sequence};
-use fv_declare_schema::Schema;
+use fv_declare_groups::has_long_sequence;
 use fv_groups::GroupGraph;
 use fv_message::{MessageFault, Messages};
-use fv_model::Types;
 use fv_registry::RuleSet;
 use std::alloc::Global;
 
@@ -92,83 +87,76 @@ fn count_nodes(composition: &Composition, uses: &[Use]) -> usize
     count
 }
 
-/// The schema of declarations in which no constraint is composed of itself, or their first fault.
-/// `types` are the draft's, `None` where one of their limits is passed, and so are the groups.
+/// The trees of uses, each read at its place.
+fn trees_of<'a, R: RuleSet>(
+    alloc: Global,
+    rules: &R,
+    composition: &Composition<'a>,
+    uses: &[Use<'a>],
+) -> Result<Vec<Occurrence>, FlattenFault>
+    requires { list_any (λ u. not (is_some (meant_by composition.now u.draft.constraint))) (map use_view uses.now) ≡ false }
+    ensures taken { IfOk result (λ v. FlattensAll (R.known rules.now) composition.now (map used (map use_view uses.now)) (Ok v.items)) }
+    ensures refused { IfErr result (λ f. f ≢ FlattenFault.Memory
+        → FlattensAll (R.known rules.now) composition.now (map used (map use_view uses.now)) (Err f)) }
+    ensures fits { IfOk result (λ v. AllZip (λ u o. tree_fits (R.known rules.now) u.place o ≡ true)
+        (map used (map use_view uses.now)) v.items) }
+{
+    let used = used_in(alloc, uses)?;
+    flatten_all(alloc, rules, composition, &used)
+}
+
+/// The trees of the uses of declarations in which no constraint is composed of itself, or the first
+/// fault of these declarations.
 fn flattened<'a, R: RuleSet>(
     alloc: Global,
     rules: &R,
     draft: &Draft,
     uses: &[Use<'a>],
-    types: Option<Types>,
-    groups: Grouping,
+    parts: &Parts,
     composition: &Composition<'a>,
-    wording: Result<Messages, MessageFault>,
-) -> Result<Schema, DeclFault>
-    requires checked { IsChecked (draft_view draft.now) (option_map types_view types) (map use_view uses.now)
-        groups.graph (map cascade_view groups.cascades.items) }
+) -> Result<Vec<Occurrence>, DeclFault>
+    requires checked { IsChecked (draft_view draft.now) (map use_view uses.now) parts.now }
     requires composed { composition.now ≡ (draft_view draft.now).definitions }
-    requires wording { IsFirstFault (draft_view draft.now) (result_err wording) }
-    requires messages { IfOk wording (λ m. m ≡ all_messages (draft_view draft.now).messages) }
-    ensures taken { IfOk result (λ s. IsAnswerTo (R.known rules.now) (draft_view draft.now) tree_faults (Ok s)) }
-    ensures fits { IfOk result (λ s. fits (R.known rules.now) s ≡ true) }
+    ensures taken { IfOk result (λ v. AreRead (R.known rules.now) (draft_view draft.now) tree_faults v.items) }
+    ensures whole { IfOk result (λ _. IsWhole parts.now) }
     ensures refused { IfErr result (λ f. f ≢ DeclFault.Memory
         → IsAnswerTo (R.known rules.now) (draft_view draft.now) tree_faults (Err f)) }
 {
     trees_are_unique();
-    let nodes = count_nodes(composition, uses);
+    if lacks_memory(&parts.wording) {
+        return Err(DeclFault::Memory);
+    }
     if has_empty(&draft.definitions) {
         return Err(DeclFault::EmptyConstraint);
     }
-    let Some(types) = types else {
-        return Err(DeclFault::TooLarge);
-    };
-    let Grouping { graph, cascades } = groups;
-    if is_large(draft, &graph, &wording, nodes) {
+    let nodes = count_nodes(composition, uses);
+    if parts.types.is_none() || is_large(draft, &parts.groups.graph, &parts.wording, nodes) {
         return Err(DeclFault::TooLarge);
     }
-    let Ok(groups) = graph.finish(alloc) else {
-        return Err(DeclFault::Memory);
-    };
-    let used = used_in(alloc, uses)?;
-    let trees = flatten_all(alloc, rules, composition, &used)?;
-    let messages = wording?;
-    build(
-        alloc, draft, types, groups, messages, uses, &cascades, trees,
-    )
+    let trees = trees_of(alloc, rules, composition, uses)?;
+    match &parts.wording {
+        Ok(_) => Ok(trees),
+        Err(fault) => Err(DeclFault::from(*fault)),
+    }
 }
 
-/// The schema of declarations whose names are known and stand as they may, or their first fault.
-/// `types` are the draft's, `None` where one of their limits is passed, and so are the groups.
+/// The trees of the uses of declarations whose names are known and stand as they may, or the first
+/// fault of these declarations.
 pub(crate) fn composed<'a, R: RuleSet>(
     alloc: Global,
     rules: &R,
     draft: &'a Draft<'a>,
     uses: &[Use<'a>],
-    types: Option<Types>,
-    groups: Grouping,
-) -> Result<Schema, DeclFault>
-    requires { IsChecked (draft_view draft.now) (option_map types_view types) (map use_view uses.now)
-        groups.graph (map cascade_view groups.cascades.items) }
-    ensures taken { IfOk result (λ s. IsAnswerTo (R.known rules.now) (draft_view draft.now) composition_faults (Ok s)) }
-    ensures fits { IfOk result (λ s. fits (R.known rules.now) s ≡ true) }
+    parts: &Parts,
+) -> Result<Vec<Occurrence>, DeclFault>
+    requires { IsChecked (draft_view draft.now) (map use_view uses.now) parts.now }
+    ensures taken { IfOk result (λ v. AreRead (R.known rules.now) (draft_view draft.now) composition_faults v.items) }
+    ensures whole { IfOk result (λ _. IsWhole parts.now) }
     ensures refused { IfErr result (λ f. f ≢ DeclFault.Memory
         → IsAnswerTo (R.known rules.now) (draft_view draft.now) composition_faults (Err f)) }
 {
     let Some(composition) = Composition::new(alloc, &draft.definitions)? else {
         return Err(DeclFault::CyclicComposition);
     };
-    let wording = wording(alloc, draft, uses);
-    if lacks_memory(&wording) {
-        return Err(DeclFault::Memory);
-    }
-    flattened(
-        alloc,
-        rules,
-        draft,
-        uses,
-        types,
-        groups,
-        &composition,
-        wording,
-    )
+    flattened(alloc, rules, draft, uses, parts, &composition)
 }

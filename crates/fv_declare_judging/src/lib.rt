@@ -8,6 +8,7 @@ mod fault;
 mod judging;
 mod names;
 mod naming;
+mod parts;
 mod reading;
 mod templates;
 mod types;

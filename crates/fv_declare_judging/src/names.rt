@@ -20,7 +20,7 @@ use crate::types::types_for;
 use fv_constraint::{composes_unknown, meant_by};
 use fv_declare_definition::Definition;
 use fv_declare_draft::{Draft, FormDraft, Use};
-use fv_model::{Fields, Types, TypesFault};
+use fv_model_types::{Fields, Types, TypesFault};
 use indexmap::IndexMap;
 use std::alloc::Global;
 use std::collections::BTreeMap;

@@ -6,7 +6,7 @@ ghost use Rattle.fv_declare_judging.specs.Types.{field_declared, type_declared};
 ghost use Rattle.fv_declare_draft.specs.DraftViews.{field_view, type_view};
 
 use fv_declare_draft::{FieldDraft, TypeDraft};
-use fv_model::Fields;
+use fv_model_types::Fields;
 use indexmap::IndexMap;
 use std::alloc::{AllocError, Global};
 

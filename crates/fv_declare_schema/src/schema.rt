@@ -19,7 +19,7 @@ use crate::valid_place::ValidPlace;
 use fv_constraint_tree::Test;
 use fv_groups::{GroupId, Groups};
 use fv_message::Messages;
-use fv_model::{TypeId, Types};
+use fv_model_types::{TypeId, Types};
 use fv_registry::RuleSet;
 use indexmap::IndexMap;
 use std::marker::Model;

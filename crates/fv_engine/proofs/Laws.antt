@@ -27,8 +27,8 @@ use Rattle.fv_engine_command.specs.Commands.{Part, put, set, remove, Request, to
 use Rattle.fv_engine_command.proofs.Asking.{asks_inner, asks_shape}
 use Rattle.fv_groups.specs.Groups.{numbers_of}
 use Rattle.fv_groups.specs.Judged.{unknown_in}
-use Rattle.fv_engine_machine.specs.Judging.{groups_of, IsListingOf, AreListings, AreListingsOf}
-use Rattle.fv_model.specs.Bundles.{Thing, Bundled}
+use Rattle.fv_engine_judging.specs.Judging.{groups_of, IsListingOf, AreListings, AreListingsOf}
+use Rattle.fv_bundle.specs.Bundles.{Thing, Bundled}
 use Rattle.fv_model.specs.Reading.{value_read}
 use Rattle.fv_model.specs.declared.fault.BundleFault.{BundleFault}
 use Rattle.fv_engine_pending.specs.Parts.{bundle_under, kept_as, and_then, is_misread, part_made}
@@ -44,7 +44,8 @@ use Rattle.fv_engine_pending.proofs.Again.{again_extended}
 use Rattle.fv_model.specs.Writing.{bundle_json}
 use Rattle.fv_model.proofs.Again.{same_json}
 use Rattle.serde_json.specs.Written.{compact_text}
-use Rattle.fv_engine_reply.specs.Answers.{Answer, Judged, done, shown, violated, checked, field_checked, value_checked, ids, refused, part_refused, redeclared, misdeclared, unfit}
+use Rattle.fv_engine_reply.specs.Answers.{Answer, done, shown, violated, checked, field_checked, value_checked, ids, refused, part_refused, redeclared, misdeclared, unfit}
+use Rattle.fv_validate.specs.Violations.{Judged}
 use Rattle.fv_engine_reply.specs.Texts.{answer_text, members_of}
 use Rattle.fv_engine_reply.specs.declared.answer.Done.{Done}
 use Rattle.fv_engine_reply.specs.declared.answer.Done.TheVariants.{Put, Batch}

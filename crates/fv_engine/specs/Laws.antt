@@ -10,7 +10,7 @@ use Rattle.fv_engine_command.specs.Commands.{put, Request, alone, get, check, ch
 use Rattle.fv_datum.specs.Lookup.{at_name}
 use Rattle.fv_declare_judging.specs.Declares.{Declares}
 use Rattle.fv_engine_machine.specs.Redeclaring.{Reign}
-use Rattle.fv_engine_machine.specs.Rejudging.{HasFewIds}
+use Rattle.fv_engine_judging.specs.Rejudging.{HasFewIds}
 use Rattle.fv_model.specs.Extends.{Extends}
 use Rattle.fv_registry.specs.Rules.{Known}
 use Rattle.fv_store.specs.Causes.{IsShortAbout}
@@ -18,8 +18,8 @@ use Rattle.fv_engine_machine.specs.Refusals.{parts_of}
 use Rattle.fv_engine_machine.specs.Step.{IsTaken, Told}
 use Rattle.fv_groups.specs.Groups.{numbers_of}
 use Rattle.fv_groups.specs.Judged.{unknown_in}
-use Rattle.fv_model.specs.Bundles.{Bundled}
-use Rattle.fv_engine_machine.specs.Judging.{groups_of}
+use Rattle.fv_bundle.specs.Bundles.{Bundled}
+use Rattle.fv_engine_judging.specs.Judging.{groups_of}
 use Rattle.fv_engine_pending.specs.Parts.{bundle_under}
 use Rattle.fv_engine_pending.specs.Touched.{IsTouched, needed_id}
 use Rattle.fv_registry.specs.Meanings.{Meanings}

@@ -26,10 +26,9 @@ use fv_engine_lines::{LIMIT, Responder};
 use fv_engine_machine::{SharedRules, read_rulebook, reply_to_line};
 use fv_engine_reply::{Refusal, Reply};
 use fv_local::Rulebook;
-use fv_model::Types;
+use fv_model_types::Types;
 use fv_registry::RuleSet;
 use fv_store::{OpenStoreFault, Store};
-use json::Scratch;
 use sqlite::{Alter, Connection};
 use std::alloc::Global;
 use std::marker::Model;
@@ -64,14 +63,11 @@ impl OpenFault {
 
 /// The record service: the declarations in force with the rules that they use, and the records that a
 /// database keeps. Contracts see it as the rules that are there, the text of the declarations in force,
-/// and a machine whose records are the store, outside of a transaction. The scratch is the memory that
-/// the JSON of a line is read with: it is kept from line to line, so that no line asks for it anew, and
-/// contracts leave it out.
+/// and a machine whose records are the store, outside of a transaction.
 pub struct Engine<R: RuleSet, S: Alter> {
     rules: SharedRules<R>,
     book: Rulebook<SharedRules<R>>,
     store: Store<S>,
-    scratch: Scratch,
 }
 
 impl<R: RuleSet + Drop, S: Alter + Drop> Drop for Engine<R, S> {
@@ -80,7 +76,6 @@ impl<R: RuleSet + Drop, S: Alter + Drop> Drop for Engine<R, S> {
             rules: _,
             book: _,
             store: _,
-            scratch: _,
         } = self;
     }
 }
@@ -227,12 +222,7 @@ impl<R: RuleSet + Drop, S: Alter + Drop> Engine<R, S> {
         match in_force(alloc, &rules, given, declarations, store.declarations()) {
             Ok(book) => {
                 are_shallow(book.schema().types());
-                Ok(Engine {
-                    rules,
-                    book,
-                    store,
-                    scratch: Scratch::new(alloc),
-                })
+                Ok(Engine { rules, book, store })
             }
             Err(fault) => Err((fault, store.into_connection())),
         }
@@ -300,7 +290,6 @@ impl<R: RuleSet + Drop, S: Alter> Engine<R, S> {
             &self.rules,
             &mut self.book,
             line,
-            &mut self.scratch,
             now,
         )
     }
@@ -329,7 +318,6 @@ impl<R: RuleSet + Drop, S: Alter> Engine<R, S> {
             rules: _,
             book: _,
             store,
-            scratch: _,
         } = self;
         store.into_connection()
     }

@@ -1,6 +1,6 @@
 -- The request that a command is.
 use Rattle.std.specs.Prelude.{map, option_map}
-use Rattle.fv_json.specs.Documents.{view as json_view}
+use Rattle.serde_json.specs.View.{view as json_view}
 use Rattle.fv_engine_command.specs.declared.command.Command.{Command}
 use Rattle.fv_engine_command.specs.declared.command.Command.TheVariants.{Alone, Batch, Get, Check, CheckField, CheckValue, List}
 use Rattle.fv_engine_command.specs.declared.part.Part.{Part}
@@ -9,8 +9,8 @@ use Rattle.fv_engine_command.specs.Commands as spec
 
 -- the part that a part of the code is
 abbrev pub part_view : Part → spec.Part
-part_view (Put id form bundle) = spec.put id.now form.now (json_view bundle)
-part_view (Set id object field value) = spec.set id.now object.now field.now (json_view value)
+part_view (Put id form bundle) = spec.put id.now form.now (json_view bundle.now)
+part_view (Set id object field value) = spec.set id.now object.now field.now (json_view value.now)
 part_view (Remove id) = spec.remove id.now
 
 -- the request that a command is
@@ -20,5 +20,5 @@ command_view (Batch parts) = spec.batch (map part_view parts.items)
 command_view (Get id) = spec.get id.now
 command_view (Check id groups) = spec.check id.now (map (λ n. n.now) groups.items)
 command_view (CheckField id object field groups) = spec.check_field id.now object.now field.now (map (λ n. n.now) groups.items)
-command_view (CheckValue type_name field value groups) = spec.check_value type_name.now field.now (json_view value) (map (λ n. n.now) groups.items)
+command_view (CheckValue type_name field value groups) = spec.check_value type_name.now field.now (json_view value.now) (map (λ n. n.now) groups.items)
 command_view (List form after limit) = spec.list form.now (option_map (λ s. s.now) after) limit

@@ -2,13 +2,14 @@
 ghost use Rattle.std.specs.Prelude.{◌≡◌, IfOk, codes, map, option_map, option_and_then};
 ghost use Rattle.fv_datum.specs.Forms.{maybe, optional};
 ghost use Rattle.fv_datum.specs.Lookup.{at_name};
-ghost use Rattle.fv_json.specs.Documents.{view as json_view};
+ghost use Rattle.serde_json.specs.View.{view as json_view};
 ghost use Rattle.fv_engine_command.specs.CommandView.{command_view, part_view};
 ghost use Rattle.fv_engine_command.specs.Commands.{alone, batch_of, get_of, groups_at, check_of, check_field_of, check_value_of, id_in, limit_in, list_of, forms, command_of};
 
 use crate::ids::{id_in, id_of};
 use crate::part::{Part, parts_in, put_of, remove_of, set_of};
-use fv_json::{Json, has_only, names_of, text_at};
+use fv_datum::{has_only, names_of, text_at};
+use serde_json::Value;
 use std::alloc::{AllocError, Global};
 
 /// The most groups that a check names, repeats included.
@@ -19,12 +20,12 @@ const MOST_IDS: u64 = 1000;
 
 /// A command, its parts borrowed from the line's JSON.
 #[derive(Drop)]
-pub enum Command<'j, 'a> {
+pub enum Command<'a> {
     /// A put, a set or a remove by itself.
-    Alone(Part<'j, 'a>),
+    Alone(Part<'a>),
     /// All of these in order, or none; 1 to 64.
     Batch {
-        parts: Vec<Part<'j, 'a>>,
+        parts: Vec<Part<'a>>,
     },
     Get {
         id: &'a str,
@@ -42,7 +43,7 @@ pub enum Command<'j, 'a> {
     CheckValue {
         type_name: &'a str,
         field: &'a str,
-        value: Json<'j, 'a>,
+        value: &'a Value,
         groups: Vec<&'a str>,
     },
     /// The ids of a form above one, at most so many.
@@ -53,7 +54,7 @@ pub enum Command<'j, 'a> {
     },
 }
 
-fn get_of<'j, 'a>(value: &Json<'j, 'a>) -> Option<Command<'j, 'a>>
+fn get_of(value: &Value) -> Option<Command<'_>>
     ensures { option_map command_view result ≡ get_of (json_view value.now) }
 {
     if !has_only(value, &["do", "id"]) {
@@ -64,7 +65,7 @@ fn get_of<'j, 'a>(value: &Json<'j, 'a>) -> Option<Command<'j, 'a>>
 }
 
 /// The names at the member `groups`: an array of at most 32 texts, and none where it is missing.
-fn groups_of<'a>(alloc: Global, value: &Json<'_, 'a>) -> Result<Option<Vec<&'a str>>, AllocError>
+fn groups_of(alloc: Global, value: &Value) -> Result<Option<Vec<&str>>, AllocError>
     ensures { IfOk result (λ o. option_map (λ v. map (λ n. n.now) v.items) o ≡ groups_at (json_view value.now)) }
 {
     match names_of(alloc, value.get("groups"))? {
@@ -73,10 +74,7 @@ fn groups_of<'a>(alloc: Global, value: &Json<'_, 'a>) -> Result<Option<Vec<&'a s
     }
 }
 
-fn check_of<'j, 'a>(
-    alloc: Global,
-    value: &Json<'j, 'a>,
-) -> Result<Option<Command<'j, 'a>>, AllocError>
+fn check_of(alloc: Global, value: &Value) -> Result<Option<Command<'_>>, AllocError>
     ensures { IfOk result (λ o. option_map command_view o ≡ check_of (json_view value.now)) }
 {
     if !has_only(value, &["do", "id", "groups"]) {
@@ -91,10 +89,7 @@ fn check_of<'j, 'a>(
     }
 }
 
-fn check_field_of<'j, 'a>(
-    alloc: Global,
-    value: &Json<'j, 'a>,
-) -> Result<Option<Command<'j, 'a>>, AllocError>
+fn check_field_of(alloc: Global, value: &Value) -> Result<Option<Command<'_>>, AllocError>
     ensures { IfOk result (λ o. option_map command_view o ≡ check_field_of (json_view value.now)) }
 {
     if !has_only(value, &["do", "id", "object", "field", "groups"]) {
@@ -120,10 +115,7 @@ fn check_field_of<'j, 'a>(
     }
 }
 
-fn check_value_of<'j, 'a>(
-    alloc: Global,
-    value: &Json<'j, 'a>,
-) -> Result<Option<Command<'j, 'a>>, AllocError>
+fn check_value_of(alloc: Global, value: &Value) -> Result<Option<Command<'_>>, AllocError>
     ensures { IfOk result (λ o. option_map command_view o ≡ check_value_of (json_view value.now)) }
 {
     if !has_only(value, &["do", "type", "field", "value", "groups"]) {
@@ -150,17 +142,17 @@ fn check_value_of<'j, 'a>(
 }
 
 /// The id at the member `after`, which may be missing.
-fn after_of<'a>(value: &Json<'_, 'a>) -> Option<Option<&'a str>>
+fn after_of(value: &Value) -> Option<Option<&str>>
     ensures { option_map (λ o. option_map (λ s. s.now) o) result ≡ maybe id_in (codes "after") (json_view value.now) }
 {
     match value.get("after") {
         None => Some(None),
-        Some(after) => Some(Some(id_in(&after)?)),
+        Some(after) => Some(Some(id_in(after)?)),
     }
 }
 
 /// The limit that a JSON value is: a whole number from 1 to 1,000.
-fn limit_in(value: &Json) -> Option<u32>
+fn limit_in(value: &Value) -> Option<u32>
     ensures { result ≡ limit_in (json_view value.now) }
 {
     let limit = value.as_u64()?;
@@ -174,16 +166,16 @@ fn limit_in(value: &Json) -> Option<u32>
 }
 
 /// The limit at the member `limit`; 100 where it is missing.
-fn limit_of(value: &Json) -> Option<u32>
+fn limit_of(value: &Value) -> Option<u32>
     ensures { result ≡ optional 100 limit_in (codes "limit") (json_view value.now) }
 {
     match value.get("limit") {
         None => Some(100),
-        Some(limit) => limit_in(&limit),
+        Some(limit) => limit_in(limit),
     }
 }
 
-fn list_of<'j, 'a>(value: &Json<'j, 'a>) -> Option<Command<'j, 'a>>
+fn list_of(value: &Value) -> Option<Command<'_>>
     ensures { option_map command_view result ≡ list_of (json_view value.now) }
 {
     if !has_only(value, &["do", "form", "after", "limit"]) {
@@ -195,10 +187,7 @@ fn list_of<'j, 'a>(value: &Json<'j, 'a>) -> Option<Command<'j, 'a>>
     Some(Command::List { form, after, limit })
 }
 
-fn batch_of<'j, 'a>(
-    alloc: Global,
-    value: &Json<'j, 'a>,
-) -> Result<Option<Command<'j, 'a>>, AllocError>
+fn batch_of(alloc: Global, value: &Value) -> Result<Option<Command<'_>>, AllocError>
     ensures { IfOk result (λ o. option_map command_view o ≡ batch_of (json_view value.now)) }
 {
     if !has_only(value, &["do", "parts"]) {
@@ -207,25 +196,25 @@ fn batch_of<'j, 'a>(
     let Some(told) = value.get("parts") else {
         return Ok(None);
     };
-    match parts_in(alloc, &told)? {
+    match parts_in(alloc, told)? {
         None => Ok(None),
         Some(parts) => Ok(Some(Command::Batch { parts })),
     }
 }
 
 /// A part by itself.
-fn alone<'j, 'a>(part: Option<Part<'j, 'a>>) -> Option<Command<'j, 'a>>
+fn alone<'a>(part: Option<Part<'a>>) -> Option<Command<'a>>
     ensures { option_map command_view result ≡ option_map alone (option_map part_view part.entry) }
 {
     Some(Command::Alone(part?))
 }
 
 /// The command of a name that a JSON value is.
-fn done_by<'j, 'a>(
+fn done_by<'a>(
     alloc: Global,
     name: &str,
-    value: &Json<'j, 'a>,
-) -> Result<Option<Command<'j, 'a>>, AllocError>
+    value: &'a Value,
+) -> Result<Option<Command<'a>>, AllocError>
     ensures { IfOk result (λ o. option_map command_view o
         ≡ option_and_then (λ form. form (json_view value.now)) (at_name name.now forms)) }
 {
@@ -246,10 +235,7 @@ fn done_by<'j, 'a>(
 /// The command that a JSON value is: an object with the members of the command that `do` names, and
 /// no others. A put's bundle and the value of a set and of a checkvalue are any values here; forms,
 /// objects, fields, types and groups are any texts. So is each part of a batch.
-pub fn command_of<'j, 'a>(
-    alloc: Global,
-    value: &Json<'j, 'a>,
-) -> Result<Option<Command<'j, 'a>>, AllocError>
+pub fn command_of(alloc: Global, value: &Value) -> Result<Option<Command<'_>>, AllocError>
     ensures { IfOk result (λ o. option_map command_view o ≡ command_of (json_view value.now)) }
 {
     match text_at(value, "do") {

@@ -2,10 +2,10 @@
 ghost use Rattle.std.specs.Prelude.{◌≡◌, ◌||◌, ◌==◌, option_map};
 ghost use Rattle.std.specs.Char.{is_ascii_alphanumeric};
 ghost use Rattle.std.specs.List.{list_all};
-ghost use Rattle.fv_json.specs.Documents.{view as json_view};
+ghost use Rattle.serde_json.specs.View.{view as json_view};
 ghost use Rattle.fv_engine_command.specs.Commands.{is_id, id_in, id_at};
 
-use fv_json::Json;
+use serde_json::Value;
 
 /// The most bytes of an id.
 const LONGEST_ID: usize = 64;
@@ -37,7 +37,7 @@ fn is_id(text: &str) -> bool
 }
 
 /// The id that a JSON value is.
-pub(crate) fn id_in<'a>(value: &Json<'_, 'a>) -> Option<&'a str>
+pub(crate) fn id_in(value: &Value) -> Option<&str>
     ensures { option_map (λ s. s.now) result ≡ id_in (json_view value.now) }
 {
     let id = value.as_str()?;
@@ -45,8 +45,8 @@ pub(crate) fn id_in<'a>(value: &Json<'_, 'a>) -> Option<&'a str>
 }
 
 /// The id at the member `id`.
-pub(crate) fn id_of<'a>(value: &Json<'_, 'a>) -> Option<&'a str>
+pub(crate) fn id_of(value: &Value) -> Option<&str>
     ensures { option_map (λ s. s.now) result ≡ id_at (json_view value.now) }
 {
-    id_in(&value.get("id")?)
+    id_in(value.get("id")?)
 }

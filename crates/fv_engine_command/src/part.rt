@@ -1,14 +1,14 @@
 //! The parts of commands that change records.
 ghost use Rattle.std.specs.Prelude.{◌≡◌, IfOk, map, option_map, option_and_then};
-ghost use Rattle.fv_json.specs.Documents.{view as json_view};
-ghost use Rattle.fv_json.specs.MembersView.{items_view};
+ghost use Rattle.serde_json.specs.View.{view as json_view, items_view};
 ghost use Rattle.fv_datum.specs.Lookup.{at_name};
 ghost use Rattle.fv_datum.specs.Members.{listed, each_some};
 ghost use Rattle.fv_engine_command.specs.CommandView.{part_view};
 ghost use Rattle.fv_engine_command.specs.Commands.{put_of, set_of, remove_of, part_forms, part_of, parts_in};
 
 use crate::ids::id_of;
-use fv_json::{Items, Json, has_only, text_at};
+use fv_datum::{has_only, text_at};
+use serde_json::Value;
 use std::alloc::{AllocError, Global};
 
 /// The most parts of a batch.
@@ -16,19 +16,19 @@ const MOST_PARTS: usize = 64;
 
 /// A part of a command that changes records, borrowed from the line's JSON.
 #[derive(Clone, Copy)]
-pub enum Part<'j, 'a> {
+pub enum Part<'a> {
     /// The record of the id is this one, whether or not there is one.
     Put {
         id: &'a str,
         form: &'a str,
-        bundle: Json<'j, 'a>,
+        bundle: &'a Value,
     },
     /// One datum of a record is this one.
     Set {
         id: &'a str,
         object: &'a str,
         field: &'a str,
-        value: Json<'j, 'a>,
+        value: &'a Value,
     },
     /// The id's record goes.
     Remove {
@@ -36,7 +36,7 @@ pub enum Part<'j, 'a> {
     },
 }
 
-pub(crate) fn put_of<'j, 'a>(value: &Json<'j, 'a>) -> Option<Part<'j, 'a>>
+pub(crate) fn put_of(value: &Value) -> Option<Part<'_>>
     ensures { option_map part_view result ≡ put_of (json_view value.now) }
 {
     if !has_only(value, &["do", "id", "form", "bundle"]) {
@@ -48,7 +48,7 @@ pub(crate) fn put_of<'j, 'a>(value: &Json<'j, 'a>) -> Option<Part<'j, 'a>>
     Some(Part::Put { id, form, bundle })
 }
 
-pub(crate) fn set_of<'j, 'a>(value: &Json<'j, 'a>) -> Option<Part<'j, 'a>>
+pub(crate) fn set_of(value: &Value) -> Option<Part<'_>>
     ensures { option_map part_view result ≡ set_of (json_view value.now) }
 {
     if !has_only(value, &["do", "id", "object", "field", "value"]) {
@@ -66,7 +66,7 @@ pub(crate) fn set_of<'j, 'a>(value: &Json<'j, 'a>) -> Option<Part<'j, 'a>>
     })
 }
 
-pub(crate) fn remove_of<'j, 'a>(value: &Json<'j, 'a>) -> Option<Part<'j, 'a>>
+pub(crate) fn remove_of(value: &Value) -> Option<Part<'_>>
     ensures { option_map part_view result ≡ remove_of (json_view value.now) }
 {
     if !has_only(value, &["do", "id"]) {
@@ -77,7 +77,7 @@ pub(crate) fn remove_of<'j, 'a>(value: &Json<'j, 'a>) -> Option<Part<'j, 'a>>
 }
 
 /// The part of a name that a JSON value is.
-fn part_by<'j, 'a>(name: &str, value: &Json<'j, 'a>) -> Option<Part<'j, 'a>>
+fn part_by<'a>(name: &str, value: &'a Value) -> Option<Part<'a>>
     ensures { option_map part_view result
         ≡ option_and_then (λ form. form (json_view value.now)) (at_name name.now part_forms) }
 {
@@ -90,23 +90,20 @@ fn part_by<'j, 'a>(name: &str, value: &Json<'j, 'a>) -> Option<Part<'j, 'a>>
 }
 
 /// The part that a JSON value is: a put, a set or a remove.
-fn part_of<'j, 'a>(value: &Json<'j, 'a>) -> Option<Part<'j, 'a>>
+fn part_of(value: &Value) -> Option<Part<'_>>
     ensures { option_map part_view result ≡ part_of (json_view value.now) }
 {
     part_by(text_at(value, "do")?, value)
 }
 
 /// The parts that JSON values are.
-fn each_part<'j, 'a>(
-    alloc: Global,
-    values: Items<'j, 'a>,
-) -> Result<Option<Vec<Part<'j, 'a>>>, AllocError>
+fn each_part(alloc: Global, values: &[Value]) -> Result<Option<Vec<Part<'_>>>, AllocError>
     ensures { IfOk result (λ o. option_map (λ v. map part_view v.items) o
-        ≡ each_some part_of (listed (items_view values.entry))) }
+        ≡ each_some part_of (listed (items_view values.now))) }
 {
     let mut parts = Vec::with_capacity(alloc, values.len())?;
-    for value in values.iter() {
-        match part_of(&value) {
+    for value in values {
+        match part_of(value) {
             None => return Ok(None),
             Some(part) => parts.push(part)?,
         }
@@ -115,10 +112,7 @@ fn each_part<'j, 'a>(
 }
 
 /// The parts that an array has, 1 to 64 of them.
-pub(crate) fn parts_in<'j, 'a>(
-    alloc: Global,
-    value: &Json<'j, 'a>,
-) -> Result<Option<Vec<Part<'j, 'a>>>, AllocError>
+pub(crate) fn parts_in(alloc: Global, value: &Value) -> Result<Option<Vec<Part<'_>>>, AllocError>
     ensures { IfOk result (λ o. option_map (λ v. map part_view v.items) o ≡ parts_in (json_view value.now)) }
 {
     let Some(values) = value.as_array() else {

@@ -18,7 +18,7 @@ use Rattle.fv_engine_command.specs.Commands.{Part, Request, too_long, not_json, 
 use Rattle.fv_engine_machine.specs.Step.{done_by, Changes, Checked, Serves, Answers, IsTaken, looks_up, LooksUp, Step}
 use Rattle.fv_groups.specs.Groups.{numbers_of}
 use Rattle.fv_groups.specs.Judged.{unknown_in}
-use Rattle.fv_model.specs.Bundles.{Bundled}
+use Rattle.fv_bundle.specs.Bundles.{Bundled}
 use Rattle.fv_model.specs.declared.fault.BundleFault.{BundleFault}
 use Rattle.fv_model.specs.declared.fault.BundleFault.TheVariants as fault
 use Rattle.fv_registry.specs.Meanings.{Meanings}

@@ -1,15 +1,11 @@
 -- What a command that changes records makes of the machine.
 use Rattle.std.proofs.Common.{◌≡◌, ◌≢◌, ◌+◌, ◌*◌, ◌≤◌, ◌⊎◌, map, IfOk, Vec, ℕ, ℤ, IsTrue, length, List, [], ◌∷◌, Bool, true, false, Option, Some, None, Result, Ok, Err, inl, inr, refl, sym, ap, subst, ◌∙◌, arith}
 use Rattle.std.specs.List.{AllByRecursion, list_any}
-use Rattle.std.specs.Map.{keys_of}
 use Rattle.std.specs.declared.alloc.Global.{Global}
 use Rattle.sqlite.specs.State.{State, HasCleanDisk}
 use Rattle.fv_engine_command.specs.Commands.{Part, put, set, remove, Request, alone, batch}
-use Rattle.fv_datum.specs.Lookup.{at_name}
 use Rattle.fv_declare_schema.specs.Declarations.{Declarations}
-use Rattle.fv_engine_machine.specs.Judging.{OneIsOverVisited, AreListings}
-use Rattle.fv_engine_machine.specs.Records.{AreJudged, IsOfJudging, OneIsOver, with_some}
-use Rattle.fv_engine_machine.proofs.Listings.{listings, one_over}
+use Rattle.fv_engine_judging.specs.Judging.{AreListings, AreListingsOf, IsOfJudging, IsStanding, OneIsOverAmong, OneIsOverVisited}
 use Rattle.fv_engine_machine.specs.Causes.{StoreHasFailed, HasRoomFor, Handles, rows_taken}
 use Rattle.fv_engine_machine.specs.Keeping.{Unchanged, Takes, TakesOrTells, Fails, Moves, FitsWhereHeld, HasRoomOn, IsOneSet, set_object, Keeps, Settles, told_part, IsCommand, ChangesSo, rows_on, unjudged}
 use Rattle.fv_engine_machine.specs.Machines.{Machine, over, with_map, contents, room_in}
@@ -27,7 +23,8 @@ use Rattle.fv_engine_pending.proofs.OneObject.{set_alone}
 use Rattle.fv_engine_pending.specs.declared.fault.PartFault.{PartFault}
 use Rattle.fv_engine_pending.specs.declared.fault.PartFault.TheVariants as part
 use Rattle.fv_registry.specs.Meanings.{Meanings}
-use Rattle.fv_engine_reply.specs.Answers.{Answer, Judged, done, violated, refused, part_refused}
+use Rattle.fv_engine_reply.specs.Answers.{Answer, done, violated, refused, part_refused}
+use Rattle.fv_validate.specs.Violations.{Judged}
 use Rattle.fv_engine_reply.specs.declared.answer.Done.{Done}
 use Rattle.fv_engine_reply.specs.declared.answer.Done.TheVariants as what
 use Rattle.fv_engine_reply.specs.declared.answer.Refusal.{Refusal}
@@ -37,7 +34,6 @@ use Rattle.fv_store.specs.Changes.{after_all, changed, ChangesFit}
 use Rattle.fv_store.specs.Records.{Contents, Kept, Records, Roots}
 use Rattle.fv_store.specs.Stands.{Frame, Holds, Stays}
 use Rattle.fv_store.specs.declared.change.Change.{Change}
-use Rattle.fv_datum.specs.Ascending.{IsAscending}
 use Rattle.fv_model_types.specs.Types.{Declared}
 use Rattle.fv_validate.specs.declared.fault.ValidateFault.{ValidateFault}
 use Rattle.fv_validate.specs.declared.fault.ValidateFault.TheVariants as validate
@@ -117,28 +113,36 @@ module _ {H : Type 0} (held : H → State) (ds : Declarations) (bytes : List ℕ
 
 -- ---- judging
 
+-- the listings of some records are those of others, where these are the same
+listed_as : (means : Meanings) (ds : Declarations) (now : ℤ) (Among Others : List ℕ → Kept → Type 0) → ((id : List ℕ) (k : Kept) → Among id k → Others id k) → ((id : List ℕ) (k : Kept) → Others id k → Among id k) → (ls : List Judged)
+    → AreListingsOf means ds now Among ls → AreListingsOf means ds now Others ls
+listed_as means ds now Among Others to back ls are = record {
+  ascending = are.ascending;
+  sound = λ l has. let found = are.sound l has in (found.0, found.1, to l.0 found.1 found.2, found.3);
+  complete = λ id k is. are.complete id k (back id k is);
+}
+
+over_as : (ds : Declarations) (Among Others : List ℕ → Kept → Type 0) → ((id : List ℕ) (k : Kept) → Among id k → Others id k) → OneIsOverAmong ds Among → OneIsOverAmong ds Others
+over_as ds Among Others to (id, k, is, over) = (id, k, to id k is, over)
+
 module _ (means : Meanings) (now : ℤ) (given : ℕ) (way : Way) (what : Done) (x y : Machine Records) where
   -- nothing of what stands on the way has a violation
-  pub settled_none : (answer : Answer) (ls : List Judged) → AreJudged means x.declared now (standing way) ls → with_some ls ≡ [] → Keeps given way what x answer y → Settles means now given way what x answer y
-  settled_none answer ls judged none (inl took) = inr (inl (ls, judged, subst (λ (rs : List Judged). TakesOrTells what given rs (overlay way x.records) x answer y) (sym none) took))
-  settled_none answer ls judged none (inr failed) = inr (inr (
+  pub settled_none : (answer : Answer) → AreListingsOf means x.declared now (IsStanding way) [] → Keeps given way what x answer y → Settles means now given way what x answer y
+  settled_none answer none (inl took) = inr (inl ([], none, took))
+  settled_none answer none (inr failed) = inr (inr (
     failed.0,
-    fails_by (λ (why : Refusal). Fails why ((ls : List Judged) × AreJudged means x.declared now (standing way) ls × (with_some ls ≡ []) × (HasRoomOn given way x → StoreHasFailed x y)))
-        _ failed.0 failed.1 tt (λ cause. (ls, judged, none, cause)),
+    fails_by (λ (why : Refusal). Fails why (AreListingsOf means x.declared now (IsStanding way) [] × (HasRoomOn given way x → StoreHasFailed x y))) _ failed.0 failed.1 tt (λ cause. (none, cause)),
     failed.2,
     failed.3,
   ))
 
   -- some of it has
-  pub settled_some : (ls rs : List Judged) → AreJudged means x.declared now (standing way) ls → rs ≡ with_some ls → (rs ≡ [] → ⊥) → Unchanged x y → Settles means now given way what x (violated rs) y
-  settled_some ls rs judged are some stay = inr (inl (ls, judged, decided (with_some ls) are))
-    where
-      decided : (ws : List Judged) → rs ≡ ws → TakesOrTells what given ws (overlay way x.records) x (violated rs) y
-      decided [] e = absurd (some e)
-      decided (w ∷ ws) e = (ap violated e, stay)
+  pub settled_some : (ls : List Judged) → AreListingsOf means x.declared now (IsStanding way) ls → (ls ≡ [] → ⊥) → Unchanged x y → Settles means now given way what x (violated ls) y
+  settled_some [] judged some stay = absurd (some refl)
+  settled_some (l ∷ ls) judged some stay = inr (inl (l ∷ ls, judged, (refl, stay)))
 
   -- it isn't judged
-  pub settled_not : (fault : ValidateFault) → IsOfJudging fault → (fault ≡ validate.TooManyVisits → OneIsOver x.declared (standing way)) → Unchanged x y
+  pub settled_not : (fault : ValidateFault) → IsOfJudging fault → (fault ≡ validate.TooManyVisits → OneIsOverAmong x.declared (IsStanding way)) → Unchanged x y
       → Settles means now given way what x (refused (unjudged fault)) y
   settled_not validate.UnknownGroup other many stay = absurd (other.0 refl)
   settled_not validate.NoSuchField other many stay = absurd (other.1 refl)
@@ -204,15 +208,14 @@ module _ (means : Meanings) (now : ℤ) (parts : List Part) (what : Done) (x : M
     -- all are made: what they leave stands on the way, over a machine that is as it was
     module _ (given : ℕ) (way : Way) (mid y : Machine Records) (is : made x.declared parts x.records ≡ Ok (overlay way x.records)) (stay : Unchanged x mid)
         (room : mid.room ≡ x.room) (live : IsTrue (list_any needs_record parts) → IsTrue x.is_open)
-        (few : given ≤ rows_taken parts) (ascending : IsAscending (keys_of way))
-        (stands : (id : List ℕ) (k : Kept) → IsTouched parts (overlay way x.records) id k → at_name id way ≡ Some (Some k))
-        (touched : (id : List ℕ) (k : Kept) → at_name id way ≡ Some (Some k) → IsTouched parts (overlay way x.records) id k) where
+        (few : given ≤ rows_taken parts) (stands : (id : List ℕ) (k : Kept) → IsTouched parts (overlay way x.records) id k → IsStanding way id k)
+        (touched : (id : List ℕ) (k : Kept) → IsStanding way id k → IsTouched parts (overlay way x.records) id k) where
       same_records : overlay way mid.records ≡ overlay way x.records
       same_records = ap (overlay way) stay.records
 
-      are_listed : (ls : List Judged) → AreJudged means mid.declared now (standing way) ls → AreListings means x.declared now parts (overlay way x.records) (with_some ls)
-      are_listed ls judged = listings x.declared parts (overlay way x.records) way means now ls
-          (subst (λ (ds : Declarations). AreJudged means ds now (standing way) ls) stay.declared judged) ascending stands touched
+      are_listed : (ls : List Judged) → AreListingsOf means mid.declared now (IsStanding way) ls → AreListings means x.declared now parts (overlay way x.records) ls
+      are_listed ls judged = listed_as means x.declared now (IsStanding way) (IsTouched parts (overlay way x.records)) touched stands ls
+          (subst (λ (ds : Declarations). AreListingsOf means ds now (IsStanding way) ls) stay.declared judged)
 
       has_room : HasRoomFor parts (overlay way x.records) x → HasRoomOn given way mid
       has_room r = (omega (arith, few, room, r.0), λ id k is. r.1 id k (touched id k is))
@@ -258,20 +261,20 @@ module _ (means : Meanings) (now : ℤ) (parts : List Part) (what : Done) (x : M
         settled : (answer : Answer) → Settles means now given way what mid answer y → Handles means now r x answer y
         settled answer (inl over) =
             let stays = still_unchanged x mid y stay over.2 in
-            let one = one_over x.declared parts (overlay way x.records) way (subst (λ (ds : Declarations). OneIsOver ds (standing way)) stay.declared over.0) ascending touched in
+            let one = over_as x.declared (IsStanding way) (IsTouched parts (overlay way x.records)) touched (subst (λ (ds : Declarations). OneIsOverAmong ds (IsStanding way)) stay.declared over.0) in
             subst (λ (a : Answer). Handles means now r x a y) (sym over.1)
             (still means now r x y stays (refused TooManyVisits) tt (serves (refused TooManyVisits) y.records (inl (one, refl, stays.records))) looks_live)
-        settled answer (inr (inl judged)) = decided (with_some judged.0) (are_listed judged.0 judged.1) answer judged.2
+        settled answer (inr (inl judged)) = decided judged.0 (are_listed judged.0 judged.1) answer judged.2
         settled answer (inr (inr failed)) =
             let stays = still_unchanged x mid y stay failed.3 in
             subst (λ (a : Answer). Handles means now r x a y) (sym failed.2)
             (fails_by (λ (w : Refusal). Handles means now r x (refused w) y) _ failed.0 failed.1 (out_of_memory means now r x y stays command.short) (λ cause.
-            let takes = taken_so (subst (λ (ls : List Judged). AreListings means x.declared now parts (overlay way x.records) ls) cause.2 (are_listed cause.0 cause.1)) in
+            let takes = taken_so (are_listed [] cause.0) in
             unstored means now r x y stays (inr (overlay way x.records, takes)) (inr (
               overlay way x.records,
               takes,
               λ has. failed_since x mid y stay failed.3.counts
-                  (cause.3 (has_room (subst (λ (ps : List Part). HasRoomFor ps (overlay way x.records) x) command.parts_are has))),
+                  (cause.1 (has_room (subst (λ (ps : List Part). HasRoomFor ps (overlay way x.records) x) command.parts_are has))),
             ))))
 
       pub change_settled : (answer : Answer) → Settles means now given way what mid answer y → ChangesSo means now parts what x answer y

@@ -1,19 +1,9 @@
--- Groups by their names and numbers.
-use Rattle.std.proofs.Common.{◌≡◌, ◌<◌, ℕ, zero, suc, List, [], ◌∷◌, Bool, true, false, not, ◌||◌, if◌then◌else◌, Option, Some, None, is_some, option_map, option_and_then, filter_map, refl, ap, ◌∙◌, arith}
-use Rattle.std.specs.List.{All, AllByRecursion, list_any, cons_option}
+-- Names, of which each is a group's or some are not.
+use Rattle.std.proofs.Common.{◌≡◌, ℕ, List, [], ◌∷◌, Bool, true, false, not, ◌||◌, if◌then◌else◌, Option, Some, None, is_some, option_map, option_and_then, filter_map, refl, ap, ◌∙◌}
+use Rattle.std.specs.List.{list_any, cons_option}
 use Rattle.fv_datum.specs.Members.{each_some}
 use Rattle.fv_groups.specs.Groups.{Groups, number_of, numbers_of}
 use Rattle.fv_groups.specs.Judged.{unknown_in}
-use Rattle.fv_groups.specs.Tables.{indices}
-use Rattle.fv_groups.specs.declared.declared.GroupId.{GroupId}
-
--- numbers that are below a bound, at the groups that have them
-pub all_below : (n : ℕ) (gs : List GroupId) → AllByRecursion (λ g. g < n) (indices gs) → All (λ h. h.index < n) gs
-all_below n [] all k d less = absurd (omega arith)
-all_below n (g ∷ gs) all zero d less = all.0
-all_below n (g ∷ gs) all (suc k) d less = all_below n gs all.1 k d (omega arith)
-
--- ---- names, of which each is a group's or some are not
 
 module _ {X Y : Type 0} (f : X → Option Y) where
   known_more : (o : Option Y) (rest : Option (List Y)) (unknown : Bool) (ys : List Y) → rest ≡ (if unknown then None else Some ys)

@@ -2,13 +2,7 @@ pub mod Becoming
 pub mod Changes
 pub mod Going
 pub mod Groups
-pub mod Judged
-pub mod Listings
 pub mod OneField
-pub mod OneMore
-pub mod Pages
-pub mod Passes
 pub mod Redeclared
-pub mod Rereads
 pub mod Rooms
 pub mod Serving

@@ -10,10 +10,10 @@ use Rattle.fv_engine_machine.specs.Machines.{Machine, contents, over, with_map}
 use Rattle.fv_engine_command.specs.Commands.{Part, set, Request}
 use Rattle.fv_engine_machine.specs.Refusals.{first_of, is_too_long, made, parts_of, refusal, told_fault, when}
 use Rattle.fv_engine_machine.specs.Step.{Changes, Checked, FieldChecked, LooksUp, Serves}
-use Rattle.fv_engine_machine.specs.Records.{AreJudged, OneIsOver, with_some}
+use Rattle.fv_engine_judging.specs.Judging.{AreListingsOf, IsStanding, OneIsOverAmong}
 use Rattle.fv_engine_machine.specs.Redeclaring.{misfit}
-use Rattle.fv_engine_machine.specs.declared.rejudging.RejudgeFault.{RejudgeFault}
-use Rattle.fv_engine_machine.specs.declared.rejudging.RejudgeFault.TheVariants as rejudge
+use Rattle.fv_engine_judging.specs.declared.rejudging.RejudgeFault.{RejudgeFault}
+use Rattle.fv_engine_judging.specs.declared.rejudging.RejudgeFault.TheVariants as rejudge
 use Rattle.fv_engine_pending.specs.Altering.{IsOneObject, most_rows}
 use Rattle.fv_engine_pending.specs.Fits.{AreFitting, AreShort}
 use Rattle.fv_engine_pending.specs.Parts.{are_misshapen}
@@ -21,21 +21,21 @@ use Rattle.fv_engine_pending.specs.Touched.{needs_record}
 use Rattle.fv_engine_pending.specs.Ways.{Way, overlay, standing}
 use Rattle.fv_groups.specs.Groups.{numbers_of}
 use Rattle.fv_groups.specs.Judged.{unknown_in}
-use Rattle.fv_model.specs.Bundles.{Thing, Bundled}
+use Rattle.fv_bundle.specs.Bundles.{Thing, Bundled}
 use Rattle.fv_model.specs.Reading.{value_read}
-use Rattle.fv_model.specs.WellTyped.{AnyName}
+use Rattle.fv_bundle.specs.WellTyped.{AnyName}
 use Rattle.fv_model_types.specs.Fits.{Fits}
 use Rattle.fv_model_types.specs.Types.{TypeUse, Declared}
 use Rattle.fv_validate.specs.Values.{field_use, valued}
 use Rattle.fv_model.specs.declared.fault.BundleFault.{BundleFault}
 use Rattle.fv_model.specs.declared.fault.BundleFault.TheVariants as fault
 use Rattle.fv_registry.specs.Meanings.{Meanings}
-use Rattle.fv_engine_reply.specs.Answers.{Answer, Judged, done, violated, unfit, refused, part_refused}
+use Rattle.fv_engine_reply.specs.Answers.{Answer, done, violated, unfit, refused, part_refused}
+use Rattle.fv_validate.specs.Violations.{Judged, Reported}
 use Rattle.fv_engine_reply.specs.declared.answer.Done.{Done}
 use Rattle.fv_engine_reply.specs.declared.answer.Done.TheVariants as what
 use Rattle.fv_engine_reply.specs.declared.answer.Refusal.{Refusal}
 use Rattle.fv_engine_reply.specs.declared.answer.Refusal.TheVariants.{Shape, Bundle, UnknownGroup, NoSuchField, TooManyVisits, Store, Memory}
-use Rattle.fv_validate.specs.Violations.{Reported}
 use Rattle.fv_walk.specs.Properties.{field_number}
 use Rattle.fv_store.specs.Records.{Contents, Records}
 use Rattle.fv_store.specs.Stands.{Holds}
@@ -102,7 +102,7 @@ Keeps given way what old answer new =
     ((answer ≡ done what) × Takes (overlay way old.records) given old new)
     ⊎ ((why : Refusal) × Fails why (HasRoomOn given way old → StoreHasFailed old new) × (answer ≡ refused why) × Unchanged old new)
 
--- where no record has a violation, these are the records, with so many rowids given out at most, and else all that have some are told
+-- where these are no records, those that have violations, the others are the records, with so many rowids given out at most, and else these are told
 abbrev pub TakesOrTells : Done → ℕ → List Judged → Records → Machine Records → Answer → Machine Records → Type 0
 TakesOrTells what given [] m old answer new = (answer ≡ done what) × Takes m given old new
 TakesOrTells what given (l ∷ ls) m old answer new = (answer ≡ violated (l ∷ ls)) × Unchanged old new
@@ -110,11 +110,9 @@ TakesOrTells what given (l ∷ ls) m old answer new = (answer ≡ violated (l �
 -- what stands on the way is judged, and stored where nothing of it has a violation
 abbrev pub Settles : Meanings → ℤ → ℕ → Way → Done → Machine Records → Answer → Machine Records → Type 0
 Settles means now given way what old answer new =
-    (OneIsOver old.declared (standing way) × (answer ≡ refused TooManyVisits) × Unchanged old new)
-    ⊎ (((ls : List Judged) × AreJudged means old.declared now (standing way) ls
-    × TakesOrTells what given (with_some ls) (overlay way old.records) old answer new)
-    ⊎ ((why : Refusal) × Fails why ((ls : List Judged) × AreJudged means old.declared now (standing way) ls
-    × (with_some ls ≡ []) × (HasRoomOn given way old → StoreHasFailed old new))
+    (OneIsOverAmong old.declared (IsStanding way) × (answer ≡ refused TooManyVisits) × Unchanged old new)
+    ⊎ (((ls : List Judged) × AreListingsOf means old.declared now (IsStanding way) ls × TakesOrTells what given ls (overlay way old.records) old answer new)
+    ⊎ ((why : Refusal) × Fails why (AreListingsOf means old.declared now (IsStanding way) [] × (HasRoomOn given way old → StoreHasFailed old new))
     × (answer ≡ refused why) × Unchanged old new))
 
 -- how the refusal of a part is told: in a batch with its number

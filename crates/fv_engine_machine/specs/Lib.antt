@@ -1,11 +1,7 @@
 pub mod Causes
-pub mod Judging
 pub mod Keeping
 pub mod Machines
-pub mod Passes
-pub mod Records
 pub mod Redeclaring
 pub mod Refusals
-pub mod Rejudging
 pub mod Services
 pub mod Step

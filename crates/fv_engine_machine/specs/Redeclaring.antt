@@ -3,12 +3,13 @@ use Rattle.std.specs.Prelude.{◌≡◌, ◌≢◌, ◌⊎◌, ℕ, ℤ, List, [
 use Rattle.fv_declare_judging.specs.Declares.{Declares}
 use Rattle.fv_declare_judging.specs.declared.fault.DeclFault.{DeclFault}
 use Rattle.fv_declare_schema.specs.Declarations.{Declarations}
-use Rattle.fv_engine_machine.specs.Judging.{AreListingsOf, OneIsOverAmong}
-use Rattle.fv_engine_machine.specs.Rejudging.{IsFirstUnfit}
+use Rattle.fv_engine_judging.specs.Judging.{AreListingsOf, OneIsOverAmong}
+use Rattle.fv_engine_judging.specs.Rejudging.{IsFirstUnfit}
 use Rattle.fv_engine_pending.specs.Again.{all_again, AllReadAgain}
 use Rattle.fv_engine_pending.specs.declared.fault.PartFault.{PartFault}
 use Rattle.fv_engine_pending.specs.declared.fault.PartFault.TheVariants as part
-use Rattle.fv_engine_reply.specs.Answers.{Answer, Judged, redeclared, misdeclared, unfit, violated, refused}
+use Rattle.fv_engine_reply.specs.Answers.{Answer, redeclared, misdeclared, unfit, violated, refused}
+use Rattle.fv_validate.specs.Violations.{Judged}
 use Rattle.fv_engine_reply.specs.declared.answer.Misfit.{Misfit}
 use Rattle.fv_engine_reply.specs.declared.answer.Misfit.TheVariants.{UnknownForm, Bundle}
 use Rattle.fv_engine_reply.specs.declared.answer.Refusal.TheVariants.{TooManyVisits, Store, Memory}

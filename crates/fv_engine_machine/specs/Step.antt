@@ -8,11 +8,12 @@ use Rattle.fv_engine_machine.specs.Refusals.{is_misshapen, is_too_long, lacks_fo
 use Rattle.fv_engine_command.specs.Commands.{Part, put, set, remove, Request, alone, batch, get, check, check_field, check_value, list, asked}
 use Rattle.fv_engine_pending.specs.Touched.{needed_id}
 use Rattle.fv_groups.specs.Groups.{numbers_of}
-use Rattle.fv_model.specs.Bundles.{Thing, Bundled}
+use Rattle.fv_bundle.specs.Bundles.{Thing, Bundled}
 use Rattle.fv_model.specs.Reading.{value_read}
-use Rattle.fv_engine_machine.specs.Judging.{OneIsOverVisited, AreListings}
+use Rattle.fv_engine_judging.specs.Judging.{OneIsOverVisited, AreListings}
 use Rattle.fv_registry.specs.Meanings.{Meanings}
-use Rattle.fv_engine_reply.specs.Answers.{Answer, Judged, done, shown, violated, checked, field_checked, value_checked, ids, refused}
+use Rattle.fv_engine_reply.specs.Answers.{Answer, done, shown, violated, checked, field_checked, value_checked, ids, refused}
+use Rattle.fv_validate.specs.Violations.{Judged, Reported, IsListing, IsListingOfField}
 use Rattle.fv_engine_reply.specs.Texts.{answer_text}
 use Rattle.fv_engine_reply.specs.declared.answer.Done.{Done}
 use Rattle.fv_engine_reply.specs.declared.answer.Done.TheVariants.{Put, Set, Remove, Batch}
@@ -21,7 +22,6 @@ use Rattle.fv_store.specs.Lists.{Lists}
 use Rattle.fv_store.specs.Records.{Kept, Records}
 use Rattle.fv_model_types.specs.Types.{TypeUse}
 use Rattle.fv_validate.specs.Values.{field_use, valued}
-use Rattle.fv_validate.specs.Violations.{Reported, IsListing, IsListingOfField}
 use Rattle.fv_walk.specs.FieldVisits.{HasTooManyVisitsAt, HasFewVisitsAt}
 use Rattle.fv_walk.specs.Visits.{HasTooManyVisits, HasFewVisits}
 

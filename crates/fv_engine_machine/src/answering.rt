@@ -11,7 +11,7 @@ ghost use Rattle.fv_engine_machine.specs.Causes.{Handles};
 ghost use Rattle.fv_registry.specs.Meanings.{Meanings};
 ghost use Rattle.fv_engine_reply.specs.AnswerView.{answer_view};
 ghost use Rattle.fv_model_types.specs.TypesView.{types_view};
-ghost use Rattle.fv_json.specs.Documents.{view as json_view};
+ghost use Rattle.serde_json.specs.View.{view as json_view};
 ghost use Rattle.fv_store.specs.Stock.{stock_state as state};
 
 use crate::changing::{change, done_by};
@@ -21,14 +21,14 @@ use crate::listing::list;
 use crate::redeclaring::redeclare;
 use crate::refusing::undone;
 use crate::shared_rules::SharedRules;
+use fv_datum::{JsonFault, read_json};
 use fv_engine_command::{Command, Part, command_of, redeclare_of};
 use fv_engine_reply::{Answer, Done, Refusal, Reply};
-use fv_json::{Json, JsonFault, read_json};
 use fv_local::Rulebook;
-use fv_model::Types;
+use fv_model_types::Types;
 use fv_registry::RuleSet;
 use fv_store::Store;
-use json::Scratch;
+use serde_json::Value;
 use sqlite::Alter;
 use std::alloc::Global;
 
@@ -37,7 +37,7 @@ fn alone<'a, R: RuleSet, S: Alter>(
     store: &mut Store<S>,
     alloc: Global,
     book: &Rulebook<R>,
-    part: Part<'_, 'a>,
+    part: Part<'a>,
     now: i64,
 ) -> Answer<'a>
     requires { IsMoment now }
@@ -55,7 +55,7 @@ fn batch<'a, R: RuleSet, S: Alter>(
     store: &mut Store<S>,
     alloc: Global,
     book: &Rulebook<R>,
-    parts: &[Part<'_, 'a>],
+    parts: &[Part<'a>],
     now: i64,
 ) -> Answer<'a>
     requires { IsMoment now }
@@ -90,7 +90,7 @@ fn answer<'a, R: RuleSet, S: Alter>(
     store: &mut Store<S>,
     alloc: Global,
     book: &Rulebook<R>,
-    value: &Json<'_, 'a>,
+    value: &'a Value,
     now: i64,
 ) -> Answer<'a>
     requires { IsMoment now }
@@ -125,7 +125,7 @@ fn answer<'a, R: RuleSet, S: Alter>(
                     groups,
                 },
             ),
-        ) => check_value(alloc, book, type_name, field, &value, &groups, now),
+        ) => check_value(alloc, book, type_name, field, value, &groups, now),
         Ok(Some(Command::List { form, after, limit })) => {
             list(store, alloc, book.schema(), form, after, limit)
         }
@@ -138,7 +138,7 @@ fn attend<'a, R: RuleSet + Drop, S: Alter>(
     alloc: Global,
     rules: &SharedRules<R>,
     book: &mut Rulebook<SharedRules<R>>,
-    value: &Json<'_, 'a>,
+    value: &'a Value,
     now: i64,
 ) -> Answer<'a>
     requires { IsMoment now }
@@ -158,7 +158,7 @@ fn reply_to<R: RuleSet + Drop, S: Alter>(
     alloc: Global,
     rules: &SharedRules<R>,
     book: &mut Rulebook<SharedRules<R>>,
-    value: &Json,
+    value: &Value,
     now: i64,
 ) -> Reply
     requires { IsMoment now }
@@ -171,15 +171,13 @@ fn reply_to<R: RuleSet + Drop, S: Alter>(
 }
 
 /// The reply to a line that isn't over the limit: one step of the service. The declarations in force
-/// are those of the book; a redeclare that is taken puts others there, with the same rules. The line's
-/// JSON is read with the scratch, which is kept from line to line.
+/// are those of the book; a redeclare that is taken puts others there, with the same rules.
 pub fn reply_to_line<R: RuleSet + Drop, S: Alter>(
     store: &mut Store<S>,
     alloc: Global,
     rules: &SharedRules<R>,
     book: &mut Rulebook<SharedRules<R>>,
     line: &[u8],
-    scratch: &mut Scratch,
     now: i64,
 ) -> Reply
     requires { IsMoment now }
@@ -187,8 +185,8 @@ pub fn reply_to_line<R: RuleSet + Drop, S: Alter>(
         (serving (state S.Store) (R.known rules.now) book.new store.new)
         (λ x y. Replies R.meaning now (asks_json (json_of line.now)) x result y) }
 {
-    match read_json(alloc, line, scratch) {
-        Ok(document) => reply_to(store, alloc, rules, book, &document.root(), now),
+    match read_json(alloc, line) {
+        Ok(value) => reply_to(store, alloc, rules, book, &value, now),
         Err(JsonFault::NotJson) => Reply::refused(alloc, Refusal::NotJson),
         Err(JsonFault::Memory) => Reply::refused(alloc, Refusal::Memory),
     }

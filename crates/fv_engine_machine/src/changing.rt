@@ -1,6 +1,5 @@
 //! The parts of a command that changes records are made, judged at the end, and stored all together.
 ghost use Rattle.std.specs.Prelude.{◌≡◌, ◌≢◌, ◌≤◌, IfOk, map, option_map};
-ghost use Rattle.std.specs.Map.{keys_of};
 ghost use Rattle.fv_engine_command.specs.CommandView.{part_view};
 ghost use Rattle.fv_datum.specs.Moments.{IsMoment};
 ghost use Rattle.fv_declare_schema.specs.Declarations.{Declarations};
@@ -17,12 +16,11 @@ ghost use Rattle.fv_store.specs.Causes.{AreShort as ChangesShort, rows_of_all};
 ghost use Rattle.fv_store.specs.Changes.{after_all, ChangesFit};
 ghost use Rattle.fv_store.specs.Records.{Records, Roots};
 ghost use Rattle.fv_store.specs.Stands.{Frame};
-ghost use Rattle.fv_datum.specs.Ascending.{IsAscending};
 ghost use Rattle.fv_store.specs.Stock.{stock_state as state};
 
-use crate::judging::judge;
 use crate::refusing::{part_refusal, undone, unjudged};
 use fv_engine_command::Part;
+use fv_engine_judging::judge;
 use fv_engine_pending::{PartFault, Pending, apply_all, find_records, read_parts};
 use fv_engine_reply::{Answer, Done, Refusal};
 use fv_local::Rulebook;
@@ -64,7 +62,7 @@ fn unmade<'a>(done: Done, part: usize, fault: PartFault) -> Answer<'a>
 }
 
 /// The name of the object that is set, where the parts are one set.
-fn set_object<'a>(parts: &[Part<'_, 'a>]) -> Option<&'a str>
+fn set_object<'a>(parts: &[Part<'a>]) -> Option<&'a str>
     ensures { option_map (λ s. s.now) result ≡ set_object (map part_view parts.now) }
 {
     let [part] = parts else {
@@ -139,7 +137,6 @@ fn settle<'a, R: RuleSet, S: Alter>(
     requires typed { AreTyped book.now.types (pending_view pending) }
     ensures frame { Frame (state S.Store store.old) (state S.Store store.new) }
     ensures text { store.new.text ≡ store.old.text }
-    ensures ascending { IsAscending (keys_of (pending_view pending.entry)) }
     ensures moves { (bytes : _) (m : _) → FitsWhereHeld (state S.Store store.old) (contents bytes book.now m) (pending_view pending.entry)
         → IsOneSet (option_map (λ s. s.now) object.entry) (pending_view pending.entry) m
         → Moves (state S.Store) book.now bytes m store.old store.new
@@ -162,7 +159,7 @@ pub(crate) fn change<'a, R: RuleSet, S: Alter>(
     store: &mut Store<S>,
     alloc: Global,
     book: &Rulebook<R>,
-    parts: &[Part<'_, 'a>],
+    parts: &[Part<'a>],
     done: Done,
     now: i64,
 ) -> Answer<'a>

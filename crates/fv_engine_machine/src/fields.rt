@@ -7,27 +7,28 @@ ghost use Rattle.fv_datum.specs.View.{view};
 ghost use Rattle.fv_engine_machine.specs.Keeping.{ChecksField, IsValueOf, IsReadAt, IsMisreadAt, valued_by};
 ghost use Rattle.fv_engine_machine.specs.Machines.{Machine, over, Becomes};
 ghost use Rattle.fv_engine_machine.specs.Causes.{Handles};
-ghost use Rattle.fv_model.specs.Views.{object_view};
-ghost use Rattle.fv_model.specs.WellTyped.{IsOfType};
+ghost use Rattle.fv_bundle.specs.Views.{object_view};
+ghost use Rattle.fv_bundle.specs.WellTyped.{IsOfType};
 ghost use Rattle.fv_model_types.specs.TypesView.{types_view};
 ghost use Rattle.fv_engine_reply.specs.Answers.{field_checked, value_checked};
 ghost use Rattle.fv_engine_reply.specs.AnswerView.{answer_view};
 ghost use Rattle.fv_store.specs.Records.{Records};
-ghost use Rattle.fv_json.specs.Documents.{view as json_view};
+ghost use Rattle.serde_json.specs.View.{view as json_view};
 ghost use Rattle.fv_store.specs.Stock.{stock_state as state};
 
 use crate::checking::groups_named;
 use crate::refusing::{misread, undone, unjudged};
+use fv_bundle::Object;
 use fv_datum::Datum;
 use fv_engine_reply::{Answer, Refusal};
-use fv_json::Json;
 use fv_local::Rulebook;
-use fv_model::{BundleFault, Object, Types, read_value};
-use fv_model_types::use_in;
+use fv_model::{BundleFault, read_value};
+use fv_model_types::{Types, use_in};
 use fv_registry::RuleSet;
 use fv_store::Store;
 use fv_validate::by_id::{validate_property, validate_value};
 use fv_walk::objects_are_of_their_types;
+use serde_json::Value;
 use sqlite::Alter;
 use std::alloc::Global;
 
@@ -95,7 +96,7 @@ fn value_in(
     types: &Types,
     type_name: &str,
     field: &str,
-    value: &Json,
+    value: &Value,
 ) -> Result<Option<Datum>, BundleFault>
     ensures { MatchResult result (λ o. IsReadAt (types_view types.now) type_name.now field.now (json_view value.now) (option_map view o))
         (λ why. IsMisreadAt (types_view types.now) type_name.now field.now (json_view value.now) why) }
@@ -148,7 +149,7 @@ pub(crate) fn check_value<'a, R: RuleSet>(
     book: &Rulebook<R>,
     type_name: &str,
     field: &str,
-    value: &Json,
+    value: &Value,
     names: &[&str],
     now: i64,
 ) -> Answer<'a>

@@ -8,11 +8,9 @@ mod answering;
 mod changing;
 mod checking;
 mod fields;
-mod judging;
 mod listing;
 mod redeclaring;
 mod refusing;
-mod rejudging;
 mod shared_rules;
 
 pub use answering::reply_to_line;

@@ -14,13 +14,13 @@ ghost use Rattle.fv_model_types.specs.TypesView.{types_view};
 ghost use Rattle.fv_store.specs.Stock.{stock_state};
 
 use crate::refusing::undone;
-use crate::rejudging::{RejudgeFault, judge_all};
 use crate::shared_rules::SharedRules;
 use fv_declare::{DeclFault, read_schema};
+use fv_engine_judging::{RejudgeFault, judge_all};
 use fv_engine_pending::PartFault;
 use fv_engine_reply::{Answer, Misfit, Refusal};
 use fv_local::Rulebook;
-use fv_model::Types;
+use fv_model_types::Types;
 use fv_registry::RuleSet;
 use fv_store::Store;
 use sqlite::Alter;

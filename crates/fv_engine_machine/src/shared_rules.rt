@@ -2,8 +2,8 @@
 //! be in force.
 ghost use Rattle.std.specs.Prelude.{◌≡◌, IfOk, refl};
 
+use fv_bundle::Object;
 use fv_datum::{Attrs, Datum, Kind};
-use fv_model::Object;
 use fv_registry::{RuleSet, Ruled};
 use std::alloc::{AllocError, Global};
 use std::marker::Model;

@@ -2,9 +2,9 @@
 use Rattle.std.proofs.Common.{◌≡◌, ℕ, List, map, true, cond, Option, Some, None, is_some, Result, Ok, Err, refl, ap, subst}
 use Rattle.fv_datum.specs.Lookup.{at_name}
 use Rattle.fv_model.specs.Extends.{Extends}
-use Rattle.fv_model.specs.Bundles.{Bundled}
+use Rattle.fv_bundle.specs.Bundles.{Bundled}
 use Rattle.fv_model.specs.Reading.{bundle_of, bundle_read}
-use Rattle.fv_model.specs.WellTyped.{HasRootType}
+use Rattle.fv_bundle.specs.WellTyped.{HasRootType}
 use Rattle.fv_model.specs.Writing.{bundle_json}
 use Rattle.fv_model.specs.declared.fault.BundleFault.{BundleFault}
 use Rattle.fv_model.proofs.Extended.{read_extended}

@@ -15,8 +15,8 @@ use Rattle.fv_datum.specs.Lookup.{at_name}
 use Rattle.fv_engine_pending.specs.Altering.{Altered, leaves, sets, altered, leaves_entry, most_rows}
 use Rattle.fv_engine_pending.specs.Fits.{AreFit, AreTyped, EachIsShort}
 use Rattle.fv_engine_pending.specs.Ways.{Way, way_entry, overlay, standing, standing_entry}
-use Rattle.fv_model.specs.Bundles.{Thing}
-use Rattle.fv_model.specs.WellTyped.{IsWellTyped}
+use Rattle.fv_bundle.specs.Bundles.{Thing}
+use Rattle.fv_bundle.specs.WellTyped.{IsWellTyped}
 use Rattle.fv_store.specs.Causes.{AreShort as ChangesShort, WritesShort, IsShort, IsShortObject, rows_of, rows_of_all}
 use Rattle.fv_store.specs.Changes.{after, after_all, ChangeFits, ChangesFit}
 use Rattle.fv_store.specs.Records.{Kept, Records, Roots, Fits, with_object, with_thing}

@@ -11,8 +11,8 @@ use Rattle.std.proofs.lemmas.Map.Text.{is_eq-slice_cmp}
 use Rattle.std.proofs.lemmas.Slice.Eq.{bytes_eq-Decides}
 use Rattle.serde_json.specs.Data as json
 use Rattle.fv_datum.specs.Lookup.{at_name}
-use Rattle.fv_model.specs.Bundles.{Bundled}
-use Rattle.fv_model.specs.WellTyped.{IsWellTyped, HasRootType}
+use Rattle.fv_bundle.specs.Bundles.{Bundled}
+use Rattle.fv_bundle.specs.WellTyped.{IsWellTyped, HasRootType}
 use Rattle.fv_engine_pending.specs.Fits.{Agrees, AreTyped, AreFit, AreShort, EachIsShort, AreFitting, Keeps}
 use Rattle.fv_engine_pending.specs.Steps.{Staged, put_step, set_step, remove_step, left_as, removed_on, StepFits}
 use Rattle.fv_engine_pending.specs.Ways.{Way, standing_at, left_at, without_id}

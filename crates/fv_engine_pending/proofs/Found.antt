@@ -9,7 +9,7 @@ use Rattle.sqlite.specs.State.{State}
 use Rattle.fv_datum.proofs.Maps.{at_insert}
 use Rattle.fv_engine_command.specs.Commands.{Part}
 use Rattle.fv_datum.specs.Lookup.{at_name}
-use Rattle.fv_model.specs.WellTyped.{IsWellTyped}
+use Rattle.fv_bundle.specs.WellTyped.{IsWellTyped}
 use Rattle.fv_engine_pending.specs.Fits.{Agrees, AreNeeded, AreTyped, Covers}
 use Rattle.fv_engine_pending.specs.Touched.{needed_id, needs_record, needs_at, count_needed}
 use Rattle.fv_engine_pending.specs.Ways.{Way, IsOn, left_at}

@@ -11,7 +11,7 @@ use Rattle.fv_datum.proofs.Maps.{at_insert}
 use Rattle.fv_datum.specs.Lookup.{at_name}
 use Rattle.fv_engine_command.specs.Commands.{Part, put, set, remove}
 use Rattle.fv_model.specs.Setting.{bundle_set}
-use Rattle.fv_model.specs.Bundles.{Bundled}
+use Rattle.fv_bundle.specs.Bundles.{Bundled}
 use Rattle.fv_model.specs.declared.fault.BundleFault.{BundleFault}
 use Rattle.fv_engine_pending.specs.Fits.{Agrees, Covers}
 use Rattle.fv_engine_pending.specs.Parts.{bundle_under, kept_as, part_made, parts_made, and_then}

@@ -9,10 +9,10 @@ use Rattle.serde_json.specs.Data as json
 use Rattle.fv_datum.specs.Data.{Data}
 use Rattle.fv_datum.specs.Lookup.{at_name}
 use Rattle.fv_datum.specs.Outcomes.{first}
-use Rattle.fv_model.specs.Bundles.{Thing, Things, Bundled}
-use Rattle.fv_model.specs.Replaced.{changed_at, thing_with, bundle_with}
+use Rattle.fv_bundle.specs.Bundles.{Thing, Things, Bundled}
+use Rattle.fv_bundle.specs.Replaced.{changed_at, thing_with, bundle_with}
 use Rattle.fv_model.specs.Setting.{bundle_set, conditions, datum_for}
-use Rattle.fv_model.specs.Views.{bundle_view}
+use Rattle.fv_bundle.specs.Views.{bundle_view}
 use Rattle.fv_model.specs.declared.fault.BundleFault.{BundleFault}
 use Rattle.fv_model.proofs.Typed.{head_false, unless_none}
 use Rattle.fv_model_types.specs.Names.{ObjectTypes}

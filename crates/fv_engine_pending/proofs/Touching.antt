@@ -9,7 +9,7 @@ use Rattle.serde_json.specs.Data as json
 use Rattle.fv_datum.specs.Lookup.{at_name}
 use Rattle.fv_engine_command.specs.Commands.{Part, put, set, remove}
 use Rattle.fv_model.specs.Setting.{bundle_set}
-use Rattle.fv_model.specs.Bundles.{Bundled}
+use Rattle.fv_bundle.specs.Bundles.{Bundled}
 use Rattle.fv_engine_pending.specs.Fits.{AreNeeded}
 use Rattle.fv_engine_pending.specs.Parts.{bundle_under, and_then}
 use Rattle.fv_engine_pending.specs.Steps.{faulty, staged, left_as, set_on, removed_on, step_made, steps_made, numbered}

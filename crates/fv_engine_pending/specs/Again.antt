@@ -1,7 +1,7 @@
 -- Records that are read again under declarations, from what is written of them.
 use Rattle.std.specs.Prelude.{◌≡◌, ℕ, List, Bool, true, false, Option, Some, None, is_some, Result, Ok, Err, if◌then◌else◌}
 use Rattle.fv_datum.specs.Lookup.{at_name}
-use Rattle.fv_model.specs.Bundles.{Bundled}
+use Rattle.fv_bundle.specs.Bundles.{Bundled}
 use Rattle.fv_model.specs.Unfit.{is_of_types}
 use Rattle.fv_model.specs.Writing.{bundle_json}
 use Rattle.fv_engine_pending.specs.Parts.{bundle_under}

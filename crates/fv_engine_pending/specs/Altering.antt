@@ -1,9 +1,9 @@
 -- What changes of the store do, and how many rowids they take.
 use Rattle.std.specs.Prelude.{◌≡◌, ℕ, ◌+◌, List, [], ◌∷◌, IsSome, Option, Some, None, string_bytes}
 use Rattle.fv_datum.specs.Lookup.{at_name}
-use Rattle.fv_model.specs.Bundles.{Thing}
-use Rattle.fv_model.specs.Limits.{most_objects}
-use Rattle.fv_model.specs.Views.{object_view, bundle_view}
+use Rattle.fv_bundle.specs.Bundles.{Thing}
+use Rattle.fv_bundle.specs.Limits.{most_objects}
+use Rattle.fv_bundle.specs.Views.{object_view, bundle_view}
 use Rattle.fv_engine_pending.specs.Ways.{Way}
 use Rattle.fv_store.specs.Records.{Kept, Records, with_thing}
 use Rattle.fv_store.specs.declared.change.Change.{Change}

@@ -4,7 +4,7 @@ use Rattle.std.specs.List.{AllByRecursion, list_any}
 use Rattle.std.specs.Option.{ForSome}
 use Rattle.fv_datum.specs.Lookup.{at_name}
 use Rattle.fv_engine_command.specs.Commands.{Part}
-use Rattle.fv_model.specs.WellTyped.{IsWellTyped}
+use Rattle.fv_bundle.specs.WellTyped.{IsWellTyped}
 use Rattle.fv_engine_pending.specs.Steps.{Staged, StepFits}
 use Rattle.fv_engine_pending.specs.Touched.{needed_id, needs_at}
 use Rattle.fv_engine_pending.specs.Ways.{Way, IsOn}

@@ -7,7 +7,7 @@ use Rattle.serde_json.specs.Data as json
 use Rattle.fv_datum.specs.Lookup.{at_name}
 use Rattle.fv_engine_command.specs.Commands.{Part, put, set, remove}
 use Rattle.fv_model.specs.Setting.{bundle_set}
-use Rattle.fv_model.specs.Bundles.{Bundled}
+use Rattle.fv_bundle.specs.Bundles.{Bundled}
 use Rattle.fv_model.specs.Reading.{bundle_read}
 use Rattle.fv_model.specs.declared.fault.BundleFault.{BundleFault}
 use Rattle.fv_model.specs.declared.fault.BundleFault.TheVariants as fault

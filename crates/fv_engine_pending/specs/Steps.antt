@@ -2,12 +2,12 @@
 use Rattle.std.specs.Prelude.{ℕ, ◌+◌, List, [], ◌∷◌, Option, Some, None, is_some, Result, Ok, Err, if◌then◌else◌}
 use Rattle.std.specs.Result.{result_map_both}
 use Rattle.serde_json.specs.Data as json
-use Rattle.fv_json.specs.Documents.{view as json_view}
+use Rattle.serde_json.specs.View.{view as json_view}
 use Rattle.fv_datum.specs.Lookup.{at_name}
 use Rattle.fv_engine_command.specs.Commands.{Part, put, set, remove}
 use Rattle.fv_model.specs.Setting.{bundle_set}
-use Rattle.fv_model.specs.Bundles.{Bundled}
-use Rattle.fv_model.specs.Views.{bundle_view}
+use Rattle.fv_bundle.specs.Bundles.{Bundled}
+use Rattle.fv_bundle.specs.Views.{bundle_view}
 use Rattle.fv_model.specs.declared.fault.BundleFault.{BundleFault}
 use Rattle.fv_engine_pending.specs.Parts.{bundle_under, and_then}
 use Rattle.fv_engine_pending.specs.Ways.{Way, standing_at, left_at, without_id}
@@ -28,7 +28,7 @@ pub data Staged : Type 0 where
 -- the part that a step of the code is
 abbrev pub step_view : Step → Staged
 step_view (Put id form bundle) = put_step id.now form.now (result_map_both bundle_view (λ e. e) bundle)
-step_view (Set id object field value) = set_step id.now object.now field.now (json_view value)
+step_view (Set id object field value) = set_step id.now object.now field.now (json_view value.now)
 step_view (Remove id) = remove_step id.now
 
 -- a fault of a bundle is a part's

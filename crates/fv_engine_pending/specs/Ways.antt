@@ -7,7 +7,7 @@ use Rattle.std.specs.Map.{remove_entry}
 use Rattle.std.specs.Ordering.{nat_cmp}
 use Rattle.std.specs.Str.{bytes_eq}
 use Rattle.fv_datum.specs.Lookup.{at_name}
-use Rattle.fv_model.specs.Bundles.{Thing}
+use Rattle.fv_bundle.specs.Bundles.{Thing}
 use Rattle.fv_engine_pending.specs.declared.pending.Pending.{Pending}
 use Rattle.fv_store.specs.Records.{Kept, Records}
 use Rattle.fv_store.specs.Stored.{stored_view}

@@ -1,21 +1,23 @@
 //! Parts are made in order on the records on the way.
 ghost use Rattle.std.specs.Prelude.{◌≡◌, ◌≢◌, ◌∷◌, [], MatchResult, OnOk, Ok, Err, map, option_map};
 ghost use Rattle.fv_datum.specs.Outcomes.{Gives};
-ghost use Rattle.fv_model.specs.Views.{bundle_view};
+ghost use Rattle.fv_bundle.specs.Views.{bundle_view};
 ghost use Rattle.fv_engine_pending.specs.Fits.{Keeps};
 ghost use Rattle.fv_engine_pending.specs.Steps.{set_step, left_as, set_on, removed_on, step_view, step_made, steps_made};
 ghost use Rattle.fv_engine_pending.specs.Ways.{pending_view, standing_at, left_at};
 ghost use Rattle.fv_store.specs.Stored.{stored_view};
 ghost use Rattle.fv_model_types.specs.TypesView.{types_view};
-ghost use Rattle.fv_json.specs.Documents.{view as json_view};
+ghost use Rattle.serde_json.specs.View.{view as json_view};
 ghost use Rattle.std.specs.Result.{result_map_both};
 
 use crate::fault::PartFault;
 use crate::pending::Pending;
 use crate::step::Step;
-use fv_json::Json;
-use fv_model::{Bundle, BundleFault, Types, set_field};
+use fv_bundle::Bundle;
+use fv_model::{BundleFault, set_field};
+use fv_model_types::Types;
 use fv_store::Stored;
+use serde_json::Value;
 use std::alloc::Global;
 
 /// The fault of a part whose bundle, or the value for it, has a fault.
@@ -70,7 +72,7 @@ fn set<'a>(
     id: &'a str,
     object: &str,
     field: &str,
-    value: &Json,
+    value: &Value,
 ) -> Result<(), PartFault>
     ensures made { Gives PartFault.Memory (λ _. pending_view pending.new) result
         (set_on (types_view types.now) id.now object.now field.now (json_view value.now) (pending_view pending.old)
@@ -104,7 +106,7 @@ fn apply<'a>(
     pending: &mut Pending<'a>,
     alloc: Global,
     types: &Types,
-    step: Step<'_, 'a>,
+    step: Step<'a>,
 ) -> Result<(), PartFault>
     ensures made { Gives PartFault.Memory (λ _. pending_view pending.new) result
         (step_made (types_view types.now) (step_view step.entry) (pending_view pending.old)) }
@@ -118,7 +120,7 @@ fn apply<'a>(
             object,
             field,
             value,
-        } => set(pending, alloc, types, id, object, field, &value),
+        } => set(pending, alloc, types, id, object, field, value),
         Step::Remove { id } => remove(pending, id),
     }
 }
@@ -132,7 +134,7 @@ pub fn apply_all<'a>(
     pending: &mut Pending<'a>,
     alloc: Global,
     types: &Types,
-    steps: Vec<Step<'_, 'a>>,
+    steps: Vec<Step<'a>>,
 ) -> Result<(), (usize, PartFault)>
     ensures made { MatchResult result
         (λ _. steps_made (types_view types.now) 0 (map step_view steps.entry.items) (pending_view pending.old) ≡ Ok (pending_view pending.new))

@@ -13,13 +13,13 @@ ghost use Rattle.fv_model_types.specs.TypesView.{types_view};
 
 use crate::pending::Pending;
 use fv_engine_command::Part;
-use fv_model::Types;
+use fv_model_types::Types;
 use fv_store::{Store, StoreFault};
 use sqlite::Alter;
 use std::alloc::Global;
 
 /// The id of a part that needs a record: of a set or a remove.
-fn needed<'a>(part: &Part<'_, 'a>) -> Option<&'a str>
+fn needed<'a>(part: &Part<'a>) -> Option<&'a str>
     ensures { option_map (λ s. s.now) result ≡ needed_id (part_view part.now) }
 {
     match part {
@@ -72,7 +72,7 @@ fn find_for<'a, S: Alter>(
     alloc: Global,
     types: &Types,
     pending: &mut Pending<'a>,
-    part: &Part<'_, 'a>,
+    part: &Part<'a>,
 ) -> Result<(), StoreFault>
     ensures frame { Frame (state S.Store store.old) (state S.Store store.new) }
     ensures text { store.new.text ≡ store.old.text }
@@ -114,7 +114,7 @@ pub fn find_records<'a, S: Alter>(
     store: &mut Store<S>,
     alloc: Global,
     types: &Types,
-    parts: &[Part<'_, 'a>],
+    parts: &[Part<'a>],
 ) -> Result<Pending<'a>, StoreFault>
     ensures frame { Frame (state S.Store store.old) (state S.Store store.new) }
     ensures text { store.new.text ≡ store.old.text }

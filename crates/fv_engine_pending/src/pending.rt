@@ -4,14 +4,14 @@ ghost use Rattle.fv_datum.specs.Lookup.{at_name};
 ghost use Rattle.fv_engine_pending.specs.Altering.{IsOneObject, altered, leaves, most_rows, sets};
 ghost use Rattle.fv_engine_pending.specs.Fits.{AreFitting, AreShort, AreTyped};
 ghost use Rattle.fv_engine_pending.specs.Ways.{way_entry, pending_view, overlay, standing, standing_at, left_at, lone_object, without_id};
-ghost use Rattle.fv_model.specs.Views.{object_view};
+ghost use Rattle.fv_bundle.specs.Views.{object_view};
 ghost use Rattle.fv_store.specs.Causes.{AreShort as ChangesShort, rows_of_all};
 ghost use Rattle.fv_store.specs.Changes.{after_all, ChangesFit};
 ghost use Rattle.fv_store.specs.Records.{Records, Roots};
 ghost use Rattle.fv_store.specs.Stored.{stored_view};
 ghost use Rattle.fv_model_types.specs.Types.{Declared};
 
-use fv_model::Object;
+use fv_bundle::Object;
 use fv_store::{Change, Stored};
 use std::alloc::{AllocError, Global};
 use std::collections::BTreeMap;

@@ -4,27 +4,29 @@ ghost use Rattle.std.specs.List.{AllByRecursion};
 ghost use Rattle.std.specs.Result.{result_map_both};
 ghost use Rattle.fv_engine_command.specs.CommandView.{part_view};
 ghost use Rattle.fv_engine_command.specs.Commands.{put};
-ghost use Rattle.fv_model.specs.Views.{bundle_view};
+ghost use Rattle.fv_bundle.specs.Views.{bundle_view};
 ghost use Rattle.fv_engine_pending.specs.Parts.{is_misshapen, are_misshapen};
 ghost use Rattle.fv_engine_pending.specs.Steps.{StepFits, put_step, staged, step_view};
-ghost use Rattle.fv_json.specs.Documents.{view as json_view};
+ghost use Rattle.serde_json.specs.View.{view as json_view};
 
 use crate::applying::part_fault;
 use crate::fault::PartFault;
 use crate::step::Step;
+use fv_bundle::Bundle;
 use fv_declare_schema::Schema;
 use fv_engine_command::Part;
-use fv_json::Json;
-use fv_model::{Bundle, BundleFault, TypeId, read_bundle};
+use fv_model::{BundleFault, read_bundle};
+use fv_model_types::TypeId;
+use serde_json::Value;
 use std::alloc::{AllocError, Global};
 
 /// A put with its bundle, where its form is declared.
-fn put_as<'j, 'a>(
+fn put_as<'a>(
     id: &'a str,
     form: &'a str,
     root: Option<TypeId>,
     bundle: Result<Bundle, PartFault>,
-) -> Step<'j, 'a>
+) -> Step<'a>
     ensures { step_view result ≡ put_step id.now form.now
         (if is_some root then result_map_both bundle_view (λ e. e) bundle else Err PartFault.UnknownForm) }
 {
@@ -39,12 +41,12 @@ fn put_as<'j, 'a>(
 }
 
 /// A put whose bundle has a fault; none where it isn't of a bundle's form.
-fn misread<'j, 'a>(
+fn misread<'a>(
     id: &'a str,
     form: &'a str,
     root: Option<TypeId>,
     fault: BundleFault,
-) -> Result<Option<Step<'j, 'a>>, AllocError>
+) -> Result<Option<Step<'a>>, AllocError>
     ensures { IfOk result (λ o. MatchOption o (fault ≡ BundleFault.Shape)
         (λ s. (fault ≢ BundleFault.Shape) × (fault ≢ BundleFault.Memory) × (step_view s ≡ put_step id.now form.now
         (if is_some root then Err (PartFault.Bundle fault) else Err PartFault.UnknownForm)))) }
@@ -57,13 +59,13 @@ fn misread<'j, 'a>(
 }
 
 /// A put with its bundle, or with why there is none; none where the JSON isn't of a bundle's form.
-fn read_put<'j, 'a>(
+fn read_put<'a>(
     alloc: Global,
     schema: &Schema,
     id: &'a str,
     form: &'a str,
-    bundle: &Json,
-) -> Result<Option<Step<'j, 'a>>, AllocError>
+    bundle: &Value,
+) -> Result<Option<Step<'a>>, AllocError>
     ensures read { IfOk result (λ o. MatchOption o
         (is_misshapen schema.now.types schema.now.forms (put id.now form.now (json_view bundle.now)) ≡ true)
         (λ s. (is_misshapen schema.now.types schema.now.forms (put id.now form.now (json_view bundle.now)) ≡ false)
@@ -78,18 +80,18 @@ fn read_put<'j, 'a>(
 }
 
 /// A part with its bundle read; none where it isn't of a bundle's form.
-fn read_part<'j, 'a>(
+fn read_part<'a>(
     alloc: Global,
     schema: &Schema,
-    part: &Part<'j, 'a>,
-) -> Result<Option<Step<'j, 'a>>, AllocError>
+    part: &Part<'a>,
+) -> Result<Option<Step<'a>>, AllocError>
     ensures read { IfOk result (λ o. MatchOption o (is_misshapen schema.now.types schema.now.forms (part_view part.now) ≡ true)
         (λ s. (is_misshapen schema.now.types schema.now.forms (part_view part.now) ≡ false)
         × (step_view s ≡ staged schema.now.types schema.now.forms (part_view part.now)))) }
     ensures fits { IfOk result (λ o. IfSome o (λ s. StepFits schema.now.types schema.now.forms (step_view s))) }
 {
     match *part {
-        Part::Put { id, form, bundle } => read_put(alloc, schema, id, form, &bundle),
+        Part::Put { id, form, bundle } => read_put(alloc, schema, id, form, bundle),
         Part::Set {
             id,
             object,
@@ -107,11 +109,11 @@ fn read_part<'j, 'a>(
 
 /// The parts, the bundle of each put read once, or why it isn't one; none where the JSON of one isn't
 /// of a bundle's form.
-pub fn read_parts<'j, 'a>(
+pub fn read_parts<'a>(
     alloc: Global,
     schema: &Schema,
-    parts: &[Part<'j, 'a>],
-) -> Result<Option<Vec<Step<'j, 'a>>>, AllocError>
+    parts: &[Part<'a>],
+) -> Result<Option<Vec<Step<'a>>>, AllocError>
     ensures read { IfOk result (λ o. MatchOption o
         (are_misshapen schema.now.types schema.now.forms (map part_view parts.now) ≡ true)
         (λ v. (are_misshapen schema.now.types schema.now.forms (map part_view parts.now) ≡ false)

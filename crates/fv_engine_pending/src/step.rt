@@ -1,11 +1,11 @@
 //! Parts whose bundles were read.
 use crate::fault::PartFault;
-use fv_json::Json;
-use fv_model::Bundle;
+use fv_bundle::Bundle;
+use serde_json::Value;
 
 /// A part of a command, its bundle read.
 #[derive(Drop)]
-pub enum Step<'j, 'a> {
+pub enum Step<'a> {
     /// The record of the id is this one; or why there is no bundle.
     Put {
         id: &'a str,
@@ -17,7 +17,7 @@ pub enum Step<'j, 'a> {
         id: &'a str,
         object: &'a str,
         field: &'a str,
-        value: Json<'j, 'a>,
+        value: &'a Value,
     },
     /// The id's record goes.
     Remove {

@@ -4,7 +4,8 @@ use Rattle.serde_json.specs.Data as json
 use Rattle.serde_json.specs.View.{items_of}
 use Rattle.serde_json.specs.Written.{has_float, items_have_float}
 use Rattle.fv_model_types.specs.Writing.{datum_json}
-use Rattle.fv_engine_reply.specs.Answers.{Judged, violated, ids}
+use Rattle.fv_engine_reply.specs.Answers.{violated, ids}
+use Rattle.fv_validate.specs.Violations.{Judged}
 use Rattle.fv_engine_reply.specs.Texts.{violation_json, judged_json, listing_json, refused_json, answer_json}
 use Rattle.fv_engine_reply.specs.declared.answer.Refusal.{Refusal}
 use Rattle.fv_engine_reply.specs.declared.answer.Refusal.TheVariants.{LineTooLong, NotJson, Shape, UnknownForm, Bundle, NoRecord, UnknownGroup, NoSuchField, TooManyVisits, Store, Memory}

@@ -1,15 +1,10 @@
 -- The answer that an answer of the code is.
 use Rattle.std.specs.Prelude.{map, string_bytes}
-use Rattle.fv_model.specs.Views.{bundle_view}
-use Rattle.fv_validate.specs.ViolationView.{violation_view}
+use Rattle.fv_bundle.specs.Views.{bundle_view}
+use Rattle.fv_validate.specs.ViolationView.{judged_view, violation_view}
 use Rattle.fv_engine_reply.specs.Answers as spec
 use Rattle.fv_engine_reply.specs.declared.answer.Answer.{Answer}
 use Rattle.fv_engine_reply.specs.declared.answer.Answer.TheVariants.{Done, Shown, Violated, Checked, FieldChecked, ValueChecked, Ids, Refused, PartRefused, Redeclared, Misdeclared, Unfit}
-use Rattle.fv_engine_reply.specs.declared.answer.Judged.{Judged}
-
--- the record with its violations
-abbrev pub judged_view : Judged → spec.Judged
-judged_view j = (string_bytes j.id, map violation_view j.violations.items)
 
 -- the answer that it is
 abbrev pub answer_view : Answer → spec.Answer

@@ -1,15 +1,11 @@
 -- What a command is answered.
 use Rattle.std.specs.Prelude.{ℕ, List}
 use Rattle.fv_declare_judging.specs.declared.fault.DeclFault.{DeclFault}
-use Rattle.fv_model.specs.Bundles.{Bundled}
-use Rattle.fv_validate.specs.Violations.{Reported}
+use Rattle.fv_bundle.specs.Bundles.{Bundled}
+use Rattle.fv_validate.specs.Violations.{Judged, Reported}
 use Rattle.fv_engine_reply.specs.declared.answer.Done.{Done}
 use Rattle.fv_engine_reply.specs.declared.answer.Misfit.{Misfit}
 use Rattle.fv_engine_reply.specs.declared.answer.Refusal.{Refusal}
-
--- a record by its id, with its violations
-abbrev pub Judged : Type 0
-Judged = List ℕ × List Reported
 
 pub data Answer : Type 0 where
   -- a command that changes records was taken

@@ -8,8 +8,8 @@ use Rattle.fv_declare_judging.specs.FaultNames.{decl_fault_code}
 use Rattle.fv_model.specs.FaultNames.{bundle_fault_code}
 use Rattle.fv_model_types.specs.Writing.{datum_json}
 use Rattle.fv_model.specs.Writing.{bundle_json}
-use Rattle.fv_validate.specs.Violations.{Reported}
-use Rattle.fv_engine_reply.specs.Answers.{Answer, Judged, done, shown, violated, checked, field_checked, value_checked, ids, refused, part_refused, redeclared, misdeclared, unfit}
+use Rattle.fv_validate.specs.Violations.{Judged, Reported}
+use Rattle.fv_engine_reply.specs.Answers.{Answer, done, shown, violated, checked, field_checked, value_checked, ids, refused, part_refused, redeclared, misdeclared, unfit}
 use Rattle.fv_engine_reply.specs.declared.answer.Done.{Done}
 use Rattle.fv_engine_reply.specs.declared.answer.Done.TheVariants as what
 use Rattle.fv_engine_reply.specs.declared.answer.Misfit.{Misfit}

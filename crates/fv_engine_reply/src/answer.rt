@@ -1,9 +1,10 @@
 ghost use Rattle.std.specs.Prelude.{◌≡◌};
 ghost use Rattle.fv_engine_reply.specs.Texts.{misfit_code, refusal_told};
 
+use fv_bundle::Bundle;
 use fv_declare_judging::DeclFault;
-use fv_model::{Bundle, BundleFault};
-use fv_validate::Violation;
+use fv_model::BundleFault;
+use fv_validate::{Judged, Violation};
 
 /// What a taken command did to the records.
 #[derive(Clone, Copy, Debug, PartialEq, Eq)]
@@ -12,13 +13,6 @@ pub enum Done {
     Set,
     Remove,
     Batch,
-}
-
-/// A record by its id, with its violations.
-#[derive(Drop)]
-pub struct Judged {
-    pub id: String,
-    pub violations: Vec<Violation>,
 }
 
 /// What a command is answered.

@@ -5,5 +5,5 @@ mod answer;
 mod reply;
 mod texts;
 
-pub use answer::{Answer, Done, Judged, Misfit, Refusal};
+pub use answer::{Answer, Done, Misfit, Refusal};
 pub use reply::Reply;

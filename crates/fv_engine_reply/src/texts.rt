@@ -1,23 +1,23 @@
 //! The replies whose texts are made.
 ghost use Rattle.std.specs.Prelude.{◌≡◌, false, None, Some, IfOk, map, string_bytes, codes};
 ghost use Rattle.fv_datum.specs.View.{view};
-ghost use Rattle.fv_model.specs.Views.{bundle_view};
+ghost use Rattle.fv_bundle.specs.Views.{bundle_view};
 ghost use Rattle.fv_model_types.specs.Writing.{datum_json};
-ghost use Rattle.fv_engine_reply.specs.AnswerView.{judged_view};
 ghost use Rattle.fv_engine_reply.specs.Answers.{violated, shown, ids as ids_told, misdeclared, unfit};
 ghost use Rattle.fv_engine_reply.specs.Texts.{violation_json, judged_json, listing_json, refused_json, answer_json, answer_text};
-ghost use Rattle.fv_validate.specs.ViolationView.{violation_view};
+ghost use Rattle.fv_validate.specs.ViolationView.{judged_view, violation_view};
 ghost use Rattle.serde_json.specs.Data as json;
 ghost use Rattle.serde_json.specs.View.{items_of, view as json_view};
 ghost use Rattle.serde_json.specs.Written.{compact_text, has_float};
 
-use crate::answer::{Judged, Misfit, Refusal};
+use crate::answer::{Misfit, Refusal};
 use crate::reply::Reply;
+use fv_bundle::Bundle;
 use fv_datum::{DatumFault, write_datum};
 use fv_declare_judging::DeclFault;
-use fv_model::{Bundle, BundleFault};
+use fv_model::BundleFault;
 use fv_model_text::{quoted, write_text};
-use fv_validate::Violation;
+use fv_validate::{Judged, Violation};
 use serde_json::{Value, json, push};
 use std::alloc::{AllocError, Global};
 

@@ -5,12 +5,11 @@ use crate::forms::add_forms;
 use crate::groups::add_groups;
 use crate::lines::warning_line;
 use crate::unreached::unreached;
+use fv_datum::read_json;
 use fv_declare_draft::{Draft, draft_of, uses_in};
 use fv_declare_schema::Schema;
 use fv_explain_places::use_places;
 use fv_explain_warnings::warnings;
-use fv_json::read_json;
-use json::Scratch;
 use std::alloc::{AllocError, Global};
 
 /// The lines of a draft that is taken, and of its warnings.
@@ -43,11 +42,10 @@ pub(crate) fn taken_lines(
     bytes: &[u8],
     as_json: bool,
 ) -> Result<Vec<String>, ExplainFault> {
-    let mut scratch = Scratch::new(alloc);
-    let Ok(document) = read_json(alloc, bytes, &mut scratch) else {
+    let Ok(value) = read_json(alloc, bytes) else {
         return Err(ExplainFault::Memory);
     };
-    match draft_of(alloc, &document.root())? {
+    match draft_of(alloc, &value)? {
         None => Ok(Vec::new(alloc)),
         Some(draft) => Ok(draft_lines(alloc, schema, &draft, bytes, as_json)?),
     }

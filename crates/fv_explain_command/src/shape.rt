@@ -1,7 +1,7 @@
 //! Why a JSON value is no command.
 
 use crate::words::{listed, named};
-use fv_json::{Json, Members};
+use serde_json::{Map, Value};
 use std::alloc::{AllocError, Global};
 
 /// What a member of a command has to be.
@@ -75,7 +75,7 @@ fn at(alloc: Global, place: &str, words: &str) -> Result<Option<String>, AllocEr
 }
 
 /// What is wrong with an id.
-fn id_words(alloc: Global, name: &str, value: &Json) -> Result<Option<String>, AllocError> {
+fn id_words(alloc: Global, name: &str, value: &Value) -> Result<Option<String>, AllocError> {
     match value.as_str() {
         Some(text) if is_id(text) => Ok(None),
         _ => at(
@@ -87,7 +87,7 @@ fn id_words(alloc: Global, name: &str, value: &Json) -> Result<Option<String>, A
 }
 
 /// What is wrong with the groups that are asked.
-fn groups_words(alloc: Global, name: &str, value: &Json) -> Result<Option<String>, AllocError> {
+fn groups_words(alloc: Global, name: &str, value: &Value) -> Result<Option<String>, AllocError> {
     let Some(items) = value.as_array() else {
         return at(alloc, name, "not an array of texts");
     };
@@ -103,7 +103,7 @@ fn groups_words(alloc: Global, name: &str, value: &Json) -> Result<Option<String
 }
 
 /// What is wrong with a limit.
-fn limit_words(alloc: Global, name: &str, value: &Json) -> Result<Option<String>, AllocError> {
+fn limit_words(alloc: Global, name: &str, value: &Value) -> Result<Option<String>, AllocError> {
     match value.as_u64() {
         Some(limit) if limit > 0 && limit <= 1000 => Ok(None),
         _ => at(alloc, name, "not a whole number from 1 to 1000"),
@@ -111,8 +111,9 @@ fn limit_words(alloc: Global, name: &str, value: &Json) -> Result<Option<String>
 }
 
 /// The first member that isn't one of these.
-fn stranger<'a>(members: Members<'_, 'a>, known: &[&str]) -> Option<&'a str> {
+fn stranger<'a>(members: &'a Map<String, Value>, known: &[&str]) -> Option<&'a str> {
     for (name, _) in members.iter() {
+        let name = name.as_str();
         if !known.iter().any(|other| *other == name) {
             return Some(name);
         }
@@ -121,7 +122,7 @@ fn stranger<'a>(members: Members<'_, 'a>, known: &[&str]) -> Option<&'a str> {
 }
 
 /// What is wrong with the form of an object of a bundle.
-fn object_words(alloc: Global, name: &str, value: &Json) -> Result<Option<String>, AllocError> {
+fn object_words(alloc: Global, name: &str, value: &Value) -> Result<Option<String>, AllocError> {
     let name = named(alloc, name)?;
     let place = format!(in alloc; "bundle.objects, object {name}")?;
     let place = place.as_str();
@@ -149,7 +150,7 @@ fn object_words(alloc: Global, name: &str, value: &Json) -> Result<Option<String
 }
 
 /// What is wrong with the form of a bundle.
-fn bundle_words(alloc: Global, value: &Json) -> Result<Option<String>, AllocError> {
+fn bundle_words(alloc: Global, value: &Value) -> Result<Option<String>, AllocError> {
     let Some(members) = value.as_object() else {
         return at(alloc, "bundle", "not an object");
     };
@@ -180,7 +181,7 @@ fn bundle_words(alloc: Global, value: &Json) -> Result<Option<String>, AllocErro
         );
     };
     for (name, object) in objects.iter() {
-        if let Some(words) = object_words(alloc, name, &object)? {
+        if let Some(words) = object_words(alloc, name.as_str(), object)? {
             return Ok(Some(words));
         }
     }
@@ -192,7 +193,7 @@ fn value_words(
     alloc: Global,
     name: &str,
     form: Form,
-    value: &Json,
+    value: &Value,
 ) -> Result<Option<String>, AllocError> {
     match form {
         Form::Id => id_words(alloc, name, value),
@@ -218,10 +219,11 @@ fn known_listed(alloc: Global, known: &[Member]) -> Result<String, AllocError> {
 fn members_words(
     alloc: Global,
     command: &str,
-    members: Members,
+    members: &Map<String, Value>,
     known: &[Member],
 ) -> Result<Option<String>, AllocError> {
     for (name, _) in members.iter() {
+        let name = name.as_str();
         if name != "do" && !known.iter().any(|member| member.0 == name) {
             let name = named(alloc, name)?;
             let list = known_listed(alloc, known)?;
@@ -230,14 +232,14 @@ fn members_words(
         }
     }
     for (name, form, is_required) in known {
-        match members.get(name) {
+        match members.get(*name) {
             None if *is_required => {
                 let words = format!(in alloc; "the member \"{name}\" of {command} is missing")?;
                 return Ok(Some(words));
             }
             None => {}
             Some(value) => {
-                if let Some(words) = value_words(alloc, name, *form, &value)? {
+                if let Some(words) = value_words(alloc, name, *form, value)? {
                     return Ok(Some(words));
                 }
             }
@@ -247,7 +249,7 @@ fn members_words(
 }
 
 /// The name of the command that a value is, or what is wrong with it.
-fn command_named<'a>(value: &Json<'_, 'a>) -> Result<(&'a str, &'static [Member]), &'static str> {
+fn command_named(value: &Value) -> Result<(&str, &'static [Member]), &'static str> {
     if value.as_object().is_none() {
         return Err("a command is an object");
     }
@@ -264,11 +266,11 @@ fn command_named<'a>(value: &Json<'_, 'a>) -> Result<(&'a str, &'static [Member]
 }
 
 /// What is wrong with a command, but for the parts of a batch.
-fn alone_words(alloc: Global, value: &Json) -> Result<Option<String>, AllocError> {
+fn alone_words(alloc: Global, value: &Value) -> Result<Option<String>, AllocError> {
     let (name, known) = match command_named(value) {
         Ok(found) => found,
         Err("do: no such command") => {
-            let told = value.get("do").and_then(|told| told.as_str()).unwrap_or("");
+            let told = value.get("do").and_then(Value::as_str).unwrap_or("");
             let told = named(alloc, told)?;
             let words = format!(in alloc; "do: no command {told}; there are {COMMANDS}")?;
             return Ok(Some(words));
@@ -282,18 +284,18 @@ fn alone_words(alloc: Global, value: &Json) -> Result<Option<String>, AllocError
 }
 
 /// What is wrong with a part of a batch.
-fn part_words(alloc: Global, value: &Json) -> Result<Option<String>, AllocError> {
+fn part_words(alloc: Global, value: &Value) -> Result<Option<String>, AllocError> {
     if let Some(words) = alone_words(alloc, value)? {
         return Ok(Some(words));
     }
-    match value.get("do").and_then(|told| told.as_str()) {
+    match value.get("do").and_then(Value::as_str) {
         Some("put" | "set" | "remove") => Ok(None),
         _ => Ok(Some(String::from_str(alloc, "do: a part is a put, a set or a remove")?)),
     }
 }
 
 /// What is wrong with the parts of a batch.
-fn parts_words(alloc: Global, value: &Json) -> Result<Option<String>, AllocError> {
+fn parts_words(alloc: Global, value: &Value) -> Result<Option<String>, AllocError> {
     let Some(items) = value.as_array() else {
         return at(alloc, "parts", "not an array");
     };
@@ -304,7 +306,7 @@ fn parts_words(alloc: Global, value: &Json) -> Result<Option<String>, AllocError
     for item in items.iter() {
         let number = next;
         next = next.saturating_add(1);
-        if let Some(words) = part_words(alloc, &item)? {
+        if let Some(words) = part_words(alloc, item)? {
             return Ok(Some(format!(in alloc; "parts[{number}]: {words}")?));
         }
     }
@@ -313,15 +315,15 @@ fn parts_words(alloc: Global, value: &Json) -> Result<Option<String>, AllocError
 
 /// What keeps a JSON value from being a command, by the first member that does; nothing where it is
 /// one.
-pub fn shape_words(alloc: Global, value: &Json) -> Result<Option<String>, AllocError> {
+pub fn shape_words(alloc: Global, value: &Value) -> Result<Option<String>, AllocError> {
     if let Some(words) = alone_words(alloc, value)? {
         return Ok(Some(words));
     }
-    if value.get("do").and_then(|told| told.as_str()) != Some("batch") {
+    if value.get("do").and_then(Value::as_str) != Some("batch") {
         return Ok(None);
     }
     match value.get("parts") {
-        Some(parts) => parts_words(alloc, &parts),
+        Some(parts) => parts_words(alloc, parts),
         None => Ok(None),
     }
 }

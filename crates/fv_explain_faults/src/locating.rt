@@ -2,6 +2,7 @@ use crate::attributes::definition_attributes;
 use crate::limits::too_large;
 use crate::occurrences::{Wanted, occurrence};
 use crate::templates::{message_cycle, message_syntax};
+use fv_datum::read_json;
 use fv_declare_draft::{Draft, draft_of, uses_in};
 use fv_declare_judging::DeclFault;
 use fv_explain_names::{
@@ -10,21 +11,27 @@ use fv_explain_names::{
     unknown_name, unknown_rule,
 };
 use fv_explain_places::{End, Found, Search, found_at, shape};
-use fv_json::read_json;
 use fv_registry::RuleSet;
-use fv_text_place::{json_fault_at, line_and_column};
-use json::Scratch;
+use serde_json::Value;
 use std::alloc::{AllocError, Global};
+use std::str;
 
-/// Where bytes are no JSON.
+/// Where bytes are no JSON, as the library that reads them tells it.
 fn not_json(alloc: Global, bytes: &[u8]) -> Search {
-    let at = json_fault_at(bytes).unwrap_or(bytes.len());
-    let (line, column) = line_and_column(bytes, at);
+    let Err(error) = Value::from_slice(alloc, bytes) else {
+        return Ok(());
+    };
+    if error.is_memory() {
+        return Err(End::Memory);
+    }
+    let (line, column) = (error.line(), error.column());
     let place = format!(in alloc; "line {line}, column {column}")?;
-    let text = match bytes.get(at) {
-        None => "the text ends before its JSON does",
-        Some(byte) if *byte >= 0x80 => "no JSON goes on with what stands here, or it isn't UTF-8",
-        Some(_) => "no JSON goes on with what stands here",
+    let text = if str::from_utf8(bytes).is_err() {
+        "what stands here isn't UTF-8"
+    } else if error.is_eof() {
+        "the text ends before its JSON does"
+    } else {
+        "no JSON goes on with what stands here"
     };
     found_at(place, String::from_str(alloc, text)?)
 }
@@ -65,14 +72,13 @@ fn search<R: RuleSet>(alloc: Global, rules: &R, bytes: &[u8], fault: DeclFault) 
     if matches!(fault, DeclFault::NotJson) {
         return not_json(alloc, bytes);
     }
-    let mut scratch = Scratch::new(alloc);
-    let Ok(document) = read_json(alloc, bytes, &mut scratch) else {
+    let Ok(value) = read_json(alloc, bytes) else {
         return Err(End::Memory);
     };
     if matches!(fault, DeclFault::Shape) {
-        return shape(alloc, &document.root());
+        return shape(alloc, &value);
     }
-    match draft_of(alloc, &document.root())? {
+    match draft_of(alloc, &value)? {
         None => Ok(()),
         Some(draft) => in_draft(alloc, rules, &draft, fault),
     }

@@ -4,72 +4,16 @@ use crate::words::{fields_listed, members_listed, types_listed, wanted};
 use fv_bundle_fault::{FaultPlace, Inner, place_in_bundle, place_in_value};
 use fv_declare_schema::Schema;
 use fv_explain_command::{cut, named};
-use fv_json::{Json, Members};
-use fv_model::{BundleFault, TypeId, TypeUse};
-use fv_text_place::{ValueStep, written_at};
+use fv_model::BundleFault;
+use fv_model_types::{TypeId, TypeUse};
 use indexmap::IndexMap;
+use serde_json::{Map, Value};
 use std::alloc::{AllocError, Global};
 
-/// The steps to the place, behind those to the bundle or the datum.
-fn steps_to<'a>(
-    alloc: Global,
-    before: &[ValueStep<'a>],
-    place: &FaultPlace<'_, '_, 'a>,
-) -> Result<Vec<ValueStep<'a>>, AllocError> {
-    let mut steps = Vec::new(alloc);
-    steps.extend_from_slice(before)?;
-    if let Some(object) = place.object {
-        steps.push(ValueStep::Member("objects"))?;
-        steps.push(ValueStep::Member(object))?;
-    }
-    if let Some(field) = place.field {
-        steps.push(ValueStep::Member("fields"))?;
-        steps.push(ValueStep::Member(field))?;
-    }
-    for inner in &place.steps {
-        steps.push(match *inner {
-            Inner::Item(number) => ValueStep::Item(number),
-            Inner::Member(name) => ValueStep::Member(name),
-        })?;
-    }
-    Ok(steps)
-}
-
-/// A value in few words: a text, a whole number, a truth value or null as it is.
-fn told(alloc: Global, value: &Json) -> Result<String, AllocError> {
-    if let Some(text) = value.as_str() {
-        return named(alloc, text);
-    }
-    if let Some(number) = value.as_i64() {
-        return format!(in alloc; "{number}");
-    }
-    if let Some(is_true) = value.as_bool() {
-        return format!(in alloc; "{is_true}");
-    }
-    let words = if value.is_null() {
-        "null"
-    } else if value.as_array().is_some() {
-        "an array"
-    } else if value.as_object().is_some() {
-        "an object"
-    } else {
-        "a number"
-    };
-    String::from_str(alloc, words)
-}
-
-/// The value at the steps as it was written, cut; in few words where a name on the way is written with
-/// escapes.
-fn shown(
-    alloc: Global,
-    line: &[u8],
-    steps: &[ValueStep],
-    value: &Json,
-) -> Result<String, AllocError> {
-    match written_at(line, steps) {
-        Some(text) => cut(alloc, text),
-        None => told(alloc, value),
-    }
+/// A value as `serde_json` writes it, cut.
+fn shown(alloc: Global, value: &Value) -> Result<String, AllocError> {
+    let text = value.to_string(alloc)?;
+    cut(alloc, text.as_str())
 }
 
 /// The place in words: the object, the field, and the steps into its datum; empty for the bundle or the
@@ -100,13 +44,13 @@ fn place_words(alloc: Global, place: &FaultPlace) -> Result<String, AllocError> 
 }
 
 /// The name of the type of an object of a bundle.
-pub(crate) fn type_in<'a>(bundle: &Json<'_, 'a>, object: &str) -> Option<&'a str> {
+pub(crate) fn type_in<'a>(bundle: &'a Value, object: &str) -> Option<&'a str> {
     bundle.get("objects")?.get(object)?.get("type")?.as_str()
 }
 
 /// The names of the objects of a bundle.
-fn objects_listed(alloc: Global, bundle: &Json) -> Result<String, AllocError> {
-    match bundle.get("objects").and_then(|told| told.as_object()) {
+fn objects_listed(alloc: Global, bundle: &Value) -> Result<String, AllocError> {
+    match bundle.get("objects").and_then(Value::as_object) {
         Some(objects) => members_listed(alloc, objects),
         None => Ok(String::new(alloc)),
     }
@@ -170,14 +114,11 @@ fn whole_words(
     alloc: Global,
     schema: &Schema,
     root: Option<TypeId>,
-    bundle: &Json,
+    bundle: &Value,
     fault: BundleFault,
     place: &FaultPlace,
 ) -> Result<String, AllocError> {
-    let named_root = bundle
-        .get("root")
-        .and_then(|told| told.as_str())
-        .unwrap_or("");
+    let named_root = bundle.get("root").and_then(Value::as_str).unwrap_or("");
     let object = match place.object {
         Some(name) => name,
         None => "",
@@ -221,14 +162,12 @@ fn whole_words(
     }
 }
 
-/// What is wrong with the bundle of a put. `before` leads to the bundle in the line.
-pub(crate) fn put_words<'a>(
+/// What is wrong with the bundle of a put.
+pub(crate) fn put_words(
     alloc: Global,
     schema: &Schema,
-    line: &[u8],
-    before: &[ValueStep<'a>],
     form: &str,
-    bundle: &Json<'_, 'a>,
+    bundle: &Value,
     fault: BundleFault,
 ) -> Result<String, AllocError> {
     let root = schema.root_of(form);
@@ -237,8 +176,7 @@ pub(crate) fn put_words<'a>(
     };
     let there = place_words(alloc, &place)?;
     let words = if place.type_use.is_some() {
-        let steps = steps_to(alloc, before, &place)?;
-        let shown = shown(alloc, line, &steps, &place.value)?;
+        let shown = shown(alloc, place.value)?;
         let own = place.value.as_str().and_then(|name| type_in(bundle, name));
         datum_words(alloc, shown.as_str(), place.type_use, fault, own)?
     } else {
@@ -250,13 +188,13 @@ pub(crate) fn put_words<'a>(
 /// The types of the objects of a record.
 fn names_of<'a>(
     alloc: Global,
-    objects: Option<Members<'_, 'a>>,
+    objects: Option<&'a Map<String, Value>>,
 ) -> Result<IndexMap<&'a str, &'a str>, AllocError> {
     let mut names = IndexMap::new(alloc);
     if let Some(objects) = objects {
         for (name, object) in objects.iter() {
-            if let Some(type_name) = object.get("type").and_then(|told| told.as_str()) {
-                names.insert(name, type_name)?;
+            if let Some(type_name) = object.get("type").and_then(Value::as_str) {
+                names.insert(name.as_str(), type_name)?;
             }
         }
     }
@@ -283,19 +221,17 @@ fn front_words(
     }
 }
 
-/// What is wrong with a datum for a field of a type. `before` leads to the datum in the line, `bundle`
-/// has the objects that it may refer to, where there is one.
-pub(crate) fn value_words<'a>(
+/// What is wrong with a datum for a field of a type. `bundle` has the objects that it may refer to, where there
+/// is one.
+pub(crate) fn value_words(
     alloc: Global,
     schema: &Schema,
-    line: &[u8],
-    before: &[ValueStep<'a>],
     object: Option<&str>,
     type_name: &str,
     field: &str,
-    value: &Json<'_, 'a>,
+    value: &Value,
     fault: BundleFault,
-    bundle: Option<Json>,
+    bundle: Option<&Value>,
 ) -> Result<String, AllocError> {
     let front = front_words(alloc, object, type_name, field)?;
     let fields = schema.types().fields(type_name);
@@ -305,14 +241,13 @@ pub(crate) fn value_words<'a>(
     };
     let objects = bundle
         .and_then(|bundle| bundle.get("objects"))
-        .and_then(|told| told.as_object());
+        .and_then(Value::as_object);
     let names = names_of(alloc, objects)?;
     let Some(place) = place_in_value(alloc, type_use, &names, value, fault)? else {
         return Ok(String::new(alloc));
     };
     let there = place_words(alloc, &place)?;
-    let steps = steps_to(alloc, before, &place)?;
-    let shown = shown(alloc, line, &steps, &place.value)?;
+    let shown = shown(alloc, place.value)?;
     let own = place
         .value
         .as_str()
@@ -328,7 +263,7 @@ pub(crate) fn value_words<'a>(
 pub(crate) fn missing_words(
     alloc: Global,
     schema: &Schema,
-    bundle: &Json,
+    bundle: &Value,
     object: &str,
     field: &str,
 ) -> Result<String, AllocError> {
@@ -344,16 +279,4 @@ pub(crate) fn missing_words(
             format!(in alloc; "the record has no object {object}; it has {list}")
         }
     }
-}
-
-/// The steps to a member of a part.
-pub(crate) fn member_of<'a>(
-    alloc: Global,
-    before: &[ValueStep<'a>],
-    name: &'a str,
-) -> Result<Vec<ValueStep<'a>>, AllocError> {
-    let mut steps = Vec::with_capacity(alloc, before.len() + 1)?;
-    steps.extend_from_slice(before)?;
-    steps.push(ValueStep::Member(name))?;
-    Ok(steps)
 }

@@ -1,53 +1,60 @@
 //! A refusal in words.
 
-use crate::bundles::{
-    member_of, missing_words, put_words, type_in, unknown_field, unknown_type, value_words,
-};
+use crate::bundles::{missing_words, put_words, type_in, unknown_field, unknown_type, value_words};
 use crate::refusal::{ErrorReply, bundle_fault, refusal_of};
 use crate::visits::{Visits, place_named, visits_of};
+use fv_bundle::Bundle;
+use fv_datum::{JsonFault, read_json, text_at};
 use fv_declare_schema::Schema;
 use fv_explain_command::shape_words;
 use fv_groups::GroupId;
-use fv_json::{Document, Json, JsonFault, read_json};
-use fv_model::{Bundle, BundleFault, read_bundle, set_field};
-use fv_text_place::{ValueStep, json_fault_at};
-use json::Scratch;
+use fv_model::{BundleFault, read_bundle, set_field};
+use serde_json::Value;
 use std::alloc::{AllocError, Global};
+use std::str;
 
-/// What is wrong with bytes that are no JSON.
+/// What is wrong with bytes that are no JSON, as the library that reads them tells it.
 fn not_json_words(alloc: Global, line: &[u8]) -> Result<String, AllocError> {
     if line.is_empty() {
         return String::from_str(alloc, "an empty line");
     }
-    match json_fault_at(line) {
-        Some(at) if at < line.len() => {
-            format!(in alloc; "no JSON can go on at byte {at}, counted from 0")
-        }
-        _ => String::from_str(alloc, "the line ends before its JSON does"),
+    let Err(error) = Value::from_slice(alloc, line) else {
+        return Ok(String::new(alloc));
+    };
+    if error.is_memory() {
+        return Err(AllocError);
+    }
+    let column = error.column();
+    if str::from_utf8(line).is_err() {
+        format!(in alloc; "no UTF-8 at column {column}")
+    } else if error.is_eof() {
+        String::from_str(alloc, "the line ends before its JSON does")
+    } else {
+        format!(in alloc; "no JSON can go on at column {column}")
     }
 }
 
 /// A member's text; empty where there is none.
-fn text_in<'a>(value: &Json<'_, 'a>, name: &str) -> &'a str {
-    value.get(name).and_then(|told| told.as_str()).unwrap_or("")
+fn text_in<'a>(value: &'a Value, name: &str) -> &'a str {
+    text_at(value, name).unwrap_or("")
 }
 
 /// The item of that number of a batch's parts.
-fn part_at<'j, 'a>(value: &Json<'j, 'a>, number: usize) -> Option<Json<'j, 'a>> {
-    value.get("parts")?.as_array()?.iter().nth(number)
+fn part_at(value: &Value, number: usize) -> Option<&Value> {
+    value.get("parts")?.get(number)
 }
 
 /// The bundle that the last put of an id before a part of a batch has.
-fn put_before<'j, 'a>(value: &Json<'j, 'a>, number: usize, id: &str) -> Option<Json<'j, 'a>> {
+fn put_before<'a>(value: &'a Value, number: usize, id: &str) -> Option<&'a Value> {
     let parts = value.get("parts")?.as_array()?;
     let mut found = None;
     let mut left = number;
-    for part in parts.iter() {
+    for part in parts {
         if left == 0 {
             return found;
         }
         left -= 1;
-        if text_in(&part, "do") == "put" && text_in(&part, "id") == id {
+        if text_in(part, "do") == "put" && text_in(part, "id") == id {
             found = part.get("bundle");
         }
     }
@@ -55,7 +62,7 @@ fn put_before<'j, 'a>(value: &Json<'j, 'a>, number: usize, id: &str) -> Option<J
 }
 
 /// The id of the record that has to be seen to tell why a line was refused, where it is stored.
-fn id_asked<'a>(value: &Json<'_, 'a>, refusal: ErrorReply) -> Option<&'a str> {
+fn id_asked<'a>(value: &'a Value, refusal: ErrorReply) -> Option<&'a str> {
     match refusal.part {
         Some(number) => {
             let number = number as usize;
@@ -74,13 +81,9 @@ fn id_asked<'a>(value: &Json<'_, 'a>, refusal: ErrorReply) -> Option<&'a str> {
 }
 
 /// The JSON value that bytes are, if they are one.
-fn document_of<'a>(
-    alloc: Global,
-    bytes: &'a [u8],
-    scratch: &'a mut Scratch,
-) -> Result<Option<Document<'a>>, AllocError> {
-    match read_json(alloc, bytes, scratch) {
-        Ok(document) => Ok(Some(document)),
+fn value_of(alloc: Global, bytes: &[u8]) -> Result<Option<Value>, AllocError> {
+    match read_json(alloc, bytes) {
+        Ok(value) => Ok(Some(value)),
         Err(JsonFault::NotJson) => Ok(None),
         Err(JsonFault::Memory) => Err(AllocError),
     }
@@ -89,107 +92,91 @@ fn document_of<'a>(
 /// The id of the record that a get has to show before `explain_refusal` can tell where a line is
 /// wrong; none where it needs no record.
 pub fn record_asked(alloc: Global, line: &[u8], reply: &str) -> Result<Option<String>, AllocError> {
-    let mut scratch = Scratch::new(alloc);
-    let Some(told) = document_of(alloc, reply.as_bytes(), &mut scratch)? else {
+    let Some(told) = value_of(alloc, reply.as_bytes())? else {
         return Ok(None);
     };
-    let Some(refusal) = refusal_of(&told.root()) else {
+    let Some(refusal) = refusal_of(&told) else {
         return Ok(None);
     };
     if !matches!(refusal.code, "C5" | "C8" | "C9") {
         return Ok(None);
     }
-    let mut scratch = Scratch::new(alloc);
-    let Some(document) = document_of(alloc, line, &mut scratch)? else {
+    let Some(value) = value_of(alloc, line)? else {
         return Ok(None);
     };
-    match id_asked(&document.root(), refusal) {
+    match id_asked(&value, refusal) {
         Some(id) => Ok(Some(String::from_str(alloc, id)?)),
         None => Ok(None),
     }
 }
 
 /// What is wrong with the bundle of a put.
-fn put_data_words<'a>(
+fn put_data_words(
     alloc: Global,
     schema: &Schema,
-    line: &[u8],
-    before: &[ValueStep<'a>],
-    put: &Json<'_, 'a>,
+    put: &Value,
     fault: BundleFault,
 ) -> Result<String, AllocError> {
     let Some(bundle) = put.get("bundle") else {
         return Ok(String::new(alloc));
     };
-    let before = member_of(alloc, before, "bundle")?;
     let form = text_in(put, "form");
-    put_words(alloc, schema, line, &before, form, &bundle, fault)
+    put_words(alloc, schema, form, bundle, fault)
 }
 
 /// What is wrong with the datum of a set, or with its object or field. `stored` is the bundle that it is made in.
-fn set_data_words<'a>(
+fn set_data_words(
     alloc: Global,
     schema: &Schema,
-    line: &[u8],
-    before: &[ValueStep<'a>],
-    set: &Json<'_, 'a>,
+    set: &Value,
     fault: BundleFault,
-    stored: Option<Json>,
+    stored: Option<&Value>,
 ) -> Result<String, AllocError> {
     let (Some(value), Some(stored)) = (set.get("value"), stored) else {
         return Ok(String::new(alloc));
     };
     let object = text_in(set, "object");
     let field = text_in(set, "field");
-    let Some(type_name) = type_in(&stored, object) else {
-        return missing_words(alloc, schema, &stored, object, field);
+    let Some(type_name) = type_in(stored, object) else {
+        return missing_words(alloc, schema, stored, object, field);
     };
-    let before = member_of(alloc, before, "value")?;
     let stored = Some(stored);
     let object = Some(object);
     value_words(
-        alloc, schema, line, &before, object, type_name, field, &value, fault, stored,
+        alloc, schema, object, type_name, field, value, fault, stored,
     )
 }
 
 /// What is wrong with the datum of a checkvalue.
-fn asked_data_words<'a>(
+fn asked_data_words(
     alloc: Global,
     schema: &Schema,
-    line: &[u8],
-    before: &[ValueStep<'a>],
-    asked: &Json<'_, 'a>,
+    asked: &Value,
     fault: BundleFault,
 ) -> Result<String, AllocError> {
     let Some(value) = asked.get("value") else {
         return Ok(String::new(alloc));
     };
-    let before = member_of(alloc, before, "value")?;
     let type_name = text_in(asked, "type");
     let field = text_in(asked, "field");
-    value_words(
-        alloc, schema, line, &before, None, type_name, field, &value, fault, None,
-    )
+    value_words(alloc, schema, None, type_name, field, value, fault, None)
 }
 
-/// What is wrong with a datum or a bundle: C5. `before` leads to the part in the line, and `stored` is
-/// the bundle that a set is made in.
-fn data_words<'a>(
+/// What is wrong with a datum or a bundle: C5. `stored` is the bundle that a set is made in.
+fn data_words(
     alloc: Global,
     schema: &Schema,
-    line: &[u8],
-    before: &[ValueStep<'a>],
-    part: &Json<'_, 'a>,
+    part: &Value,
     fault: &str,
-    stored: Option<Json>,
+    stored: Option<&Value>,
 ) -> Result<String, AllocError> {
     let Some(fault) = bundle_fault(fault) else {
         return Ok(String::new(alloc));
     };
     match text_in(part, "do") {
-        "put" => put_data_words(alloc, schema, line, before, part, fault),
-        "set" => set_data_words(alloc, schema, line, before, part, fault, stored),
-        _ => asked_data_words(alloc, schema, line, before, part, fault),
+        "put" => put_data_words(alloc, schema, part, fault),
+        "set" => set_data_words(alloc, schema, part, fault, stored),
+        _ => asked_data_words(alloc, schema, part, fault),
     }
 }
 
@@ -197,14 +184,14 @@ fn data_words<'a>(
 fn field_words(
     alloc: Global,
     schema: &Schema,
-    value: &Json,
-    stored: Option<Json>,
+    value: &Value,
+    stored: Option<&Value>,
 ) -> Result<String, AllocError> {
     let field = text_in(value, "field");
     if text_in(value, "do") == "checkfield" {
         return match stored {
             Some(stored) => {
-                missing_words(alloc, schema, &stored, text_in(value, "object"), field)
+                missing_words(alloc, schema, stored, text_in(value, "object"), field)
             }
             None => Ok(String::new(alloc)),
         };
@@ -217,10 +204,10 @@ fn field_words(
 }
 
 /// The groups of these names that are declared; `Default` where none is named.
-fn groups_asked(alloc: Global, schema: &Schema, value: &Json) -> Result<Vec<GroupId>, AllocError> {
+fn groups_asked(alloc: Global, schema: &Schema, value: &Value) -> Result<Vec<GroupId>, AllocError> {
     let mut asked = Vec::new(alloc);
-    if let Some(names) = value.get("groups").and_then(|told| told.as_array()) {
-        for name in names.iter() {
+    if let Some(names) = value.get("groups").and_then(Value::as_array) {
+        for name in names {
             if let Some(group) = name.as_str().and_then(|name| schema.groups().find(name)) {
                 asked.push(group)?;
             }
@@ -250,7 +237,7 @@ fn visits_words(alloc: Global, schema: &Schema, visits: &Visits) -> Result<Strin
 }
 
 /// The bundle that a JSON value is, where it is one.
-fn bundle_of(alloc: Global, schema: &Schema, value: &Json) -> Option<Bundle> {
+fn bundle_of(alloc: Global, schema: &Schema, value: &Value) -> Option<Bundle> {
     match read_bundle(alloc, schema.types(), None, value) {
         Ok(bundle) => Some(bundle),
         Err(_) => None,
@@ -275,17 +262,17 @@ fn form_visits(
 }
 
 /// The words on the visits of the records that a batch puts.
-fn batch_visits(alloc: Global, schema: &Schema, value: &Json) -> Result<String, AllocError> {
-    if let Some(parts) = value.get("parts").and_then(|told| told.as_array()) {
+fn batch_visits(alloc: Global, schema: &Schema, value: &Value) -> Result<String, AllocError> {
+    if let Some(parts) = value.get("parts").and_then(Value::as_array) {
         let mut next = 0usize;
-        for part in parts.iter() {
+        for part in parts {
             let number = next;
             next = next.saturating_add(1);
             if let Some(bundle) = part
                 .get("bundle")
-                .and_then(|told| bundle_of(alloc, schema, &told))
+                .and_then(|told| bundle_of(alloc, schema, told))
             {
-                if let Some(words) = form_visits(alloc, schema, text_in(&part, "form"), &bundle)? {
+                if let Some(words) = form_visits(alloc, schema, text_in(part, "form"), &bundle)? {
                     return Ok(format!(in alloc; "parts[{number}]: {words}")?);
                 }
             }
@@ -301,27 +288,27 @@ fn batch_visits(alloc: Global, schema: &Schema, value: &Json) -> Result<String, 
 fn too_many_words(
     alloc: Global,
     schema: &Schema,
-    value: &Json,
-    record: Option<Json>,
+    value: &Value,
+    record: Option<&Value>,
 ) -> Result<String, AllocError> {
     let found = match text_in(value, "do") {
         "put" => match value
             .get("bundle")
-            .and_then(|told| bundle_of(alloc, schema, &told))
+            .and_then(|told| bundle_of(alloc, schema, told))
         {
             Some(bundle) => form_visits(alloc, schema, text_in(value, "form"), &bundle)?,
             None => None,
         },
-        "set" => match (&record, value.get("value")) {
+        "set" => match (record, value.get("value")) {
             (Some(record), Some(told)) => {
                 match record
                     .get("bundle")
-                    .and_then(|told| bundle_of(alloc, schema, &told))
+                    .and_then(|told| bundle_of(alloc, schema, told))
                 {
                     Some(mut bundle) => {
                         let object = text_in(value, "object");
                         let field = text_in(value, "field");
-                        let _ = set_field(alloc, &mut bundle, schema.types(), object, field, &told);
+                        let _ = set_field(alloc, &mut bundle, schema.types(), object, field, told);
                         form_visits(alloc, schema, text_in(record, "form"), &bundle)?
                     }
                     None => None,
@@ -331,7 +318,7 @@ fn too_many_words(
         },
         "check" => match record
             .and_then(|record| record.get("bundle"))
-            .and_then(|told| bundle_of(alloc, schema, &told))
+            .and_then(|told| bundle_of(alloc, schema, told))
         {
             Some(bundle) => {
                 let asked = groups_asked(alloc, schema, value)?;
@@ -349,7 +336,7 @@ fn too_many_words(
     }
 }
 
-/// Why a line was refused, in one line of words, for C2, C3, C5, C8 and C9: the byte at which no JSON
+/// Why a line was refused, in one line of words, for C2, C3, C5, C8 and C9: the line and column at which no JSON
 /// can go on; the member that a command can't have, lacks or has in another form; the object, the field
 /// and the place in it, with the value there and what it should be; the names that there are; how many
 /// visits, and through which place most of them go. None for any other reply.
@@ -364,11 +351,10 @@ pub fn explain_refusal(
     reply: &str,
     record: Option<&str>,
 ) -> Result<Option<String>, AllocError> {
-    let mut scratch = Scratch::new(alloc);
-    let Some(told) = document_of(alloc, reply.as_bytes(), &mut scratch)? else {
+    let Some(told) = value_of(alloc, reply.as_bytes())? else {
         return Ok(None);
     };
-    let Some(refusal) = refusal_of(&told.root()) else {
+    let Some(refusal) = refusal_of(&told) else {
         return Ok(None);
     };
     let Some(words) = refusal_words(alloc, schema, line, refusal, record)? else {
@@ -405,42 +391,29 @@ fn refusal_words(
     if !matches!(refusal.code, "C3" | "C5" | "C8" | "C9") {
         return Ok(None);
     }
-    let mut scratch = Scratch::new(alloc);
-    let Some(document) = document_of(alloc, line, &mut scratch)? else {
+    let Some(value) = value_of(alloc, line)? else {
         return Ok(None);
     };
-    let value = document.root();
     if refusal.code == "C3" {
         return Ok(match shape_words(alloc, &value)? {
             Some(words) => Some(words),
             None => Some(String::from_str(alloc, "not of the form of a command")?),
         });
     }
-    let mut scratch = Scratch::new(alloc);
     let text = record.unwrap_or("null");
-    let Some(shown) = document_of(alloc, text.as_bytes(), &mut scratch)? else {
+    let Some(record) = value_of(alloc, text.as_bytes())? else {
         return Ok(None);
     };
-    let record = shown.root();
-    Ok(Some(judged_words(alloc, schema, line, refusal, &value, record)?))
-}
-
-/// The steps to the part of that number of a batch.
-fn part_steps<'a>(alloc: Global, number: usize) -> Result<Vec<ValueStep<'a>>, AllocError> {
-    let mut steps = Vec::new(alloc);
-    steps.push(ValueStep::Member("parts"))?;
-    steps.push(ValueStep::Item(number))?;
-    Ok(steps)
+    Ok(Some(judged_words(alloc, schema, refusal, &value, &record)?))
 }
 
 /// The words of a refusal of a command that has the form of one.
 fn judged_words(
     alloc: Global,
     schema: &Schema,
-    line: &[u8],
     refusal: ErrorReply,
-    value: &Json,
-    record: Json,
+    value: &Value,
+    record: &Value,
 ) -> Result<String, AllocError> {
     match refusal.code {
         "C8" => field_words(alloc, schema, value, record.get("bundle")),
@@ -448,28 +421,17 @@ fn judged_words(
         _ => {
             let fault = refusal.fault.unwrap_or("");
             let Some(number) = refusal.part else {
-                return data_words(alloc, schema, line, &[], value, fault, record.get("bundle"));
+                return data_words(alloc, schema, value, fault, record.get("bundle"));
             };
             let number = number as usize;
             let Some(part) = part_at(value, number) else {
                 return Ok(String::new(alloc));
             };
-            let before = part_steps(alloc, number)?;
-            match put_before(value, number, text_in(&part, "id")) {
-                Some(bundle) => data_words(
-                    alloc,
-                    schema,
-                    line,
-                    &before,
-                    &part,
-                    fault,
-                    Some(bundle),
-                ),
-                None => {
-                    let stored = record.get("bundle");
-                    data_words(alloc, schema, line, &before, &part, fault, stored)
-                }
-            }
+            let stored = match put_before(value, number, text_in(part, "id")) {
+                Some(bundle) => Some(bundle),
+                None => record.get("bundle"),
+            };
+            data_words(alloc, schema, part, fault, stored)
         }
     }
 }

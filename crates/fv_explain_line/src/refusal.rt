@@ -1,7 +1,7 @@
 //! A reply that refuses.
 
-use fv_json::Json;
 use fv_model::BundleFault;
+use serde_json::Value;
 
 /// The parts of a reply that refuses: its code and name, the fault of a bundle, the part of a batch.
 #[derive(Clone, Copy)]
@@ -13,12 +13,12 @@ pub(crate) struct ErrorReply<'a> {
 }
 
 /// The refusal that a reply is, if it is one.
-pub(crate) fn refusal_of<'a>(reply: &Json<'_, 'a>) -> Option<ErrorReply<'a>> {
+pub(crate) fn refusal_of(reply: &Value) -> Option<ErrorReply<'_>> {
     Some(ErrorReply {
         code: reply.get("error")?.as_str()?,
         name: reply.get("name")?.as_str()?,
-        fault: reply.get("fault").and_then(|told| told.as_str()),
-        part: reply.get("part").and_then(|told| told.as_u64()),
+        fault: reply.get("fault").and_then(Value::as_str),
+        part: reply.get("part").and_then(Value::as_u64),
     })
 }
 

@@ -1,10 +1,11 @@
 //! How often objects of a bundle would be judged, and through which place most of them are reached.
 
+use fv_bundle::Bundle;
 use fv_datum::Datum;
 use fv_declare_schema::{Schema, ValidPlace};
 use fv_extract::{Place, find};
 use fv_groups::{GroupId, Groups};
-use fv_model::{Bundle, TypeId};
+use fv_model_types::TypeId;
 use std::alloc::{AllocError, Global};
 
 /// The most visits that are counted.

@@ -1,8 +1,8 @@
 //! Words of declarations.
 
 use fv_explain_command::listed;
-use fv_json::Members;
-use fv_model::{Fields, TypeId, TypeUse, Types};
+use fv_model_types::{Fields, TypeId, TypeUse, Types};
+use serde_json::{Map, Value};
 use std::alloc::{AllocError, Global};
 
 /// The names of a type's fields, with commas between them.
@@ -24,10 +24,13 @@ pub(crate) fn types_listed(alloc: Global, types: &Types) -> Result<String, Alloc
 }
 
 /// The names of members, with commas between them.
-pub(crate) fn members_listed(alloc: Global, members: Members) -> Result<String, AllocError> {
+pub(crate) fn members_listed(
+    alloc: Global,
+    members: &Map<String, Value>,
+) -> Result<String, AllocError> {
     let mut names = Vec::new(alloc);
     for (name, _) in members.iter() {
-        names.push(name)?;
+        names.push(name.as_str())?;
     }
     listed(alloc, &names)
 }

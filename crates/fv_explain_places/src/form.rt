@@ -5,14 +5,14 @@ use crate::members::{
 };
 use crate::places::{item, member};
 use crate::words::shown;
-use fv_json::{Json, Members};
+use serde_json::{Map, Value};
 use std::alloc::Global;
 
 /// The most containers of JSON, one in another.
 const MOST_DEPTH: usize = 128;
 
 /// An attribute's value.
-fn attribute(alloc: Global, place: &str, value: &Json) -> Search {
+fn attribute(alloc: Global, place: &str, value: &Value) -> Search {
     if value.as_array().is_some() {
         return texts(alloc, place, value);
     }
@@ -24,31 +24,31 @@ fn attribute(alloc: Global, place: &str, value: &Json) -> Search {
 }
 
 /// Attributes that a member gives, if it is there.
-fn attributes_at(alloc: Global, place: &str, members: Members, name: &str) -> Search {
+fn attributes_at(alloc: Global, place: &str, members: &Map<String, Value>, name: &str) -> Search {
     if let Some(value) = members.get(name) {
         let place = member(alloc, place, name)?;
-        for (name, value) in members_of(alloc, place.as_str(), &value)?.iter() {
-            let place = member(alloc, place.as_str(), name)?;
-            attribute(alloc, place.as_str(), &value)?;
+        for (name, value) in members_of(alloc, place.as_str(), value)?.iter() {
+            let place = member(alloc, place.as_str(), name.as_str())?;
+            attribute(alloc, place.as_str(), value)?;
         }
     }
     Ok(())
 }
 
 /// Texts by names that a member gives, if it is there.
-fn pairs_at(alloc: Global, place: &str, members: Members, name: &str) -> Search {
+fn pairs_at(alloc: Global, place: &str, members: &Map<String, Value>, name: &str) -> Search {
     if let Some(value) = members.get(name) {
         let place = member(alloc, place, name)?;
-        for (name, value) in members_of(alloc, place.as_str(), &value)?.iter() {
-            let place = member(alloc, place.as_str(), name)?;
-            text(alloc, place.as_str(), &value)?;
+        for (name, value) in members_of(alloc, place.as_str(), value)?.iter() {
+            let place = member(alloc, place.as_str(), name.as_str())?;
+            text(alloc, place.as_str(), value)?;
         }
     }
     Ok(())
 }
 
 /// A use of a constraint.
-fn use_form(alloc: Global, place: &str, value: &Json) -> Search {
+fn use_form(alloc: Global, place: &str, value: &Value) -> Search {
     let members = only(
         alloc,
         place,
@@ -63,21 +63,21 @@ fn use_form(alloc: Global, place: &str, value: &Json) -> Search {
 }
 
 /// An array of uses of constraints.
-fn uses(alloc: Global, place: &str, value: &Json) -> Search {
+fn uses(alloc: Global, place: &str, value: &Value) -> Search {
     let mut index: usize = 0;
-    for value in items_of(alloc, place, value)?.iter() {
+    for value in items_of(alloc, place, value)? {
         let place = item(alloc, place, index)?;
-        use_form(alloc, place.as_str(), &value)?;
+        use_form(alloc, place.as_str(), value)?;
         index = index.saturating_add(1);
     }
     Ok(())
 }
 
 /// Uses of constraints that a member gives, if it is there.
-fn uses_at(alloc: Global, place: &str, members: Members, name: &str) -> Search {
+fn uses_at(alloc: Global, place: &str, members: &Map<String, Value>, name: &str) -> Search {
     if let Some(value) = members.get(name) {
         let place = member(alloc, place, name)?;
-        uses(alloc, place.as_str(), &value)?;
+        uses(alloc, place.as_str(), value)?;
     }
     Ok(())
 }
@@ -97,11 +97,7 @@ fn word(alloc: Global, place: &str, word: &str) -> Search {
 }
 
 /// What a place says beside its type.
-fn place_members<'j, 'a>(
-    alloc: Global,
-    place: &str,
-    value: &Json<'j, 'a>,
-) -> Result<Json<'j, 'a>, End> {
+fn place_members<'a>(alloc: Global, place: &str, value: &'a Value) -> Result<&'a Value, End> {
     let members = only(
         alloc,
         place,
@@ -115,11 +111,11 @@ fn place_members<'j, 'a>(
 }
 
 /// The member of a type that is an object, with the place inside it, if it is a container.
-fn container<'j, 'a>(
+fn container<'a>(
     alloc: Global,
     place: &str,
-    value: &Json<'j, 'a>,
-) -> Result<Option<(&'static str, Json<'j, 'a>)>, End> {
+    value: &'a Value,
+) -> Result<Option<(&'static str, &'a Value)>, End> {
     let Some(members) = value.as_object() else {
         return Err(expected(alloc, place, "a type by its word or an object", value)?);
     };
@@ -143,16 +139,16 @@ fn container<'j, 'a>(
 }
 
 /// A place, and all places inside it.
-fn place_form(alloc: Global, place: String, value: Json) -> Search {
+fn place_form(alloc: Global, place: String, value: &Value) -> Search {
     let mut place = place;
     let mut value = value;
     for _ in 0..MOST_DEPTH {
-        let told = place_members(alloc, place.as_str(), &value)?;
+        let told = place_members(alloc, place.as_str(), value)?;
         place = member(alloc, place.as_str(), "type")?;
         if let Some(name) = told.as_str() {
             return word(alloc, place.as_str(), name);
         }
-        match container(alloc, place.as_str(), &told)? {
+        match container(alloc, place.as_str(), told)? {
             None => return Ok(()),
             Some((name, inside)) => {
                 place = member(alloc, place.as_str(), name)?;
@@ -164,19 +160,19 @@ fn place_form(alloc: Global, place: String, value: Json) -> Search {
 }
 
 /// A type.
-fn type_form(alloc: Global, place: &str, value: &Json) -> Search {
+fn type_form(alloc: Global, place: &str, value: &Value) -> Search {
     let members = only(alloc, place, value, &["fields", "constraints", "sequence"])?;
     let fields = required(alloc, place, members, "fields")?;
     let at = member(alloc, place, "fields")?;
-    for (name, value) in members_of(alloc, at.as_str(), &fields)?.iter() {
-        place_form(alloc, member(alloc, at.as_str(), name)?, value)?;
+    for (name, value) in members_of(alloc, at.as_str(), fields)?.iter() {
+        place_form(alloc, member(alloc, at.as_str(), name.as_str())?, value)?;
     }
     uses_at(alloc, place, members, "constraints")?;
     texts_at(alloc, place, members, "sequence")
 }
 
 /// A form.
-fn form_form(alloc: Global, place: &str, value: &Json) -> Search {
+fn form_form(alloc: Global, place: &str, value: &Value) -> Search {
     let members = only(alloc, place, value, &["root", "groups"])?;
     let _ = required(alloc, place, members, "root")?;
     text_at(alloc, place, members, "root")?;
@@ -184,7 +180,7 @@ fn form_form(alloc: Global, place: &str, value: &Json) -> Search {
 }
 
 /// A group.
-fn group_form(alloc: Global, place: &str, value: &Json) -> Search {
+fn group_form(alloc: Global, place: &str, value: &Value) -> Search {
     let members = only(alloc, place, value, &["inherits", "sequence"])?;
     texts_at(alloc, place, members, "inherits")?;
     texts_at(alloc, place, members, "sequence")?;
@@ -205,7 +201,7 @@ fn group_form(alloc: Global, place: &str, value: &Json) -> Search {
 }
 
 /// An attribute of a declared constraint.
-fn attribute_form(alloc: Global, place: &str, value: &Json) -> Search {
+fn attribute_form(alloc: Global, place: &str, value: &Value) -> Search {
     let members = only(alloc, place, value, &["kind", "default"])?;
     let kind = required(alloc, place, members, "kind")?;
     if !matches!(
@@ -220,13 +216,13 @@ fn attribute_form(alloc: Global, place: &str, value: &Json) -> Search {
         None => Ok(()),
         Some(value) => {
             let place = member(alloc, place, "default")?;
-            attribute(alloc, place.as_str(), &value)
+            attribute(alloc, place.as_str(), value)
         }
     }
 }
 
 /// A use that a declared constraint is composed of.
-fn composing_form(alloc: Global, place: &str, value: &Json) -> Search {
+fn composing_form(alloc: Global, place: &str, value: &Value) -> Search {
     let members = only(
         alloc,
         place,
@@ -241,26 +237,26 @@ fn composing_form(alloc: Global, place: &str, value: &Json) -> Search {
 }
 
 /// An array of uses that a declared constraint is composed of.
-fn composing(alloc: Global, place: &str, value: &Json) -> Search {
+fn composing(alloc: Global, place: &str, value: &Value) -> Search {
     let mut index: usize = 0;
-    for value in items_of(alloc, place, value)?.iter() {
+    for value in items_of(alloc, place, value)? {
         let place = item(alloc, place, index)?;
-        composing_form(alloc, place.as_str(), &value)?;
+        composing_form(alloc, place.as_str(), value)?;
         index = index.saturating_add(1);
     }
     Ok(())
 }
 
 /// Whether a value is a rule's number.
-fn is_rule_number(value: Option<Json>) -> bool {
-    match value.and_then(|told| told.as_i64()) {
+fn is_rule_number(value: Option<&Value>) -> bool {
+    match value.and_then(Value::as_i64) {
         None => false,
         Some(number) => number >= 0 && number <= 4294967295,
     }
 }
 
 /// A rule.
-fn rule_form(alloc: Global, place: &str, value: &Json) -> Search {
+fn rule_form(alloc: Global, place: &str, value: &Value) -> Search {
     let members = only(alloc, place, value, &["field", "object"])?;
     let told = is_rule_number(members.get("field")) || is_rule_number(members.get("object"));
     if members.len() == 1 && told {
@@ -274,30 +270,30 @@ fn rule_form(alloc: Global, place: &str, value: &Json) -> Search {
 }
 
 /// A declared constraint.
-fn definition_form(alloc: Global, place: &str, value: &Json) -> Search {
+fn definition_form(alloc: Global, place: &str, value: &Value) -> Search {
     let names = ["attributes", "compose", "rule", "single", "message"];
     let members = only(alloc, place, value, &names)?;
     if let Some(told) = members.get("attributes") {
         let place = member(alloc, place, "attributes")?;
-        for (name, value) in members_of(alloc, place.as_str(), &told)?.iter() {
-            let place = member(alloc, place.as_str(), name)?;
-            attribute_form(alloc, place.as_str(), &value)?;
+        for (name, value) in members_of(alloc, place.as_str(), told)?.iter() {
+            let place = member(alloc, place.as_str(), name.as_str())?;
+            attribute_form(alloc, place.as_str(), value)?;
         }
     }
     if let Some(told) = members.get("compose") {
         let place = member(alloc, place, "compose")?;
-        composing(alloc, place.as_str(), &told)?;
+        composing(alloc, place.as_str(), told)?;
     }
     if let Some(told) = members.get("rule") {
         let place = member(alloc, place, "rule")?;
-        rule_form(alloc, place.as_str(), &told)?;
+        rule_form(alloc, place.as_str(), told)?;
     }
     boolean_at(alloc, place, members, "single")?;
     text_at(alloc, place, members, "message")
 }
 
 /// A part of declarations, each of its members by its own form.
-fn part(alloc: Global, part: &str, name: &str, value: &Json) -> Search {
+fn part(alloc: Global, part: &str, name: &str, value: &Value) -> Search {
     let place = member(alloc, part, name)?;
     match part {
         "types" => type_form(alloc, place.as_str(), value),
@@ -312,17 +308,17 @@ fn part(alloc: Global, part: &str, name: &str, value: &Json) -> Search {
 }
 
 /// All members of a part, if it is there.
-fn parts_at(alloc: Global, members: Members, name: &str) -> Search {
+fn parts_at(alloc: Global, members: &Map<String, Value>, name: &str) -> Search {
     if let Some(value) = members.get(name) {
-        for (inner, value) in members_of(alloc, name, &value)?.iter() {
-            part(alloc, name, inner, &value)?;
+        for (inner, value) in members_of(alloc, name, value)?.iter() {
+            part(alloc, name, inner.as_str(), value)?;
         }
     }
     Ok(())
 }
 
 /// Shape: a member that is unknown, missing or of another form.
-pub fn shape(alloc: Global, value: &Json) -> Search {
+pub fn shape(alloc: Global, value: &Value) -> Search {
     let names = ["types", "forms", "groups", "constraints", "messages"];
     let members = only(alloc, "", value, &names)?;
     let _ = required(alloc, "", members, "types")?;

@@ -2,11 +2,11 @@
 use crate::ending::{End, Found, Search};
 use crate::places::{item, member};
 use crate::words::shown;
-use fv_json::{Items, Json, Members};
+use serde_json::{Map, Value};
 use std::alloc::{AllocError, Global};
 
 /// What a JSON value is.
-fn sort_of(value: &Json) -> &'static str {
+fn sort_of(value: &Value) -> &'static str {
     if value.is_null() {
         "null"
     } else if value.as_bool().is_some() {
@@ -33,7 +33,7 @@ pub(crate) fn expected(
     alloc: Global,
     place: &str,
     wanted: &str,
-    value: &Json,
+    value: &Value,
 ) -> Result<End, AllocError> {
     let sort = sort_of(value);
     end_at(
@@ -44,11 +44,11 @@ pub(crate) fn expected(
 }
 
 /// The members of an object.
-pub(crate) fn members_of<'j, 'a>(
+pub(crate) fn members_of<'a>(
     alloc: Global,
     place: &str,
-    value: &Json<'j, 'a>,
-) -> Result<Members<'j, 'a>, End> {
+    value: &'a Value,
+) -> Result<&'a Map<String, Value>, End> {
     match value.as_object() {
         Some(members) => Ok(members),
         None => Err(expected(alloc, place, "an object", value)?),
@@ -56,14 +56,15 @@ pub(crate) fn members_of<'j, 'a>(
 }
 
 /// The members of an object that may have these alone.
-pub(crate) fn only<'j, 'a>(
+pub(crate) fn only<'a>(
     alloc: Global,
     place: &str,
-    value: &Json<'j, 'a>,
+    value: &'a Value,
     names: &[&str],
-) -> Result<Members<'j, 'a>, End> {
+) -> Result<&'a Map<String, Value>, End> {
     let members = members_of(alloc, place, value)?;
     for (name, _) in members.iter() {
+        let name = name.as_str();
         if !names.iter().any(|other| *other == name) {
             let name = shown(alloc, name)?;
             let names = names.join(alloc, ", ")?;
@@ -75,12 +76,12 @@ pub(crate) fn only<'j, 'a>(
 }
 
 /// A member that has to be there.
-pub(crate) fn required<'j, 'a>(
+pub(crate) fn required<'a>(
     alloc: Global,
     place: &str,
-    members: Members<'j, 'a>,
+    members: &'a Map<String, Value>,
     name: &str,
-) -> Result<Json<'j, 'a>, End> {
+) -> Result<&'a Value, End> {
     match members.get(name) {
         Some(value) => Ok(value),
         None => {
@@ -91,7 +92,7 @@ pub(crate) fn required<'j, 'a>(
 }
 
 /// A text at a place.
-pub(crate) fn text<'a>(alloc: Global, place: &str, value: &Json<'_, 'a>) -> Result<&'a str, End> {
+pub(crate) fn text<'a>(alloc: Global, place: &str, value: &'a Value) -> Result<&'a str, End> {
     match value.as_str() {
         Some(text) => Ok(text),
         None => Err(expected(alloc, place, "a text", value)?),
@@ -99,31 +100,41 @@ pub(crate) fn text<'a>(alloc: Global, place: &str, value: &Json<'_, 'a>) -> Resu
 }
 
 /// A text that a member is, if it is there.
-pub(crate) fn text_at(alloc: Global, place: &str, members: Members, name: &str) -> Search {
+pub(crate) fn text_at(
+    alloc: Global,
+    place: &str,
+    members: &Map<String, Value>,
+    name: &str,
+) -> Search {
     if let Some(value) = members.get(name) {
         let place = member(alloc, place, name)?;
-        text(alloc, place.as_str(), &value)?;
+        text(alloc, place.as_str(), value)?;
     }
     Ok(())
 }
 
 /// A boolean that a member is, if it is there.
-pub(crate) fn boolean_at(alloc: Global, place: &str, members: Members, name: &str) -> Search {
+pub(crate) fn boolean_at(
+    alloc: Global,
+    place: &str,
+    members: &Map<String, Value>,
+    name: &str,
+) -> Search {
     match members.get(name) {
         Some(value) if value.as_bool().is_none() => {
             let place = member(alloc, place, name)?;
-            Err(expected(alloc, place.as_str(), "true or false", &value)?)
+            Err(expected(alloc, place.as_str(), "true or false", value)?)
         }
         _ => Ok(()),
     }
 }
 
 /// The items of an array.
-pub(crate) fn items_of<'j, 'a>(
+pub(crate) fn items_of<'a>(
     alloc: Global,
     place: &str,
-    value: &Json<'j, 'a>,
-) -> Result<Items<'j, 'a>, End> {
+    value: &'a Value,
+) -> Result<&'a [Value], End> {
     match value.as_array() {
         Some(items) => Ok(items),
         None => Err(expected(alloc, place, "an array", value)?),
@@ -131,21 +142,26 @@ pub(crate) fn items_of<'j, 'a>(
 }
 
 /// An array of texts.
-pub(crate) fn texts(alloc: Global, place: &str, value: &Json) -> Search {
+pub(crate) fn texts(alloc: Global, place: &str, value: &Value) -> Search {
     let mut index: usize = 0;
-    for value in items_of(alloc, place, value)?.iter() {
+    for value in items_of(alloc, place, value)? {
         let place = item(alloc, place, index)?;
-        text(alloc, place.as_str(), &value)?;
+        text(alloc, place.as_str(), value)?;
         index = index.saturating_add(1);
     }
     Ok(())
 }
 
 /// An array of texts that a member is, if it is there.
-pub(crate) fn texts_at(alloc: Global, place: &str, members: Members, name: &str) -> Search {
+pub(crate) fn texts_at(
+    alloc: Global,
+    place: &str,
+    members: &Map<String, Value>,
+    name: &str,
+) -> Search {
     if let Some(value) = members.get(name) {
         let place = member(alloc, place, name)?;
-        texts(alloc, place.as_str(), &value)?;
+        texts(alloc, place.as_str(), value)?;
     }
     Ok(())
 }

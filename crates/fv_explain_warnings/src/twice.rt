@@ -1,93 +1,148 @@
-//! Members that stand twice in a JSON text.
-use fv_explain_places::{Found, member, shown};
-use json::{Reader, Scratch, Token};
+//! Members that stand twice in a JSON text. A value has the last of each name alone, so the text is read once
+//! more, as a type of its own that sees each member.
+use fv_explain_places::{Found, item, member, shown};
+use serde::{Deserialize, Deserializer, Format, Kind};
 use std::alloc::{AllocError, Global};
 use std::collections::BTreeMap;
-use std::str;
 
 /// The most members that are told.
 const MOST_TOLD: usize = 100;
 
-/// An array or an object that is open: its members' names so far with how often each stood, and where in it the
-/// reader is.
+/// How deep arrays and objects may nest, as where JSON is read.
+const MOST_DEPTH: usize = 127;
+
+/// One step on the way to a value.
 #[derive(Drop)]
-struct Open<'a> {
-    names: BTreeMap<&'a str, usize>,
-    name: Option<&'a str>,
-    index: usize,
+enum Step {
+    Item(usize),
+    Member(String),
 }
 
-/// The place that is open.
-fn place_of(alloc: Global, open: &[Open]) -> Result<String, AllocError> {
-    let mut place = String::new(alloc);
-    for level in open {
-        match level.name {
-            Some(name) => place = member(alloc, place.as_str(), name)?,
-            None => {
-                let index = level.index;
-                write!(place, "[{index}]")?;
-            }
+/// The members that stand twice, and the steps to the value that is read.
+#[derive(Drop)]
+struct Twice {
+    warnings: Vec<Found>,
+    steps: Vec<Step>,
+}
+
+impl Twice {
+    /// The place of the value that is read.
+    fn place(&self, alloc: Global) -> Result<String, AllocError> {
+        let mut place = String::new(alloc);
+        for step in &self.steps {
+            place = match step {
+                Step::Item(index) => item(alloc, place.as_str(), *index)?,
+                Step::Member(name) => member(alloc, place.as_str(), name.as_str())?,
+            };
         }
+        Ok(place)
     }
-    Ok(place)
-}
 
-/// How often a name stands in the innermost of what is open, with this time.
-fn count_name<'a>(open: &mut Vec<Open<'a>>, name: &'a str) -> Result<usize, AllocError> {
-    let Some(level) = open.last_mut() else {
-        return Ok(0);
-    };
-    level.name = Some(name);
-    let count = match level.names.get(name) {
-        None => 1,
-        Some(before) => before.saturating_add(1),
-    };
-    let _ = level.names.insert(name, count)?;
-    Ok(count)
-}
-
-/// Goes on to the next item of an array.
-fn next_item(open: &mut Vec<Open>) {
-    if let Some(level) = open.last_mut() {
-        if level.name.is_none() {
-            level.index = level.index.saturating_add(1);
+    /// Tells that the member that is read stands twice.
+    fn warn(&mut self, alloc: Global, name: &str) -> Result<(), AllocError> {
+        if self.warnings.len() >= MOST_TOLD {
+            return Ok(());
         }
+        let place = self.place(alloc)?;
+        let name = shown(alloc, name)?;
+        let text = format!(in alloc; "member {name} stands twice: the last one counts")?;
+        self.warnings.push(Found { place, text })?;
+        Ok(())
+    }
+
+    /// Steps to the next member of an object, of which these names stood before, each so often.
+    fn step_to(
+        &mut self,
+        alloc: Global,
+        names: &mut BTreeMap<String, usize>,
+        name: String,
+    ) -> Result<(), AllocError> {
+        self.steps.push(Step::Member(name.clone()?))?;
+        let count = match names.get(&name) {
+            None => 1,
+            Some(before) => before.saturating_add(1),
+        };
+        if count == 2 {
+            self.warn(alloc, name.as_str())?;
+        }
+        drop(names.insert(name, count)?);
+        Ok(())
     }
 }
 
-/// The warning of a member that stands twice.
-fn warning(alloc: Global, open: &[Open], name: &str) -> Result<Found, AllocError> {
-    let place = place_of(alloc, open)?;
-    let name = shown(alloc, name)?;
-    let text = format!(in alloc; "member {name} stands twice: the last one counts")?;
-    Ok(Found { place, text })
+impl<'de> Deserialize<'de> for Twice {
+    fn deserialize<F: Format>(
+        alloc: Global,
+        from: &mut Deserializer<'de, '_, F>,
+    ) -> Result<Twice, F::Error> {
+        let mut twice = Twice {
+            warnings: Vec::new(alloc),
+            steps: Vec::new(alloc),
+        };
+        look(alloc, from, &mut twice, MOST_DEPTH)?;
+        Ok(twice)
+    }
 }
 
-/// Goes over a token.
-fn take_token<'a>(
+/// Looks at a value.
+#[cycle(look)]
+fn look<F: Format>(
     alloc: Global,
-    open: &mut Vec<Open<'a>>,
-    warnings: &mut Vec<Found>,
-    token: Token<'a>,
-) -> Result<(), AllocError> {
-    match token {
-        Token::BeginObject | Token::BeginArray => {
-            open.push(Open {
-                names: BTreeMap::new(alloc),
-                name: None,
-                index: 0,
-            })?;
+    from: &mut Deserializer<'_, '_, F>,
+    twice: &mut Twice,
+    depth: usize,
+) -> Result<(), F::Error> {
+    match from.peek()? {
+        Kind::Seq if depth > 0 => look_at_items(alloc, from, twice, depth - 1),
+        Kind::Map if depth > 0 => look_at_members(alloc, from, twice, depth - 1),
+        _ => from.skip(),
+    }
+}
+
+/// Looks at an array's items.
+#[cycle(look)]
+fn look_at_items<F: Format>(
+    alloc: Global,
+    from: &mut Deserializer<'_, '_, F>,
+    twice: &mut Twice,
+    depth: usize,
+) -> Result<(), F::Error> {
+    from.begin_seq()?;
+    let mut index = 0usize;
+    for _ in 0..u64::MAX {
+        if !from.next_item()? {
+            break;
         }
-        Token::EndObject | Token::EndArray => {
-            let _ = open.pop();
-            next_item(open);
+        if twice.steps.push(Step::Item(index)).is_err() {
+            return Err(from.no_memory());
         }
-        Token::Key(name) => {
-            if count_name(open, name)? == 2 && warnings.len() < MOST_TOLD {
-                warnings.push(warning(alloc, open, name)?)?;
-            }
+        look(alloc, from, twice, depth)?;
+        drop(twice.steps.pop());
+        index = index.saturating_add(1);
+    }
+    Ok(())
+}
+
+/// Looks at an object's members.
+#[cycle(look)]
+fn look_at_members<F: Format>(
+    alloc: Global,
+    from: &mut Deserializer<'_, '_, F>,
+    twice: &mut Twice,
+    depth: usize,
+) -> Result<(), F::Error> {
+    from.begin_map()?;
+    let mut names = BTreeMap::new(alloc);
+    for _ in 0..u64::MAX {
+        if !from.next_entry()? {
+            break;
         }
-        _ => next_item(open),
+        let name = from.string(alloc)?;
+        if twice.step_to(alloc, &mut names, name).is_err() {
+            return Err(from.no_memory());
+        }
+        look(alloc, from, twice, depth)?;
+        drop(twice.steps.pop());
     }
     Ok(())
 }
@@ -98,17 +153,15 @@ pub(crate) fn add_twice(
     warnings: &mut Vec<Found>,
     bytes: &[u8],
 ) -> Result<(), AllocError> {
-    let Ok(text) = str::from_utf8(bytes) else {
-        return Ok(());
-    };
-    let mut scratch = Scratch::new(alloc);
-    let mut reader = Reader::new(text, &mut scratch)?;
-    let mut open = Vec::new(alloc);
-    for _ in 0..bytes.len() {
-        let Some(next) = reader.next() else {
-            break;
-        };
-        take_token(alloc, &mut open, warnings, next)?;
+    let read: Result<Twice, serde_json::Error> = serde_json::from_slice(alloc, bytes);
+    match read {
+        Ok(twice) => {
+            for warning in twice.warnings {
+                warnings.push(warning)?;
+            }
+            Ok(())
+        }
+        Err(error) if error.is_memory() => Err(AllocError),
+        Err(_) => Ok(()),
     }
-    Ok(())
 }

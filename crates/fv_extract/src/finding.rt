@@ -2,7 +2,7 @@
 ghost use Rattle.std.specs.Prelude.{◌≡◌, ◌++◌, IfOk, OnOk, [], map};
 ghost use Rattle.std.specs.List.{flat_map};
 ghost use Rattle.fv_datum.specs.View.{view};
-ghost use Rattle.fv_model.specs.Views.{object_view};
+ghost use Rattle.fv_bundle.specs.Views.{object_view};
 ghost use Rattle.fv_extract.specs.FoundView.{found_view};
 ghost use Rattle.fv_extract.specs.Parts.{below, further, parts_at, parts_of, AreApart};
 ghost use Rattle.fv_extract.specs.Views.{part_view, added_view, step_view, place_view};
@@ -10,8 +10,8 @@ ghost use Rattle.fv_extract.specs.Views.{part_view, added_view, step_view, place
 use crate::inside::Inside;
 use crate::part::{Locus, Part};
 use crate::place::{Place, Step};
+use fv_bundle::Object;
 use fv_datum::Datum;
-use fv_model::Object;
 use std::alloc::{AllocError, Global};
 
 /// A part of a field's datum, with its locus.

@@ -3,7 +3,7 @@ use Rattle.std.specs.Prelude.{ℕ, Bool, true, if◌then◌else◌, ◌==◌, []
 use Rattle.fv_datum.specs.Attributes.{Attributes}
 use Rattle.fv_datum.specs.Data.{Data}
 use Rattle.fv_datum.specs.declared.kind.Kind.TheVariants.{Text}
-use Rattle.fv_model.specs.Bundles.{Thing}
+use Rattle.fv_bundle.specs.Bundles.{Thing}
 use Rattle.fv_house.specs.Luhn.{luhn}
 use Rattle.fv_house.specs.Objects.{not_after, sum_is}
 use Rattle.fv_house.specs.Words.{one_of}

@@ -3,7 +3,7 @@ use Rattle.std.specs.Prelude.{ℕ, ℤ, List, Option, Some, None, option_and_the
 use Rattle.fv_datum.specs.Attributes.{text_in, Attributes}
 use Rattle.fv_datum.specs.Data.{Data, date, integer}
 use Rattle.fv_datum.specs.Lookup.{at_name}
-use Rattle.fv_model.specs.Bundles.{Thing}
+use Rattle.fv_bundle.specs.Bundles.{Thing}
 
 -- the datum of the field that the attribute names
 abbrev pub named : Thing → Attributes → List ℕ → Option Data

@@ -1,11 +1,11 @@
 //! What the attributes of a constraint on an object name: fields of the object.
 ghost use Rattle.std.specs.Prelude.{◌≡◌, option_map};
 ghost use Rattle.fv_datum.specs.View.{view};
-ghost use Rattle.fv_model.specs.Views.{object_view};
+ghost use Rattle.fv_bundle.specs.Views.{object_view};
 ghost use Rattle.fv_house.specs.Named.{named, date_of, integer_of};
 
+use fv_bundle::Object;
 use fv_datum::{Attribute, Attrs, Datum};
-use fv_model::Object;
 
 /// The datum of the field that an attribute names; none without such a text or such a field.
 fn named<'a>(object: &'a Object, attrs: &Attrs, key: &str) -> Option<&'a Datum>

@@ -1,12 +1,12 @@
 //! Rules of objects: two dates in order, and a sum.
 ghost use Rattle.std.specs.Prelude.{◌≡◌, ◌+ℤ◌};
 ghost use Rattle.std.specs.Ordering.{int_eq};
-ghost use Rattle.fv_model.specs.Views.{object_view};
+ghost use Rattle.fv_bundle.specs.Views.{object_view};
 ghost use Rattle.fv_house.specs.Objects.{not_after, sum_is};
 
 use crate::named::{date, integer};
+use fv_bundle::Object;
 use fv_datum::Attrs;
-use fv_model::Object;
 
 /// Takes an object and the attributes in effect, of which `start` and `end` are names of fields.
 ///

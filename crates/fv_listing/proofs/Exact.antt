@@ -5,19 +5,17 @@ use Rattle.fv_declare_schema.specs.Declarations.{Declarations}
 use Rattle.fv_graph.specs.Graph.{IsIn}
 use Rattle.fv_groups.specs.Tables.{indices}
 use Rattle.fv_local.specs.Own.{own_in}
-use Rattle.fv_model.specs.Bundles.{Bundled}
+use Rattle.fv_bundle.specs.Bundles.{Bundled}
 use Rattle.fv_path.specs.Nodes.{PathNode}
 use Rattle.fv_registry.specs.Meanings.{Meanings}
 use Rattle.fv_walk_request.specs.Requests.{object_at, asked_groups, request_for, request_of}
 use Rattle.fv_walk_request.specs.Requests as request
 use Rattle.fv_walk_request.proofs.Tidy.{judging_tidy, visiting_tidy}
-use Rattle.fv_walk_traces.specs.Finite.{IsTidy}
 use Rattle.fv_walk_traces.specs.Listing.{IsFailing, IsListed, violation_at}
-use Rattle.fv_walk_traces.specs.OneObject.{IsLocal}
 use Rattle.fv_walk_traces.specs.Reaching.{at_object, violation}
 use Rattle.fv_walk_traces.specs.Requests.{Own, Plain, Request}
 use Rattle.fv_walk_traces.specs.Traces.{Arrives}
-use Rattle.fv_walk_traces.specs.Turns.{Spot, of_object, at, LocalFailure, Ask, Step, Group, Fail, Free, Rank, Turns, Shadows, ShadowsByRecursion}
+use Rattle.fv_walk_traces.specs.Turns.{Spot, of_object, at, LocalFailure, Ask, Step, Group, Fail, Free, Rank, Turns, Shadows}
 use Rattle.fv_walk_traces.specs.Violations.{Reached, Violation, IsViolation, nodes_to, onward, value_at}
 use Rattle.fv_walk_traces.proofs.Listing.{listing_exact}
 use Rattle.fv_walk_traces.proofs.Shadowing.{by_recursion, from_recursion}

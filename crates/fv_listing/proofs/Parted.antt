@@ -1,14 +1,14 @@
 -- The nodes of parts.
-use Rattle.std.proofs.Common.{◌≡◌, ◌<◌, ℕ, List, [], ◌∷◌, ◌++◌, length, map, Bool, true, false, nat_eq, Option, Some, None, slice_get, MatchOption, refl, sym, ap, subst, ◌∙◌, arith}
+use Rattle.std.proofs.Common.{◌≡◌, ◌<◌, ℕ, List, [], ◌∷◌, ◌++◌, length, map, true, false, nat_eq, Option, Some, None, slice_get, MatchOption, refl, sym, ap, subst, ◌∙◌, arith}
 use Rattle.std.specs.Option.{option_map_or}
 use Rattle.fv_datum.specs.Data.{Data}
 use Rattle.fv_datum.specs.Name.{names}
 use Rattle.fv_extract.specs.Parts.{Locus, Part, parts_at}
-use Rattle.fv_extract.specs.Places.{Step, Place}
+use Rattle.fv_extract.specs.Places.{Place}
 use Rattle.fv_extract.specs.Views.{part_view}
 use Rattle.fv_extract.specs.declared.part.Part as code
 use Rattle.fv_graph.specs.Graph.{IsIn}
-use Rattle.fv_model.specs.Bundles.{Thing}
+use Rattle.fv_bundle.specs.Bundles.{Thing}
 use Rattle.fv_path.specs.Nodes.{PathNode, field}
 use Rattle.fv_path.specs.Paths.{IsPath}
 use Rattle.fv_path.specs.Views.{node_view}

@@ -1,5 +1,5 @@
 -- What is told of visits.
-use Rattle.std.proofs.Common.{◌≡◌, ◌<◌, ◌≤◌, ◌↔◌, ℕ, ℤ, zero, suc, ◌+◌, List, [], ◌∷◌, ◌++◌, length, map, take, get_or, Bool, true, false, not, nat_eq, IsTrue, Vec, inl, inr, ◌⊎◌, refl, sym, ap, ap₂, subst, ◌∙◌, arith, fold}
+use Rattle.std.proofs.Common.{◌≡◌, ◌<◌, ◌≤◌, ◌↔◌, ℕ, ℤ, zero, suc, ◌+◌, List, [], ◌∷◌, ◌++◌, length, map, take, get_or, Bool, true, false, not, nat_eq, IsTrue, Vec, inl, inr, refl, sym, ap, ap₂, subst, ◌∙◌, arith, fold}
 use Rattle.std.proofs.lemmas.List.{take_more, map-append}
 use Rattle.std.specs.declared.alloc.Global.{Global}
 use Rattle.fv_datum.specs.Data.{Data}
@@ -9,7 +9,7 @@ use Rattle.fv_graph.proofs.Lists.{in_left, in_right, in_cases}
 use Rattle.fv_local.specs.FailureView.{failure_view}
 use Rattle.fv_local.specs.Own.{own_in}
 use Rattle.fv_local.specs.declared.failure.LocalFailure as found
-use Rattle.fv_model.specs.Bundles.{Thing}
+use Rattle.fv_bundle.specs.Bundles.{Thing}
 use Rattle.fv_path.specs.Nodes.{PathNode}
 use Rattle.fv_local.specs.Below.{below}
 use Rattle.fv_registry.specs.Meanings.{Meanings}

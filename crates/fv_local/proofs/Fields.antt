@@ -6,7 +6,7 @@ use Rattle.std.specs.Option.{option_map_or}
 use Rattle.fv_declare_schema.specs.Declarations.{Placed, Declarations}
 use Rattle.fv_extract.specs.Parts.{parts_at}
 use Rattle.fv_graph.specs.Graph.{IsIn}
-use Rattle.fv_model.specs.Bundles.{Thing}
+use Rattle.fv_bundle.specs.Bundles.{Thing}
 use Rattle.fv_constraint_tree.specs.Nodes.{Node}
 use Rattle.fv_constraint_tree.specs.Reports.{violated}
 use Rattle.fv_local.specs.Below.{below}

@@ -6,7 +6,7 @@ use Rattle.fv_declare_schema.specs.Declarations.{Placed}
 use Rattle.fv_declare_schema.specs.PlacedView.{placed_view}
 use Rattle.fv_declare_schema.specs.declared.placed.Placed as code
 use Rattle.fv_graph.specs.Graph.{IsIn}
-use Rattle.fv_model.specs.Bundles.{Thing}
+use Rattle.fv_bundle.specs.Bundles.{Thing}
 use Rattle.fv_local.specs.TableView.{lists_view}
 use Rattle.fv_registry.specs.Meanings.{Meanings}
 use Rattle.fv_declare_schema.specs.Places.{Place}

@@ -6,7 +6,7 @@ use Rattle.fv_declare_schema.specs.Declarations.{Placed}
 use Rattle.fv_extract.specs.Parts.{parts_at}
 use Rattle.fv_extract.specs.Places as to
 use Rattle.fv_graph.specs.Graph.{IsIn}
-use Rattle.fv_model.specs.Bundles.{Thing}
+use Rattle.fv_bundle.specs.Bundles.{Thing}
 use Rattle.fv_constraint_tree.specs.Says.{of_datum, of_object}
 use Rattle.fv_registry.specs.Meanings.{Meanings}
 use Rattle.fv_walk_traces.specs.Turns as turn

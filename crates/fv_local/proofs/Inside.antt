@@ -6,7 +6,7 @@ use Rattle.fv_declare_schema.specs.Declarations.{Placed}
 use Rattle.fv_extract.specs.Parts.{Locus, further, parts_of, parts_at}
 use Rattle.fv_extract.specs.Places.{Step, Place}
 use Rattle.fv_extract.proofs.Longer.{parts_of-push}
-use Rattle.fv_model.specs.Bundles.{Thing}
+use Rattle.fv_bundle.specs.Bundles.{Thing}
 use Rattle.fv_registry.specs.Meanings.{Meanings}
 use Rattle.fv_local.specs.Told.{part_told, field_told}
 

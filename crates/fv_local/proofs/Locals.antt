@@ -9,7 +9,7 @@ use Rattle.fv_extract.specs.Parts.{parts_at}
 use Rattle.fv_extract.specs.Places as to
 use Rattle.fv_graph.specs.Graph.{mem, IsIn}
 use Rattle.fv_graph.proofs.Lists.{in_left, eq_of, eq_same}
-use Rattle.fv_model.specs.Bundles.{Thing}
+use Rattle.fv_bundle.specs.Bundles.{Thing}
 use Rattle.fv_constraint_tree.specs.Nodes.{Node}
 use Rattle.fv_constraint_tree.specs.Reports.{violated}
 use Rattle.fv_constraint_tree.specs.Says.{of_datum, of_object}

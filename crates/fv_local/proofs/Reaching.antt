@@ -10,7 +10,7 @@ use Rattle.fv_declare_schema.specs.PlacedView.{placed_view}
 use Rattle.fv_declare_schema.specs.declared.placed.Placed as code_placed
 use Rattle.fv_graph.specs.Graph.{IsIn}
 use Rattle.fv_graph.proofs.Lists.{in_left, in_right, in_cases}
-use Rattle.fv_model.specs.Bundles.{Thing}
+use Rattle.fv_bundle.specs.Bundles.{Thing}
 use Rattle.fv_constraint_tree.specs.Trees.{size}
 use Rattle.fv_local.specs.Below.{below}
 use Rattle.fv_local.specs.Reached.{AreReached, AreOfRanks, IsRanked, plain_groups}

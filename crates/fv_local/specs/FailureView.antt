@@ -4,7 +4,7 @@ use Rattle.fv_datum.specs.View.{view}
 use Rattle.fv_extract.specs.Parts.{parts_at}
 use Rattle.fv_extract.specs.Views.{place_view, part_view}
 use Rattle.fv_graph.specs.Graph.{IsIn}
-use Rattle.fv_model.specs.Bundles.{Thing}
+use Rattle.fv_bundle.specs.Bundles.{Thing}
 use Rattle.fv_walk_traces.specs.Turns as turn
 use Rattle.fv_local.specs.declared.failure.LocalFailure.{LocalFailure}
 use Rattle.fv_local.specs.declared.failure.Spot.{Spot}

@@ -4,7 +4,7 @@ use Rattle.std.specs.List.{flat_map}
 use Rattle.fv_declare_schema.specs.Declarations.{Placed, Declarations}
 use Rattle.fv_extract.specs.Parts.{parts_at}
 use Rattle.fv_extract.specs.Places as object
-use Rattle.fv_model.specs.Bundles.{Thing}
+use Rattle.fv_bundle.specs.Bundles.{Thing}
 use Rattle.fv_constraint_tree.specs.Reports.{violated}
 use Rattle.fv_constraint_tree.specs.Says.{Subject, of_datum, of_object}
 use Rattle.fv_local.specs.Reached.{is_in}

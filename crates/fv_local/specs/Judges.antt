@@ -7,7 +7,7 @@ use Rattle.fv_constraint_tree.specs.Says.{Subject}
 use Rattle.fv_datum.specs.Data.{Data}
 use Rattle.fv_extract.specs.Parts.{Locus}
 use Rattle.fv_extract.specs.Places as object
-use Rattle.fv_model.specs.Bundles.{Thing}
+use Rattle.fv_bundle.specs.Bundles.{Thing}
 use Rattle.fv_registry.specs.declared.rule_set.RuleSet.{Ghosts}
 use Rattle.fv_local.specs.Told as told
 use Rattle.fv_local.specs.Told.{Told, picked, told_view, CanBeAsked}

@@ -2,7 +2,7 @@
 use Rattle.std.specs.Prelude.{ℕ, ℤ, List, [], ◌∷◌, map, cond, nat_eq, option_and_then, slice_get}
 use Rattle.std.specs.Option.{option_map_or}
 use Rattle.fv_declare_schema.specs.Declarations.{Declarations}
-use Rattle.fv_model.specs.Bundles.{Thing}
+use Rattle.fv_bundle.specs.Bundles.{Thing}
 use Rattle.fv_local.specs.Below.{below}
 use Rattle.fv_registry.specs.Meanings.{Meanings}
 use Rattle.fv_walk_traces.specs.Requests.{Own, Plain, InRanks}

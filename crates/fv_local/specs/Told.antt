@@ -9,7 +9,7 @@ use Rattle.fv_declare_schema.specs.Fits.{placed_fits}
 use Rattle.fv_extract.specs.Parts.{Locus, parts_at}
 use Rattle.fv_extract.specs.Places as object
 use Rattle.fv_graph.specs.Graph.{IsIn}
-use Rattle.fv_model.specs.Bundles.{Thing}
+use Rattle.fv_bundle.specs.Bundles.{Thing}
 use Rattle.fv_constraint_tree.specs.Reports.{violated}
 use Rattle.fv_constraint_tree.specs.Says.{Subject, of_datum, of_object}
 use Rattle.fv_constraint_tree.specs.Trees.{size}

@@ -4,13 +4,13 @@ ghost use Rattle.std.specs.List.{AllByRecursion};
 ghost use Rattle.fv_datum.specs.Moments.{IsMoment};
 ghost use Rattle.fv_datum.specs.View.{view};
 ghost use Rattle.fv_local.specs.Judges.{AsksKnownUses, CanAsk, numbers_of};
-ghost use Rattle.fv_model.specs.Views.{object_view};
+ghost use Rattle.fv_bundle.specs.Views.{object_view};
 ghost use Rattle.fv_constraint_tree.specs.Says.{of_datum, of_object};
 
+use fv_bundle::Object;
 use fv_constraint_tree::{passes_all, report, report_object};
 use fv_datum::Datum;
 use fv_declare_schema::Placed;
-use fv_model::Object;
 use fv_registry::{RuleSet, Ruled};
 use std::alloc::{AllocError, Global};
 

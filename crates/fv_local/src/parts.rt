@@ -8,13 +8,13 @@ ghost use Rattle.fv_extract.specs.Parts.{below, further};
 ghost use Rattle.fv_extract.specs.Views.{part_view, inside_view, step_view, place_view};
 ghost use Rattle.fv_local.specs.Judges.{Adds, AsksKnownUses, CanAsk, part_told, field_told};
 ghost use Rattle.fv_local.specs.Told.{told_of_numbers};
-ghost use Rattle.fv_model.specs.Views.{object_view};
+ghost use Rattle.fv_bundle.specs.Views.{object_view};
 
 use crate::failure::{LocalFailure, Spot};
 use crate::judge::Judge;
+use fv_bundle::Object;
 use fv_datum::Datum;
 use fv_extract::{Found, Inside, Part, Place, Step, extended, find};
-use fv_model::Object;
 use fv_registry::RuleSet;
 use std::alloc::{AllocError, Global};
 

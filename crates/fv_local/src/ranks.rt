@@ -6,13 +6,13 @@ ghost use Rattle.fv_graph.specs.Graph.{IsIn};
 ghost use Rattle.fv_local.specs.FailureView.{IsFoundIn};
 ghost use Rattle.fv_local.specs.Judges.{AreAmong};
 ghost use Rattle.fv_local.specs.Told.{Told, told_view, IsToldFirst, CanBeAsked};
-ghost use Rattle.fv_model.specs.Views.{object_view};
+ghost use Rattle.fv_bundle.specs.Views.{object_view};
 ghost use Rattle.fv_local.specs.TableView.{lists_view};
 
 use crate::failure::LocalFailure;
 use crate::uses::told_of;
+use fv_bundle::Object;
 use fv_declare_schema::Placed;
-use fv_model::Object;
 use fv_registry::{RuleSet, Ruled};
 use std::alloc::{AllocError, Global};
 

@@ -6,14 +6,14 @@ ghost use Rattle.fv_graph.specs.Graph.{IsIn};
 ghost use Rattle.fv_local.specs.FailureView.{IsFoundIn};
 ghost use Rattle.fv_local.specs.Judges.{AreAmong, Adds, AsksKnownUses, CanAsk, object_told, told_at};
 ghost use Rattle.fv_local.specs.Told.{Told, told_view, IsTold, CanBeAsked, IsSamePlace, AreRun};
-ghost use Rattle.fv_model.specs.Views.{object_view};
+ghost use Rattle.fv_bundle.specs.Views.{object_view};
 ghost use Rattle.fv_declare_schema.specs.PlaceViews.{place_view};
 
 use crate::failure::{LocalFailure, Spot};
 use crate::judge::Judge;
 use crate::parts::add_field;
+use fv_bundle::Object;
 use fv_declare_schema::{Place, Placed};
-use fv_model::Object;
 use fv_registry::{RuleSet, Ruled};
 use std::alloc::{AllocError, Global};
 

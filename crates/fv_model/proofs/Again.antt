@@ -21,18 +21,18 @@ use Rattle.fv_model_types.proofs.Back.{not_null, fits_writable}
 use Rattle.fv_datum.proofs.Bools.{or_left, or_right}
 use Rattle.fv_model_types.proofs.Members.{AreAscending, ascending_put, same_members, each_found, each_put}
 use Rattle.fv_model_types.proofs.PlainJson.{IsPlain, fits_flat}
-use Rattle.fv_model.specs.Bundles.{IsAscending, Thing, Things, Bundled}
+use Rattle.fv_bundle.specs.Bundles.{IsAscending, Thing, Things, Bundled}
 use Rattle.fv_model.specs.Draft.{Drafted}
 use Rattle.fv_model.specs.Reading.{has_flaw, datum_at, field_of, fields_of, object_of, bundle_of, bundle_read}
 use Rattle.fv_model.specs.Views.{bundle_view}
-use Rattle.fv_model.specs.WellTyped.{NamesObject, FitsUse, FieldsAre, FitsType, IsWellTyped}
+use Rattle.fv_bundle.specs.WellTyped.{NamesObject, FitsUse, FieldsAre, FitsType, IsWellTyped}
 use Rattle.fv_model.specs.Writing.{IsWritten, datum_json, thing_json, bundle_json, named_written, bundle_written}
-use Rattle.fv_model.specs.declared.bundle.Bundle.{Bundle}
+use Rattle.fv_bundle.specs.declared.bundle.Bundle.{Bundle}
 use Rattle.fv_model.specs.declared.fault.BundleFault.{BundleFault}
 use Rattle.fv_model.specs.declared.fault.BundleFault.TheVariants.{Memory}
 use Rattle.fv_model.proofs.Conditions.{unknown_type, unknown_field, wrong_kind, draft_fault, judged, added, objects_added, flaw_among}
 use Rattle.fv_model.proofs.Law.{put_if, added_other, part_for, draft_back, flaw_known}
-use Rattle.fv_model.proofs.Made.{AreWritten}
+use Rattle.fv_bundle.proofs.Made.{AreWritten}
 use Rattle.fv_model.proofs.Typed.{some_of, chosen, none_at, head_false, faultless, unless_none, read_well_typed}
 
 -- ---- the members that fields are written as

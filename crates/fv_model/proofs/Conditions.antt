@@ -11,7 +11,7 @@ use Rattle.fv_datum.specs.Written.{is_null}
 use Rattle.fv_model_types.specs.Flaws.{Flaw, undeclared, misfits, dangles, strays, is_large, is_other}
 use Rattle.fv_model_types.specs.Names.{ObjectTypes}
 use Rattle.fv_model_types.specs.Types.{DeclaredFields, Declared}
-use Rattle.fv_model.specs.Bundles.{Thing, Things, Bundled}
+use Rattle.fv_bundle.specs.Bundles.{Thing, Things, Bundled}
 use Rattle.fv_model.specs.Draft.{Part, Drafted}
 use Rattle.fv_model.specs.Reading.{object_types, has_flaw, conditions, bundle_of}
 use Rattle.fv_model.specs.Writing.{datum_json, thing_json}

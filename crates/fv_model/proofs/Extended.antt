@@ -13,11 +13,11 @@ use Rattle.fv_model_types.specs.Types.{DeclaredFields, Declared, FieldsApart}
 use Rattle.fv_model_types.proofs.Apart.{found_apart}
 use Rattle.fv_datum.proofs.Bools.{or_false}
 use Rattle.fv_datum.proofs.Lists.{each_of, none_made}
-use Rattle.fv_model.specs.Bundles.{Thing, Things, Bundled}
+use Rattle.fv_bundle.specs.Bundles.{Thing, Things, Bundled}
 use Rattle.fv_model.specs.Draft.{Part, Drafted}
 use Rattle.fv_model.specs.Extends.{Extends}
 use Rattle.fv_model.specs.Reading.{object_types, has_flaw, conditions, bundle_of, bundle_read}
-use Rattle.fv_model.specs.WellTyped.{FitsType, IsWellTyped, HasRootType}
+use Rattle.fv_bundle.specs.WellTyped.{FitsType, IsWellTyped, HasRootType}
 use Rattle.fv_model.specs.Writing.{bundle_json}
 use Rattle.fv_model.proofs.Conditions.{root_missing, large_datum, draft_fault, judged}
 use Rattle.fv_model.proofs.Law.{found_each, Agree, Taken, taken, any_added, flaw_known, part_for, types_agree, draft_back, no_first, root_asked, is_there}

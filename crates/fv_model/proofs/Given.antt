@@ -11,7 +11,7 @@ use Rattle.serde_json.specs.Data as json
 use Rattle.serde_json.specs.Find.{get_member}
 use Rattle.fv_datum.specs.Lookup.{at_name}
 use Rattle.fv_datum.specs.Members.{pairs}
-use Rattle.fv_model.specs.Bundles.{IsAscending}
+use Rattle.fv_bundle.specs.Bundles.{IsAscending}
 use Rattle.fv_model.specs.Draft.{Part}
 use Rattle.fv_model.specs.Fitting.{misfits_given, field_misfits, part_misfits}
 use Rattle.fv_model.specs.Ascents.{AscendsFor, Ascends}

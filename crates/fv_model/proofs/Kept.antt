@@ -8,9 +8,9 @@ use Rattle.fv_datum.specs.Name.{names}
 use Rattle.fv_model_types.specs.Fits.{Referring, Fits, OrNull, IsOfUse}
 use Rattle.fv_model_types.specs.Types.{TypeUse, texts, integers, decimals, booleans, dates, instants, references, lists, maps, optionals, DeclaredFields, Declared}
 use Rattle.fv_datum.proofs.Lists.{each_of}
-use Rattle.fv_model.specs.Bundles.{Thing, Things, Bundled}
-use Rattle.fv_model.specs.Replaced.{changed_at, thing_with, bundle_with}
-use Rattle.fv_model.specs.WellTyped.{NamesObject, FitsUse, FieldsAre, FitsType, IsWellTyped, HasRootType}
+use Rattle.fv_bundle.specs.Bundles.{Thing, Things, Bundled}
+use Rattle.fv_bundle.specs.Replaced.{changed_at, thing_with, bundle_with}
+use Rattle.fv_bundle.specs.WellTyped.{NamesObject, FitsUse, FieldsAre, FitsType, IsWellTyped, HasRootType}
 use Rattle.fv_model.specs.Setting.{use_of}
 use Rattle.fv_model.proofs.Sound.{Is}
 

@@ -9,10 +9,8 @@ pub mod Law
 pub mod Listed
 pub mod Made
 pub mod Named
-pub mod Put
 pub mod Sound
 pub mod Typed
-pub mod TypingTells
 pub mod Unfit
 pub mod Values
 pub mod Writables

@@ -12,7 +12,7 @@ use Rattle.indexmap.specs.IndexMap.{insert_entry}
 use Rattle.fv_model_types.specs.Types.{AreApart}
 use Rattle.fv_model_types.proofs.Apart.{apart-head, apart-tail}
 use Rattle.fv_model.specs.Views.{named_view}
-use Rattle.fv_model.specs.declared.bundle.Object.{Object}
+use Rattle.fv_bundle.specs.declared.bundle.Object.{Object}
 use Rattle.fv_model.proofs.Conditions.{types_of}
 
 others_apart : (k : String Global) (es : List (String Global × Object)) → AllByRecursion (λ y. string_eq k y ≡ false) (keys_of es) → AllByRecursion (λ e. string_bytes k ≢ e.0) (types_of (map named_view es))

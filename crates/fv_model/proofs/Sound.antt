@@ -14,10 +14,10 @@ use Rattle.fv_model_types.specs.Types.{TypeUse, Declared}
 use Rattle.fv_model_types.specs.Writing.{IsWritten}
 use Rattle.fv_datum.proofs.Bools.{not_false}
 use Rattle.fv_model_types.proofs.Fitted.{IsFree, spelled_fits}
-use Rattle.fv_model.specs.Bundles.{Thing, Things, Bundled}
+use Rattle.fv_bundle.specs.Bundles.{Thing, Things, Bundled}
 use Rattle.fv_model.specs.Fitting.{unless_wrong}
 use Rattle.fv_model.specs.Reading.{datum_at}
-use Rattle.fv_model.specs.WellTyped.{NamesObject, FitsUse}
+use Rattle.fv_bundle.specs.WellTyped.{NamesObject, FitsUse}
 use Rattle.fv_model.proofs.Typed.{chosen}
 use Rattle.fv_model.proofs.Wrong.{right}
 use Rattle.fv_model.specs.declared.fault.BundleFault.{BundleFault}

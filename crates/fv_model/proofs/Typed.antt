@@ -19,16 +19,16 @@ use Rattle.fv_model_types.specs.Flaws.{misfits, referring, dangles, is_other, st
 use Rattle.fv_model_types.specs.Names.{ObjectTypes}
 use Rattle.fv_model_types.specs.Spelled.{datum_of}
 use Rattle.fv_model_types.proofs.Fitted.{IsFree, spelled_fits}
-use Rattle.fv_model.specs.Bundles.{IsAscending, Bundled}
+use Rattle.fv_bundle.specs.Bundles.{IsAscending, Bundled}
 use Rattle.fv_datum.specs.Members.{pairs}
 use Rattle.fv_model.specs.Draft.{Part, Drafted, draft_of}
 use Rattle.fv_model.specs.Reading.{has_flaw, object_types, conditions, datum_at, field_of, object_of, bundle_of, bundle_read}
 use Rattle.fv_model_types.specs.Types.{TypeUse, DeclaredFields, Declared, FieldsApart, name_at}
 use Rattle.fv_model.specs.Views.{bundle_view}
-use Rattle.fv_model.specs.WellTyped.{NamesObject, FitsUse, FieldsAre, FitsType, IsWellTyped, HasRootType}
+use Rattle.fv_bundle.specs.WellTyped.{NamesObject, FitsUse, FieldsAre, FitsType, IsWellTyped, HasRootType}
 use Rattle.fv_model.specs.Writing.{IsWritten}
-use Rattle.fv_model.proofs.Made.{AreWritten, objects_written}
-use Rattle.fv_model.specs.declared.bundle.Bundle.{Bundle}
+use Rattle.fv_bundle.proofs.Made.{AreWritten, objects_written}
+use Rattle.fv_bundle.specs.declared.bundle.Bundle.{Bundle}
 use Rattle.fv_model.specs.declared.fault.BundleFault.{BundleFault}
 use Rattle.fv_model.specs.declared.fault.BundleFault.TheVariants.{Memory}
 use Rattle.fv_model.proofs.Conditions.{bad_name, root_missing, unknown_type, unknown_field, some_flawed, wrong_kind, dangling_ref, ref_type, large_datum, too_large, root_type, draft_fault, judged, flaw_among}

@@ -15,11 +15,11 @@ use Rattle.fv_model_types.specs.Types.{DeclaredFields, Declared}
 use Rattle.fv_datum.proofs.Bools.{or_false}
 use Rattle.fv_datum.proofs.Lists.{none_made}
 use Rattle.fv_model_types.proofs.Small.{IsSmall, fits_small, never_large}
-use Rattle.fv_model.specs.Bundles.{Thing, Things, Bundled}
+use Rattle.fv_bundle.specs.Bundles.{Thing, Things, Bundled}
 use Rattle.fv_model.specs.Draft.{Drafted}
 use Rattle.fv_model.specs.Reading.{has_flaw, bundle_of, bundle_read}
 use Rattle.fv_model.specs.Unfit.{is_of_types}
-use Rattle.fv_model.specs.WellTyped.{NamesObject, FieldsAre, FitsType, IsWellTyped}
+use Rattle.fv_bundle.specs.WellTyped.{NamesObject, FieldsAre, FitsType, IsWellTyped}
 use Rattle.fv_model.specs.Writing.{datum_json, bundle_json}
 use Rattle.fv_model.specs.declared.fault.BundleFault.{BundleFault}
 use Rattle.fv_model.specs.declared.fault.BundleFault.TheVariants.{BadName, RootMissing, UnknownType, UnknownField, WrongKind, DanglingRef, RefType, TooLarge, RootType}

@@ -12,7 +12,7 @@ use Rattle.fv_model_types.specs.Types.{TypeUse}
 use Rattle.fv_model_types.proofs.Back as back
 use Rattle.fv_model_types.proofs.Fitted.{IsFree, spelled_fits}
 use Rattle.fv_model.specs.Reading.{datum_at, value_read}
-use Rattle.fv_model.specs.WellTyped.{AnyName}
+use Rattle.fv_bundle.specs.WellTyped.{AnyName}
 use Rattle.fv_model.specs.Writing.{IsWritten, datum_json}
 use Rattle.fv_model.specs.declared.fault.BundleFault.{BundleFault}
 use Rattle.fv_model.specs.declared.fault.BundleFault.TheVariants.{WrongKind, TooLarge, Memory}

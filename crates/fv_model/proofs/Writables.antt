@@ -4,7 +4,7 @@ use Rattle.serde_json.specs.Data as json
 use Rattle.fv_datum.specs.Data as datum
 use Rattle.fv_datum.specs.Data.{Data, Items, no_items, item, Entries, no_entries, entry}
 use Rattle.fv_datum.specs.Written.{key_of, keys_fit, is_null, written, items_written, entries_written}
-use Rattle.fv_model.specs.Typing.{is_writable, items_writable, entries_writable}
+use Rattle.fv_model.specs.Writables.{is_writable, items_writable, entries_writable}
 use Rattle.fv_model.specs.Writing.{IsWritten}
 
 some_mapped : {X Y : Type 0} (f : X → Y) (o : Option X) → is_some (option_map f o) ≡ is_some o

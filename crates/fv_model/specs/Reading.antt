@@ -12,8 +12,8 @@ use Rattle.fv_model_types.specs.Flaws.{Flaw, undeclared, misfits, dangles, stray
 use Rattle.fv_model_types.specs.Names.{ObjectTypes}
 use Rattle.fv_model_types.specs.Spelled.{datum_of}
 use Rattle.fv_model_types.specs.Types.{TypeUse, DeclaredFields, Declared}
-use Rattle.fv_model.specs.Limits.{most_objects}
-use Rattle.fv_model.specs.Bundles.{Thing, Bundled}
+use Rattle.fv_bundle.specs.Limits.{most_objects}
+use Rattle.fv_bundle.specs.Bundles.{Thing, Bundled}
 use Rattle.fv_datum.specs.Members.{pairs}
 use Rattle.fv_model.specs.Draft.{Part, Drafted, draft_of}
 use Rattle.fv_model.specs.declared.fault.BundleFault.{BundleFault}

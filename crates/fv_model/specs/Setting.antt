@@ -8,9 +8,9 @@ use Rattle.fv_datum.specs.Outcomes.{first, unless_fault}
 use Rattle.fv_model_types.specs.Flaws.{Flaw, undeclared, misfits, dangles, strays, is_large}
 use Rattle.fv_model_types.specs.Names.{ObjectTypes}
 use Rattle.fv_model_types.specs.Types.{TypeUse, Declared}
-use Rattle.fv_model.specs.Bundles.{Thing, Bundled}
+use Rattle.fv_bundle.specs.Bundles.{Thing, Bundled}
 use Rattle.fv_model.specs.Reading.{fields_of, datum_at}
-use Rattle.fv_model.specs.Replaced.{bundle_with}
+use Rattle.fv_bundle.specs.Replaced.{bundle_with}
 use Rattle.fv_model.specs.declared.fault.BundleFault.{BundleFault}
 use Rattle.fv_model.specs.declared.fault.BundleFault.TheVariants.{UnknownField, WrongKind, DanglingRef, RefType, TooLarge, NoObject}
 

@@ -5,7 +5,7 @@ use Rattle.fv_datum.specs.Data.{Data, null}
 use Rattle.fv_datum.specs.Lookup.{at_name}
 use Rattle.fv_datum.specs.Written.{written}
 use Rattle.fv_model_types.specs.Types.{TypeUse, Declared, name_at, fields_at}
-use Rattle.fv_model.specs.Bundles.{Thing}
+use Rattle.fv_bundle.specs.Bundles.{Thing}
 
 -- a datum that can be written; null for another, which no object holds
 abbrev pub kept : Data → Data

@@ -5,7 +5,7 @@ use Rattle.std.specs.List.{fold}
 use Rattle.serde_json.specs.Data as json
 use Rattle.fv_datum.specs.Data.{Data}
 use Rattle.fv_datum.specs.Written.{is_null}
-use Rattle.fv_model.specs.Bundles.{Thing, Bundled}
+use Rattle.fv_bundle.specs.Bundles.{Thing, Bundled}
 
 -- the members of the fields that aren't null, in the order of their names
 abbrev pub fields_json : List (List ℕ × Data) → json.Members

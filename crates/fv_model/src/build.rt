@@ -3,29 +3,29 @@ ghost use Rattle.std.specs.Prelude.{◌≡◌, All, true, false, not, IfOk, map,
 ghost use Rattle.std.specs.List.{list_any};
 ghost use Rattle.std.specs.Map.{keys_of};
 ghost use Rattle.serde_json.specs.Find.{get_member};
-ghost use Rattle.fv_json.specs.Documents.{view as json_view};
+ghost use Rattle.serde_json.specs.View.{view as json_view};
 ghost use Rattle.fv_datum.specs.Lookup.{at_name};
 ghost use Rattle.fv_datum.specs.Outcomes.{Gives};
 ghost use Rattle.fv_datum.specs.View.{view};
-ghost use Rattle.fv_model.specs.Bundles.{IsAscending};
+ghost use Rattle.fv_bundle.specs.Bundles.{IsAscending};
 ghost use Rattle.fv_model_types.specs.Types.{type_use_view, fields_view};
 ghost use Rattle.fv_model.specs.Views.{types_view, given_view, part_view, draft_view, object_view, objects_view, bundle_view};
 ghost use Rattle.fv_model.specs.Reading.{object_types, datum_at, field_of, object_of, bundle_of};
 ghost use Rattle.fv_model.specs.Fitting.{misfits_given, field_misfits, part_misfits, unless_wrong};
 ghost use Rattle.fv_model.specs.Writing.{IsWritten};
 
-use crate::bundle::{Bundle, Object, Objects};
 use crate::fault::BundleFault;
 use crate::parts::{Draft, Part};
 use crate::value::spelled_datum;
+use fv_bundle::{Bundle, Object, Objects};
 use fv_datum::Datum;
-use fv_json::{Json, Members};
 use fv_model_types::{Fields, TypeUse, Types};
 use indexmap::IndexMap;
+use serde_json::{Map, Value};
 use std::alloc::Global;
 
-fn find_given<'j, 'a>(given: Option<Members<'j, 'a>>, name: &str) -> Option<Json<'j, 'a>>
-    ensures { option_map json_view result ≡ get_member name.now (given_view given.entry) }
+fn find_given<'a>(given: Option<&'a Map<String, Value>>, name: &str) -> Option<&'a Value>
+    ensures { option_map (λ v. json_view v.now) result ≡ get_member name.now (given_view given.entry) }
 {
     match given {
         None => None,
@@ -34,15 +34,15 @@ fn find_given<'j, 'a>(given: Option<Members<'j, 'a>>, name: &str) -> Option<Json
 }
 
 /// The datum of a field: null where the field isn't given.
-fn datum_for(alloc: Global, type_use: &TypeUse, value: Option<Json>) -> Result<Datum, BundleFault>
+fn datum_for(alloc: Global, type_use: &TypeUse, value: Option<&Value>) -> Result<Datum, BundleFault>
     ensures exact { Gives BundleFault.Memory view result (unless_wrong
-        (misfits_given (type_use_view type_use.now) (option_map json_view value.entry))
-        (datum_at (type_use_view type_use.now) (option_map json_view value.entry))) }
+        (misfits_given (type_use_view type_use.now) (option_map (λ v. json_view v.now) value.entry))
+        (datum_at (type_use_view type_use.now) (option_map (λ v. json_view v.now) value.entry))) }
     ensures written { IfOk result (λ d. IsWritten (view d)) }
 {
     match value {
         None => Ok(Datum::Null),
-        Some(value) => spelled_datum(alloc, type_use, &value),
+        Some(value) => spelled_datum(alloc, type_use, value),
     }
 }
 
@@ -50,7 +50,7 @@ fn datum_for(alloc: Global, type_use: &TypeUse, value: Option<Json>) -> Result<D
 fn data_for(
     alloc: Global,
     fields: &Fields,
-    given: Option<Members>,
+    given: Option<&Map<String, Value>>,
 ) -> Result<Vec<Datum>, BundleFault>
     ensures exact { Gives BundleFault.Memory (λ v. map view v.items) result (unless_wrong
         (list_any (field_misfits (given_view given.entry)) (fields_view fields.now))
@@ -73,11 +73,8 @@ fn object_for(alloc: Global, types: &Types, part: &Part) -> Result<Object, Bundl
     let Some((type_id, fields)) = types.find_with_fields(part.type_name) else {
         unreachable!()
     };
-    Ok(Object {
-        types: types.share()?,
-        type_id,
-        data: data_for(alloc, fields, part.given)?,
-    })
+    let data = data_for(alloc, fields, part.given)?;
+    Ok(Object::new(types.share()?, type_id, data))
 }
 
 fn objects_for(alloc: Global, types: &Types, parts: &[Part]) -> Result<Objects, BundleFault>
@@ -103,8 +100,7 @@ pub(crate) fn build(alloc: Global, types: &Types, draft: &Draft) -> Result<Bundl
         (bundle_of (types_view types.now) (draft_view draft.now))) }
     ensures ascending { IfOk result (λ b. IsAscending (keys_of (bundle_view b).objects)) }
 {
-    Ok(Bundle {
-        root: String::from_str(alloc, draft.root)?,
-        objects: objects_for(alloc, types, &draft.objects)?,
-    })
+    let root = String::from_str(alloc, draft.root)?;
+    let objects = objects_for(alloc, types, &draft.objects)?;
+    Ok(Bundle::new(root, objects))
 }

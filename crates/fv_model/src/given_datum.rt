@@ -1,6 +1,6 @@
 //! The datum that is given for a field of an object, or what is wrong with it.
 ghost use Rattle.std.specs.Prelude.{◌≡◌, [], ◌∷◌, map, IfOk, option_map};
-ghost use Rattle.fv_json.specs.Documents.{view as json_view};
+ghost use Rattle.serde_json.specs.View.{view as json_view};
 ghost use Rattle.fv_datum.specs.Lookup.{at_name};
 ghost use Rattle.fv_datum.specs.Outcomes.{Gives, first};
 ghost use Rattle.fv_datum.specs.View.{view};
@@ -10,13 +10,13 @@ ghost use Rattle.fv_model.specs.Reading.{fields_of};
 ghost use Rattle.fv_model.specs.Views.{types_view, bundle_view};
 ghost use Rattle.fv_model.specs.Setting.{datum_given, datum_in_use};
 
-use crate::bundle::Bundle;
 use crate::fault::BundleFault;
 use crate::naming::type_names;
 use crate::value::spelled_datum;
+use fv_bundle::Bundle;
 use fv_datum::Datum;
-use fv_json::Json;
 use fv_model_types::{Flaws, TypeUse, Types, flaws_of, use_in};
+use serde_json::Value;
 use std::alloc::Global;
 
 /// What the field of that name of a type holds.
@@ -50,7 +50,7 @@ fn datum_in_use(
     alloc: Global,
     bundle: &Bundle,
     type_use: &TypeUse,
-    value: &Json,
+    value: &Value,
 ) -> Result<Datum, BundleFault>
     ensures exact { Gives BundleFault.Memory view result
         (datum_in_use (map (λ o. (o.0, o.1.type_name)) (bundle_view bundle.now).objects) (type_use_view type_use.now) (json_view value.now)) }
@@ -71,7 +71,7 @@ pub(crate) fn given_datum(
     types: &Types,
     object: &str,
     field: &str,
-    value: &Json,
+    value: &Value,
 ) -> Result<Datum, BundleFault>
     ensures exact { Gives BundleFault.Memory view result
         (datum_given (types_view types.now) (bundle_view bundle.now) object.now field.now (json_view value.now)) }

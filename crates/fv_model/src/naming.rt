@@ -3,7 +3,7 @@ ghost use Rattle.std.specs.Prelude.{◌≡◌, map, IfOk};
 ghost use Rattle.fv_model_types.specs.Names.{object_types_view};
 ghost use Rattle.fv_model.specs.Views.{objects_view};
 
-use crate::bundle::Objects;
+use fv_bundle::Objects;
 use fv_model_types::TypeNames;
 use indexmap::IndexMap;
 use std::alloc::{AllocError, Global};

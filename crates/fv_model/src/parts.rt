@@ -8,30 +8,30 @@ ghost use Rattle.fv_model_types.specs.Names.{object_types_view};
 ghost use Rattle.fv_model.specs.Reading.{object_types};
 ghost use Rattle.fv_model.specs.PartViews.{part_view};
 
-use fv_json::Members;
 use fv_model_types::{TypeNames, type_at};
+use serde_json::{Map, Value};
 
 /// An object as it is given.
 #[derive(Drop)]
-pub(crate) struct Part<'j, 'a> {
+pub(crate) struct Part<'a> {
     pub(crate) name: &'a str,
     pub(crate) type_name: &'a str,
     /// The member `fields`, where there is one.
-    pub(crate) given: Option<Members<'j, 'a>>,
+    pub(crate) given: Option<&'a Map<String, Value>>,
 }
 
 /// A bundle as it is given.
 #[derive(Drop)]
-pub(crate) struct Draft<'j, 'a> {
+pub(crate) struct Draft<'a> {
     pub(crate) root: &'a str,
-    pub(crate) objects: Vec<Part<'j, 'a>>,
+    pub(crate) objects: Vec<Part<'a>>,
     /// The names of the objects' types, each by its object's name.
     pub(crate) type_names: TypeNames<'a>,
     ghost ascending: { IsAscending (keys_of (object_types (map part_view objects.items))) } by { Prim.hlevel props },
     ghost known: { object_types_view type_names ≡ object_types (map part_view objects.items) },
 }
 
-impl<'j, 'a> Draft<'j, 'a> {
+impl<'a> Draft<'a> {
     ghost use Rattle.fv_model.specs.Views.{draft_view};
 
     /// The name of the type of the object of that name.

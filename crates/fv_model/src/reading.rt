@@ -1,24 +1,24 @@
 ghost use Rattle.std.specs.Prelude.{◌≡◌, option_map, IfOk, Ok};
 ghost use Rattle.std.specs.Option.{ForSome};
-ghost use Rattle.fv_json.specs.Documents.{view as json_view};
+ghost use Rattle.serde_json.specs.View.{view as json_view};
 ghost use Rattle.fv_datum.specs.Outcomes.{Gives, first, unless_fault};
 ghost use Rattle.fv_model_types.specs.Types.{Declared, name_at};
 ghost use Rattle.fv_model.specs.Views.{types_view, draft_view, bundle_view};
 ghost use Rattle.fv_model.specs.Reading.{conditions, bundle_of, bundle_read};
 ghost use Rattle.std.specs.Map.{keys_of};
-ghost use Rattle.fv_model.specs.Bundles.{Bundled, IsAscending};
-ghost use Rattle.fv_model.specs.WellTyped.{IsWellTyped, HasRootType};
+ghost use Rattle.fv_bundle.specs.Bundles.{Bundled, IsAscending};
+ghost use Rattle.fv_bundle.specs.WellTyped.{IsWellTyped, HasRootType};
 ghost use Rattle.fv_model.specs.Writing.{bundle_json, bundle_written};
 
 use crate::build::build;
-use crate::bundle::Bundle;
 use crate::draft::draft_of;
 use crate::fault::BundleFault;
 use crate::faults::{late_fault, name_fault};
 use crate::flaws::draft_flaws;
 use crate::parts::Draft;
-use fv_json::Json;
+use fv_bundle::Bundle;
 use fv_model_types::{TypeId, Types};
+use serde_json::Value;
 use std::alloc::Global;
 
 /// The bundle that a JSON value spells, its root of the asked type where one is asked.
@@ -33,7 +33,7 @@ pub fn read_bundle(
     alloc: Global,
     types: &Types,
     asked: Option<TypeId>,
-    value: &Json,
+    value: &Value,
 ) -> Result<Bundle, BundleFault>
     ensures exact { Gives BundleFault.Memory bundle_view result
         (bundle_read (types_view types.now) (option_map (λ t. name_at (types_view types.now) t.index) asked)
@@ -55,7 +55,7 @@ fn spelled_bundle(
     alloc: Global,
     types: &Types,
     asked: Option<TypeId>,
-    value: &Json,
+    value: &Value,
 ) -> Result<Bundle, BundleFault>
     ensures exact { Gives BundleFault.Memory bundle_view result
         (bundle_read (types_view types.now) (option_map (λ t. name_at (types_view types.now) t.index) asked)

@@ -1,15 +1,15 @@
 ghost use Rattle.std.specs.Prelude.{◌≡◌, ℕ, List, OnErr};
-ghost use Rattle.fv_json.specs.Documents.{view as json_view};
+ghost use Rattle.serde_json.specs.View.{view as json_view};
 ghost use Rattle.fv_datum.specs.Outcomes.{Gives};
 ghost use Rattle.fv_model.specs.Views.{types_view, bundle_view};
-ghost use Rattle.fv_model.specs.WellTyped.{IsWellTyped, HasRootType};
+ghost use Rattle.fv_bundle.specs.WellTyped.{IsWellTyped, HasRootType};
 ghost use Rattle.fv_model.specs.Setting.{bundle_set};
 
-use crate::bundle::Bundle;
 use crate::fault::BundleFault;
 use crate::given_datum::given_datum;
-use fv_json::Json;
+use fv_bundle::Bundle;
 use fv_model_types::Types;
+use serde_json::Value;
 use std::alloc::Global;
 
 /// Changes one datum of a bundle: the one in a field of the object of that name is what a JSON value
@@ -25,7 +25,7 @@ pub fn set_field(
     types: &Types,
     object: &str,
     field: &str,
-    value: &Json,
+    value: &Value,
 ) -> Result<(), BundleFault>
     ensures exact { Gives BundleFault.Memory (λ _. bundle_view bundle.new) result
         (bundle_set (types_view types.now) (bundle_view bundle.old) object.now field.now (json_view value.now)) }

@@ -8,8 +8,8 @@ ghost use Rattle.fv_model.specs.Views.{types_view, object_view};
 ghost use Rattle.fv_model.specs.Writing.{IsWritten};
 ghost use Rattle.fv_model_types.specs.Types.{fields_view};
 
-use crate::bundle::Object;
 use crate::writable::is_writable;
+use fv_bundle::Object;
 use fv_datum::Datum;
 use fv_model_types::{Fields, TypeId, Types, use_in};
 use std::alloc::{AllocError, Global};
@@ -65,11 +65,8 @@ fn written_single(
     if use_in(fields, field).is_none() {
         return Ok(None);
     }
-    Ok(Some(Object {
-        types: types.share()?,
-        type_id,
-        data: data_with(alloc, fields, field, datum)?,
-    }))
+    let data = data_with(alloc, fields, field, datum)?;
+    Ok(Some(Object::new(types.share()?, type_id, data)))
 }
 
 /// The object of a type with a copy of a datum in the field of that name, and null in the others;

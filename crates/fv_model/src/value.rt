@@ -1,6 +1,6 @@
 //! A datum by itself, read from JSON.
 ghost use Rattle.std.specs.Prelude.{◌≡◌, ℕ, List, Ok, Some, IfOk};
-ghost use Rattle.fv_json.specs.Documents.{view as json_view};
+ghost use Rattle.serde_json.specs.View.{view as json_view};
 ghost use Rattle.fv_datum.specs.Data.{Data};
 ghost use Rattle.fv_datum.specs.Outcomes.{Gives};
 ghost use Rattle.fv_datum.specs.View.{view};
@@ -9,21 +9,21 @@ ghost use Rattle.fv_model_types.specs.Flaws.{misfits};
 ghost use Rattle.fv_model_types.specs.Types.{type_use_view};
 ghost use Rattle.fv_model.specs.Fitting.{unless_wrong};
 ghost use Rattle.fv_model.specs.Reading.{datum_at, value_read};
-ghost use Rattle.fv_model.specs.WellTyped.{AnyName};
+ghost use Rattle.fv_bundle.specs.WellTyped.{AnyName};
 ghost use Rattle.fv_model.specs.Writing.{IsWritten, datum_json};
 
 use crate::fault::BundleFault;
 use fv_datum::{Datum, DatumFault};
-use fv_json::Json;
 use fv_model_types::{TypeNames, TypeUse, flaws_of, read_use};
 use indexmap::IndexMap;
+use serde_json::Value;
 use std::alloc::Global;
 
 /// The datum of a type use that a JSON value spells. A reference may be any name.
 ///
 /// It is of the type use and within the limits. What was written of such a datum is read as it.
 /// Refused by `WrongKind`, else by `TooLarge`; `Memory` at any place.
-pub fn read_value(alloc: Global, type_use: &TypeUse, value: &Json) -> Result<Datum, BundleFault>
+pub fn read_value(alloc: Global, type_use: &TypeUse, value: &Value) -> Result<Datum, BundleFault>
     ensures exact { Gives BundleFault.Memory view result
         (value_read (type_use_view type_use.now) (json_view value.now)) }
     ensures fits { IfOk result (λ d. Fits AnyName (type_use_view type_use.now) (view d)) }
@@ -34,7 +34,7 @@ pub fn read_value(alloc: Global, type_use: &TypeUse, value: &Json) -> Result<Dat
 }
 
 /// The same, by the definition alone.
-fn small_datum(alloc: Global, type_use: &TypeUse, value: &Json) -> Result<Datum, BundleFault>
+fn small_datum(alloc: Global, type_use: &TypeUse, value: &Value) -> Result<Datum, BundleFault>
     ensures exact { Gives BundleFault.Memory view result
         (value_read (type_use_view type_use.now) (json_view value.now)) }
     ensures written { IfOk result (λ d. IsWritten (view d)) }
@@ -53,7 +53,7 @@ fn small_datum(alloc: Global, type_use: &TypeUse, value: &Json) -> Result<Datum,
 pub(crate) fn spelled_datum(
     alloc: Global,
     type_use: &TypeUse,
-    value: &Json,
+    value: &Value,
 ) -> Result<Datum, BundleFault>
     ensures exact { Gives BundleFault.Memory view result (unless_wrong
         (misfits (Some (type_use_view type_use.now)) (json_view value.now))

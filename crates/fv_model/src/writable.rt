@@ -1,7 +1,7 @@
 ghost use Rattle.std.specs.Prelude.{◌≡◌, ◌↔◌, ◌&&◌, IsTrue};
 ghost use Rattle.fv_datum.specs.Written.{keys_fit};
 ghost use Rattle.fv_datum.specs.View.{view, items_view, entries_view};
-ghost use Rattle.fv_model.specs.Typing.{is_writable, items_writable, entries_writable};
+ghost use Rattle.fv_model.specs.Writables.{is_writable, items_writable, entries_writable};
 ghost use Rattle.fv_model.specs.Writing.{IsWritten};
 
 use fv_datum::{Datum, keys_fit};

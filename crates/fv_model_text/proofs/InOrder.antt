@@ -13,8 +13,9 @@ use Rattle.serde_json.specs.Data as json
 use Rattle.serde_json.specs.Written.{members_outline}
 use Rattle.fv_datum.specs.Data.{Data}
 use Rattle.fv_datum.specs.Written.{is_null}
-use Rattle.fv_model.specs.Bundles.{IsAscending, Thing, Things}
-use Rattle.fv_model.specs.Writing.{datum_json, thing_json}
+use Rattle.fv_bundle.specs.Bundles.{IsAscending, Thing, Things}
+use Rattle.fv_model_types.specs.Writing.{datum_json}
+use Rattle.fv_model.specs.Writing.{thing_json}
 
 abbrev pub Named : Type 0
 Named = List ℕ × json.Data

@@ -5,15 +5,15 @@ ghost use Rattle.std.specs.List.{fold};
 ghost use Rattle.json.specs.Print.{print, quoted};
 ghost use Rattle.serde_json.specs.Data as json;
 ghost use Rattle.serde_json.specs.Written.{compact_text};
-ghost use Rattle.fv_model.specs.Views.{object_view, objects_view, bundle_view};
+ghost use Rattle.fv_bundle.specs.Views.{object_view, objects_view, bundle_view};
 ghost use Rattle.fv_model.specs.Writing.{fields_json, thing_json, bundle_json};
 ghost use Rattle.fv_model_text.specs.Puts.{Puts};
 
 use crate::data::write_datum;
 use crate::halt::Halt;
 use crate::tree::{write_bundle, write_fields};
+use fv_bundle::{Bundle, Object, Objects};
 use fv_datum::is_null;
-use fv_model::{Bundle, Object, Objects};
 use json::Writer;
 use std::alloc::{AllocError, Global};
 

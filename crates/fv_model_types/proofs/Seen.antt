@@ -1,7 +1,5 @@
--- A type use, a datum and a JSON value, level by level.
-use Rattle.std.proofs.Common.{◌≡◌, map, Some, String, Vec, Box, Global, string_bytes, rules}
-use Rattle.serde_json.specs.Data as json
-use Rattle.serde_json.specs.Find.{as_array, as_object}
+-- A type use and a datum, level by level.
+use Rattle.std.proofs.Common.{◌≡◌, map, String, Vec, Box, Global, string_bytes, rules}
 use Rattle.fv_datum.specs.Data as datum
 use Rattle.fv_datum.specs.Data.{entries_of}
 use Rattle.fv_datum.specs.View.{view, pair_view}
@@ -49,13 +47,3 @@ view-DataMap v = search (rules, data_lemmas)
 
 pub view-DataOptional : (b : Box Datum Global) → view (optional_datum b) ≡ datum.optional (view b.value)
 view-DataOptional b = search (rules, data_lemmas)
-
--- ---- JSON
-
-pub array_is : (j : json.Data) (js : json.Items) → Some js ≡ as_array j → j ≡ json.array js
-array_is (json.array js) ks e = cc
-array_is _ ks e = cc
-
-pub object_is : (j : json.Data) (ms : json.Members) → Some ms ≡ as_object j → j ≡ json.object ms
-object_is (json.object ms) ns e = cc
-object_is _ ns e = cc

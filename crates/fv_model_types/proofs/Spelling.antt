@@ -1,9 +1,11 @@
 -- How data are read, part by part.
-use Rattle.std.proofs.Common.{◌≡◌, ◌≢◌, ℕ, List, [], ◌∷◌, ◌++◌, Option, Some, None, option_map, Result, Ok, Err, IsErrAnd, refl, sym, ap, ◌∙◌, append_assoc}
+use Rattle.std.proofs.Common.{◌≡◌, ◌≢◌, ◌<◌, ℕ, length, List, [], ◌∷◌, ◌++◌, Option, Some, None, option_map, Result, Ok, Err, IsErrAnd, refl, sym, ap, ◌∙◌, append_assoc, arith}
 use Rattle.std.specs.Map.{keys_of}
 use Rattle.std.specs.Option.{ok_or}
 use Rattle.std.proofs.lemmas.Result.{err_from_is_err_and}
 use Rattle.serde_json.specs.Data as json
+use Rattle.serde_json.specs.View.{items_view}
+use Rattle.serde_json.specs.declared.value.Value.{Value}
 use Rattle.fv_datum.specs.Data.{Data, text, optional}
 use Rattle.fv_datum.specs.Members.{each_some}
 use Rattle.fv_datum.specs.Outcomes.{Gives}
@@ -41,6 +43,13 @@ part_refused r view e o p is_err told none =
 -- what is made of a part that is there
 pub part_taken : {X Y : Type 0} (f : X → Y) (o : Option X) (p : Option Y) (x : X) → p ≡ option_map f o → ok_or o WrongKind ≡ Ok x → ok_or p WrongKind ≡ Ok (f x)
 part_taken f o p x made is = ap (λ q. ok_or q WrongKind) (made ∙ ap (option_map f) (some_of o x is))
+
+-- ---- an optional's item
+
+pub several : (f : json.Data → Option Data) (vs : List Value) → 1 < length vs → only_item f (items_view vs) ≡ None
+several f [] many = absurd (omega arith)
+several f (v ∷ []) many = absurd (omega arith)
+several f (v ∷ w ∷ vs) many = refl
 
 -- ---- one after another
 

@@ -4,8 +4,7 @@ ghost use Rattle.std.specs.List.{list_any};
 ghost use Rattle.std.specs.Map.{keys_of};
 ghost use Rattle.std.specs.Option.{option_map_or};
 ghost use Rattle.serde_json.specs.Find.{as_str};
-ghost use Rattle.fv_json.specs.Documents.{view as json_view};
-ghost use Rattle.fv_json.specs.MembersView.{items_view as json_items, members_view};
+ghost use Rattle.serde_json.specs.View.{view as json_view, items_view as json_items, members_view};
 ghost use Rattle.fv_datum.specs.Lookup.{at_name};
 ghost use Rattle.fv_datum.specs.Members.{pairs, listed};
 ghost use Rattle.fv_datum.specs.Ascending.{IsAscending};
@@ -16,8 +15,8 @@ ghost use Rattle.fv_model_types.specs.Flaws.{is_other, is_long, IsNeverFlawed};
 
 use crate::type_use::TypeUse;
 use crate::types::{Fields, use_in};
-use fv_json::{Items, Json, Members};
 use indexmap::IndexMap;
+use serde_json::{Map, Value};
 
 /// The most bytes of a text or a map's key.
 const LONGEST: usize = 65536;
@@ -106,7 +105,7 @@ pub fn is_other(type_name: &str, own: Option<&str>) -> bool
 }
 
 /// What is wrong with a reference to an object of this type.
-fn reference_flaws(types: &TypeNames, target: &str, value: &Json) -> Flaws
+fn reference_flaws(types: &TypeNames, target: &str, value: &Value) -> Flaws
     ensures undeclared { result.undeclared ≡ false }
     ensures dangling { result.dangling ≡ option_map_or
         (λ name. not (is_some (at_name name (object_types_view types.now)))) (as_str (json_view value.now)) false }
@@ -136,7 +135,7 @@ fn is_long(text: &str) -> bool
 }
 
 /// The same of a value that is a text.
-fn is_long_text(value: &Json) -> bool
+fn is_long_text(value: &Value) -> bool
     ensures { result ≡ option_map_or is_long (as_str (json_view value.now)) false }
 {
     match value.as_str() {
@@ -146,11 +145,11 @@ fn is_long_text(value: &Json) -> bool
 }
 
 /// A key of more bytes than a text may have.
-fn has_long_key(members: Members) -> bool
-    ensures { result ≡ list_any (λ m. is_long m.0) (pairs (members_view members.entry)) }
+fn has_long_key(members: &Map<String, Value>) -> bool
+    ensures { result ≡ list_any (λ m. is_long m.0) (pairs (members_view members.now.entries)) }
 {
     for (name, _) in members.iter() {
-        if is_long(name) {
+        if is_long(name.as_str()) {
             return true;
         }
     }
@@ -158,9 +157,9 @@ fn has_long_key(members: Members) -> bool
 }
 
 /// More entries than a map may have, or a key that is too long.
-fn is_large_map(members: Members) -> bool
-    ensures { result ≡ (nat_lt 65536 (length (pairs (members_view members.entry)))
-        || list_any (λ m. is_long m.0) (pairs (members_view members.entry))) }
+fn is_large_map(members: &Map<String, Value>) -> bool
+    ensures { result ≡ (nat_lt 65536 (length (pairs (members_view members.now.entries)))
+        || list_any (λ m. is_long m.0) (pairs (members_view members.now.entries))) }
 {
     members.len() > MOST_ENTRIES || has_long_key(members)
 }
@@ -181,7 +180,7 @@ fn can_be_flawed(type_use: &TypeUse) -> bool
 }
 
 /// What is wrong with a value that is given for a type use, and with what stands in it.
-pub fn flaws_of(types: &TypeNames, type_use: &TypeUse, value: &Json) -> Flaws
+pub fn flaws_of(types: &TypeNames, type_use: &TypeUse, value: &Value) -> Flaws
     ensures { Tells result (object_types_view types.now)
         (λ flaw. flaw (Some (type_use_view type_use.now)) (json_view value.now)) }
 {
@@ -189,28 +188,28 @@ pub fn flaws_of(types: &TypeNames, type_use: &TypeUse, value: &Json) -> Flaws
 }
 
 #[cycle(flaws)]
-fn value_flaws(types: &TypeNames, value: &Json, type_use: &TypeUse) -> Flaws
+fn value_flaws(types: &TypeNames, value: &Value, type_use: &TypeUse) -> Flaws
     ensures { Tells result (object_types_view types.now)
         (λ flaw. flaw (Some (type_use_view type_use.now)) (json_view value.now)) }
 {
     match type_use {
         TypeUse::Text => Flaws::of_size(is_long_text(value)),
         TypeUse::Ref(target) => reference_flaws(types, target.as_str(), value),
-        TypeUse::List(held) => match value.as_array() {
-            Some(items) => Flaws::of_size(items.len() > MOST_ENTRIES).and(item_flaws(
+        TypeUse::List(held) => match value {
+            Value::Array(items) => Flaws::of_size(items.len() > MOST_ENTRIES).and(item_flaws(
                 types, items, held,
             )),
-            None => Flaws::none(),
+            _ => Flaws::none(),
         },
-        TypeUse::Map(held) => match value.as_object() {
-            Some(members) => Flaws::of_size(is_large_map(members)).and(member_flaws(
+        TypeUse::Map(held) => match value {
+            Value::Object(members) => Flaws::of_size(is_large_map(members)).and(member_flaws(
                 types, members, held,
             )),
-            None => Flaws::none(),
+            _ => Flaws::none(),
         },
-        TypeUse::Optional(held) => match value.as_array() {
-            Some(items) => item_flaws(types, items, held),
-            None => Flaws::none(),
+        TypeUse::Optional(held) => match value {
+            Value::Array(items) => item_flaws(types, items, held),
+            _ => Flaws::none(),
         },
         _ => Flaws::none(),
     }
@@ -218,39 +217,39 @@ fn value_flaws(types: &TypeNames, value: &Json, type_use: &TypeUse) -> Flaws
 
 /// What is wrong with the items of an array.
 #[cycle(flaws)]
-fn item_flaws(types: &TypeNames, items: Items, held: &TypeUse) -> Flaws
+fn item_flaws(types: &TypeNames, items: &Vec<Value>, held: &TypeUse) -> Flaws
     ensures { Tells result (object_types_view types.now)
-        (λ flaw. list_any (flaw (Some (type_use_view held.now))) (listed (json_items items.entry))) }
+        (λ flaw. list_any (flaw (Some (type_use_view held.now))) (listed (json_items items.now.items))) }
 {
     if !can_be_flawed(held) {
         return Flaws::none();
     }
     let mut flaws = Flaws::none();
-    for item in items.iter() {
-        flaws = flaws.and(value_flaws(types, &item, held));
+    for item in items {
+        flaws = flaws.and(value_flaws(types, item, held));
     }
     flaws
 }
 
 /// What is wrong with the values of an object.
 #[cycle(flaws)]
-fn member_flaws(types: &TypeNames, members: Members, held: &TypeUse) -> Flaws
+fn member_flaws(types: &TypeNames, members: &Map<String, Value>, held: &TypeUse) -> Flaws
     ensures { Tells result (object_types_view types.now)
-        (λ flaw. list_any (λ m. flaw (Some (type_use_view held.now)) m.1) (pairs (members_view members.entry))) }
+        (λ flaw. list_any (λ m. flaw (Some (type_use_view held.now)) m.1) (pairs (members_view members.now.entries))) }
 {
     if !can_be_flawed(held) {
         return Flaws::none();
     }
     let mut flaws = Flaws::none();
     for (_, value) in members.iter() {
-        flaws = flaws.and(value_flaws(types, &value, held));
+        flaws = flaws.and(value_flaws(types, value, held));
     }
     flaws
 }
 
 /// What is wrong with a given datum. `type_use` is its field's, `None` where its object's type has no
 /// such field.
-fn flaws_at(types: &TypeNames, type_use: Option<&TypeUse>, value: &Json) -> Flaws
+fn flaws_at(types: &TypeNames, type_use: Option<&TypeUse>, value: &Value) -> Flaws
     ensures { Tells result (object_types_view types.now)
         (λ flaw. flaw (option_map (λ u. type_use_view u.now) type_use.entry) (json_view value.now)) }
 {
@@ -266,14 +265,14 @@ fn flaws_at(types: &TypeNames, type_use: Option<&TypeUse>, value: &Json) -> Flaw
 }
 
 /// What is wrong with the data that are given for a type's fields.
-pub fn flaws_among(types: &TypeNames, fields: &Fields, given: Members) -> Flaws
+pub fn flaws_among(types: &TypeNames, fields: &Fields, given: &Map<String, Value>) -> Flaws
     ensures told { Tells result (object_types_view types.now)
-        (λ flaw. list_any (λ g. flaw (at_name g.0 (fields_view fields.now)) g.1) (pairs (members_view given.entry))) }
-    ensures ascending { IsAscending (keys_of (pairs (members_view given.entry))) }
+        (λ flaw. list_any (λ g. flaw (at_name g.0 (fields_view fields.now)) g.1) (pairs (members_view given.now.entries))) }
+    ensures ascending { IsAscending (keys_of (pairs (members_view given.now.entries))) }
 {
     let mut flaws = Flaws::none();
     for (name, value) in given.iter() {
-        flaws = flaws.and(flaws_at(types, use_in(fields, name), &value));
+        flaws = flaws.and(flaws_at(types, use_in(fields, name.as_str()), value));
     }
     flaws
 }

@@ -1,8 +1,7 @@
 //! The data of type uses are read from JSON.
 ghost use Rattle.std.specs.Prelude.{◌≡◌, false, IfOk, option_map, map};
 ghost use Rattle.std.specs.Option.{ok_or};
-ghost use Rattle.fv_json.specs.Documents.{view as json_view};
-ghost use Rattle.fv_json.specs.MembersView.{items_view as json_items, members_view};
+ghost use Rattle.serde_json.specs.View.{view as json_view, items_view as json_items, members_view};
 ghost use Rattle.fv_datum.specs.Data as datum;
 ghost use Rattle.fv_datum.specs.Json.{spelled};
 ghost use Rattle.fv_datum.specs.Kinds.{is_container};
@@ -15,15 +14,15 @@ ghost use Rattle.fv_model_types.specs.Types.{type_use_view, lists, maps, optiona
 ghost use Rattle.fv_model_types.specs.Writing.{IsWritten};
 
 use crate::type_use::TypeUse;
-use fv_datum::{Datum, DatumFault, Kind};
-use fv_json::{Items, Json, Members, read_datum};
+use fv_datum::{Datum, DatumFault, Kind, read_datum};
+use serde_json::{Map, Value};
 use std::alloc::Global;
 
 /// The datum of a type use that a JSON value spells. References aren't looked up, and nothing is too
 /// large.
 ///
 /// `WrongKind` where the value spells none; `Memory` at any place.
-pub fn read_use(alloc: Global, type_use: &TypeUse, value: &Json) -> Result<Datum, DatumFault>
+pub fn read_use(alloc: Global, type_use: &TypeUse, value: &Value) -> Result<Datum, DatumFault>
     ensures exact { Gives Memory view result
         (ok_or (datum_of (type_use_view type_use.now) (json_view value.now)) WrongKind) }
     ensures written { IfOk result (λ d. IsWritten (view d)) }
@@ -35,7 +34,7 @@ pub fn read_use(alloc: Global, type_use: &TypeUse, value: &Json) -> Result<Datum
 /// this function; each kind of container has one of its own.
 #[cycle(read)]
 #[inline(always)]
-fn read(alloc: Global, value: &Json, type_use: &TypeUse) -> Result<Datum, DatumFault>
+fn read(alloc: Global, value: &Value, type_use: &TypeUse) -> Result<Datum, DatumFault>
     ensures exact { Gives Memory view result
         (ok_or (datum_of (type_use_view type_use.now) (json_view value.now)) WrongKind) }
     ensures written { IfOk result (λ d. IsWritten (view d)) }
@@ -50,7 +49,7 @@ fn read(alloc: Global, value: &Json, type_use: &TypeUse) -> Result<Datum, DatumF
 
 /// A list of what the type use holds.
 #[cycle(read)]
-fn read_list(alloc: Global, value: &Json, held: &TypeUse) -> Result<Datum, DatumFault>
+fn read_list(alloc: Global, value: &Value, held: &TypeUse) -> Result<Datum, DatumFault>
     ensures exact { Gives Memory view result
         (ok_or (datum_of (lists (type_use_view held.now)) (json_view value.now)) WrongKind) }
     ensures written { IfOk result (λ d. IsWritten (view d)) }
@@ -66,7 +65,7 @@ fn read_list(alloc: Global, value: &Json, held: &TypeUse) -> Result<Datum, Datum
 
 /// A map to what the type use holds.
 #[cycle(read)]
-fn read_map(alloc: Global, value: &Json, held: &TypeUse) -> Result<Datum, DatumFault>
+fn read_map(alloc: Global, value: &Value, held: &TypeUse) -> Result<Datum, DatumFault>
     ensures exact { Gives Memory view result
         (ok_or (datum_of (maps (type_use_view held.now)) (json_view value.now)) WrongKind) }
     ensures written { IfOk result (λ d. IsWritten (view d)) }
@@ -82,7 +81,7 @@ fn read_map(alloc: Global, value: &Json, held: &TypeUse) -> Result<Datum, DatumF
 
 /// An optional of what the type use holds.
 #[cycle(read)]
-fn read_optional(alloc: Global, value: &Json, held: &TypeUse) -> Result<Datum, DatumFault>
+fn read_optional(alloc: Global, value: &Value, held: &TypeUse) -> Result<Datum, DatumFault>
     ensures exact { Gives Memory view result
         (ok_or (datum_of (optionals (type_use_view held.now)) (json_view value.now)) WrongKind) }
     ensures written { IfOk result (λ d. IsWritten (view d)) }
@@ -101,7 +100,7 @@ fn read_optional(alloc: Global, value: &Json, held: &TypeUse) -> Result<Datum, D
 
 /// The datum of a plain kind that a JSON value spells.
 #[inline(always)]
-fn plain_in(alloc: Global, kind: Kind, value: &Json) -> Result<Datum, DatumFault>
+fn plain_in(alloc: Global, kind: Kind, value: &Value) -> Result<Datum, DatumFault>
     requires { is_container kind ≡ false }
     ensures exact { Gives Memory view result (ok_or (spelled kind (json_view value.now)) WrongKind) }
     ensures written { IfOk result (λ d. IsWritten (view d)) }
@@ -112,24 +111,24 @@ fn plain_in(alloc: Global, kind: Kind, value: &Json) -> Result<Datum, DatumFault
 /// The items of a list of a plain kind. Written into each of its calls, which name the kind, so that a long
 /// list is read with no look at the kind, and no call, for an item.
 #[inline(always)]
-fn read_plain(alloc: Global, items: Items, kind: Kind) -> Result<Vec<Datum>, DatumFault>
+fn read_plain(alloc: Global, items: &Vec<Value>, kind: Kind) -> Result<Vec<Datum>, DatumFault>
     requires { is_container kind ≡ false }
     ensures exact { Gives Memory (λ v. map view v.items) result
-        (ok_or (each_some (spelled kind) (listed (json_items items.entry))) WrongKind) }
+        (ok_or (each_some (spelled kind) (listed (json_items items.now.items))) WrongKind) }
     ensures written { IfOk result (λ v. IsWritten (datum.list (items_view v.items))) }
 {
     let mut out = Vec::with_capacity(alloc, items.len())?;
-    for item in items.iter() {
-        out.push(plain_in(alloc, kind, &item)?)?;
+    for item in items {
+        out.push(plain_in(alloc, kind, item)?)?;
     }
     Ok(out)
 }
 
 /// The items of a list.
 #[cycle(read)]
-fn read_items(alloc: Global, items: Items, held: &TypeUse) -> Result<Vec<Datum>, DatumFault>
+fn read_items(alloc: Global, items: &Vec<Value>, held: &TypeUse) -> Result<Vec<Datum>, DatumFault>
     ensures exact { Gives Memory (λ v. map view v.items) result
-        (ok_or (each_some (datum_of (type_use_view held.now)) (listed (json_items items.entry))) WrongKind) }
+        (ok_or (each_some (datum_of (type_use_view held.now)) (listed (json_items items.now.items))) WrongKind) }
     ensures written { IfOk result (λ v. IsWritten (datum.list (items_view v.items))) }
 {
     match held {
@@ -146,14 +145,14 @@ fn read_items(alloc: Global, items: Items, held: &TypeUse) -> Result<Vec<Datum>,
 
 /// The items of a list of containers.
 #[cycle(read)]
-fn read_each(alloc: Global, items: Items, held: &TypeUse) -> Result<Vec<Datum>, DatumFault>
+fn read_each(alloc: Global, items: &Vec<Value>, held: &TypeUse) -> Result<Vec<Datum>, DatumFault>
     ensures exact { Gives Memory (λ v. map view v.items) result
-        (ok_or (each_some (datum_of (type_use_view held.now)) (listed (json_items items.entry))) WrongKind) }
+        (ok_or (each_some (datum_of (type_use_view held.now)) (listed (json_items items.now.items))) WrongKind) }
     ensures written { IfOk result (λ v. IsWritten (datum.list (items_view v.items))) }
 {
     let mut out = Vec::with_capacity(alloc, items.len())?;
-    for item in items.iter() {
-        out.push(read(alloc, &item, held)?)?;
+    for item in items {
+        out.push(read(alloc, item, held)?)?;
     }
     Ok(out)
 }
@@ -162,37 +161,37 @@ fn read_each(alloc: Global, items: Items, held: &TypeUse) -> Result<Vec<Datum>, 
 #[cycle(read)]
 fn read_entries(
     alloc: Global,
-    members: Members,
+    members: &Map<String, Value>,
     held: &TypeUse,
 ) -> Result<Vec<(Datum, Datum)>, DatumFault>
     ensures exact { Gives Memory (λ v. map pair_view v.items) result
         (ok_or (option_map (map (λ e. (datum.text e.0, e.1))) (each_some (entry_read (datum_of (type_use_view held.now)))
-        (pairs (members_view members.entry)))) WrongKind) }
+        (pairs (members_view members.now.entries)))) WrongKind) }
     ensures written { IfOk result (λ v. IsWritten (datum.map (entries_view v.items))) }
 {
     let mut out = Vec::with_capacity(alloc, members.len())?;
     for (name, value) in members.iter() {
-        let datum = read(alloc, &value, held)?;
-        out.push((Datum::Text(String::from_str(alloc, name)?), datum))?;
+        let datum = read(alloc, value, held)?;
+        out.push((Datum::Text(name.clone()?), datum))?;
     }
     Ok(out)
 }
 
 /// What an optional holds: null where there is nothing in the array.
 #[cycle(read)]
-fn read_content(alloc: Global, items: Items, held: &TypeUse) -> Result<Datum, DatumFault>
+fn read_content(alloc: Global, items: &Vec<Value>, held: &TypeUse) -> Result<Datum, DatumFault>
     ensures exact { Gives Memory view result
-        (ok_or (only_item (datum_of (type_use_view held.now)) (json_items items.entry)) WrongKind) }
+        (ok_or (only_item (datum_of (type_use_view held.now)) (json_items items.now.items)) WrongKind) }
     ensures written { IfOk result (λ d. IsWritten (view d)) }
 {
     if items.len() > 1 {
         return Err(DatumFault::WrongKind);
     }
-    let Some(item) = items.iter().next() else {
+    let Some(item) = items.first() else {
         return Ok(Datum::Null);
     };
     if item.is_null() {
         return Err(DatumFault::WrongKind);
     }
-    read(alloc, &item, held)
+    read(alloc, item, held)
 }

@@ -6,9 +6,9 @@ use Rattle.fv_datum.specs.Data.{Data}
 use Rattle.fv_datum.specs.View.{view}
 use Rattle.fv_datum.specs.declared.attrs.Attrs.{Attrs}
 use Rattle.fv_datum.specs.declared.datum.Datum.{Datum}
-use Rattle.fv_model.specs.Bundles.{Thing}
-use Rattle.fv_model.specs.Views.{object_view}
-use Rattle.fv_model.specs.declared.bundle.Object.{Object}
+use Rattle.fv_bundle.specs.Bundles.{Thing}
+use Rattle.fv_bundle.specs.Views.{object_view}
+use Rattle.fv_bundle.specs.declared.bundle.Object.{Object}
 use Rattle.fv_registry.specs.Rules.{Known, knows_field, knows_object}
 use denote.Ref.{Bor}
 

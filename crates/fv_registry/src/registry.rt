@@ -1,6 +1,6 @@
 ghost use Rattle.std.specs.Prelude.{◌≡◌, ◌++◌, map, IfOk, None, if◌then◌else◌, Some};
 ghost use Rattle.fv_datum.specs.View.{view};
-ghost use Rattle.fv_model.specs.Views.{object_view};
+ghost use Rattle.fv_bundle.specs.Views.{object_view};
 ghost use Rattle.fv_registry.specs.Meanings.{FieldsMean, ObjectsMean, FieldAnswers, ObjectAnswers};
 ghost use Rattle.fv_registry.specs.Rules.{refused, Refuses, has_rule, lists_kind};
 
@@ -9,8 +9,8 @@ use crate::kinds::lists;
 use crate::meaning::Meaning;
 use crate::rules::{has_twice, numbers};
 use crate::validator::{FieldCall, FieldValidator, ObjectCall, ObjectValidator};
+use fv_bundle::Object;
 use fv_datum::{Attrs, Datum, Kind};
-use fv_model::Object;
 use std::alloc::Global;
 use std::marker::PhantomData;
 

@@ -1,15 +1,15 @@
 ghost use Rattle.std.proofs.Props.{props};
 ghost use Rattle.std.specs.Prelude.{◌≡◌, map};
 ghost use Rattle.fv_datum.specs.View.{view};
-ghost use Rattle.fv_model.specs.Views.{object_view};
+ghost use Rattle.fv_bundle.specs.Views.{object_view};
 ghost use Rattle.fv_registry.specs.Meanings.{Meanings, FieldsMean, ObjectsMean, answered, object_answered};
 ghost use Rattle.fv_registry.specs.Rules.{Known, knows_field, knows_object, takes};
 
 use crate::meaning::Meaning;
 use crate::registry::Registry;
 use crate::validator::{FieldCall, ObjectCall};
+use fv_bundle::Object;
 use fv_datum::{Attrs, Datum, Kind};
-use fv_model::Object;
 
 /// Rules that can be asked by their numbers: what the crates above know of a registry.
 pub trait RuleSet {

@@ -1,5 +1,5 @@
+use fv_bundle::Object;
 use fv_datum::{Attrs, Datum, Kind};
-use fv_model::Object;
 
 /// A closure that tells whether a rule holds of a datum, with the attributes in effect.
 pub type FieldCall = Box<dyn Fn(&Datum, &Attrs) -> bool>;

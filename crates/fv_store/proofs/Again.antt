@@ -3,7 +3,7 @@ use Rattle.std.proofs.Common.{◌≡◌, ℕ, List, Bool, true, false, cond, Opt
 use Rattle.std.proofs.Math.Path.{fun_ext}
 use Rattle.fv_datum.specs.Lookup.{at_name}
 use Rattle.fv_model_types.specs.Types.{Declared, FieldsApart}
-use Rattle.fv_model.specs.Bundles.{Bundled}
+use Rattle.fv_bundle.specs.Bundles.{Bundled}
 use Rattle.fv_model.specs.Reading.{bundle_read}
 use Rattle.fv_model.specs.Writing.{bundle_json, bundle_written}
 use Rattle.fv_model.proofs.Again.{alike, again_typed}

@@ -7,9 +7,9 @@ use Rattle.std.specs.declared.alloc.Global.{Global}
 use Rattle.std.proofs.lemmas.Bool.{false_from_ne_true}
 use Rattle.std.proofs.lemmas.Map.Keys.{IsDistinct-head, IsDistinct-tail}
 use Rattle.std.proofs.lemmas.Slice.Eq.{bytes_eq-Decides}
-use Rattle.fv_model.specs.Views.{named_view}
+use Rattle.fv_bundle.specs.Views.{named_view}
 use Rattle.fv_model.specs.Writing.{named_written}
-use Rattle.fv_model.specs.declared.bundle.Object.{Object}
+use Rattle.fv_bundle.specs.declared.bundle.Object.{Object}
 use Rattle.fv_store.specs.Written.{object_kept}
 use Rattle.fv_tables.specs.Changes.{AreApart, Things, has_name}
 

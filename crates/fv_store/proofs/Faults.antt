@@ -1,9 +1,9 @@
 -- Where a record's text reads back, only want of memory refuses it.
 use Rattle.std.proofs.Common.{◌≡◌, ◌≢◌, Option, Some, None, Result, Ok, Err, IsErrAnd, refl, sym, ap, ◌∙◌}
 use Rattle.serde_json.specs.Data as json
-use Rattle.fv_json.specs.declared.document.Refused.{Refused}
-use Rattle.fv_json.specs.declared.document.Refused.TheVariants as refused
-use Rattle.fv_model.specs.Bundles.{Bundled}
+use Rattle.fv_datum.specs.declared.parsing.JsonFault.{JsonFault}
+use Rattle.fv_datum.specs.declared.parsing.JsonFault.TheVariants as refused
+use Rattle.fv_bundle.specs.Bundles.{Bundled}
 use Rattle.fv_datum.specs.Outcomes.{Gives}
 use Rattle.fv_model.specs.declared.fault.BundleFault.{BundleFault}
 use Rattle.fv_model.specs.declared.fault.BundleFault.TheVariants as bundle
@@ -12,7 +12,7 @@ use Rattle.fv_store.specs.declared.fault.StoreFault.TheVariants.{Store, Memory}
 use Rattle.fv_store.specs.Faults.{json_fault, bundle_fault}
 
 -- a text that reads as some value is JSON
-pub json_memory : (e : Refused) (value : Option json.Data) (d : json.Data) → (e ≡ refused.NotJson → value ≡ None) → value ≡ Some d → json_fault e ≡ Memory
+pub json_memory : (e : JsonFault) (value : Option json.Data) (d : json.Data) → (e ≡ refused.NotJson → value ≡ None) → value ≡ Some d → json_fault e ≡ Memory
 json_memory refused.NotJson value d none some = let never : None ≡ Some d = sym (none refl) ∙ some in absurd cc
 json_memory refused.Memory value d none some = refl
 

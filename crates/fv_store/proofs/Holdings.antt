@@ -2,13 +2,13 @@
 use Rattle.std.proofs.Common.{◌≡◌, ℕ, Bool, true, false, cond, List, [], ◌∷◌, bytes_eq, string_bytes, Option, Some, None, option_map, Result, Ok, Err, OnErr, IfErr, IfOk, IsTrue, inl, inr, refl, sym, ap, subst, ◌∙◌}
 use Rattle.std.proofs.lemmas.Bool.{cases_Bool}
 use Rattle.std.proofs.lemmas.Slice.Eq.{bytes_eq-Decides}
-use Rattle.fv_model.specs.Bundles.{Thing}
-use Rattle.fv_model.specs.Views.{object_view}
+use Rattle.fv_bundle.specs.Bundles.{Thing}
+use Rattle.fv_bundle.specs.Views.{object_view}
 use Rattle.std.specs.Option.{ForSome}
 use Rattle.sqlite.specs.State.{State, HasCleanDisk}
 use Rattle.fv_datum.specs.Outcomes.{Gives}
 use Rattle.fv_model_types.specs.Types.{Declared, has_deep}
-use Rattle.fv_model.specs.WellTyped.{IsWellTyped}
+use Rattle.fv_bundle.specs.WellTyped.{IsWellTyped}
 use Rattle.fv_store.specs.declared.change.Change.{Change}
 use Rattle.fv_store.specs.declared.change.Change.TheVariants.{Put, Object, Remove}
 use Rattle.fv_store.specs.declared.fault.StoreFault.{StoreFault}

@@ -5,7 +5,7 @@ use Rattle.json.specs.Print.{quoted, escape_byte}
 use Rattle.serde_json.specs.Data as json
 use Rattle.serde_json.specs.Written.{comma_if, compact_text, members_text}
 use Rattle.fv_datum.specs.Ascending.{IsAscending}
-use Rattle.fv_model.specs.Bundles.{Thing, Bundled}
+use Rattle.fv_bundle.specs.Bundles.{Thing, Bundled}
 use Rattle.fv_model.specs.Writing.{thing_json, named_written}
 use Rattle.fv_model_text.proofs.InOrder.{members_of, named, objects_in_order}
 use Rattle.fv_store.specs.Texts.{bundle_text, object_text, objects_text, rows_text}

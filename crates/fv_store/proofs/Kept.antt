@@ -1,8 +1,8 @@
 -- What the rows keep of records that change.
 use Rattle.std.proofs.Common.{◌≡◌, ℕ, List, [], ◌∷◌, Bool, true, false, cond, Option, Some, None, bytes_eq, map, option_map, refl, ap}
 use Rattle.std.proofs.Math.Path.{fun_ext}
-use Rattle.fv_model.specs.Bundles.{Thing}
-use Rattle.fv_model.specs.Replaced.{changed_at}
+use Rattle.fv_bundle.specs.Bundles.{Thing}
+use Rattle.fv_bundle.specs.Replaced.{changed_at}
 use Rattle.fv_model.specs.Writing.{named_written}
 use Rattle.fv_store.specs.Records.{Kept, Records, with_record, without_record, with_thing, with_object}
 use Rattle.fv_store.specs.Written.{written_of, writings, entry_of, entries, object_kept}

@@ -2,7 +2,7 @@
 use Rattle.std.proofs.Common.{◌≡◌, ℕ, List, [], ◌∷◌, Option, Some, None, map, option_map, refl, ap, subst, sym}
 use Rattle.std.specs.Map.{keys_of}
 use Rattle.fv_datum.specs.Ascending.{IsAscending}
-use Rattle.fv_model.specs.Bundles.{Thing}
+use Rattle.fv_bundle.specs.Bundles.{Thing}
 use Rattle.fv_model.specs.Writing.{named_written}
 use Rattle.fv_store.specs.Records.{Kept, Contents, AllFit}
 use Rattle.fv_store.specs.Written.{written_of, entry_of, object_kept}

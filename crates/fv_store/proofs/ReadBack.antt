@@ -24,8 +24,8 @@ use Rattle.fv_datum.proofs.Bools.{or_left, or_right}
 use Rattle.fv_datum.proofs.Lists.{none_each}
 use Rattle.fv_model_types.proofs.Members.{all_put, ascending_put, put_again}
 use Rattle.fv_model_types.proofs.PlainJson.{IsWhole, IsPlain, ArePlainItems, ArePlain, IsFlat, Fields, no_fields, fits_flat}
-use Rattle.fv_model.specs.Bundles.{Thing, Things, Bundled}
-use Rattle.fv_model.specs.WellTyped.{NamesObject, FitsUse, FieldsAre, FitsType, IsWellTyped}
+use Rattle.fv_bundle.specs.Bundles.{Thing, Things, Bundled}
+use Rattle.fv_bundle.specs.WellTyped.{NamesObject, FitsUse, FieldsAre, FitsType, IsWellTyped}
 use Rattle.fv_model_types.specs.Writing.{datum_json}
 use Rattle.fv_model.specs.Writing.{thing_json, bundle_json}
 use Rattle.fv_store.specs.Texts.{bundle_text}

@@ -9,8 +9,8 @@ use Rattle.serde_json.specs.Written.{has_float, items_have_float, members_have_f
 use Rattle.fv_datum.specs.Members.{pairs, each_some}
 use Rattle.fv_model_types.proofs.PlainJson.{IsWhole, IsPlain, ArePlainItems, ArePlain}
 use Rattle.fv_model_types.specs.Types.{Declared, has_deep}
-use Rattle.fv_model.specs.Bundles.{Thing, Things, Bundled}
-use Rattle.fv_model.specs.WellTyped.{FitsType, IsWellTyped}
+use Rattle.fv_bundle.specs.Bundles.{Thing, Things, Bundled}
+use Rattle.fv_bundle.specs.WellTyped.{FitsType, IsWellTyped}
 use Rattle.fv_model.specs.Writing.{fields_json, bundle_json, named_written}
 use Rattle.fv_model_text.proofs.InOrder.{members_of, named, Named, objects_in_order}
 use Rattle.fv_store.proofs.ReadBack.{bundle_back, fields_plain}

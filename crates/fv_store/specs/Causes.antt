@@ -4,8 +4,8 @@ use Rattle.std.specs.Prelude.{ℕ, ◌+◌, List, [], ◌∷◌, length, string_
 use Rattle.std.specs.List.{AllByRecursion}
 use Rattle.sqlite.specs.Effect.{Database}
 use Rattle.fv_tables.specs.Causes.{IsShortHead, IsShortPart}
-use Rattle.fv_model.specs.Bundles.{Thing}
-use Rattle.fv_model.specs.Views.{object_view, bundle_view}
+use Rattle.fv_bundle.specs.Bundles.{Thing}
+use Rattle.fv_bundle.specs.Views.{object_view, bundle_view}
 use Rattle.fv_model.specs.Writing.{named_written}
 use Rattle.fv_store.specs.declared.change.Change.{Change}
 use Rattle.fv_store.specs.declared.change.Change.TheVariants.{Put, Object, Remove}

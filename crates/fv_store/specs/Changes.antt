@@ -1,7 +1,7 @@
 -- What changes make of the records.
 use Rattle.std.specs.Prelude.{◌≡◌, List, [], ◌∷◌, Some, string_bytes}
 use Rattle.fv_model_types.specs.Types.{Declared}
-use Rattle.fv_model.specs.Views.{object_view, bundle_view}
+use Rattle.fv_bundle.specs.Views.{object_view, bundle_view}
 use Rattle.fv_store.specs.declared.change.Change.{Change}
 use Rattle.fv_store.specs.declared.change.Change.TheVariants.{Put, Object, Remove}
 use Rattle.fv_store.specs.Records.{Kept, Records, Roots, Fits, Contents, with_record, without_record, with_thing, with_object, with_records}

@@ -3,8 +3,8 @@ use Rattle.std.specs.Prelude.{◌==◌, ◌||◌, ℕ, [], ◌∷◌, not, Optio
 use Rattle.sqlite.specs.declared.error.Error.{Error}
 use Rattle.sqlite.specs.declared.error.Error.TheVariants.{SqliteFailure}
 use Rattle.sqlite.specs.declared.error.ErrorCode.TheVariants.{OutOfMemory}
-use Rattle.fv_json.specs.declared.document.Refused.{Refused}
-use Rattle.fv_json.specs.declared.document.Refused.TheVariants as json
+use Rattle.fv_datum.specs.declared.parsing.JsonFault.{JsonFault}
+use Rattle.fv_datum.specs.declared.parsing.JsonFault.TheVariants as json
 use Rattle.fv_datum.specs.Outcomes.{first}
 use Rattle.fv_model.specs.declared.fault.BundleFault.{BundleFault}
 use Rattle.fv_model.specs.declared.fault.BundleFault.TheVariants as bundle
@@ -22,7 +22,7 @@ fault_of (SqliteFailure OutOfMemory) = Memory
 fault_of _ = Store
 
 -- of why a text isn't read as JSON
-abbrev pub json_fault : Refused → StoreFault
+abbrev pub json_fault : JsonFault → StoreFault
 json_fault json.NotJson = Store
 json_fault json.Memory = Memory
 

@@ -3,9 +3,9 @@ use Rattle.std.specs.Prelude.{◌≡◌, ℕ, List, Option, Some, None, option_m
 use Rattle.std.specs.Str.{bytes_eq}
 use Rattle.fv_datum.specs.Lookup.{at_name}
 use Rattle.fv_model_types.specs.Types.{Declared}
-use Rattle.fv_model.specs.Bundles.{Bundled, Thing}
-use Rattle.fv_model.specs.Replaced.{changed_at}
-use Rattle.fv_model.specs.WellTyped.{IsWellTyped, HasRootType}
+use Rattle.fv_bundle.specs.Bundles.{Bundled, Thing}
+use Rattle.fv_bundle.specs.Replaced.{changed_at}
+use Rattle.fv_bundle.specs.WellTyped.{IsWellTyped, HasRootType}
 
 -- a record: the name of its form, and its bundle
 pub record Kept : Type 0 where

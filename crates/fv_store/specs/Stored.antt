@@ -2,7 +2,7 @@
 use Rattle.std.specs.Prelude.{ℕ, ℤ, pos, List, Option, Some, string_bytes}
 use Rattle.serde_json.specs.Data as json
 use Rattle.serde_json.specs.Read.{read}
-use Rattle.fv_model.specs.Views.{bundle_view}
+use Rattle.fv_bundle.specs.Views.{bundle_view}
 use Rattle.fv_model.specs.Writing.{bundle_json}
 use Rattle.fv_store.specs.declared.about.About.{About}
 use Rattle.fv_store.specs.declared.stored.Stored.{Stored}

@@ -2,7 +2,7 @@
 use Rattle.std.specs.Prelude.{ℕ, List, [], ◌∷◌, ◌++◌, codes}
 use Rattle.json.specs.Print.{quoted}
 use Rattle.serde_json.specs.Written.{compact_text}
-use Rattle.fv_model.specs.Bundles.{Bundled}
+use Rattle.fv_bundle.specs.Bundles.{Bundled}
 use Rattle.fv_model.specs.Writing.{bundle_json}
 use Rattle.fv_tables.specs.Changes.{Thing, Things}
 

@@ -1,6 +1,6 @@
 //! Changes of the records.
 
-use fv_model::{Bundle, Object};
+use fv_bundle::{Bundle, Object};
 
 /// A change of the records.
 #[derive(Drop)]

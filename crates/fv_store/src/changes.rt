@@ -2,7 +2,7 @@
 ghost use Rattle.std.specs.Prelude.{◌≡◌, ◌+◌, false, length, IfErr, None, OnOk, OnErr};
 ghost use Rattle.sqlite.specs.State.{HasCleanDisk, KeepsCommit};
 ghost use Rattle.sqlite.specs.Held.{state};
-ghost use Rattle.fv_model.specs.Views.{object_view, bundle_view};
+ghost use Rattle.fv_bundle.specs.Views.{object_view, bundle_view};
 ghost use Rattle.fv_store.specs.Causes.{AreShort, HasRooms, IsShort, IsShortObject, LeavesRoom, WritesShort, rows_of, rows_of_all};
 ghost use Rattle.fv_store.specs.Changes.{after, after_all};
 ghost use Rattle.fv_store.specs.Records.{with_object, with_record, without_record};
@@ -12,7 +12,7 @@ ghost use Rattle.fv_store.specs.Written.{writings};
 
 use crate::change::Change;
 use crate::object_rows::{fields_of, object_rows};
-use fv_model::{Bundle, Object};
+use fv_bundle::{Bundle, Object};
 use fv_tables::{put_record, remove_record, set_object};
 use sqlite::{Alter, Connection, Error, Transaction};
 use std::alloc::Global;

@@ -5,7 +5,7 @@ ghost use Rattle.fv_store.specs.Faults.{fault_of, json_fault, bundle_fault, open
 ghost use Rattle.fv_store.specs.declared.fault.OpenStoreFault.TheVariants as refusal;
 ghost use Rattle.fv_store.specs.declared.fault.StoreFault.TheVariants.{Memory};
 
-use fv_json::Refused;
+use fv_datum::JsonFault;
 use fv_model::BundleFault;
 use fv_upgrade::UpgradeFault;
 use sqlite::{Error, ErrorCode};
@@ -53,13 +53,13 @@ impl From<AllocError> for StoreFault {
     }
 }
 
-impl From<Refused> for StoreFault {
+impl From<JsonFault> for StoreFault {
     ghost from_gives = { λ e fault. fault ≡ json_fault e };
 
-    fn from(refused: Refused) -> StoreFault {
-        match refused {
-            Refused::NotJson => StoreFault::Store,
-            Refused::Memory => StoreFault::Memory,
+    fn from(fault: JsonFault) -> StoreFault {
+        match fault {
+            JsonFault::NotJson => StoreFault::Store,
+            JsonFault::Memory => StoreFault::Memory,
         }
     }
 }

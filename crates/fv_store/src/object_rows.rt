@@ -1,11 +1,11 @@
 //! What the rows of objects keep.
 ghost use Rattle.std.specs.Prelude.{◌≡◌, IfOk, map, string_bytes};
-ghost use Rattle.fv_model.specs.Views.{object_view, bundle_view};
+ghost use Rattle.fv_bundle.specs.Views.{object_view, bundle_view};
 ghost use Rattle.fv_model.specs.Writing.{fields_json, named_written};
 ghost use Rattle.fv_store.specs.Written.{fields_text, object_kept};
 ghost use Rattle.fv_tables.specs.Changes.{AreApart, object_view as row_view, objects_view as rows_view};
 
-use fv_model::{Bundle, Object};
+use fv_bundle::{Bundle, Object};
 use fv_tables::ObjectRow;
 use std::alloc::{AllocError, Global};
 

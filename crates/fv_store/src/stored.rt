@@ -3,15 +3,16 @@ ghost use Rattle.std.specs.Prelude.{◌≡◌, Ok, Option, option_map, IfOk, IfS
 ghost use Rattle.std.specs.Option.{ForSome};
 ghost use Rattle.fv_datum.specs.Outcomes.{Gives};
 ghost use Rattle.fv_model_types.specs.TypesView.{types_view};
-ghost use Rattle.fv_model.specs.Views.{bundle_view};
-ghost use Rattle.fv_model.specs.WellTyped.{IsWellTyped};
+ghost use Rattle.fv_bundle.specs.Views.{bundle_view};
+ghost use Rattle.fv_bundle.specs.WellTyped.{IsWellTyped};
 ghost use Rattle.fv_store.specs.Records.{Kept};
 ghost use Rattle.fv_store.specs.Stored.{stored_view, untyped, written_view};
 
 use crate::fault::StoreFault;
 use crate::text::bundle_of;
 use crate::written::Written;
-use fv_model::{Bundle, Types};
+use fv_bundle::Bundle;
+use fv_model_types::Types;
 use std::alloc::Global;
 
 /// A record: the name of its form, and its bundle.

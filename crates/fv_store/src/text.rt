@@ -3,15 +3,16 @@ ghost use Rattle.std.specs.Prelude.{◌≡◌, IfOk, Ok, Some};
 ghost use Rattle.serde_json.specs.Read.{read};
 ghost use Rattle.fv_datum.specs.Outcomes.{Gives};
 ghost use Rattle.fv_model_types.specs.TypesView.{types_view};
-ghost use Rattle.fv_model.specs.Views.{bundle_view};
-ghost use Rattle.fv_model.specs.Bundles.{Bundled};
-ghost use Rattle.fv_model.specs.WellTyped.{IsWellTyped};
+ghost use Rattle.fv_bundle.specs.Views.{bundle_view};
+ghost use Rattle.fv_bundle.specs.Bundles.{Bundled};
+ghost use Rattle.fv_bundle.specs.WellTyped.{IsWellTyped};
 ghost use Rattle.fv_model.specs.Writing.{bundle_json};
 
 use crate::fault::StoreFault;
-use fv_json::Document;
-use fv_model::{Bundle, Types, read_bundle};
-use json::Scratch;
+use fv_bundle::Bundle;
+use fv_datum::read_text;
+use fv_model::read_bundle;
+use fv_model_types::Types;
 use std::alloc::Global;
 
 /// The bundle that a text spells, well-typed. `Store` where it spells none.
@@ -20,7 +21,6 @@ pub(crate) fn bundle_of(alloc: Global, types: &Types, text: &str) -> Result<Bund
         → Gives StoreFault.Memory bundle_view result (Ok b) }
     ensures typed { IfOk result (λ b. IsWellTyped (types_view types.now) (bundle_view b)) }
 {
-    let mut scratch = Scratch::new(alloc);
-    let document = Document::read(alloc, text, &mut scratch)?;
-    Ok(read_bundle(alloc, types, None, &document.root())?)
+    let value = read_text(alloc, text)?;
+    Ok(read_bundle(alloc, types, None, &value)?)
 }

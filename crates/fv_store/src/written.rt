@@ -2,7 +2,7 @@
 ghost use Rattle.std.specs.Prelude.{◌≡◌, false, IfOk, Option, option_map};
 ghost use Rattle.std.specs.Option.{ForSome};
 ghost use Rattle.fv_model_types.specs.Types.{Declared, has_deep};
-ghost use Rattle.fv_model.specs.WellTyped.{IsWellTyped};
+ghost use Rattle.fv_bundle.specs.WellTyped.{IsWellTyped};
 ghost use Rattle.fv_store.specs.Records.{Kept};
 ghost use Rattle.fv_store.specs.Stored.{untyped, written_view};
 ghost use Rattle.fv_store.specs.Written.{entry_of, written_of};

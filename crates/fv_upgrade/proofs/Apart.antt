@@ -11,8 +11,8 @@ use Rattle.serde_json.specs.Read.{read}
 use Rattle.fv_datum.specs.Ascending.{IsAscending}
 use Rattle.fv_datum.specs.Forms.{each_member, map2, required}
 use Rattle.fv_datum.specs.Members.{each_some, has_only, pairs}
-use Rattle.fv_json.specs.Order.{IsOrdered, AreValuesOrdered}
-use Rattle.fv_json.proofs.Ordered.{read_ordered}
+use Rattle.fv_upgrade.proofs.Order.{IsOrdered, AreValuesOrdered}
+use Rattle.fv_upgrade.proofs.Ordered.{read_ordered}
 use Rattle.fv_tables.specs.Changes.{AreApart, Thing, Things, has_name, names_of}
 use Rattle.fv_tables.specs.Olds.{Old}
 use Rattle.fv_tables.specs.Stands.{Entry}

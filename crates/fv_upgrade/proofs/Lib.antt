@@ -1,6 +1,8 @@
-pub mod Values
-pub mod Reading
 pub mod Apart
-pub mod Upgrades
-pub mod Steps
+pub mod Fields
 pub mod Migrates
+pub mod Order
+pub mod Ordered
+pub mod Reading
+pub mod Steps
+pub mod Upgrades

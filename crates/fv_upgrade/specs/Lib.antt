@@ -1,4 +1,3 @@
 pub mod Upgraded
 pub mod Faults
-pub mod Writes
 pub mod Steps

@@ -3,7 +3,7 @@ ghost use Rattle.std.specs.Prelude.{◌≡◌};
 ghost use Rattle.fv_upgrade.specs.Faults.{fault_of, json_fault};
 ghost use Rattle.fv_upgrade.specs.declared.fault.UpgradeFault.TheVariants.{Memory};
 
-use fv_json::Refused;
+use fv_datum::JsonFault;
 use sqlite::{Error, ErrorCode};
 use std::alloc::{AllocError, AllocFailed};
 
@@ -45,13 +45,13 @@ impl<T: Drop> From<AllocFailed<T>> for UpgradeFault {
     }
 }
 
-impl From<Refused> for UpgradeFault {
+impl From<JsonFault> for UpgradeFault {
     ghost from_gives = { λ e fault. fault ≡ json_fault e };
 
-    fn from(refused: Refused) -> UpgradeFault {
-        match refused {
-            Refused::NotJson => UpgradeFault::Damaged,
-            Refused::Memory => UpgradeFault::Memory,
+    fn from(fault: JsonFault) -> UpgradeFault {
+        match fault {
+            JsonFault::NotJson => UpgradeFault::Damaged,
+            JsonFault::Memory => UpgradeFault::Memory,
         }
     }
 }

@@ -1,10 +1,9 @@
 //! The records that rows of version 1 keep.
 ghost use Rattle.std.specs.Prelude.{◌≡◌, IfOk, option_map, string_bytes};
 ghost use Rattle.std.specs.Option.{ok_or};
+ghost use Rattle.serde_json.specs.View.{view as json_view, members_view};
 ghost use Rattle.fv_datum.specs.Members.{each_some, pairs};
 ghost use Rattle.fv_datum.specs.Outcomes.{Gives};
-ghost use Rattle.fv_json.specs.Documents.{view as json_view};
-ghost use Rattle.fv_json.specs.MembersView.{members_view};
 ghost use Rattle.fv_tables.specs.Changes.{object_view, objects_view};
 ghost use Rattle.fv_tables.specs.Olds.{old_view, olds_view};
 ghost use Rattle.fv_tables.specs.Stored.{rows_view};
@@ -13,10 +12,10 @@ ghost use Rattle.fv_upgrade.specs.Upgraded.{bundle_in, entry_of, object_in};
 ghost use Rattle.fv_upgrade.specs.declared.fault.UpgradeFault.TheVariants.{Damaged};
 
 use crate::fault::UpgradeFault;
-use crate::writing::object_text;
-use fv_json::{Document, Json, Members, has_only, object_at, text_at};
+use crate::writing::fields_text;
+use fv_datum::{has_only, object_at, read_text, text_at};
 use fv_tables::{ObjectRow, OldRow, RecordRows};
-use json::Scratch;
+use serde_json::{Map, Value};
 use std::alloc::Global;
 
 /// A record with its id, as its rows keep it.
@@ -27,7 +26,7 @@ pub(crate) struct NewRecord {
 }
 
 /// The object of that name that a value is.
-fn object_row(alloc: Global, name: &str, value: &Json) -> Result<ObjectRow, UpgradeFault>
+fn object_row(alloc: Global, name: &str, value: &Value) -> Result<ObjectRow, UpgradeFault>
     ensures { Gives UpgradeFault.Memory object_view result
         (ok_or (object_in (name.now, json_view value.now)) Damaged) }
 {
@@ -35,28 +34,28 @@ fn object_row(alloc: Global, name: &str, value: &Json) -> Result<ObjectRow, Upgr
         return Err(UpgradeFault::Damaged);
     }
     let kind = text_at(value, "type").ok_or(UpgradeFault::Damaged)?;
-    let fields = object_at(value, "fields").ok_or(UpgradeFault::Damaged)?;
+    let fields = value.get("fields").ok_or(UpgradeFault::Damaged)?;
     Ok(ObjectRow {
         name: String::from_str(alloc, name)?,
         kind: String::from_str(alloc, kind)?,
-        fields: object_text(alloc, fields)?,
+        fields: fields_text(alloc, fields)?,
     })
 }
 
 /// The objects that members are, in the order of their names.
-fn object_rows(alloc: Global, objects: Members) -> Result<Vec<ObjectRow>, UpgradeFault>
+fn object_rows(alloc: Global, objects: &Map<String, Value>) -> Result<Vec<ObjectRow>, UpgradeFault>
     ensures { Gives UpgradeFault.Memory (λ v. objects_view v.items) result
-        (ok_or (each_some object_in (pairs (members_view objects.entry))) Damaged) }
+        (ok_or (each_some object_in (pairs (members_view objects.now.entries))) Damaged) }
 {
     let mut rows = Vec::with_capacity(alloc, objects.len())?;
     for (name, value) in objects.iter() {
-        rows.push(object_row(alloc, name, &value)?)?;
+        rows.push(object_row(alloc, name.as_str(), value)?)?;
     }
     Ok(rows)
 }
 
 /// The record of that form whose bundle a value is.
-fn record_rows(alloc: Global, form: String, value: &Json) -> Result<RecordRows, UpgradeFault>
+fn record_rows(alloc: Global, form: String, value: &Value) -> Result<RecordRows, UpgradeFault>
     ensures { Gives UpgradeFault.Memory rows_view result
         (ok_or (option_map (entry_of (string_bytes form)) (bundle_in (json_view value.now))) Damaged) }
 {
@@ -73,12 +72,12 @@ fn record_rows(alloc: Global, form: String, value: &Json) -> Result<RecordRows, 
 }
 
 /// The record that a row is.
-fn record_of(alloc: Global, old: OldRow, scratch: &mut Scratch) -> Result<NewRecord, UpgradeFault>
+fn record_of(alloc: Global, old: OldRow) -> Result<NewRecord, UpgradeFault>
     ensures { Gives UpgradeFault.Memory new_view result (ok_or (named_in (old_view old)) Damaged) }
 {
     let OldRow { id, form, bundle } = old;
-    let document = Document::read(alloc, bundle.as_str(), scratch)?;
-    let rows = record_rows(alloc, form, &document.root())?;
+    let value = read_text(alloc, bundle.as_str())?;
+    let rows = record_rows(alloc, form, &value)?;
     Ok(NewRecord { id, rows })
 }
 
@@ -89,10 +88,9 @@ pub(crate) fn records_of(alloc: Global, olds: Vec<OldRow>) -> Result<Vec<NewReco
     ensures { Gives UpgradeFault.Memory (λ v. news_view v.items) result
         (ok_or (each_some named_in (olds_view olds.items)) Damaged) }
 {
-    let mut scratch = Scratch::new(alloc);
     let mut records = Vec::with_capacity(alloc, olds.len())?;
     for old in olds {
-        records.push(record_of(alloc, old, &mut scratch)?)?;
+        records.push(record_of(alloc, old)?)?;
     }
     Ok(records)
 }

@@ -7,10 +7,10 @@ use Rattle.std.specs.Str.{bytes_eq}
 use Rattle.fv_datum.specs.Data.{Data, null}
 use Rattle.fv_datum.specs.Lookup.{at_name}
 use Rattle.fv_model.proofs.Law.{found_each}
-use Rattle.fv_model.specs.Bundles.{Thing}
+use Rattle.fv_bundle.specs.Bundles.{Thing}
 use Rattle.fv_model.specs.Reading.{fields_of}
 use Rattle.fv_model.specs.Single.{kept, single_field, single_thing, single_of}
-use Rattle.fv_model.specs.WellTyped.{AnyName, AreOfFields, IsOfType}
+use Rattle.fv_bundle.specs.WellTyped.{AnyName, AreOfFields, IsOfType}
 use Rattle.fv_walk.specs.Properties.{field_number}
 use Rattle.fv_model_types.specs.Fits.{Fits}
 use Rattle.fv_model_types.specs.Types.{TypeUse, DeclaredFields, Declared, AreApart, name_at, fields_at}

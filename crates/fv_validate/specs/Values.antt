@@ -2,10 +2,10 @@
 use Rattle.std.specs.Prelude.{◌≡◌, ℕ, List, map, Option, Some, option_and_then}
 use Rattle.fv_datum.specs.Data.{Data}
 use Rattle.fv_datum.specs.Lookup.{at_name}
-use Rattle.fv_model.specs.Bundles.{Thing}
+use Rattle.fv_bundle.specs.Bundles.{Thing}
 use Rattle.fv_model.specs.Reading.{fields_of}
 use Rattle.fv_model.specs.Single.{single_field}
-use Rattle.fv_model.specs.WellTyped.{AnyName}
+use Rattle.fv_bundle.specs.WellTyped.{AnyName}
 use Rattle.fv_model_types.specs.Fits.{Fits}
 use Rattle.fv_model_types.specs.Types.{TypeUse, Declared}
 

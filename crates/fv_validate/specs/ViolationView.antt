@@ -1,7 +1,9 @@
--- The report that a violation is.
-use Rattle.std.specs.Prelude.{string_bytes}
+-- The report that a violation is, and a record with those that it has.
+use Rattle.std.specs.Prelude.{map, string_bytes}
 use Rattle.fv_datum.specs.View.{view}
+use Rattle.fv_validate.specs.declared.violation.Judged.{Judged}
 use Rattle.fv_validate.specs.declared.violation.Violation.{Violation}
+use Rattle.fv_validate.specs.Violations as spec
 use Rattle.fv_validate.specs.Violations.{Reported}
 
 -- the report that a violation is
@@ -13,3 +15,7 @@ violation_view v = record {
   message = string_bytes v.message;
   value = view v.value;
 }
+
+-- the record with its violations
+abbrev pub judged_view : Judged → spec.Judged
+judged_view j = (string_bytes j.id, map violation_view j.violations.items)

@@ -9,7 +9,7 @@ use Rattle.fv_declare_schema.specs.Declarations.{Placed, Declarations}
 use Rattle.fv_graph.specs.Graph.{IsIn}
 use Rattle.fv_message.specs.Full.{IsTextOf}
 use Rattle.fv_message.specs.Table.{Messages}
-use Rattle.fv_model.specs.Bundles.{Thing, Bundled}
+use Rattle.fv_bundle.specs.Bundles.{Thing, Bundled}
 use Rattle.fv_constraint_tree.specs.Nodes.{Node}
 use Rattle.fv_constraint_tree.specs.Preorder.{nodes}
 use Rattle.fv_path.specs.Texts.{text_of}
@@ -25,6 +25,10 @@ pub record Reported : Type 0 where
   pub occurrence : ℕ
   pub message : List ℕ
   pub value : Data
+
+-- a record by its id, with its violations
+abbrev pub Judged : Type 0
+Judged = List ℕ × List Reported
 
 -- the constraints in the trees of uses, in the order of their numbers
 abbrev pub nodes_in : List Placed → List Node

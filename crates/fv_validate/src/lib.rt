@@ -14,4 +14,4 @@ mod violation;
 
 pub use by_name::{validate, validate_property, validate_value};
 pub use fault::ValidateFault;
-pub use violation::Violation;
+pub use violation::{Judged, Violation};

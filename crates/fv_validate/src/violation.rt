@@ -14,3 +14,10 @@ pub struct Violation {
     /// The datum that was refused, or the name of the object that was.
     pub value: Datum,
 }
+
+/// A record by its id, with its violations.
+#[derive(Drop)]
+pub struct Judged {
+    pub id: String,
+    pub violations: Vec<Violation>,
+}

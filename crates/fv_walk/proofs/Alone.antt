@@ -5,7 +5,7 @@ use Rattle.fv_graph.specs.Graph.{IsIn}
 use Rattle.fv_groups.specs.Groups.{is_sequence, ranks}
 use Rattle.fv_graph.proofs.Images.{from_filter}
 use Rattle.fv_local.specs.Own.{own_in}
-use Rattle.fv_model.specs.Bundles.{Thing}
+use Rattle.fv_bundle.specs.Bundles.{Thing}
 use Rattle.fv_registry.specs.Meanings.{Meanings}
 use Rattle.fv_walk_request.proofs.Chains as own
 use Rattle.fv_walk_request.proofs.Tidy.{plain_ranks}

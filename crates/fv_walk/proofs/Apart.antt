@@ -5,7 +5,7 @@ use Rattle.fv_declare_schema.specs.Ordered.{AreOrdered}
 use Rattle.fv_extract.specs.Parts.{Locus}
 use Rattle.fv_extract.specs.Places as to
 use Rattle.fv_local.specs.Failures.{standing_at}
-use Rattle.fv_model.specs.Bundles.{Thing}
+use Rattle.fv_bundle.specs.Bundles.{Thing}
 use Rattle.fv_constraint_tree.specs.Trees.{size}
 use Rattle.fv_path.specs.Nodes.{PathNode, field as field_node}
 use Rattle.fv_registry.specs.Meanings.{Meanings}
@@ -20,7 +20,7 @@ use Rattle.fv_walk_traces.specs.Violations.{Violation}
 use Rattle.fv_declare_schema.specs.Places.{Place, whole, field}
 use Rattle.fv_walk.specs.Properties.{IsViolationIn}
 use Rattle.fv_walk.specs.Ranks.{nodes_in, violation_in, IsToldFor}
-use Rattle.fv_model.specs.WellTyped.{IsOfType}
+use Rattle.fv_bundle.specs.WellTyped.{IsOfType}
 use Rattle.fv_walk.proofs.Alone.{in_field, violations_told}
 use Rattle.fv_walk.proofs.Typed.{type_sound}
 

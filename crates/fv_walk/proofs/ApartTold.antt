@@ -3,8 +3,8 @@ use Rattle.std.proofs.Common.{◌↔◌, ℕ, ℤ, List, Result, Ok, Err, IfOk, 
 use Rattle.fv_declare_schema.specs.Declarations.{Declarations}
 use Rattle.fv_declare_schema.specs.Ordered.{AreOrdered}
 use Rattle.fv_graph.specs.Graph.{IsIn}
-use Rattle.fv_model.specs.Bundles.{Thing, Bundled}
-use Rattle.fv_model.specs.WellTyped.{IsOfType, IsWellTyped}
+use Rattle.fv_bundle.specs.Bundles.{Thing, Bundled}
+use Rattle.fv_bundle.specs.WellTyped.{IsOfType, IsWellTyped}
 use Rattle.fv_registry.specs.Meanings.{Meanings}
 use Rattle.fv_walk_request.proofs.Apart.{told_apart}
 use Rattle.fv_walk_request.specs.Requests.{request_of}

@@ -7,7 +7,7 @@ use Rattle.fv_declare_schema.specs.Declarations.{Declarations}
 use Rattle.fv_graph.proofs.Lists.{in_left, in_right, in_cases}
 use Rattle.fv_graph.specs.Graph.{IsIn}
 use Rattle.fv_groups.specs.Groups.{Groups, ranks}
-use Rattle.fv_model.specs.Bundles.{Thing}
+use Rattle.fv_bundle.specs.Bundles.{Thing}
 use Rattle.fv_registry.specs.Meanings.{Meanings}
 use Rattle.fv_graph.proofs.Images.{in_map, from_map}
 use Rattle.fv_walk_traces.specs.Turns.{LocalFailure}

@@ -17,7 +17,7 @@ use Rattle.fv_local.specs.FailureView.{IsFoundIn, failure_view}
 use Rattle.fv_local.specs.declared.failure.LocalFailure.{LocalFailure}
 use Rattle.fv_local.specs.declared.failure.Spot.{Spot}
 use Rattle.fv_local.specs.declared.failure.Spot.TheVariants as spot
-use Rattle.fv_model.specs.Bundles.{Thing, Things}
+use Rattle.fv_bundle.specs.Bundles.{Thing, Things}
 use Rattle.fv_path.proofs.Chains.{path_front}
 use Rattle.fv_path.specs.Nodes.{PathNode}
 use Rattle.fv_path.specs.Paths.{IsPath}

@@ -4,8 +4,8 @@ use Rattle.std.specs.List.{AllByRecursion}
 use Rattle.fv_datum.specs.Data.{Data}
 use Rattle.fv_datum.specs.Lookup.{at_name}
 use Rattle.fv_datum.specs.Name.{names}
-use Rattle.fv_model.specs.Bundles.{Thing, Things, Bundled}
-use Rattle.fv_model.specs.WellTyped.{AnyName, NamesObject, FieldsAre, FitsType, IsWellTyped, AreOfFields, IsOfType}
+use Rattle.fv_bundle.specs.Bundles.{Thing, Things, Bundled}
+use Rattle.fv_bundle.specs.WellTyped.{AnyName, NamesObject, FieldsAre, FitsType, IsWellTyped, AreOfFields, IsOfType}
 use Rattle.fv_model_types.specs.Fits.{Referring, OrNull, IsOfUse, Fits}
 use Rattle.fv_model_types.specs.Types.{TypeUse, texts, integers, decimals, booleans, dates, instants, references, lists, maps, optionals, DeclaredFields, Declared}
 use Rattle.fv_model_types.proofs.Back.{fits_writable}

@@ -11,8 +11,8 @@ use Rattle.fv_graph.specs.Graph.{IsIn}
 use Rattle.fv_local.specs.Failures.{Standing, standing_at, failures_of, failures_in}
 use Rattle.fv_local.specs.Standings.{part_at, failures_at}
 use Rattle.fv_local.specs.Own.{own_at, own_in}
-use Rattle.fv_model.specs.Bundles.{Thing, Bundled}
-use Rattle.fv_model.specs.WellTyped.{IsWellTyped}
+use Rattle.fv_bundle.specs.Bundles.{Thing, Bundled}
+use Rattle.fv_bundle.specs.WellTyped.{IsWellTyped}
 use Rattle.fv_constraint_tree.specs.Trees.{size}
 use Rattle.fv_path.specs.Nodes.{PathNode, field as field_node}
 use Rattle.fv_local.specs.Below.{below}

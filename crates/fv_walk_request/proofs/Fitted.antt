@@ -3,8 +3,8 @@ use Rattle.std.proofs.Common.{◌≡◌, inl, inr, ℕ, ◌+◌, ◌≤◌, zero
 use Rattle.std.specs.List.{AllByRecursion}
 use Rattle.fv_datum.specs.Data.{Data, null, text, integer, decimal, boolean, date, instant, reference, items_of, entries_of}
 use Rattle.fv_datum.specs.Name.{names}
-use Rattle.fv_model.specs.Bundles.{Things}
-use Rattle.fv_model.specs.WellTyped.{NamesObject, FieldsAre}
+use Rattle.fv_bundle.specs.Bundles.{Things}
+use Rattle.fv_bundle.specs.WellTyped.{NamesObject, FieldsAre}
 use Rattle.fv_model_types.specs.Fits.{Referring, OrNull, Fits, IsOfUse}
 use Rattle.fv_model_types.specs.Types.{TypeUse, texts, integers, decimals, booleans, dates, instants, references, lists, maps, optionals, DeclaredFields}
 use Rattle.fv_walk_request.specs.Loci.{IsIndexed, AreIndexed, EntriesIndexed}

@@ -9,7 +9,7 @@ use Rattle.fv_extract.specs.Parts.{parts_at}
 use Rattle.fv_graph.specs.Graph.{IsIn}
 use Rattle.fv_declare_schema.specs.NumberViews.{valid_place_view}
 use Rattle.fv_declare_schema.specs.ValidPlaces.{ValidPlace}
-use Rattle.fv_model.specs.Bundles.{Thing, Things, Bundled}
+use Rattle.fv_bundle.specs.Bundles.{Thing, Things, Bundled}
 use Rattle.fv_graph.proofs.Images.{from_flat_map, from_map}
 use Rattle.fv_walk_traces.specs.Turns as turn
 use Rattle.fv_model_types.specs.Types.{number_of}

@@ -3,7 +3,7 @@ use Rattle.std.proofs.Common.{◌≡◌, ℕ, List, [], ◌∷◌, ◌++◌, map
 use Rattle.fv_extract.specs.Parts.{Locus}
 use Rattle.fv_datum.specs.Data.{Data}
 use Rattle.fv_declare_schema.specs.ValidPlaces.{ValidPlace}
-use Rattle.fv_model.specs.Bundles.{Things}
+use Rattle.fv_bundle.specs.Bundles.{Things}
 use Rattle.fv_walk_traces.specs.Turns.{Way}
 use Rattle.fv_walk_request.specs.Graphs.{Link, links_among}
 use Rattle.fv_walk_request.specs.Ways.{place_of, way_at}

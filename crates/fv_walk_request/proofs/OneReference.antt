@@ -14,8 +14,8 @@ use Rattle.fv_extract.specs.Places.{Step, element, key, value, content, Place}
 use Rattle.fv_graph.proofs.Lists.{eq_of}
 use Rattle.fv_graph.specs.Graph.{IsIn}
 use Rattle.fv_declare_schema.specs.ValidPlaces.{ValidPlace}
-use Rattle.fv_model.specs.Bundles.{Thing, Things, Bundled}
-use Rattle.fv_model.specs.WellTyped.{NamesObject, FieldsAre, FitsType, IsWellTyped}
+use Rattle.fv_bundle.specs.Bundles.{Thing, Things, Bundled}
+use Rattle.fv_bundle.specs.WellTyped.{NamesObject, FieldsAre, FitsType, IsWellTyped}
 use Rattle.fv_walk_request.specs.Loci.{leads}
 use Rattle.fv_walk_request.specs.Paths.{field_name, nodes_of}
 use Rattle.fv_graph.proofs.Images.{from_flat_map, from_filter_map}

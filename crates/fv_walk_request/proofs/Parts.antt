@@ -12,7 +12,7 @@ use Rattle.fv_extract.specs.Parts.{Part, at_index, at_key, Locus, parts_of, part
 use Rattle.fv_extract.specs.Places.{Place}
 use Rattle.fv_graph.proofs.Lists.{eq_of, eq_same}
 use Rattle.fv_graph.specs.Graph.{IsIn}
-use Rattle.fv_model.specs.Bundles.{Thing}
+use Rattle.fv_bundle.specs.Bundles.{Thing}
 use Rattle.fv_walk_request.specs.Loci.{leads}
 use Rattle.fv_walk_request.specs.Paths.{field_name}
 use Rattle.fv_walk_request.proofs.Leading.{IsLedTo, parts_led}

@@ -10,7 +10,7 @@ use Rattle.fv_extract.specs.Pairs.{Pairwise, Differ}
 use Rattle.fv_extract.specs.Parts.{Locus, parts_at}
 use Rattle.fv_extract.specs.Places.{Place}
 use Rattle.fv_graph.specs.Graph.{IsIn, AllDiffer}
-use Rattle.fv_model.specs.Bundles.{Thing, Things}
+use Rattle.fv_bundle.specs.Bundles.{Thing, Things}
 use Rattle.fv_graph.proofs.Images.{from_flat_map, nothing, something, from_filter_map}
 use Rattle.fv_walk_traces.specs.Turns.{Way}
 use Rattle.fv_walk_request.specs.Conversions.{valid_places_at}

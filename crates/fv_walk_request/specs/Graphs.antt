@@ -8,8 +8,8 @@ use Rattle.fv_extract.specs.Parts.{Locus, parts_at}
 use Rattle.fv_extract.specs.Views.{part_view}
 use Rattle.fv_declare_schema.specs.ValidPlaces.{ValidPlace}
 use Rattle.fv_declare_schema.specs.NumberViews.{valid_place_view}
-use Rattle.fv_model.specs.Bundles.{Thing, Things}
-use Rattle.fv_model.specs.Views.{bundle_view}
+use Rattle.fv_bundle.specs.Bundles.{Thing, Things}
+use Rattle.fv_bundle.specs.Views.{bundle_view}
 use Rattle.fv_walk_traces.specs.Turns as turn
 use Rattle.fv_walk_request.specs.declared.graph.ObjectGraph.{ObjectGraph}
 use Rattle.fv_walk_request.specs.declared.way.Way.{Way}

@@ -3,7 +3,7 @@ use Rattle.std.specs.Prelude.{ℕ, List, [], ◌∷◌, slice_get}
 use Rattle.std.specs.Option.{option_map_or}
 use Rattle.fv_extract.specs.Parts.{Locus, at_index, at_key}
 use Rattle.fv_extract.specs.Places as to
-use Rattle.fv_model.specs.Bundles.{Thing}
+use Rattle.fv_bundle.specs.Bundles.{Thing}
 use Rattle.fv_path.specs.Nodes.{PathNode, index, key, list_element, map_key, map_value}
 
 -- the nodes from a field to a part of its datum, by the steps to it and its locus: the index of an element and that it is one, the key in

@@ -11,7 +11,7 @@ use Rattle.fv_extract.specs.Places.{Place}
 use Rattle.fv_groups.specs.Groups.{is_sequence, ranks}
 use Rattle.fv_groups.specs.Once.{once}
 use Rattle.fv_local.specs.Own.{own_in}
-use Rattle.fv_model.specs.Bundles.{Thing, Bundled}
+use Rattle.fv_bundle.specs.Bundles.{Thing, Bundled}
 use Rattle.fv_path.specs.Nodes.{PathNode, field}
 use Rattle.fv_local.specs.Below.{below}
 use Rattle.fv_registry.specs.Meanings.{Meanings}

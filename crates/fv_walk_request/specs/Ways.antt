@@ -7,7 +7,7 @@ use Rattle.fv_declare_schema.specs.Declarations.{Declarations}
 use Rattle.fv_extract.specs.Parts.{Locus, parts_at}
 use Rattle.fv_extract.specs.Places.{Place}
 use Rattle.fv_declare_schema.specs.ValidPlaces.{ValidPlace}
-use Rattle.fv_model.specs.Bundles.{Thing, Things}
+use Rattle.fv_bundle.specs.Bundles.{Thing, Things}
 use Rattle.fv_walk_traces.specs.Turns.{Way}
 use Rattle.fv_walk_request.specs.Conversions.{valid_places_at}
 

@@ -1,13 +1,13 @@
 //! The objects of a bundle with the references that they hold.
 ghost use Rattle.std.specs.Prelude.{◌≡◌, IfOk, map};
 ghost use Rattle.fv_declare_schema.specs.Ordered.{AreOrdered};
-ghost use Rattle.fv_model.specs.Views.{bundle_view, objects_view};
-ghost use Rattle.fv_model.specs.WellTyped.{IsWellTyped};
+ghost use Rattle.fv_bundle.specs.Views.{bundle_view, objects_view};
+ghost use Rattle.fv_bundle.specs.WellTyped.{IsWellTyped};
 ghost use Rattle.fv_walk_request.specs.Graphs.{ways_view, links_of, IsGraphOf};
 
 use crate::way::{Way, number_in, ways_of};
+use fv_bundle::{Bundle, Objects};
 use fv_declare_schema::Schema;
-use fv_model::{Bundle, Objects};
 use std::alloc::{AllocError, Global};
 
 /// A bundle with the references that its objects hold at the valid places of their types. The number

@@ -3,8 +3,8 @@
 ghost use Rattle.std.specs.Prelude.{◌≡◌, ◌↔◌, ℕ, ℤ, List};
 ghost use Rattle.fv_declare_schema.specs.Declarations.{Declarations};
 ghost use Rattle.fv_declare_schema.specs.Ordered.{AreOrdered};
-ghost use Rattle.fv_model.specs.Bundles.{Bundled};
-ghost use Rattle.fv_model.specs.WellTyped.{IsWellTyped};
+ghost use Rattle.fv_bundle.specs.Bundles.{Bundled};
+ghost use Rattle.fv_bundle.specs.WellTyped.{IsWellTyped};
 ghost use Rattle.fv_registry.specs.Meanings.{Meanings};
 ghost use Rattle.fv_walk_traces.specs.Traces.{IsVisit};
 ghost use Rattle.fv_walk_traces.specs.Turns.{Turns};

@@ -4,14 +4,14 @@ ghost use Rattle.fv_datum.specs.View.{view};
 ghost use Rattle.fv_extract.specs.FoundView.{found_view};
 ghost use Rattle.fv_extract.specs.Views.{part_view};
 ghost use Rattle.fv_declare_schema.specs.NumberViews.{valid_place_view};
-ghost use Rattle.fv_model.specs.Views.{object_view, objects_view};
+ghost use Rattle.fv_bundle.specs.Views.{object_view, objects_view};
 ghost use Rattle.fv_walk_request.specs.Graphs.{links_among, links_at, links_of, link_view};
 ghost use Rattle.fv_walk_request.specs.Ways.{name_of, number_in, target_of};
 
+use fv_bundle::{Object, Objects};
 use fv_datum::Datum;
 use fv_declare_schema::{Schema, ValidPlace};
 use fv_extract::{Found, Locus, Place, find};
-use fv_model::{Object, Objects};
 use std::alloc::{AllocError, Global};
 
 /// A reference that an object holds at a place whose objects are validated.

@@ -4,7 +4,7 @@ use Rattle.std.specs.Char.{is_ascii_uppercase}
 use Rattle.std.specs.List.{list_all}
 use Rattle.fv_datum.specs.Attributes.{Attributes}
 use Rattle.fv_datum.specs.Data.{Data, null, text}
-use Rattle.fv_model.specs.Bundles.{Thing}
+use Rattle.fv_bundle.specs.Bundles.{Thing}
 
 -- null, or a text of capital letters alone
 abbrev pub capitals : Data → Bool

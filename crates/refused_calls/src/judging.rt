@@ -5,23 +5,23 @@ ghost use Rattle.fv_declare_schema.specs.Fits.{fits};
 use crate::given::{BUNDLE, DECLARATIONS};
 use crate::steps::{made, ready};
 use anyhow::{Error, bail};
+use fv_bundle::Bundle;
+use fv_datum::read_text;
 use fv_declare::{DeclFault, Schema, read_schema};
-use fv_json::Document;
 use fv_local::Rulebook;
-use fv_model::{Bundle, Types, read_bundle};
+use fv_model::read_bundle;
+use fv_model_types::Types;
 use fv_validate::{Violation, validate};
 use fv_walk::{Failure, WalkFault, walk};
-use json::Scratch;
 use std::alloc::Global;
 use test_commands::NoRules;
 
 /// The bundle that a text is.
 pub(crate) fn bundle_of(alloc: Global, types: &Types, text: &str) -> Result<Bundle, Error> {
-    let mut scratch = Scratch::new(alloc);
-    let Ok(document) = Document::read(alloc, text, &mut scratch) else {
+    let Ok(document) = read_text(alloc, text) else {
         bail!("a text that is no JSON");
     };
-    Ok(read_bundle(alloc, types, None, &document.root())?)
+    Ok(read_bundle(alloc, types, None, &document)?)
 }
 
 /// A name, as it is asked for.

@@ -1,8 +1,8 @@
 ghost use Rattle.std.proofs.Props.{props};
 ghost use Rattle.std.specs.Prelude.{true, []};
 
+use fv_bundle::Object;
 use fv_datum::{Attrs, Datum, Kind};
-use fv_model::Object;
 use fv_registry::RuleSet;
 
 /// No rules at all.

@@ -1,10 +1,11 @@
 //! What a store answers to a line.
 use anyhow::{Context, Result, bail};
-use fv_json::Document;
-use fv_model::{Bundle, Types, read_bundle};
+use fv_bundle::Bundle;
+use fv_datum::read_text;
+use fv_model::read_bundle;
 use fv_model_text::write_bundle;
+use fv_model_types::Types;
 use fv_store::{Change, OpenStoreFault, Store, StoreFault};
-use json::Scratch;
 use sqlite::Alter;
 use std::alloc::Global;
 use std::str;
@@ -27,11 +28,10 @@ fn change_of(alloc: Global, types: &Types, record: &str) -> Result<Change> {
         });
     };
     let (form, bundle) = rest.split_once(' ').context("no form")?;
-    let mut scratch = Scratch::new(alloc);
-    let Ok(document) = Document::read(alloc, bundle, &mut scratch) else {
+    let Ok(document) = read_text(alloc, bundle) else {
         bail!("no JSON: {bundle}");
     };
-    let bundle = read_bundle(alloc, types, None, &document.root())?;
+    let bundle = read_bundle(alloc, types, None, &document)?;
     if let Some(name) = form.strip_prefix(".") {
         return object_of(alloc, id, name, &bundle);
     }

@@ -1,9 +1,10 @@
 //! Types, and bundles that are read, copied, changed and written.
 use crate::given::{Rows, built, bundle_of, check_rows, declared};
-use fv_json::Document;
-use fv_model::{Bundle, BundleFault, Object, Types, read_bundle, set_field};
+use fv_bundle::{Bundle, Object};
+use fv_datum::read_text;
+use fv_model::{BundleFault, read_bundle, set_field};
 use fv_model_text::{fields_text, write_bundle, write_fields, write_text};
-use json::Scratch;
+use fv_model_types::Types;
 use std::alloc::Global;
 use std::test::Fail;
 
@@ -103,9 +104,8 @@ struct Read;
 impl Rows for Read {
     fn found(alloc: Global, given: &str) -> Result<String, Fail> {
         let types = built(alloc, PAIRS)?;
-        let mut scratch = Scratch::new(alloc);
-        let document = Document::read(alloc, given, &mut scratch)?;
-        match read_bundle(alloc, &types, None, &document.root()) {
+        let document = read_text(alloc, given)?;
+        match read_bundle(alloc, &types, None, &document) {
             Ok(bundle) => shown(alloc, &bundle),
             Err(fault) => told(alloc, fault),
         }
@@ -142,9 +142,8 @@ impl Rows for Changed {
         let (field, value) = rest.split_once(' ').ok_or("a field")?;
         let types = built(alloc, PAIRS)?;
         let mut bundle = bundle_of(alloc, &types, PAIR)?;
-        let mut scratch = Scratch::new(alloc);
-        let value = Document::read(alloc, value, &mut scratch)?;
-        match set_field(alloc, &mut bundle, &types, object, field, &value.root()) {
+        let value = read_text(alloc, value)?;
+        match set_field(alloc, &mut bundle, &types, object, field, &value) {
             Ok(()) => written(alloc, &bundle),
             Err(fault) => told(alloc, fault),
         }

@@ -3,9 +3,7 @@ ghost use Rattle.std.specs.Prelude.{◌≡◌};
 ghost use Rattle.fv_datum.specs.Kinds.{is_container};
 
 use crate::given::{Rows, check_rows, datum_of, type_use};
-use fv_datum::{Datum, Kind, write_datum};
-use fv_json::{Document, read_datum};
-use json::Scratch;
+use fv_datum::{Datum, Kind, read_datum, read_text, write_datum};
 use std::alloc::Global;
 use std::test::Fail;
 
@@ -48,9 +46,8 @@ impl Rows for Plain {
         if is_container(kind) {
             return Err("a plain kind".into());
         }
-        let mut scratch = Scratch::new(alloc);
-        let value = Document::read(alloc, value, &mut scratch)?;
-        match read_datum(alloc, kind, &value.root()) {
+        let value = read_text(alloc, value)?;
+        match read_datum(alloc, kind, &value) {
             Ok(datum) => written(alloc, &datum),
             Err(fault) => Ok(String::from_str(alloc, fault.name())?),
         }

@@ -2,11 +2,11 @@
 use crate::given::check;
 use fv_builtin::BuiltinFault;
 use fv_constraint::FlattenFault;
-use fv_datum::DatumFault;
+use fv_datum::{DatumFault, JsonFault};
 use fv_groups::GroupFault;
-use fv_json::JsonFault;
 use fv_message::MessageFault;
-use fv_model::{BundleFault, TypesFault};
+use fv_model::BundleFault;
+use fv_model_types::TypesFault;
 use fv_registry::RegistryFault;
 use std::test::Fail;
 

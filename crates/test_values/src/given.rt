@@ -1,10 +1,10 @@
 //! Tables of rows, and the types, data and attributes that rows give, written as texts.
-use fv_datum::{Attrs, Datum};
+use fv_bundle::Bundle;
+use fv_datum::{Attrs, Datum, read_text};
 use fv_declare_definition::attrs_of;
-use fv_json::Document;
-use fv_model::{Bundle, Fields, TypeUse, Types, read_bundle, read_value};
+use fv_model::{read_bundle, read_value};
+use fv_model_types::{Fields, TypeUse, Types};
 use indexmap::IndexMap;
-use json::Scratch;
 use std::alloc::Global;
 use std::process::Abort;
 use std::test::Fail;
@@ -32,9 +32,8 @@ pub(crate) fn check_rows<R: Rows>(rt: &impl Abort, alloc: Global, table: &str) -
 
 /// The attributes of a JSON object.
 pub(crate) fn attributes(alloc: Global, text: &str) -> Result<Attrs, Fail> {
-    let mut scratch = Scratch::new(alloc);
-    let document = Document::read(alloc, text, &mut scratch)?;
-    let found = attrs_of(alloc, Some(document.root()))?;
+    let document = read_text(alloc, text)?;
+    let found = attrs_of(alloc, Some(&document))?;
     Ok(found.ok_or("attributes")?)
 }
 
@@ -92,9 +91,8 @@ pub(crate) fn declared(alloc: Global, table: &str) -> Result<IndexMap<String, Fi
 
 /// The datum of a row `HELD : VALUE`, what a field holds and a JSON value.
 pub(crate) fn datum_of(alloc: Global, held: &TypeUse, text: &str) -> Result<Datum, Fail> {
-    let mut scratch = Scratch::new(alloc);
-    let value = Document::read(alloc, text, &mut scratch)?;
-    Ok(read_value(alloc, held, &value.root())?)
+    let value = read_text(alloc, text)?;
+    Ok(read_value(alloc, held, &value)?)
 }
 
 /// Types, one a line, that are built.
@@ -104,7 +102,6 @@ pub(crate) fn built(alloc: Global, table: &str) -> Result<Types, Fail> {
 
 /// The bundle of a text of JSON.
 pub(crate) fn bundle_of(alloc: Global, types: &Types, text: &str) -> Result<Bundle, Fail> {
-    let mut scratch = Scratch::new(alloc);
-    let document = Document::read(alloc, text, &mut scratch)?;
-    Ok(read_bundle(alloc, types, None, &document.root())?)
+    let document = read_text(alloc, text)?;
+    Ok(read_bundle(alloc, types, None, &document)?)
 }

@@ -1,16 +1,14 @@
 //! What constraints report of data and of objects, by the rules of the house.
 use crate::given::{attributes, built, bundle_of, check, datum_of, type_use};
+use fv_bundle::Object;
 use fv_constraint::{Occurrence, Use, composes_unknown, flatten, meant_by, report, report_object};
 use fv_constraint_tree::{Target, passes_all};
-use fv_datum::{Attrs, Datum, Kind};
+use fv_datum::{Attrs, Datum, Kind, read_text};
 use fv_declare_definition::{Definition, definitions_of};
 use fv_house::{house_registry, luhn, not_after, one_of, sum_is};
-use fv_json::Document;
 use fv_message::Messages;
-use fv_model::Object;
 use fv_registry::{FieldCall, ObjectCall, RuleSet, Ruled};
 use indexmap::IndexMap;
-use json::Scratch;
 use std::alloc::Global;
 use std::collections::BTreeMap;
 use std::process::Abort;
@@ -201,9 +199,8 @@ fn check_reports<R: RuleSet + Drop>(rt: &impl Abort, alloc: Global, rules: R) ->
     requires { R.means rules }
 {
     let rules = Ruled::new(rules);
-    let mut scratch = Scratch::new(alloc);
-    let document = Document::read(alloc, DEFINITIONS, &mut scratch)?;
-    let definitions = definitions_of(alloc, Some(document.root()))?.ok_or("definitions")?;
+    let document = read_text(alloc, DEFINITIONS)?;
+    let definitions = definitions_of(alloc, Some(&document))?.ok_or("definitions")?;
     for row in REPORTS.trim().lines() {
         let (given, wanted) = row.split_once(" => ").ok_or("a row")?;
         let found = reported(alloc, &rules, &definitions, given)?;

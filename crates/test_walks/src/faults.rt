@@ -1,10 +1,10 @@
 //! The texts of faults, a line each.
 use crate::judged::check;
-use fv_datum::DatumFault;
+use fv_datum::{DatumFault, JsonFault};
 use fv_declare::DeclFault;
 use fv_groups::GroupFault;
-use fv_json::JsonFault;
-use fv_model::{BundleFault, TypesFault};
+use fv_model::BundleFault;
+use fv_model_types::TypesFault;
 use fv_registry::RegistryFault;
 use fv_validate::ValidateFault;
 use fv_walk::{PropertyFault, WalkFault};

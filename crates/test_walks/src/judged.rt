@@ -1,14 +1,14 @@
 //! The declarations of all rows, and what rows give as texts.
 ghost use Rattle.std.specs.Prelude.{IfOk};
-ghost use Rattle.fv_model.specs.Views.{bundle_view};
-ghost use Rattle.fv_model.specs.WellTyped.{IsWellTyped};
+ghost use Rattle.fv_bundle.specs.Views.{bundle_view};
+ghost use Rattle.fv_bundle.specs.WellTyped.{IsWellTyped};
 
 use crate::ordered::Ordered;
+use fv_bundle::Bundle;
+use fv_datum::read_text;
 use fv_declare::{Schema, read_schema};
-use fv_json::Document;
 use fv_local::Rulebook;
-use fv_model::{Bundle, read_bundle};
-use json::Scratch;
+use fv_model::read_bundle;
 use std::alloc::Global;
 use std::process::Abort;
 use std::test::Fail;
@@ -64,9 +64,8 @@ pub(crate) fn book_of(alloc: Global) -> Result<Rulebook<Ordered>, Fail> {
 pub(crate) fn bundle_of(alloc: Global, schema: &Schema, text: &str) -> Result<Bundle, Fail>
     ensures { IfOk result (λ b. IsWellTyped schema.now.types (bundle_view b)) }
 {
-    let mut scratch = Scratch::new(alloc);
-    let document = Document::read(alloc, text, &mut scratch)?;
-    Ok(read_bundle(alloc, schema.types(), None, &document.root())?)
+    let document = read_text(alloc, text)?;
+    Ok(read_bundle(alloc, schema.types(), None, &document)?)
 }
 
 /// The names in a text.

@@ -4,13 +4,13 @@ ghost use Rattle.std.specs.Prelude.{◌<◌, length};
 
 use crate::judged::{book_of, bundle_of, check, names_of};
 use crate::ordered::Ordered;
-use fv_datum::{Datum, write_datum};
+use fv_bundle::Object;
+use fv_datum::{Datum, read_text, write_datum};
 use fv_groups::GroupId;
-use fv_json::Document;
 use fv_local::Rulebook;
-use fv_model::{Fields, Object, read_value, single};
+use fv_model::{read_value, single};
+use fv_model_types::Fields;
 use fv_validate::{ValidateFault, Violation, validate, validate_property, validate_value};
-use json::Scratch;
 use std::alloc::Global;
 use std::process::Abort;
 use std::test::Fail;
@@ -108,10 +108,9 @@ fn of_datum(
 
 /// The datum that a JSON value is in a field.
 fn datum_of(alloc: Global, fields: &Fields, field: &str, value: &str) -> Result<Datum, Fail> {
-    let mut scratch = Scratch::new(alloc);
-    let value = Document::read(alloc, value, &mut scratch)?;
+    let value = read_text(alloc, value)?;
     let held = fields.get(field).ok_or("a field")?;
-    Ok(read_value(alloc, held, &value.root())?)
+    Ok(read_value(alloc, held, &value)?)
 }
 
 /// What is listed of a value for a field of a type.

@@ -3,9 +3,9 @@ ghost use Rattle.std.proofs.Props.{props};
 ghost use Rattle.std.specs.Prelude.{[], ◌∷◌, true};
 ghost use Rattle.fv_house.specs.Objects.{not_after};
 
+use fv_bundle::Object;
 use fv_datum::{Attrs, Datum, Kind};
 use fv_house::not_after;
-use fv_model::Object;
 use fv_registry::RuleSet;
 
 /// The rule 3 of objects.

@@ -1,14 +1,14 @@
 //! What fails in a bundle by the walk, which stops early, and by a plain list of all visits; how many
 //! visits there are, and how many the walk enters.
-ghost use Rattle.fv_model.specs.Views.{bundle_view};
-ghost use Rattle.fv_model.specs.WellTyped.{IsWellTyped};
+ghost use Rattle.fv_bundle.specs.Views.{bundle_view};
+ghost use Rattle.fv_bundle.specs.WellTyped.{IsWellTyped};
 
 use crate::judged::{book_of, bundle_of, check, names_of};
 use crate::ordered::Ordered;
+use fv_bundle::Bundle;
 use fv_datum::write_datum;
 use fv_listing::list_failures;
 use fv_local::Rulebook;
-use fv_model::Bundle;
 use fv_walk::{Failure, groups_named, visits, walk, walk_counted};
 use std::alloc::Global;
 use std::process::Abort;

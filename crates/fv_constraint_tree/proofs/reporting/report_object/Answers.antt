@@ -1,7 +1,7 @@
 use Rattle.std.proofs.lemmas.Result.{IfOk-weaker}
 use Rattle.std.proofs.lemmas.Int.{to_z-of_z}
 use mir.Syntax.{w64}
-use Rattle.fv_model.specs.Views.{object_view}
+use Rattle.fv_bundle.specs.Views.{object_view}
 use Rattle.fv_constraint_tree.specs.Nodes.{Node}
 use Rattle.fv_constraint_tree.specs.Says.{of_object, refuses}
 use Rattle.fv_constraint_tree.proofs.Laws.{empty_is}

@@ -1,7 +1,7 @@
-use Rattle.std.proofs.Common.{◌≡◌, Some, Ok, Err, sym, ap, subst, ◌∙◌}
+use Rattle.std.proofs.Common.{Ok, Err, sym, subst, ◌∙◌}
 use Rattle.std.proofs.lemmas.Result.{IfOk-weaker, IfErr-weaker, err_from_is_err_and}
 use Rattle.fv_datum.specs.Parsing.{json_of}
-use Rattle.fv_json.specs.Documents.{document_view, view as json_view}
+use Rattle.serde_json.specs.View.{view as json_view}
 use Rattle.fv_declare_judging.specs.Declares.{Declares}
 use Rattle.fv_declare_judging.specs.declared.fault.DeclFault.{DeclFault}
 use Rattle.fv_declare_judging.proofs.InOrder.{declared_ordered}
@@ -9,28 +9,28 @@ use Rattle.fv_declare_judging.proofs.Steps.{ok_found}
 use Rattle.fv_declare_judging.proofs.Turns.{unread, declared_by}
 use Rattle.fv_declare.proofs.reading.read_schema.Goals as goal
 
-pub returns-in_err-document-clause-refused : goal.returns-in_err-document-clause-refused
-returns-in_err-document-clause-refused g c =
+pub returns-in_err-value-clause-refused : goal.returns-in_err-value-clause-refused
+returns-in_err-value-clause-refused g c =
     let k = g.R.RuleSet.known c.args.rules.now in
     let p = err_from_is_err_and c.from_residual.result c.from_residual.ensures.1 in
     rw p.1 (λ other.
     subst (λ (e : DeclFault). Declares k c.args.bytes.now (Err e)) (sym p.2)
-    (unread k c.args.bytes.now c.in_err-document.field-0.0 (c.in_err-document.ensures (λ is. other (p.2 ∙ is)))))
+    (unread k c.args.bytes.now c.in_err-value.field-0.0 (c.in_err-value.ensures (λ is. other (p.2 ∙ is)))))
 
 pub returns-clause-refused : goal.returns-clause-refused
 returns-clause-refused g c =
     let k = g.R.RuleSet.known c.args.rules.now in
-    let read : json_of c.args.bytes.now ≡ Some (json_view c.root.result) = ok_found (json_of c.args.bytes.now) (document_view c.in_ok-document.document) c.in_ok-document.ensures ∙ ap (λ j. Some j) (sym c.root.ensures) in
-    IfErr-weaker c.schema_of.result _ _ (λ f h other. declared_by k c.args.bytes.now (json_view c.root.result) read (Err f) (h other)) c.schema_of.ensures.refused
+    let read = ok_found (json_of c.args.bytes.now) (json_view c.in_ok-value.value) c.in_ok-value.ensures in
+    IfErr-weaker c.schema_of.result _ _ (λ f h other. declared_by k c.args.bytes.now (json_view c.in_ok-value.value) read (Err f) (h other)) c.schema_of.ensures.refused
 
 pub returns-clause-ordered : goal.returns-clause-ordered
 returns-clause-ordered g c =
     let k = g.R.RuleSet.known c.args.rules.now in
-    let read : json_of c.args.bytes.now ≡ Some (json_view c.root.result) = ok_found (json_of c.args.bytes.now) (document_view c.in_ok-document.document) c.in_ok-document.ensures ∙ ap (λ j. Some j) (sym c.root.ensures) in
-    IfOk-weaker c.schema_of.result _ _ (λ s h. declared_ordered k c.args.bytes.now s (declared_by k c.args.bytes.now (json_view c.root.result) read (Ok s) h)) c.schema_of.ensures.taken
+    let read = ok_found (json_of c.args.bytes.now) (json_view c.in_ok-value.value) c.in_ok-value.ensures in
+    IfOk-weaker c.schema_of.result _ _ (λ s h. declared_ordered k c.args.bytes.now s (declared_by k c.args.bytes.now (json_view c.in_ok-value.value) read (Ok s) h)) c.schema_of.ensures.taken
 
 pub returns-clause-taken : goal.returns-clause-taken
 returns-clause-taken g c =
     let k = g.R.RuleSet.known c.args.rules.now in
-    let read : json_of c.args.bytes.now ≡ Some (json_view c.root.result) = ok_found (json_of c.args.bytes.now) (document_view c.in_ok-document.document) c.in_ok-document.ensures ∙ ap (λ j. Some j) (sym c.root.ensures) in
-    IfOk-weaker c.schema_of.result _ _ (λ s. declared_by k c.args.bytes.now (json_view c.root.result) read (Ok s)) c.schema_of.ensures.taken
+    let read = ok_found (json_of c.args.bytes.now) (json_view c.in_ok-value.value) c.in_ok-value.ensures in
+    IfOk-weaker c.schema_of.result _ _ (λ s. declared_by k c.args.bytes.now (json_view c.in_ok-value.value) read (Ok s)) c.schema_of.ensures.taken

@@ -1,23 +1,22 @@
 use Rattle.std.proofs.Common.{◌≡◌, Some, string_bytes, sym, ap, ◌∙◌, arith}
-use Rattle.fv_json.specs.Documents.{view as json_view}
-use Rattle.fv_json.specs.MembersView.{members_view}
-use Rattle.fv_declare_definition.specs.MemberNames.{member_names}
+use Rattle.serde_json.specs.View.{view as json_view, members_view}
+use Rattle.fv_datum.specs.Members.{pairs}
 use Rattle.fv_declare_definition.specs.Written.{attribute_definition_of}
 use Rattle.fv_declare_definition.specs.DefinitionViews.{attribute_entry, attribute_definition_view}
-use Rattle.fv_declare_definition.proofs.Entries.{members_ascend, next_above, more_names, more_made}
+use Rattle.fv_declare_definition.proofs.Entries.{next_above, more_names, more_made}
 use Rattle.fv_declare_definition.proofs.definitions.attribute_definitions_in.Goals as goal
 
 pub add_last-requires : goal.add_last-requires
-add_last-requires c = next_above (member_names (members_view c.args.members)) _ _ _ _ (members_ascend c.args.members) c.in-Some.ensures.steps c.loop-name.invariant.names
+add_last-requires c = next_above c.args.members.now.entries _ _ _ _ _ c.iter-name-items.ensures.ordered c.in-Some.ensures.steps c.loop-name.invariant.names
 
 pub loop-name-preserved : goal.loop-name-preserved
 loop-name-preserved c =
     let l = c.loop-name in
     let put = c.in_ok-add_last-in-Some-2.ensures in
-    let name = c.in-Some.name.now in
+    let name = string_bytes c.in-Some.name.now in
     let found = attribute_definition_view c.in-Some-2.attribute in
-    let is : attribute_definition_of (name, json_view c.in-Some.value) ≡ Some (name, found) = grind (arith, c.in_ok-attribute_definition_of.ensures name, c.in-Some-2.is) in
+    let is : attribute_definition_of (name, json_view c.in-Some.value.now) ≡ Some (name, found) = grind (arith, c.in_ok-attribute_definition_of.ensures name, c.in-Some-2.is) in
     record {
-      names = more_names (λ e. string_bytes e.0) (member_names (members_view c.args.members)) _ _ (put.0, c.in-Some-2.attribute) _ _ _ put.2 c.in-Some.ensures.steps put.1 l.invariant.names;
-      made = more_made attribute_definition_of attribute_entry _ _ (put.0, c.in-Some-2.attribute) _ _ _ _ put.2 c.in-Some.ensures.steps (is ∙ ap (λ n. Some (n, found)) (sym put.1)) l.invariant.made;
+      names = more_names _ _ _ _ put.2 c.args.members.now.entries _ _ _ _ c.in-Some.ensures.steps put.1 l.invariant.names;
+      made = more_made _ _ put.0 c.in-Some-2.attribute put.2 attribute_definition_of attribute_entry _ _ _ _ (ap (λ it. pairs (members_view it)) c.in-Some.ensures.steps) (is ∙ ap (λ n. Some (n, found)) (sym put.1)) l.invariant.made;
     }

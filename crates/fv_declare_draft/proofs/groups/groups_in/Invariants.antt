@@ -1,14 +1,14 @@
 use Rattle.std.proofs.Common.{◌≡◌, ◌++◌, map}
-use Rattle.fv_json.specs.MembersView.{members_view, members_left}
+use Rattle.serde_json.specs.View.{members_view}
 use Rattle.fv_datum.specs.Members.{pairs, each_some}
-use Rattle.fv_datum.proofs.Fronts.{with_front}
-use Rattle.fv_declare_definition.specs.MemberNames.{member_names}
 use Rattle.fv_declare_draft.specs.Groups.{group_of}
 use Rattle.fv_declare_draft.specs.DraftViews.{group_view}
+use Rattle.fv_datum.specs.EntryNames.{names_of}
+use Rattle.fv_datum.proofs.Fronts.{with_front}
 use Rattle.fv_declare_draft.proofs.groups.groups_in.Given as goal
 
 abbrev pub invariant-loop-name : goal.invariant-loop-name
 invariant-loop-name l = record {
-  names : map (λ x. x.name.now) l.groups.items ++ map (λ m. m.0) (members_left l.name-iterator) ≡ member_names (members_view l.fn.members);
-  made : with_front (map group_view l.groups.items) (each_some group_of (members_left l.name-iterator)) ≡ each_some group_of (pairs (members_view l.fn.members));
+  names : map (λ x. x.name.now) l.groups.items ++ names_of l.name-iterator ≡ names_of l.members.entries;
+  made : with_front (map group_view l.groups.items) (each_some group_of (pairs (members_view l.name-iterator))) ≡ each_some group_of (pairs (members_view l.members.entries));
 }

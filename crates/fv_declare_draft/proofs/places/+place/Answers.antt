@@ -1,7 +1,7 @@
 use Rattle.std.proofs.Common.{◌≡◌, ◌<◌, ◌∷◌, ◌++◌, [], map, Some, None, true, false, option_map, option_and_then, sym, ap₂, ◌∙◌, codes, rules, arith}
 use Rattle.serde_json.specs.Data.{depth}
 use Rattle.serde_json.specs.Find.{get, as_str}
-use Rattle.fv_json.specs.Documents.{view as json_view}
+use Rattle.serde_json.specs.View.{view as json_view}
 use Rattle.fv_datum.specs.Members.{has_only}
 use Rattle.fv_extract.specs.Places.{element, content}
 use Rattle.fv_extract.specs.Views.{step_view}
@@ -44,16 +44,16 @@ held_of-returns-then-has_only-4 t c =
 
 pub place_in-place_of-requires : goal.place_in-place_of-requires
 place_in-place_of-requires t c =
-    let found : get c.args.name.now (json_view c.args.value.now) ≡ Some (json_view c.in-Some.inner) = search rules in
-    let below : depth (json_view c.in-Some.inner) < depth (json_view c.args.value.now) =
-    get_depth c.args.name.now (json_view c.args.value.now) (json_view c.in-Some.inner) found in
+    let found : get c.args.name.now (json_view c.args.value.now) ≡ Some (json_view c.in-Some.inner.now) = search rules in
+    let below : depth (json_view c.in-Some.inner.now) < depth (json_view c.args.value.now) =
+    get_depth c.args.name.now (json_view c.args.value.now) (json_view c.in-Some.inner.now) found in
     (omega arith, tt)
 
 pub place_of-held_of-requires : goal.place_of-held_of-requires
 place_of-held_of-requires t c =
-    let found : get (codes "type") (json_view c.args.value.now) ≡ Some (json_view c.in-Some-get.told) = search rules in
-    let below : depth (json_view c.in-Some-get.told) < depth (json_view c.args.value.now) =
-    get_depth (codes "type") (json_view c.args.value.now) (json_view c.in-Some-get.told) found in
+    let found : get (codes "type") (json_view c.args.value.now) ≡ Some (json_view c.in-Some-get.told.now) = search rules in
+    let below : depth (json_view c.in-Some-get.told.now) < depth (json_view c.args.value.now) =
+    get_depth (codes "type") (json_view c.args.value.now) (json_view c.in-Some-get.told.now) found in
     (omega arith, tt)
 
 pub list_of-returns-in-None : goal.list_of-returns-in-None
@@ -74,7 +74,7 @@ pub place_of-returns-in_default-3 : goal.place_of-returns-in_default-3
 place_of-returns-in_default-3 t c =
     let j = json_view c.args.value.now in
     let steps = map step_view c.args.steps.now in
-    let told = json_view c.in-Some-get.told in
+    let told = json_view c.in-Some-get.told.now in
     let only : has_only place_members j ≡ true = search rules in
     let uses : uses_of (codes "constraints") j ≡ Some (map use_view c.in-Some.drafts.items) = search rules in
     let cascade : cascade_of j ≡ Some (cascade_view c.in-Some-2.cascade) = search rules in
@@ -86,7 +86,7 @@ pub place_of-returns : goal.place_of-returns
 place_of-returns t c =
     let j = json_view c.args.value.now in
     let steps = map step_view c.args.steps.now in
-    let told = json_view c.in-Some-get.told in
+    let told = json_view c.in-Some-get.told.now in
     let only : has_only place_members j ≡ true = search rules in
     let uses : uses_of (codes "constraints") j ≡ Some (map use_view c.in-Some.drafts.items) = search rules in
     let cascade : cascade_of j ≡ Some (cascade_view c.in-Some-2.cascade) = search rules in

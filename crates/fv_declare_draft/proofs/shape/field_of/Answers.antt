@@ -1,5 +1,5 @@
 use Rattle.std.proofs.Common.{◌≡◌, [], Some, None, option_map, rules}
-use Rattle.fv_json.specs.Documents.{view as json_view}
+use Rattle.serde_json.specs.View.{view as json_view}
 use Rattle.fv_declare_draft.specs.DraftViews.{held_view}
 use Rattle.fv_declare_draft.specs.Gathering.{gathered}
 use Rattle.fv_declare_draft.specs.Places.{place_of}

@@ -1,28 +1,30 @@
-use Rattle.std.proofs.Common.{◌≡◌, map, Some, arith}
-use Rattle.fv_json.specs.Documents.{view as json_view}
-use Rattle.fv_json.specs.MembersView.{members_view}
-use Rattle.fv_declare_definition.specs.MemberNames.{member_names}
+use Rattle.std.proofs.Common.{◌≡◌, ◌∷◌, ◌++◌, map, Some, string_bytes, sym, ◌∙◌, append_assoc, arith}
+use Rattle.std.proofs.lemmas.Grind.{common_steps}
+use Rattle.std.proofs.lemmas.List.{map-append}
+use Rattle.serde_json.specs.View.{view as json_view, members_view}
+use Rattle.fv_datum.specs.Members.{pairs, each_some}
 use Rattle.fv_declare_draft.specs.Drafts.{type_of}
 use Rattle.fv_declare_draft.specs.DraftViews.{type_view}
-use Rattle.fv_declare_draft.specs.declared.draft.TypeDraft.{TypeDraft}
-use Rattle.fv_declare_draft.proofs.Entries.{members_ascend, more_made, more_names, all_named}
+use Rattle.fv_datum.specs.EntryNames.{names_of}
+use Rattle.fv_datum.proofs.Fronts.{with_front, front_more}
+use Rattle.fv_datum.proofs.Sorted.{names-ascend}
 use Rattle.fv_declare_draft.proofs.shape.types_of.Goals as goal
 
 pub loop-name-preserved : goal.loop-name-preserved
 loop-name-preserved c =
     let l = c.loop-name in
     let found = c.in-Some-2.declared in
-    let put = c.in_ok-push-in-Some-2.ensures.items in
-    let steps = c.in-Some.ensures.steps in
-    let is : type_of (c.in-Some.name.now, json_view c.in-Some.value) ≡ Some (type_view found) = grind (arith, c.in_ok-type_of.ensures.exact, c.in-Some-2.is) in
-    let named : found.name.now ≡ c.in-Some.name.now = grind (arith, c.in_ok-type_of.ensures.name, c.in-Some-2.is) in
+    let is : type_of (string_bytes c.in-Some.name.now, json_view c.in-Some.value.now) ≡ Some (type_view found) = grind (arith, c.in_ok-type_of.ensures.exact, c.in-Some-2.is, c.as_str.ensures.value) in
+    let moved = front_more type_of (map type_view l.types.items) (string_bytes c.in-Some.name.now, json_view c.in-Some.value.now) (pairs (members_view c.next.new.self)) (type_view found) is in
+    let before : with_front (map type_view l.types.items) (each_some type_of (pairs (members_view ((c.in-Some.name.now, c.in-Some.value.now) ∷ c.next.new.self)))) ≡ each_some type_of (pairs (members_view c.args.members.now.entries)) = rw c.in-Some.ensures.steps at l.invariant.made in
+    let name : found.name.now ≡ string_bytes c.in-Some.name.now = grind (arith, c.in_ok-type_of.ensures.name, c.in-Some-2.is, c.as_str.ensures.value) in
+    let names : map (λ x. x.name.now) l.types.items ++ names_of ((c.in-Some.name.now, c.in-Some.value.now) ∷ c.next.new.self) ≡ names_of c.args.members.now.entries = rw c.in-Some.ensures.steps at l.invariant.names in
     record {
-      names = more_names (λ (x : TypeDraft). x.name.now) (member_names (members_view c.args.members)) _ _ found _ _ _ put steps named l.invariant.names;
-      made = more_made type_of type_view _ _ found _ _ _ _ put steps is l.invariant.made;
+      names = rw (c.in_ok-push-in-Some-2.ensures.items, map-append, append_assoc, name) names;
+      made = rw (c.in_ok-push-in-Some-2.ensures.items, map-append) (sym moved ∙ before);
     }
 
 pub returns-clause-ascend : goal.returns-clause-ascend
 returns-clause-ascend c =
-    let all = member_names (members_view c.args.members) in
-    let names : map (λ x. x.name.now) c.loop-name.types.items ≡ all = all_named all _ _ c.in-None.ensures.steps.0 c.loop-name.invariant.names in
-    rw names (members_ascend c.args.members)
+    let names : map (λ x. x.name.now) c.loop-name.types.items ≡ names_of c.args.members.now.entries = grind (arith, common_steps, c.loop-name.invariant.names, c.in-None.ensures.steps) in
+    rw names (names-ascend c.args.members.now.entries c.iter-name-items.ensures.ordered)

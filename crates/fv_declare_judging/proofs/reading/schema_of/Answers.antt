@@ -1,6 +1,6 @@
 use Rattle.std.proofs.Common.{◌≡◌, Some, Ok, Err, option_map, sym, ap, ◌∙◌}
 use Rattle.std.proofs.lemmas.Result.{IfOk-weaker, IfErr-weaker}
-use Rattle.fv_json.specs.Documents.{view as json_view}
+use Rattle.serde_json.specs.View.{view as json_view}
 use Rattle.fv_declare_draft.specs.Drafts.{draft_of}
 use Rattle.fv_declare_draft.specs.DraftViews.{draft_view}
 use Rattle.fv_declare_judging.proofs.Led.{draft_led}

@@ -1,49 +1,25 @@
-use Rattle.std.proofs.Common.{◌≡◌, Option, Some, None, Ok, Err, refl, sym, ap, subst, ◌∙◌}
-use Rattle.std.proofs.lemmas.Result.{IfOk-weaker, IfErr-weaker, err_from_is_err_and}
-use Rattle.fv_datum.specs.Outcomes.{first, unless_fault}
+use Rattle.std.proofs.Common.{Ok, Err, sym, subst, ◌∙◌}
+use Rattle.std.proofs.lemmas.Result.{IfOk-weaker, err_from_is_err_and}
 use Rattle.fv_declare_draft.specs.DraftViews.{draft_view}
-use Rattle.fv_declare_judging.specs.FaultNames.{grouping_fault}
-use Rattle.fv_declare_judging.specs.Judging.{IsAnswerTo, draft_faults, name_conditions}
+use Rattle.fv_declare_judging.specs.Judging.{IsAnswerTo, draft_faults}
 use Rattle.fv_declare_judging.specs.declared.fault.DeclFault.{DeclFault}
-use Rattle.fv_declare_judging.proofs.Turns.{unnamed, ungrouped, composed}
+use Rattle.fv_declare_judging.proofs.Turns.{composed}
 use Rattle.fv_declare_judging.proofs.reading.schema_of_draft.Goals as goal
 
-no_fault : {Y : Type 0} (o : Option DeclFault) (y z : Y) → unless_fault o y ≡ Ok z → o ≡ None
-no_fault None y z e = refl
-no_fault (Some fault) y z e = cc
-
-a_fault : {Y : Type 0} (o : Option DeclFault) (y : Y) (f : DeclFault) → unless_fault o y ≡ Err f → o ≡ Some f
-a_fault None y f e = cc
-a_fault (Some fault) y f e = let same : fault ≡ f = cc in ap (λ g. Some g) same
-
-pub returns-in_err-types-clause-refused : goal.returns-in_err-types-clause-refused
-returns-in_err-types-clause-refused g c =
+pub returns-in_err-trees-clause-refused : goal.returns-in_err-trees-clause-refused
+returns-in_err-trees-clause-refused g c =
     let k = g.R.RuleSet.known c.args.rules.now in
     let d = draft_view c.args.draft.now in
-    let f = c.in_err-types.field-0.0 in
-    let p = err_from_is_err_and c.from_residual-in_err-types.result c.from_residual-in_err-types.ensures.1 in
+    let checked = c.in_ok-parts.ensures.taken in
+    let f = c.in_err-trees.field-0.0 in
+    let p = err_from_is_err_and c.from_residual-in_err-trees.result c.from_residual-in_err-trees.ensures.1 in
     rw p.1 (λ other.
     subst (λ (e : DeclFault). IsAnswerTo k d draft_faults (Err e)) (sym p.2)
-    (unnamed k d f (a_fault (first (name_conditions d)) _ f (c.in_err-types.ensures (λ is. other (p.2 ∙ is))))))
-
-pub returns-in_err-groups-clause-refused : goal.returns-in_err-groups-clause-refused
-returns-in_err-groups-clause-refused g c =
-    let k = g.R.RuleSet.known c.args.rules.now in
-    let d = draft_view c.args.draft.now in
-    let f = c.in_err-groups.field-0.0 in
-    let p = err_from_is_err_and c.from_residual-in_err-groups.result c.from_residual-in_err-groups.ensures.1 in
-    rw p.1 (λ other.
-    subst (λ (e : DeclFault). IsAnswerTo k d draft_faults (Err e)) (sym p.2)
-    (ungrouped k d (no_fault (first (name_conditions d)) _ _ c.in_ok-types.ensures) f (c.in_err-groups.ensures.refused (λ is. other (p.2 ∙ ap grouping_fault is)))))
+    (composed k d checked.named checked.groups.2 (Err f) (c.in_err-trees.ensures.refused (λ is. other (p.2 ∙ is)))))
 
 pub returns-clause-taken : goal.returns-clause-taken
 returns-clause-taken g c =
     let k = g.R.RuleSet.known c.args.rules.now in
     let d = draft_view c.args.draft.now in
-    IfOk-weaker c.composed.result _ _ (λ s. composed k d (no_fault (first (name_conditions d)) _ _ c.in_ok-types.ensures) c.in_ok-groups.ensures.taken.2 (Ok s)) c.composed.ensures.taken
-
-pub returns-clause-refused : goal.returns-clause-refused
-returns-clause-refused g c =
-    let k = g.R.RuleSet.known c.args.rules.now in
-    let d = draft_view c.args.draft.now in
-    IfErr-weaker c.composed.result _ _ (λ f h other. composed k d (no_fault (first (name_conditions d)) _ _ c.in_ok-types.ensures) c.in_ok-groups.ensures.taken.2 (Err f) (h other)) c.composed.ensures.refused
+    let checked = c.in_ok-parts.ensures.taken in
+    IfOk-weaker c.build.result _ _ (λ s h. composed k d checked.named checked.groups.2 (Ok s) (c.in_ok-trees.ensures.taken.declared s h)) c.build.ensures.taken

@@ -1,9 +1,8 @@
-use Rattle.std.proofs.Common.{◌≡◌, ◌∷◌, [], ◌++◌, map, sym, ap, ◌∙◌}
+use Rattle.std.proofs.Common.{◌≡◌, ◌+◌, ◌∷◌, [], ◌++◌, Some, map, drop, sym, ap, ◌∙◌, arith}
 use Rattle.std.proofs.lemmas.List.{map-append}
-use Rattle.fv_json.specs.Documents.{view as json_view}
-use Rattle.fv_json.specs.MembersView.{items_left}
-use Rattle.fv_datum.specs.Members.{each_some}
-use Rattle.fv_datum.proofs.Fronts.{with_front, front_more}
+use Rattle.serde_json.specs.View.{view as json_view, items_view}
+use Rattle.fv_datum.specs.Members.{listed, each_some}
+use Rattle.fv_datum.proofs.Fronts.{with_front, item_more}
 use Rattle.fv_engine_command.specs.CommandView.{part_view}
 use Rattle.fv_engine_command.specs.Commands.{part_of}
 use Rattle.fv_engine_command.proofs.part.each_part.Goals as goal
@@ -11,11 +10,9 @@ use Rattle.fv_engine_command.proofs.part.each_part.Goals as goal
 pub loop-value-preserved : goal.loop-value-preserved
 loop-value-preserved c =
     let l = c.loop-value in
-    let part = c.in-Some-part_of.part in
-    let front = map part_view l.parts.items in
-    let left = items_left c.next.new.self in
-    let taken : items_left l.value-iterator ≡ json_view c.in-Some.value ∷ left = c.in-Some.ensures.steps in
-    let moved = front_more part_of front (json_view c.in-Some.value) left (part_view part) (sym c.in-Some-part_of.ensures) in
-    let pushed : map part_view c.push.new.self.items ≡ front ++ part_view part ∷ [] =
-    ap (map part_view) c.in_ok-push-in-Some-part_of.ensures.items ∙ map-append part_view l.parts.items (part ∷ []) in
-    ap (λ ps. with_front ps (each_some part_of left)) pushed ∙ sym moved ∙ ap (λ js. with_front front (each_some part_of js)) (sym taken) ∙ l.invariant
+    let vs = c.args.values.now in
+    let part = c.in-Some.part in
+    let is : part_of (json_view c.value-item.result) ≡ Some (part_view part) = grind (arith, c.part_of.ensures, c.in-Some.is) in
+    let moved = item_more part_of (map part_view l.parts.items) vs l.value-index c.value-item.result (part_view part) c.loop-value-test.true c.value-item.is is in
+    let pushed : map part_view c.push.new.self.items ≡ map part_view l.parts.items ++ part_view part ∷ [] = ap (map part_view) c.in_ok-push-in-Some.ensures.items ∙ map-append part_view l.parts.items (part ∷ []) in
+    ap (λ front. with_front front (each_some part_of (listed (items_view (drop (l.value-index + 1) vs))))) pushed ∙ sym moved ∙ l.invariant

@@ -3,7 +3,7 @@ use Rattle.std.proofs.lemmas.Int.{to_z-of_z}
 use Rattle.std.specs.Option.{unwrap_or}
 use mir.Syntax.{w64}
 use Rattle.fv_store.specs.Stock.{stock_state as state}
-use Rattle.fv_json.specs.Documents.{view as json_view}
+use Rattle.serde_json.specs.View.{view as json_view}
 use Rattle.fv_declare_schema.specs.Declarations.{Declarations}
 use Rattle.fv_engine_command.specs.Commands.{Request, shape, command_of}
 use Rattle.fv_engine_machine.specs.Causes.{Handles}

@@ -1,7 +1,7 @@
 use Rattle.std.proofs.lemmas.Int.{to_z-of_z}
 use mir.Syntax.{w64}
 use Rattle.fv_store.specs.Stock.{stock_state as state}
-use Rattle.fv_json.specs.Documents.{view as json_view}
+use Rattle.serde_json.specs.View.{view as json_view}
 use Rattle.fv_engine_reply.specs.AnswerView.{answer_view}
 use Rattle.fv_engine_machine.proofs.Going.{weaker}
 use Rattle.fv_engine_machine.proofs.Serving.{short_asked, told_answer}

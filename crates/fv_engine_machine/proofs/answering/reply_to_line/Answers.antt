@@ -1,4 +1,4 @@
-use Rattle.std.proofs.Common.{Err, Option, Some, refl, sym, ap, subst, ◌∙◌}
+use Rattle.std.proofs.Common.{Err, Option, refl, sym, ap, subst}
 use Rattle.std.proofs.lemmas.Int.{to_z-of_z}
 use mir.Syntax.{w64}
 use Rattle.fv_store.specs.Stock.{stock_state as state}
@@ -16,7 +16,7 @@ use Rattle.fv_engine_machine.proofs.answering.reply_to_line.Goals as goal
 pub returns-in-Ok : goal.returns-in-Ok
 returns-in-Ok g c =
     weaker (state g.S.Store) _ _ _ _ (λ x y t. subst (λ (o : Option json.Data). Replies g.R.RuleSet.meaning c.args.now (asks_json o) x c.reply_to.result y)
-    (ap (λ (j : json.Data). Some j) c.root.ensures ∙ sym c.in-Ok.ensures.read) t)
+    (sym c.in-Ok.ensures.read) t)
     (rw (to_z-of_z w64 c.args.now c.ranges.now) at c.reply_to.ensures)
 
 pub returns-in-Err-NotJson : goal.returns-in-Err-NotJson

@@ -106,7 +106,7 @@ returns-clause-becomes g c =
                 (made ds.types ds.forms 0 parts start way m agrees e.covers goes) stay
                 (ap room_in (e.same mid_clean (contents bytes ds m) holds))
                 (λ needs. e.frame.was_open mid_clean (e.live needs mid_clean))
-                (few_taken parts way (counted ds.types ds.forms 0 parts start way e.count goes)) c.settle.ensures.ascending
+                (few_taken parts way (counted ds.types ds.forms 0 parts start way e.count goes))
                 (λ id k. touched_stands ds.types ds.forms 0 parts start way goes m id k) (λ id k stands. standing_touched ds.types ds.forms 0 parts start way goes m id k e.needed stands)
                 (answer_view c.settle.result) (subst (λ (o : Option (List ℕ)). Settles g.R.RuleSet.meaning c.args.now (rows_on o way) way c.args.done mid (answer_view c.settle.result) (with_map held (over held ds c.settle.new.store) t.0)) c.set_object.ensures t.1),
             t.2,

@@ -3,8 +3,8 @@ use Rattle.std.proofs.lemmas.Int.{to_z-of_z}
 use mir.Syntax.{w64}
 use Rattle.fv_store.specs.Stock.{stock_state as state}
 use Rattle.fv_declare_schema.specs.Declarations.{Declarations}
-use Rattle.fv_model.specs.Views.{bundle_view}
-use Rattle.fv_model.specs.WellTyped.{IsWellTyped}
+use Rattle.fv_bundle.specs.Views.{bundle_view}
+use Rattle.fv_bundle.specs.WellTyped.{IsWellTyped}
 use Rattle.fv_store.specs.Stored.{stored_view}
 use Rattle.fv_model_types.specs.Types.{Declared}
 use Rattle.fv_model_types.specs.TypesView.{types_view}

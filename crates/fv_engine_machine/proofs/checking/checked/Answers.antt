@@ -6,7 +6,7 @@ use Rattle.fv_declare_schema.specs.Declarations.{Declarations}
 use Rattle.fv_groups.specs.Groups.{Groups, number_of, numbers_of}
 use Rattle.fv_groups.specs.Judged.{unknown_in}
 use Rattle.fv_groups.specs.Tables.{indices}
-use Rattle.fv_model.specs.Views.{bundle_view}
+use Rattle.fv_bundle.specs.Views.{bundle_view}
 use Rattle.fv_validate.specs.ViolationView.{violation_view}
 use Rattle.fv_validate.specs.Violations.{IsListing}
 use Rattle.fv_walk.specs.Visits.{HasTooManyVisits, HasFewVisits}

@@ -1,7 +1,7 @@
 use Rattle.std.proofs.Common.{map, option_map, Option, sym, subst, ap, ◌∙◌}
 use Rattle.std.proofs.lemmas.Int.{to_z-of_z}
 use mir.Syntax.{w64}
-use Rattle.fv_json.specs.Documents.{view as json_view}
+use Rattle.serde_json.specs.View.{view as json_view}
 use Rattle.fv_datum.specs.Data.{Data}
 use Rattle.fv_datum.specs.View.{view}
 use Rattle.fv_declare_schema.specs.Declarations.{Declarations}

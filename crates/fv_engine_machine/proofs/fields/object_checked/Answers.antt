@@ -14,9 +14,9 @@ use Rattle.fv_engine_reply.specs.declared.answer.Refusal.{Refusal}
 use Rattle.fv_engine_reply.specs.declared.answer.Refusal.TheVariants.{NoSuchField}
 use Rattle.fv_validate.specs.ViolationView.{violation_view}
 use Rattle.fv_validate.specs.Violations.{IsListingOfField}
-use Rattle.fv_model.specs.Views.{object_view}
-use Rattle.fv_model.specs.WellTyped.{IsOfType}
-use Rattle.fv_model.specs.declared.bundle.Object.{Object}
+use Rattle.fv_bundle.specs.Views.{object_view}
+use Rattle.fv_bundle.specs.WellTyped.{IsOfType}
+use Rattle.fv_bundle.specs.declared.bundle.Object.{Object}
 use Rattle.fv_engine_machine.proofs.OneField.{field_told, field_listed}
 use Rattle.fv_engine_machine.proofs.Groups.{all_named, not_named}
 use Rattle.fv_engine_machine.proofs.fields.object_checked.Goals as goal

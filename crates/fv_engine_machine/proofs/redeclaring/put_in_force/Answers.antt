@@ -3,13 +3,13 @@ use Rattle.std.proofs.lemmas.Grind.{common_steps}
 use Rattle.std.proofs.lemmas.Int.{to_z-of_z}
 use mir.Syntax.{w64}
 use Rattle.fv_declare_schema.specs.Declarations.{Declarations}
-use Rattle.fv_engine_machine.specs.Judging.{AreListingsOf}
+use Rattle.fv_engine_judging.specs.Judging.{AreListingsOf}
 use Rattle.fv_engine_machine.specs.Machines.{contents}
 use Rattle.fv_engine_machine.specs.Redeclaring.{IsAgain}
 use Rattle.fv_engine_machine.proofs.Becoming.{fails_so, no_items, some_items}
 use Rattle.fv_engine_machine.proofs.Redeclared.{is_redeclared, is_undone, is_unjudged, is_violated}
-use Rattle.fv_engine_reply.specs.Answers.{Judged}
-use Rattle.fv_engine_reply.specs.AnswerView.{judged_view}
+use Rattle.fv_validate.specs.Violations.{Judged}
+use Rattle.fv_validate.specs.ViolationView.{judged_view}
 use Rattle.fv_model_types.specs.Types.{FieldsApart}
 use Rattle.fv_store.specs.Stock.{stock_state}
 use Rattle.fv_engine_machine.proofs.redeclaring.put_in_force.Goals as goal

@@ -1,6 +1,6 @@
 use Rattle.std.proofs.Common.{◌∷◌, [], OnOk, sym, subst}
 use Rattle.std.specs.Result.{result_map_both}
-use Rattle.fv_model.specs.Views.{bundle_view}
+use Rattle.fv_bundle.specs.Views.{bundle_view}
 use Rattle.fv_engine_pending.specs.Fits.{Keeps}
 use Rattle.fv_engine_pending.specs.Steps.{put_step, remove_step, left_as, removed_on, step_view}
 use Rattle.fv_engine_pending.specs.Ways.{pending_view, standing_at}

@@ -1,6 +1,6 @@
 use Rattle.std.proofs.Common.{◌≡◌, ◌∷◌, [], Ok, Some, subst}
-use Rattle.fv_json.specs.Documents.{view as json_view}
-use Rattle.fv_model.specs.Views.{bundle_view}
+use Rattle.serde_json.specs.View.{view as json_view}
+use Rattle.fv_bundle.specs.Views.{bundle_view}
 use Rattle.fv_engine_pending.specs.Fits.{Keeps}
 use Rattle.fv_engine_pending.specs.Steps.{set_step}
 use Rattle.fv_engine_pending.specs.Ways.{Way, pending_view, left_at}

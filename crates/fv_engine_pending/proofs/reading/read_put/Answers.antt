@@ -1,5 +1,5 @@
 use Rattle.std.proofs.Common.{is_some}
-use Rattle.fv_json.specs.Documents.{view as json_view}
+use Rattle.serde_json.specs.View.{view as json_view}
 use Rattle.fv_engine_pending.proofs.Readings.{found_some, misread_as, misread_fits}
 use Rattle.fv_engine_pending.proofs.reading.read_put.Goals as goal
 

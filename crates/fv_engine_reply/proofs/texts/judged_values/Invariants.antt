@@ -1,6 +1,6 @@
 use Rattle.std.proofs.Common.{◌≡◌, map, take}
 use Rattle.serde_json.specs.View.{view as json_view}
-use Rattle.fv_engine_reply.specs.AnswerView.{judged_view}
+use Rattle.fv_validate.specs.ViolationView.{judged_view}
 use Rattle.fv_engine_reply.specs.Texts.{judged_json}
 use Rattle.fv_engine_reply.proofs.texts.judged_values.Given as goal
 

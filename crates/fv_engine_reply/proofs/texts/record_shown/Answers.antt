@@ -1,6 +1,6 @@
 use Rattle.std.proofs.Common.{◌∙◌, string_bytes}
 use Rattle.std.proofs.lemmas.Result.{IfOk-weaker}
-use Rattle.fv_model.specs.Views.{bundle_view}
+use Rattle.fv_bundle.specs.Views.{bundle_view}
 use Rattle.fv_model.specs.Writing.{bundle_json}
 use Rattle.fv_engine_reply.proofs.Shown.{shown_text}
 use Rattle.fv_engine_reply.proofs.texts.record_shown.Goals as goal

@@ -1,5 +1,5 @@
 use Rattle.std.proofs.Common.{map}
-use Rattle.fv_engine_reply.specs.AnswerView.{judged_view}
+use Rattle.fv_validate.specs.ViolationView.{judged_view}
 use Rattle.fv_engine_reply.proofs.NoFloats.{violated_whole}
 use Rattle.fv_engine_reply.proofs.texts.violated.Goals as goal
 

@@ -1,12 +1,12 @@
-use Rattle.std.proofs.Common.{◌≡◌, ◌<◌, ℤ, List, All, length, map, sym, subst, ◌∙◌}
+use Rattle.std.proofs.Common.{◌<◌, ℤ, All, length, map, sym, subst}
 use Rattle.std.proofs.lemmas.Int.{to_z-of_z}
 use mir.Syntax.{w64}
 use Rattle.fv_declare_schema.specs.Declarations.{Declarations}
 use Rattle.fv_groups.specs.Tables.{indices}
 use Rattle.fv_groups.specs.declared.declared.GroupId.{GroupId}
-use Rattle.fv_model.specs.Bundles.{Bundled}
-use Rattle.fv_model.specs.Views.{bundle_view}
-use Rattle.fv_model.specs.WellTyped.{IsWellTyped}
+use Rattle.fv_bundle.specs.Bundles.{Bundled}
+use Rattle.fv_bundle.specs.Views.{bundle_view}
+use Rattle.fv_bundle.specs.WellTyped.{IsWellTyped}
 use Rattle.fv_walk_request.specs.Requests.{judging}
 use Rattle.fv_walk.specs.FailureView.{failure_view}
 use Rattle.fv_walk.proofs.Asked.{asked_are, asked_differ, asked_within}

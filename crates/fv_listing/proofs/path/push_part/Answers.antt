@@ -1,9 +1,8 @@
-use Rattle.std.proofs.Common.{◌≡◌, ℕ, List, [], ◌∷◌, ◌++◌, map, Some, None, slice_get, sym, ap, subst, ◌∙◌}
-use Rattle.fv_datum.specs.Data.{Data}
+use Rattle.std.proofs.Common.{map, sym}
 use Rattle.fv_datum.specs.View.{view}
 use Rattle.fv_extract.specs.Places.{Place}
 use Rattle.fv_extract.specs.Views.{part_view, step_view}
-use Rattle.fv_model.specs.Views.{object_view}
+use Rattle.fv_bundle.specs.Views.{object_view}
 use Rattle.fv_listing.proofs.Parted.{named_there}
 use Rattle.fv_listing.proofs.path.push_part.Goals as goal
 

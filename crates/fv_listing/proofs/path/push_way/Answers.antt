@@ -1,6 +1,6 @@
-use Rattle.std.proofs.Common.{◌≡◌, ℕ, List, length, sym, ap, ◌∙◌}
+use Rattle.std.proofs.Common.{length, sym, ap, ◌∙◌}
 use Rattle.std.specs.Vec.{vec_len}
-use Rattle.fv_model.specs.Views.{object_view}
+use Rattle.fv_bundle.specs.Views.{object_view}
 use Rattle.fv_walk_request.proofs.Parts.{part_there}
 use Rattle.fv_walk_request.specs.Graphs.{way_view}
 use Rattle.fv_walk_request.specs.Paths.{field_name}

@@ -1,8 +1,8 @@
-use Rattle.std.proofs.Common.{[], ◌∷◌, sym, subst}
+use Rattle.std.proofs.Common.{sym, subst}
 use Rattle.fv_datum.specs.Data.{Data}
 use Rattle.fv_extract.specs.Parts.{parts_at}
 use Rattle.fv_graph.specs.Graph.{IsIn}
-use Rattle.fv_model.specs.Bundles.{Thing}
+use Rattle.fv_bundle.specs.Bundles.{Thing}
 use Rattle.fv_walk_request.proofs.Ways.{ways_within}
 use Rattle.fv_walk_request.specs.Graphs.{way_view}
 use Rattle.fv_walk_request.specs.Requests.{object_at}

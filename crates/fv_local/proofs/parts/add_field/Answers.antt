@@ -7,7 +7,7 @@ use Rattle.fv_declare_schema.specs.PlacedView.{placed_view}
 use Rattle.fv_extract.specs.FoundView.{found_view}
 use Rattle.fv_extract.specs.Parts.{further}
 use Rattle.fv_extract.specs.Views.{step_view, place_view}
-use Rattle.fv_model.specs.Views.{object_view}
+use Rattle.fv_bundle.specs.Views.{object_view}
 use Rattle.fv_local.specs.Told.{Told, picked, told_view, part_told, field_told}
 use Rattle.fv_local.proofs.Inside.{told_inside}
 use Rattle.fv_local.proofs.parts.add_field.Goals as goal

@@ -2,7 +2,7 @@ use Rattle.std.proofs.Common.{◌≡◌, ℕ, List, [], map, length, ap, subst, 
 use Rattle.std.proofs.lemmas.Grind.{common_steps}
 use Rattle.std.proofs.lemmas.Int.{to_z-of_z}
 use mir.Syntax.{w64}
-use Rattle.fv_model.specs.Views.{object_view}
+use Rattle.fv_bundle.specs.Views.{object_view}
 use Rattle.fv_local.specs.Told.{told_view}
 use Rattle.fv_local.proofs.First.{first_is, none_more, none_is, some_told, none_told, TellsAll}
 use Rattle.fv_local.proofs.ranks.told_in_ranks.Goals as goal

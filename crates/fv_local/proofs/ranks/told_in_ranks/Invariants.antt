@@ -1,6 +1,6 @@
 use Rattle.std.proofs.Common.{◌≡◌, ◌<◌, ℕ, List, map, Some, slice_get}
 use Rattle.fv_declare_schema.specs.PlacedView.{placed_view}
-use Rattle.fv_model.specs.Views.{object_view}
+use Rattle.fv_bundle.specs.Views.{object_view}
 use Rattle.fv_local.specs.TableView.{lists_view}
 use Rattle.fv_local.specs.Told.{Told, IsTold}
 use Rattle.fv_local.proofs.ranks.told_in_ranks.Given as goal

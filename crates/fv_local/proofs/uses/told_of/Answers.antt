@@ -5,7 +5,7 @@ use mir.Syntax.{w64}
 use Rattle.fv_declare_schema.specs.PlacedView.{placed_view}
 use Rattle.fv_declare_schema.specs.declared.placed.Placed.{Placed}
 use Rattle.fv_local.specs.Told.{told_view, AreRun}
-use Rattle.fv_model.specs.Views.{object_view}
+use Rattle.fv_bundle.specs.Views.{object_view}
 use Rattle.fv_declare_schema.specs.PlaceViews.{place_view}
 use Rattle.fv_local.proofs.First.{behind, run_more}
 use Rattle.fv_local.proofs.Found.{each_found}

@@ -2,7 +2,7 @@ use Rattle.std.proofs.Common.{◌≡◌, ◌<◌, ◌++◌, ◌↔◌, ℕ, List
 use Rattle.std.specs.List.{All}
 use Rattle.fv_declare_schema.specs.PlacedView.{placed_view}
 use Rattle.fv_graph.specs.Graph.{IsIn}
-use Rattle.fv_model.specs.Views.{object_view}
+use Rattle.fv_bundle.specs.Views.{object_view}
 use Rattle.fv_local.specs.Told.{Told, told_view, IsTold}
 use Rattle.fv_local.proofs.uses.told_of.Given as goal
 

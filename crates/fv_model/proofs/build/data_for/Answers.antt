@@ -2,7 +2,7 @@ use Rattle.std.proofs.Common.{◌≡◌, ◌∷◌, ◌++◌, ℕ, List, map, tr
 use Rattle.std.specs.List.{list_any}
 use Rattle.std.specs.declared.alloc.Global.{Global}
 use Rattle.std.proofs.lemmas.List.{map-append}
-use Rattle.fv_json.specs.Documents.{view as json_view}
+use Rattle.serde_json.specs.View.{view as json_view}
 use Rattle.fv_datum.specs.Data.{Data}
 use Rattle.fv_datum.specs.View.{view}
 use Rattle.fv_model_types.specs.declared.type_use.TypeUse.{TypeUse}
@@ -19,7 +19,7 @@ returns-in_err-datum_for-clause-exact c =
     let given = given_view c.args.given in
     let entry : String Global × TypeUse = (c.in-Some.name.now, c.in-Some.type_use.now) in
     let type_use = type_use_view c.in-Some.type_use.now in
-    let value = option_map json_view c.find_given.result in
+    let value = option_map (λ v. json_view v.now) c.find_given.result in
     let fields = fields_view c.args.fields.now in
     let before : list_any (field_misfits given) (map use_view (entry ∷ c.next.new.self)) ≡ list_any (field_misfits given) fields = rw c.in-Some.ensures.steps at c.loop-name.invariant.fit in
     at_exit c.from_residual-in_err-datum_for.result (λ v. map view v.items) _ (misfits_given type_use value) (list_any (field_misfits given) fields) (datum_at type_use value) (map (λ f. (field_of given f).1) fields)
@@ -31,7 +31,7 @@ loop-name-preserved c =
     let given = given_view c.args.given in
     let entry : String Global × TypeUse = (c.in-Some.name.now, c.in-Some.type_use.now) in
     let type_use = type_use_view c.in-Some.type_use.now in
-    let value = option_map json_view c.find_given.result in
+    let value = option_map (λ v. json_view v.now) c.find_given.result in
     let fields = fields_view c.args.fields.now in
     let datum = c.in_ok-datum_for.field-0 in
     let datum_of : List ℕ × spec.TypeUse → Data = λ f. (field_of given f).1 in

@@ -13,6 +13,6 @@ pub returns : goal.returns
 returns c =
     let given = given_view c.args.part.now.given in
     let fields = fields_view c.in-Some.fields.now in
-    let data_items = map view c.in_ok-data_for.field-0.items in
-    let found = right (list_any (field_misfits given) fields) (map (λ f. (field_of given f).1) fields) data_items c.in_ok-data_for.ensures.exact in
-    rw c.in_ok-share.ensures (object_made (types_view c.args.types.now) (part_view c.args.part.now) c.in-Some.type_id.index fields data_items (sym c.in-Some.ensures.found) c.in-Some.ensures.placed found.0 found.1)
+    let data_items = map view c.in_ok-data.data.items in
+    let found = right (list_any (field_misfits given) fields) (map (λ f. (field_of given f).1) fields) data_items c.in_ok-data.ensures.exact in
+    rw (c.new.ensures, c.in_ok-share.ensures) (object_made (types_view c.args.types.now) (part_view c.args.part.now) c.in-Some.type_id.index fields data_items (sym c.in-Some.ensures.found) c.in-Some.ensures.placed found.0 found.1)

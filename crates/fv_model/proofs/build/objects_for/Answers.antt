@@ -2,7 +2,7 @@ use Rattle.std.proofs.Common.{◌≡◌, ℕ, List, ◌∷◌, ◌+◌, ◌++◌
 use Rattle.std.specs.List.{list_any}
 use Rattle.std.specs.Map.{keys_of}
 use Rattle.fv_datum.specs.Lookup.{at_name}
-use Rattle.fv_model.specs.Bundles.{IsAscending, Things}
+use Rattle.fv_bundle.specs.Bundles.{IsAscending, Things}
 use Rattle.fv_model.specs.Fitting.{part_misfits}
 use Rattle.fv_model.specs.Reading.{object_of}
 use Rattle.fv_model.specs.Views.{types_view, object_view, objects_view, part_view}

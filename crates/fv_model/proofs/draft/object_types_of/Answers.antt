@@ -1,6 +1,6 @@
 use Rattle.std.proofs.Common.{◌≡◌, ◌∷◌, ◌+◌, ◌++◌, map, drop, refl, sym, subst, ◌∙◌, List, ℕ, add-one, drop-cons}
 use Rattle.std.specs.Map.{keys_of}
-use Rattle.fv_model.specs.Bundles.{IsAscending}
+use Rattle.fv_bundle.specs.Bundles.{IsAscending}
 use Rattle.fv_model.specs.Reading.{object_types}
 use Rattle.fv_model.specs.Views.{object_types_view, part_view}
 use Rattle.fv_model.proofs.Listed.{insert_last}

@@ -1,5 +1,5 @@
 use Rattle.std.proofs.Common.{◌≡◌, ◌∙◌, ap, sym}
-use Rattle.fv_json.specs.Documents.{view as json_view}
+use Rattle.serde_json.specs.View.{view as json_view}
 use Rattle.fv_datum.specs.View.{view}
 use Rattle.fv_model_types.specs.Names.{object_types_view}
 use Rattle.fv_model_types.specs.Types.{type_use_view}

@@ -3,7 +3,7 @@ use Rattle.std.specs.declared.alloc.Global.{Global}
 use Rattle.fv_model_types.specs.Names.{object_types_view}
 use Rattle.fv_model_types.specs.Types.{AreApart}
 use Rattle.fv_model.specs.Views.{named_view, objects_view}
-use Rattle.fv_model.specs.declared.bundle.Object.{Object}
+use Rattle.fv_bundle.specs.declared.bundle.Object.{Object}
 use Rattle.fv_model.proofs.Conditions.{types_of}
 use Rattle.fv_model.proofs.Named.{objects_apart, insert_new}
 use Rattle.fv_model.proofs.naming.type_names.Goals as goal

@@ -1,5 +1,5 @@
 use Rattle.std.proofs.Common.{◌≡◌, Ok, option_map}
-use Rattle.fv_json.specs.Documents.{view as json_view}
+use Rattle.serde_json.specs.View.{view as json_view}
 use Rattle.fv_model.specs.Reading.{bundle_read}
 use Rattle.fv_model_types.specs.Types.{name_at}
 use Rattle.fv_model.specs.Views.{types_view}

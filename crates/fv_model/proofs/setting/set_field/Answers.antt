@@ -1,9 +1,9 @@
 use Rattle.std.proofs.Common.{sym, subst}
-use Rattle.fv_json.specs.Documents.{view as json_view}
+use Rattle.serde_json.specs.View.{view as json_view}
 use Rattle.fv_datum.specs.View.{view}
-use Rattle.fv_model.specs.Bundles.{Bundled}
+use Rattle.fv_bundle.specs.Bundles.{Bundled}
 use Rattle.fv_model.specs.Views.{types_view, bundle_view}
-use Rattle.fv_model.specs.WellTyped.{IsWellTyped, HasRootType}
+use Rattle.fv_bundle.specs.WellTyped.{IsWellTyped, HasRootType}
 use Rattle.fv_model.proofs.Kept.{well_typed_with, root_type_with}
 use Rattle.fv_model.proofs.Sound.{sound_given}
 use Rattle.fv_model.proofs.setting.set_field.Goals as goal

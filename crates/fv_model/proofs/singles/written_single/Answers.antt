@@ -5,7 +5,7 @@ use Rattle.fv_datum.specs.Data.{Data}
 use Rattle.fv_datum.specs.Lookup.{at_name}
 use Rattle.fv_datum.specs.View.{view}
 use Rattle.fv_model_types.specs.Types.{TypeUse, DeclaredFields, Declared, type_use_view, name_at, fields_at, fields_view}
-use Rattle.fv_model.specs.Bundles.{Thing}
+use Rattle.fv_bundle.specs.Bundles.{Thing}
 use Rattle.fv_model.specs.Single.{single_field, single_thing, single_of}
 use Rattle.fv_model.specs.Views.{types_view}
 use Rattle.fv_model.proofs.singles.written_single.Goals as goal
@@ -42,4 +42,4 @@ returns c =
     let name = c.args.field.now in
     let fields = fields_view c.in-Some.fields.now in
     let some : is_some (at_name name fields) ≡ true = ap is_some (sym c.use_in.ensures) ∙ seen_some (λ (u : _). type_use_view u.now) c.use_in.result c.if-is_none.ensures in
-    rw c.in_ok-share.ensures (made name (view c.args.datum.now) ts c.args.type_id.index fields _ c.in-Some.ensures some c.in_ok-data_with.ensures.exact)
+    rw (c.new.ensures, c.in_ok-share.ensures) (made name (view c.args.datum.now) ts c.args.type_id.index fields _ c.in-Some.ensures some c.in_ok-data.ensures.exact)

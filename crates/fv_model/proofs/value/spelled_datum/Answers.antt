@@ -1,6 +1,6 @@
 use Rattle.std.proofs.Common.{◌≡◌, ◌≢◌, Option, Some, None, Ok, Err, not, is_some, unwrap_or, refl, ap}
 use Rattle.std.specs.Option.{ok_or}
-use Rattle.fv_json.specs.Documents.{view as json_view}
+use Rattle.serde_json.specs.View.{view as json_view}
 use Rattle.fv_datum.specs.Data.{Data, null}
 use Rattle.fv_datum.specs.View.{view}
 use Rattle.fv_datum.specs.declared.fault.DatumFault.{DatumFault}

@@ -1,6 +1,6 @@
 use Rattle.std.proofs.Common.{◌≡◌, drop}
 use Rattle.fv_datum.specs.View.{items_view, entries_view}
-use Rattle.fv_model.specs.Typing.{items_writable, entries_writable}
+use Rattle.fv_model.specs.Writables.{items_writable, entries_writable}
 use Rattle.fv_model.proofs.writable.+orderly.Given as goal
 
 abbrev pub invariant-items_orderly-loop-item : goal.invariant-items_orderly-loop-item

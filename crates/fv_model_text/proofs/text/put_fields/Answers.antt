@@ -1,5 +1,5 @@
 use Rattle.std.proofs.Common.{◌≡◌, [], true, sym, ap, ◌∙◌, rules}
-use Rattle.fv_model.specs.Views.{fields_left, object_view}
+use Rattle.fv_bundle.specs.Views.{fields_left, object_view}
 use Rattle.fv_model_text.proofs.InOrder.{rises, shown, added-in_order, closes}
 use Rattle.fv_model_text.proofs.text.put_fields.Goals as goal
 

@@ -1,7 +1,7 @@
 use Rattle.std.proofs.Common.{◌≡◌, ◌++◌, []}
 use denote.Text.{Utf8}
 use denote.Shadow.{shadow}
-use Rattle.fv_model.specs.Views.{fields_left, object_view}
+use Rattle.fv_bundle.specs.Views.{fields_left, object_view}
 use Rattle.fv_model_text.proofs.InOrder.{rises, shown, member_tokens}
 use Rattle.fv_model_text.proofs.text.put_fields.Given as goal
 

@@ -3,7 +3,7 @@ use Rattle.json.specs.Print.{print}
 use Rattle.json.specs.Tree.{json_tokens}
 use Rattle.serde_json.specs.Written.{outline}
 use Rattle.serde_json.proofs.Texts.{print-outline}
-use Rattle.fv_model.specs.Views.{bundle_view}
+use Rattle.fv_bundle.specs.Views.{bundle_view}
 use Rattle.fv_model.specs.Writing.{bundle_json}
 use Rattle.fv_model_text.proofs.text.text_in_order.Goals as goal
 

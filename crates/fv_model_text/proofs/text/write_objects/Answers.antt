@@ -1,5 +1,5 @@
 use Rattle.std.proofs.Common.{◌≡◌, [], true, map, sym, ap, ◌∙◌, rules}
-use Rattle.fv_model.specs.Views.{named_view, objects_view}
+use Rattle.fv_bundle.specs.Views.{named_view, objects_view}
 use Rattle.fv_model_text.proofs.InOrder.{named, rises, objects_added-in_order, closes}
 use Rattle.fv_model_text.proofs.text.write_objects.Goals as goal
 

@@ -1,7 +1,7 @@
 use Rattle.std.proofs.Common.{◌≡◌, ◌++◌, [], map}
 use denote.Text.{Utf8}
 use denote.Shadow.{shadow}
-use Rattle.fv_model.specs.Views.{named_view, objects_view}
+use Rattle.fv_bundle.specs.Views.{named_view, objects_view}
 use Rattle.fv_model_text.proofs.InOrder.{rises, named, member_tokens}
 use Rattle.fv_model_text.proofs.text.write_objects.Given as goal
 

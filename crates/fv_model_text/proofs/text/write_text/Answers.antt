@@ -1,7 +1,7 @@
 use Rattle.std.proofs.Common.{ap, ◌∙◌}
 use Rattle.std.proofs.lemmas.Result.{IfOk-weaker}
 use Rattle.serde_json.specs.Written.{has_float, compact_text}
-use Rattle.fv_model.specs.Views.{bundle_view}
+use Rattle.fv_bundle.specs.Views.{bundle_view}
 use Rattle.fv_model_text.proofs.NoFloats.{bundle_float}
 use Rattle.fv_model_text.proofs.text.write_text.Goals as goal
 

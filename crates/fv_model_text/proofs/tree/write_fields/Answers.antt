@@ -3,9 +3,9 @@ use Rattle.std.specs.List.{AllByRecursion}
 use Rattle.std.specs.Map.{keys_of}
 use Rattle.fv_datum.specs.Data.{Data}
 use Rattle.fv_model_types.specs.Types.{fields_at}
-use Rattle.fv_model.specs.Views.{types_view, fields_left, object_view}
-use Rattle.fv_model.specs.Writing.{IsWritten}
-use Rattle.fv_model.proofs.Made.{written_fields}
+use Rattle.fv_bundle.specs.Views.{types_view, fields_left, object_view}
+use Rattle.fv_model_types.specs.Writing.{IsWritten}
+use Rattle.fv_bundle.proofs.Made.{written_fields}
 use Rattle.fv_model_text.proofs.tree.write_fields.Goals as goal
 
 pub loop-name-init : goal.loop-name-init

@@ -1,7 +1,7 @@
 use Rattle.std.proofs.Common.{◌≡◌, map}
 use Rattle.serde_json.specs.Data as json
 use Rattle.serde_json.specs.View.{members_view}
-use Rattle.fv_model.specs.Views.{named_view, objects_view}
+use Rattle.fv_bundle.specs.Views.{named_view, objects_view}
 use Rattle.fv_model_text.proofs.InOrder.{objects_added}
 use Rattle.fv_model_text.proofs.tree.write_objects.Given as goal
 

@@ -1,5 +1,5 @@
 use Rattle.std.specs.List.{list_any}
-use Rattle.fv_json.specs.MembersView.{members_view, members_left}
+use Rattle.serde_json.specs.View.{members_view}
 use Rattle.fv_datum.specs.Lookup.{at_name}
 use Rattle.fv_datum.specs.Members.{pairs}
 use Rattle.fv_model_types.specs.Names.{object_types_view}
@@ -9,5 +9,5 @@ use Rattle.fv_model_types.proofs.flaws.flaws_among.Given as goal
 
 abbrev pub invariant-loop-name : goal.invariant-loop-name
 invariant-loop-name l =
-    Telling l.flaws (object_types_view l.types) (λ flaw. list_any (λ g. flaw (at_name g.0 (fields_view l.fields)) g.1) (members_left l.name-iterator))
-    (λ flaw. list_any (λ g. flaw (at_name g.0 (fields_view l.fields)) g.1) (pairs (members_view l.fn.given)))
+    Telling l.flaws (object_types_view l.types) (λ flaw. list_any (λ g. flaw (at_name g.0 (fields_view l.fields)) g.1) (pairs (members_view l.name-iterator)))
+    (λ flaw. list_any (λ g. flaw (at_name g.0 (fields_view l.fields)) g.1) (pairs (members_view l.given.entries)))

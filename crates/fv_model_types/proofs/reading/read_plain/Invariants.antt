@@ -1,6 +1,6 @@
-use Rattle.std.proofs.Common.{◌≡◌, map}
+use Rattle.std.proofs.Common.{◌≡◌, map, drop}
 use Rattle.std.specs.List.{All}
-use Rattle.fv_json.specs.MembersView.{items_view as json_items, items_left}
+use Rattle.serde_json.specs.View.{items_view as json_items}
 use Rattle.fv_datum.specs.Json.{spelled}
 use Rattle.fv_datum.specs.Members.{listed, each_some}
 use Rattle.fv_datum.specs.View.{view}
@@ -10,6 +10,6 @@ use Rattle.fv_model_types.proofs.reading.read_plain.Given as goal
 
 abbrev pub invariant-loop-item : goal.invariant-loop-item
 invariant-loop-item l = record {
-  read : with_front (map view l.out.items) (each_some (spelled l.kind) (items_left l.item-iterator)) ≡ each_some (spelled l.kind) (listed (json_items l.fn.items));
+  read : with_front (map view l.out.items) (each_some (spelled l.kind) (listed (json_items (drop l.item-index l.item-items)))) ≡ each_some (spelled l.kind) (listed (json_items l.item-items));
   written : All (λ d. IsWritten (view d)) l.out.items;
 }

@@ -1,5 +1,5 @@
 use Rattle.sqlite.specs.Held.{state}
-use Rattle.fv_model.specs.Views.{bundle_view}
+use Rattle.fv_bundle.specs.Views.{bundle_view}
 use Rattle.fv_store.specs.Records.{Kept}
 use Rattle.fv_store.proofs.Steps.{put_made, put_excused}
 use Rattle.fv_store.proofs.changes.put.Goals as goal

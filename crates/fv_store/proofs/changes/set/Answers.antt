@@ -1,5 +1,5 @@
 use Rattle.sqlite.specs.Held.{state}
-use Rattle.fv_model.specs.Views.{object_view}
+use Rattle.fv_bundle.specs.Views.{object_view}
 use Rattle.fv_store.specs.Causes.{HasRooms, IsShortObject}
 use Rattle.fv_store.specs.Steps.{IsExcused}
 use Rattle.fv_store.proofs.Steps.{of_records, set_made}

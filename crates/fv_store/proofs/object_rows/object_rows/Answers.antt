@@ -1,5 +1,5 @@
 use Rattle.std.proofs.Common.{◌≡◌, map, subst, sym, ap, ◌∙◌, rules}
-use Rattle.fv_model.specs.Views.{bundle_view}
+use Rattle.fv_bundle.specs.Views.{bundle_view}
 use Rattle.fv_model.specs.Writing.{named_written}
 use Rattle.fv_store.specs.Written.{object_kept}
 use Rattle.fv_store.proofs.Apart.{rows_of, rows_apart}

@@ -1,6 +1,6 @@
 use Rattle.std.proofs.Common.{◌≡◌, Ok, Some, string_bytes, sym, ap, ap₂}
 use Rattle.serde_json.specs.Read.{read}
-use Rattle.fv_model.specs.Views.{bundle_view}
+use Rattle.fv_bundle.specs.Views.{bundle_view}
 use Rattle.fv_model.specs.Writing.{bundle_json}
 use Rattle.fv_store.specs.Stored.{stored_view}
 use Rattle.fv_store.proofs.Faults.{gives_memory, same_ok, store_memory}

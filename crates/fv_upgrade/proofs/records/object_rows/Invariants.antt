@@ -1,10 +1,10 @@
 use Rattle.std.proofs.Common.{◌≡◌}
 use Rattle.fv_datum.specs.Members.{each_some, pairs}
 use Rattle.fv_datum.proofs.Fronts.{with_front}
-use Rattle.fv_json.specs.MembersView.{members_left, members_view}
+use Rattle.serde_json.specs.View.{members_view}
 use Rattle.fv_tables.specs.Changes.{objects_view}
 use Rattle.fv_upgrade.specs.Upgraded.{object_in}
 use Rattle.fv_upgrade.proofs.records.object_rows.Given as goal
 
 abbrev pub invariant-loop-name : goal.invariant-loop-name
-invariant-loop-name l = with_front (objects_view l.rows.items) (each_some object_in (members_left l.name-iterator)) ≡ each_some object_in (pairs (members_view l.fn.objects))
+invariant-loop-name l = with_front (objects_view l.rows.items) (each_some object_in (pairs (members_view l.name-iterator))) ≡ each_some object_in (pairs (members_view l.objects.entries))

@@ -6,11 +6,11 @@ use mir.Syntax.{w64}
 use Rattle.fv_datum.specs.View.{view}
 use Rattle.fv_declare_schema.specs.Declarations.{Declarations}
 use Rattle.fv_groups.specs.Tables.{indices}
-use Rattle.fv_model.specs.Bundles.{Thing}
+use Rattle.fv_bundle.specs.Bundles.{Thing}
 use Rattle.fv_model.specs.Single.{kept, single_of}
-use Rattle.fv_model.specs.Views.{types_view, object_view}
+use Rattle.fv_bundle.specs.Views.{types_view, object_view}
 use Rattle.fv_walk.specs.Properties.{field_number}
-use Rattle.fv_model.specs.WellTyped.{IsOfType}
+use Rattle.fv_bundle.specs.WellTyped.{IsOfType}
 use Rattle.fv_datum.proofs.Lists.{all_get}
 use Rattle.fv_model_types.specs.Types.{DeclaredFields, Declared, AreApart, fields_view}
 use Rattle.fv_validate.specs.Values.{FitsField, valued}

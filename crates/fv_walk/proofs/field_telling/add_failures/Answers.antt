@@ -3,7 +3,7 @@ use Rattle.std.proofs.lemmas.List.{take_all}
 use Rattle.std.proofs.lemmas.List.Elements.{All-get_or}
 use Rattle.fv_local.specs.FailureView as local
 use Rattle.fv_local.specs.declared.failure.LocalFailure.{LocalFailure}
-use Rattle.fv_model.specs.Views.{object_view}
+use Rattle.fv_bundle.specs.Views.{object_view}
 use Rattle.fv_walk_traces.specs.OneField.{is_in_field}
 use Rattle.fv_walk.specs.FailureView.{failure_view}
 use Rattle.fv_walk.proofs.Tellings.{told_further}

@@ -1,6 +1,6 @@
 use Rattle.std.proofs.Common.{◌≡◌, ◌++◌, map, take}
 use Rattle.fv_local.specs.FailureView as local
-use Rattle.fv_model.specs.Views.{object_view}
+use Rattle.fv_bundle.specs.Views.{object_view}
 use Rattle.fv_walk.specs.FailureView.{failure_view}
 use Rattle.fv_walk.specs.Ranks.{violation_in}
 use Rattle.fv_walk.proofs.field_telling.add_failures.Given as goal

@@ -6,7 +6,7 @@ use Rattle.fv_extract.specs.Views.{part_view, place_view}
 use Rattle.fv_local.specs.FailureView.{IsFoundIn, failure_view}
 use Rattle.fv_local.specs.declared.failure.Spot.{Spot}
 use Rattle.fv_local.specs.declared.failure.Spot.TheVariants as spot
-use Rattle.fv_model.specs.Views.{object_view}
+use Rattle.fv_bundle.specs.Views.{object_view}
 use Rattle.fv_path.specs.Nodes.{PathNode, field}
 use Rattle.fv_walk_request.proofs.Parts.{part_there}
 use Rattle.fv_walk_request.specs.Paths.{nodes_of}

@@ -5,8 +5,8 @@ use Rattle.fv_declare_schema.specs.Ordered.{AreOrdered}
 use Rattle.fv_graph.specs.Graph.{IsIn}
 use Rattle.fv_groups.specs.Tables.{indices}
 use Rattle.fv_declare_schema.specs.Declarations.{Declarations}
-use Rattle.fv_model.specs.Views.{types_view, object_view}
-use Rattle.fv_model.specs.WellTyped.{IsOfType}
+use Rattle.fv_bundle.specs.Views.{types_view, object_view}
+use Rattle.fv_bundle.specs.WellTyped.{IsOfType}
 use Rattle.fv_model_types.specs.Types.{Declared}
 use Rattle.fv_walk_request.specs.Requests.{asked_groups}
 use Rattle.fv_walk_traces.specs.Violations.{Violation}

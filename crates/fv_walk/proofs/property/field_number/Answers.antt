@@ -2,7 +2,7 @@ use Rattle.std.proofs.Common.{◌≡◌, ℕ, List, Some, String, string_bytes, 
 use Rattle.std.specs.Option.{option_and_then}
 use Rattle.std.specs.declared.alloc.Global.{Global}
 use Rattle.fv_datum.specs.Lookup.{at_name}
-use Rattle.fv_model.specs.Views.{types_view, object_view}
+use Rattle.fv_bundle.specs.Views.{types_view, object_view}
 use Rattle.fv_datum.proofs.Lookups.{position-map}
 use Rattle.fv_model_types.specs.Types.{TypeUse, use_view, fields_view}
 use Rattle.fv_model_types.specs.declared.type_use.TypeUse as code

@@ -7,7 +7,7 @@ use Rattle.fv_groups.specs.Groups.{ranks}
 use Rattle.fv_groups.specs.Tables.{indices}
 use Rattle.fv_groups.specs.declared.declared.GroupId.{GroupId}
 use Rattle.fv_local.specs.FailureView.{failure_view}
-use Rattle.fv_model.specs.Views.{object_view}
+use Rattle.fv_bundle.specs.Views.{object_view}
 use Rattle.fv_walk_traces.specs.Turns.{LocalFailure}
 use Rattle.fv_walk.proofs.Moves.{same_count, index_at}
 use Rattle.fv_walk.specs.Ranks.{FailsFirst, FailsIn}

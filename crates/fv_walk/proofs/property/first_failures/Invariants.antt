@@ -1,6 +1,6 @@
 use Rattle.std.proofs.Common.{◌≡◌, ◌<◌, ℕ, Some, slice_get}
 use Rattle.fv_groups.specs.Tables.{indices}
-use Rattle.fv_model.specs.Views.{object_view}
+use Rattle.fv_bundle.specs.Views.{object_view}
 use Rattle.fv_walk_traces.specs.Turns.{LocalFailure}
 use Rattle.fv_walk.specs.Ranks.{FailsIn}
 use Rattle.fv_walk.proofs.property.first_failures.Given as goal

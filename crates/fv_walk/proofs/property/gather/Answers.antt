@@ -9,7 +9,7 @@ use Rattle.fv_groups.specs.Tables.{indices}
 use Rattle.fv_groups.specs.declared.declared.GroupId.{GroupId}
 use Rattle.fv_local.specs.FailureView as local
 use Rattle.fv_local.specs.declared.failure.LocalFailure as code
-use Rattle.fv_model.specs.Views.{object_view}
+use Rattle.fv_bundle.specs.Views.{object_view}
 use Rattle.fv_walk_traces.specs.OneField.{is_in_field}
 use Rattle.fv_walk_traces.specs.Turns.{LocalFailure}
 use Rattle.fv_walk_traces.specs.Violations.{Violation}

@@ -3,8 +3,8 @@ use Rattle.fv_datum.specs.View.{view}
 use Rattle.fv_extract.specs.Views.{part_view, place_view}
 use Rattle.fv_extract.specs.declared.part.Part.{Part}
 use Rattle.fv_local.specs.FailureView.{IsFoundIn}
-use Rattle.fv_model.specs.Bundles.{Thing}
-use Rattle.fv_model.specs.Views.{object_view}
+use Rattle.fv_bundle.specs.Bundles.{Thing}
+use Rattle.fv_bundle.specs.Views.{object_view}
 use Rattle.fv_walk_request.specs.Requests.{nodes_at, object_at}
 use Rattle.fv_walk_request.specs.Sound.{IsSound}
 use Rattle.fv_walk.specs.Courses.{bundle_in, visiting}

@@ -1,5 +1,5 @@
 use Rattle.std.proofs.Common.{◌≡◌, List, ◌++◌, Some, None, OnOk, sym, ap, subst, ◌∙◌}
-use Rattle.fv_model.specs.Views.{object_view}
+use Rattle.fv_bundle.specs.Views.{object_view}
 use Rattle.fv_path.specs.Nodes.{PathNode}
 use Rattle.fv_walk_request.specs.Graphs.{way_view}
 use Rattle.fv_walk_request.specs.Sound.{IsSound}

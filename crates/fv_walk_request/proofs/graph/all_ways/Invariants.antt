@@ -1,5 +1,5 @@
 use Rattle.std.proofs.Common.{◌≡◌, ◌++◌, map}
-use Rattle.fv_model.specs.Views.{named_view, objects_view}
+use Rattle.fv_bundle.specs.Views.{named_view, objects_view}
 use Rattle.fv_walk_request.specs.Graphs.{links_of, ways_view}
 use Rattle.fv_walk_request.proofs.graph.all_ways.Given as goal
 

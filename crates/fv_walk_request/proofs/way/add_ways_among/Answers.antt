@@ -1,7 +1,7 @@
 use Rattle.std.proofs.Common.{◌≡◌, ◌++◌, ◌∷◌, [], map, sym, ap, ◌∙◌, append_assoc}
 use Rattle.fv_extract.specs.FoundView.{found_view}
 use Rattle.fv_declare_schema.specs.NumberViews.{valid_place_view}
-use Rattle.fv_model.specs.Views.{objects_view}
+use Rattle.fv_bundle.specs.Views.{objects_view}
 use Rattle.fv_walk_request.specs.Graphs.{links_among, link_view}
 use Rattle.fv_walk_request.proofs.Listed.{map_join, links_join}
 use Rattle.fv_walk_request.proofs.way.add_ways_among.Goals as goal

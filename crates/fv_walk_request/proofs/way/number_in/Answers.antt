@@ -1,6 +1,6 @@
 use Rattle.std.proofs.Common.{◌≡◌, ℕ, List, string_bytes, bytes_eq, sym, ◌∙◌}
-use Rattle.fv_model.specs.Bundles.{Thing}
-use Rattle.fv_model.specs.Views.{named_view}
+use Rattle.fv_bundle.specs.Bundles.{Thing}
+use Rattle.fv_bundle.specs.Views.{named_view}
 use Rattle.fv_datum.proofs.Lookups.{position-map}
 use Rattle.fv_walk_request.proofs.way.number_in.Goals as goal
 

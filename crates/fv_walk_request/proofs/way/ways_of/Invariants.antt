@@ -1,7 +1,7 @@
 use Rattle.std.proofs.Common.{◌≡◌, map, take}
 use Rattle.std.specs.List.{flat_map}
 use Rattle.fv_declare_schema.specs.NumberViews.{valid_place_view}
-use Rattle.fv_model.specs.Views.{object_view, objects_view}
+use Rattle.fv_bundle.specs.Views.{object_view, objects_view}
 use Rattle.fv_walk_request.specs.Graphs.{links_at, link_view}
 use Rattle.fv_walk_request.proofs.way.ways_of.Given as goal
 

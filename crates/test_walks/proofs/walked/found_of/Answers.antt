@@ -1,7 +1,7 @@
 use Rattle.std.proofs.Common.{subst}
 use Rattle.fv_declare_schema.specs.Declarations.{Declarations}
-use Rattle.fv_model.specs.Views.{bundle_view}
-use Rattle.fv_model.specs.WellTyped.{IsWellTyped}
+use Rattle.fv_bundle.specs.Views.{bundle_view}
+use Rattle.fv_bundle.specs.WellTyped.{IsWellTyped}
 use Rattle.test_walks.proofs.walked.found_of.Goals as goal
 
 pub found-requires : goal.found-requires

@@ -1,5 +1,5 @@
 use Rattle.std.proofs.Common.{◌≡◌, map, Some, true}
-use Rattle.fv_json.specs.Documents.{view as json_view}
+use Rattle.serde_json.specs.View.{view as json_view}
 use Rattle.fv_model_types.specs.Types.{nested, type_use_view}
 use Rattle.fv_bundle_fault.specs.Places.{LeadsTo}
 use Rattle.fv_bundle_fault.specs.SearchViews.{sought}

@@ -1,6 +1,5 @@
-use Rattle.std.proofs.Common.{find, sym}
-use Rattle.fv_json.specs.Documents.{view as json_view}
-use Rattle.fv_json.specs.MembersView.{members_view, members_left}
+use Rattle.std.proofs.Common.{◌∷◌, find, sym, ap, ◌∙◌}
+use Rattle.serde_json.specs.View.{view as json_view, members_view}
 use Rattle.fv_datum.specs.Members.{pairs}
 use Rattle.fv_model_types.specs.TypesView.{types_view}
 use Rattle.fv_bundle_fault.specs.Faults.{has_flawed}
@@ -12,9 +11,13 @@ pub returns-in-Some-2-clause-placed : goal.returns-in-Some-2-clause-placed
 returns-in-Some-2-clause-placed c =
     let l = c.loop-name in
     let test = has_flawed (sought c.args.self.now) (types_view c.args.types.now) in
+    let name = c.as_str.result.now in
+    let object = json_view c.in-Some.object.now in
+    let left = pairs (members_view c.next.new.self) in
+    let steps = ap (λ it. pairs (members_view it)) c.in-Some.ensures.steps ∙ ap (λ n. (n, object) ∷ left) (sym c.as_str.ensures.value) in
     let told = rw c.in-Some-2.is at c.in_ok-place.ensures.told in
     let placed = rw c.in-Some-2.is at c.in_ok-place.ensures.placed in (
-      (c.in-Some.name.now, json_view c.in-Some.object),
-      find_here test (c.in-Some.name.now, json_view c.in-Some.object) (members_left c.next.new.self) (members_left l.name-iterator) (find test (pairs (members_view c.args.objects))) c.in-Some.ensures.steps (sym told) l.invariant.first,
+      (name, object),
+      find_here test (name, object) left (pairs (members_view l.name-iterator)) (find test (pairs (members_view c.args.objects.now.entries))) steps (sym told) l.invariant.first,
       placed,
     )

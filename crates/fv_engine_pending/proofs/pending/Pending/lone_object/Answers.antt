@@ -1,5 +1,5 @@
 use Rattle.std.proofs.Common.{◌≡◌, length, option_map, None, Some, ap, ◌∙◌, arith}
-use Rattle.fv_model.specs.Views.{object_view}
+use Rattle.fv_bundle.specs.Views.{object_view}
 use Rattle.fv_engine_pending.proofs.OneObject.{no_record, in_record}
 use Rattle.fv_engine_pending.proofs.pending.Pending.lone_object.Goals as goal
 

@@ -6,7 +6,7 @@ use mir.Syntax.{w64}
 use Rattle.fv_declare_schema.specs.Declarations.{Placed}
 use Rattle.fv_declare_schema.specs.Fits.{placed_fits}
 use Rattle.fv_declare_schema.specs.PlacedView.{placed_view}
-use Rattle.fv_model.specs.Views.{object_view}
+use Rattle.fv_bundle.specs.Views.{object_view}
 use Rattle.fv_constraint_tree.specs.Fits.{fits}
 use Rattle.fv_constraint_tree.specs.Nodes.{Node}
 use Rattle.fv_constraint_tree.specs.Reports.{violated}

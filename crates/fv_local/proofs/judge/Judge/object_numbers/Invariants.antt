@@ -1,7 +1,7 @@
 use Rattle.std.proofs.Common.{◌≡◌, map, take}
 use Rattle.fv_declare_schema.specs.PlacedView.{placed_view}
 use Rattle.fv_local.specs.Told.{picked, numbers_of}
-use Rattle.fv_model.specs.Views.{object_view}
+use Rattle.fv_bundle.specs.Views.{object_view}
 use Rattle.fv_constraint_tree.specs.Says.{of_object}
 use Rattle.fv_local.proofs.judge.Judge.object_numbers.Given as goal
 

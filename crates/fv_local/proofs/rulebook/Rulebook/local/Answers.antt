@@ -1,7 +1,7 @@
 use Rattle.std.proofs.Common.{◌≡◌, ℕ, List, Some, true, sym, ap, ◌∙◌}
 use Rattle.std.proofs.lemmas.Int.{to_z-of_z}
 use mir.Syntax.{w64}
-use Rattle.fv_model.specs.Views.{object_view}
+use Rattle.fv_bundle.specs.Views.{object_view}
 use Rattle.fv_local.specs.Below.{below}
 use Rattle.fv_local.specs.Reached.{plain_groups}
 use Rattle.fv_local.specs.TableView.{lists_view}

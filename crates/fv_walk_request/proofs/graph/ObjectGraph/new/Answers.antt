@@ -1,6 +1,6 @@
 use Rattle.std.proofs.Common.{◌≡◌, ◌<◌, ℕ, List, map, length, Some, None, Option, sym, ap, ap₂, subst, ◌∙◌}
-use Rattle.fv_model.specs.Bundles.{Thing, Things}
-use Rattle.fv_model.specs.Views.{bundle_view}
+use Rattle.fv_bundle.specs.Bundles.{Thing, Things}
+use Rattle.fv_bundle.specs.Views.{bundle_view}
 use Rattle.fv_walk_request.specs.Graphs.{links_of}
 use Rattle.fv_walk_request.specs.Requests.{object_number}
 use Rattle.fv_walk_request.specs.Ways.{number_in}

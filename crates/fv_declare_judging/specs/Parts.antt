@@ -1,0 +1,50 @@
+-- The parts of a draft; for private clauses.
+use Rattle.std.specs.Prelude.{◌≡◌, List, true, false, None, option_map, is_some, map, IfOk}
+use Rattle.std.specs.Result.{result_err}
+use Rattle.fv_datum.specs.Outcomes.{first}
+use Rattle.fv_declare_draft.specs.AllCascades.{Cascade}
+use Rattle.fv_declare_draft.specs.AllUses.{Use, uses_in}
+use Rattle.fv_declare_draft.specs.Drafts.{Drafted}
+use Rattle.fv_declare_draft.specs.UseViews.{cascade_view}
+use Rattle.fv_declare_groups.specs.Grouping.{IsGrouping}
+use Rattle.fv_declare_groups.specs.Numbered.{type_ranks, valid_places}
+use Rattle.fv_declare_schema.specs.NumberViews.{sequences_view, valid_place_view}
+use Rattle.fv_declare_schema.specs.PlacedView.{placed_view}
+use Rattle.fv_declare_schema.specs.SchemaView.{forms_view, form_groups_view}
+use Rattle.fv_constraint_tree.specs.Nodes.{Node}
+use Rattle.fv_constraint_tree.specs.Trees.{Tree}
+use Rattle.fv_groups.specs.Groups.{Groups}
+use Rattle.fv_model_types.specs.Types.{Declared}
+use Rattle.fv_message.specs.Table.{all_messages}
+use Rattle.fv_model_types.specs.TypesView.{types_view}
+use Rattle.fv_declare_judging.specs.Judging.{AreLed, name_conditions, unless_many, lacks_memory, placed_from}
+use Rattle.fv_declare_judging.specs.Types.{types_declared}
+use Rattle.fv_declare_judging.specs.Wording.{IsFirstFault}
+use Rattle.fv_declare_judging.specs.Schemas.{form_declared, form_grouped}
+use Rattle.fv_declare_judging.specs.declared.build.Numbers.{Numbers}
+use Rattle.fv_declare_judging.specs.declared.parts.Parts.{Parts}
+
+-- the names of a draft are known and stand as they may, and so do its groups; these are its uses, and its parts: its types, unless
+-- there are too many, its groups and cascades, and its messages, or what is wrong with the wording
+pub record IsChecked (d : Drafted) (us : List Use) (p : Parts) : Type 0 where
+  pub named : first (name_conditions d) ≡ None
+  pub led : AreLed d
+  pub uses : us ≡ uses_in d.types
+  pub types : option_map types_view p.types ≡ unless_many (types_declared d)
+  pub groups : IsGrouping d p.groups.graph (map cascade_view p.groups.cascades.items)
+  pub messages : IfOk p.wording (λ m. m ≡ all_messages d.messages)
+  pub wording : lacks_memory (result_err p.wording) ≡ false → IsFirstFault d (result_err p.wording)
+
+-- the types are there, and the messages
+pub record IsWhole (p : Parts) : Type 0 where
+  pub types : is_some p.types ≡ true
+  pub messages : result_err p.wording ≡ None
+
+-- what is said of a draft's uses, with these trees, of its sequences, of these cascades and of its forms, by the numbers of its types and
+-- of these groups
+pub record IsNumbered (d : Drafted) (all : Declared) (gs : Groups) (us : List Use) (cs : List Cascade) (ts : List (Tree Node)) (n : Numbers) : Type 0 where
+  pub occurrences : map placed_view n.occurrences.items ≡ placed_from gs 0 us ts
+  pub sequences : sequences_view n.sequences.items ≡ map (type_ranks gs) d.types
+  pub valid_places : map valid_place_view n.valid_places.items ≡ valid_places gs cs
+  pub forms : forms_view all n.forms ≡ map form_declared d.forms
+  pub form_groups : form_groups_view n.forms ≡ map (form_grouped gs) d.forms

@@ -1,0 +1,4 @@
+pub mod Judging
+pub mod Passes
+pub mod Records
+pub mod Rejudging

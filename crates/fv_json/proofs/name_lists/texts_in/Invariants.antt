@@ -1,9 +1,0 @@
-use Rattle.std.proofs.Common.{◌≡◌, map}
-use Rattle.serde_json.specs.Find.{as_str}
-use Rattle.fv_json.specs.MembersView.{items_view, items_left}
-use Rattle.fv_datum.specs.Members.{listed, each_some}
-use Rattle.fv_datum.proofs.Fronts.{with_front}
-use Rattle.fv_json.proofs.name_lists.texts_in.Given as goal
-
-abbrev pub invariant-loop-value : goal.invariant-loop-value
-invariant-loop-value l = with_front (map (λ n. n.now) l.names.items) (each_some as_str (items_left l.value-iterator)) ≡ each_some as_str (listed (items_view l.fn.values))

@@ -1,6 +1,0 @@
-use Rattle.std.proofs.Common.{sym}
-use Rattle.fv_model.proofs.TypingTells.{of_64}
-use Rattle.fv_model.proofs.typing.is_integer.Goals as goal
-
-pub returns : goal.returns
-returns c = sym (of_64 c.args.number c.ranges.number)
