@@ -82,6 +82,8 @@ MISTAKES = [
     ("{'do':'get'}", "C2", "C2 NotJson: no JSON can go on at column 2"),
     (BROKEN, "C2", f"C2 NotJson: no JSON can go on at column {len(BROKEN)}"),
     (BARE, "C2", f"C2 NotJson: no JSON can go on at column {BARE.index('v1') + 1}"),
+    # A byte that no UTF-8 has; what stands before it is no JSON, too.
+    ('{"do":"get","id":v\udcff', "C2", "C2 NotJson: no UTF-8 at column 19"),
     # No command.
     ("[]", "C3", "C3 Shape: a command is an object"),
     (line_of(id="v1"), "C3", 'C3 Shape: the member "do" is missing'),
@@ -150,7 +152,7 @@ MISTAKES = [
 
 
 def run(*words, lines):
-    return subprocess.run([PROGRAM, *words], input="".join(line + "\n" for line in lines), capture_output=True, text=True)
+    return subprocess.run([PROGRAM, *words], input="".join(line + "\n" for line in lines), capture_output=True, text=True, errors="surrogateescape")
 
 
 def main():
