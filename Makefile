@@ -15,7 +15,7 @@ try:
 	cd crates/formd && rt try -- rehearse --declarations "$(abspath $(DECLARATIONS))"
 
 # The merge gate: the limits of the house, `rt ci` (every proof from nothing, the must-fail edits, the tests, the programs' runs), and then scripts
-# over the programs that it built. A proof takes the processors that no other one waits for; with RT_JOBS=2 two run side by side, one processor each.
+# over the programs that it built. A proof a processor where memory holds them; with RT_JOBS=2 two run side by side, one processor each.
 test:
 	tests/gate.py
 

@@ -1,7 +1,7 @@
 #!/usr/bin/env python3
 """The merge gate: the house's limits and the paths in documents, `rt ci`, and then the scripts over the programs that it built.
 
-    tests/gate.py              as many proofs side by side as there are processors and memory; one that no other competes with takes up to four
+    tests/gate.py              a proof a processor where there are 5 GB of memory for each; else as many as `rt ci` reckons
     RT_JOBS=2 tests/gate.py    two proofs side by side, whatever the memory, a processor each
 
 Where a limit or a path is wrong nothing else is run. The scripts run side by side, one a processor, each in a form of a few minutes at most; `make served` and `make hostile`
@@ -26,6 +26,8 @@ ROOT = HERE.parent
 FORMD, CALLS = (ROOT / "crates" / name / "out" / name for name in ("formd", "refused_calls"))
 MODULES = ("flask",)
 SECONDS = 480
+# of memory for each processor
+GIGABYTES = 5
 
 
 class Script(NamedTuple):
@@ -115,10 +117,18 @@ def ran(scripts):
             run.kill()
 
 
+def lanes():
+    """The environment of `rt ci`, in which it runs a proof a processor where memory holds them: the largest take 3 to 6 GB, and it reckons with more."""
+    processors = len(os.sched_getaffinity(0))
+    available = re.search(r"MemAvailable: +(\d+) kB", Path("/proc/meminfo").read_text())
+    has_room = available and int(available[1]) >= GIGABYTES * processors << 20
+    return {"RT_JOBS": str(processors), **os.environ} if has_room else os.environ
+
+
 def prove():
     """Runs `rt ci`, whose output passes through: how many passed there, and how many failed."""
     last = ""
-    with subprocess.Popen(["rt", "ci"], cwd=ROOT, stdin=subprocess.DEVNULL, stdout=subprocess.PIPE, text=True, errors="replace") as run:
+    with subprocess.Popen(["rt", "ci"], cwd=ROOT, env=lanes(), stdin=subprocess.DEVNULL, stdout=subprocess.PIPE, text=True, errors="replace") as run:
         for line in run.stdout:
             print(line, end="", flush=True)
             last = line.strip() or last
