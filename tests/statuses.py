@@ -340,8 +340,10 @@ def main():
     if not PROGRAM.is_file():
         raise SystemExit(f"{PROGRAM} isn't there: make it by `make`")
     with tempfile.TemporaryDirectory() as name:
-        folder = Path(name)
-        folder.chmod(0o755)
+        # the files beside a database are looked at, also where it is the folder itself: so nobody else's stand beside that
+        folder = Path(name) / "databases"
+        folder.mkdir()
+        Path(name).chmod(0o755)
         files(folder)
         changes(folder)
         later_version(folder)
