@@ -126,15 +126,17 @@ def lanes():
 
 
 def prove():
-    """Runs `rt ci`, whose output passes through: how many passed there, and how many failed."""
-    last = ""
+    """Runs `rt ci`, whose output passes through: how many passed there, and how many failed. An edit that doesn't reach the prover says nothing of a
+    contract, and `rt ci` only notes it: it has failed here."""
+    last, bad = "", 0
     with subprocess.Popen(["rt", "ci"], cwd=ROOT, env=lanes(), stdin=subprocess.DEVNULL, stdout=subprocess.PIPE, text=True, errors="replace") as run:
         for line in run.stdout:
             print(line, end="", flush=True)
+            bad += ".edit: BAD EDIT" in line
             last = line.strip() or last
     counted = re.fullmatch(r"(\d+) passed, (\d+) failed", last)
     passed, failed = map(int, counted.groups()) if counted else (0, 1)
-    return passed, max(failed, int(run.returncode != 0))
+    return passed, max(failed + bad, int(run.returncode != 0))
 
 
 class Tally:

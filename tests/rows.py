@@ -205,14 +205,16 @@ def place_of(told):
 
 
 def uses(table, folder):
-    """Rows `NUMBER TYPE PLACE CONSTRAINT MESSAGE`: the uses of the head's declarations, by their numbers, each with what its message becomes. The
-    rows of what a use is composed of stand behind it: of these the numbers alone are compared, by the next use's."""
-    told = {line["number"]: line for line in explained(table, folder) if line["line"] == "constraint"}
-    for at, row in enumerate(table.rows):
-        number, kind, place, constraint, message = row.split(" ", 4)
+    """Rows `NUMBER TYPE PLACE CONSTRAINT MESSAGE`: the uses of the head's declarations, each behind it with what it is composed of, by their numbers,
+    each with what its message becomes."""
+    lines = explained(table, folder)
+    told = {line["number"]: line for line in lines if line["line"] == "constraint"}
+    told |= {line["number"]: told[line["use"]] | line for line in lines if line["line"] == "part"}
+    for row in table.rows:
+        number = row.split(" ", 1)[0]
         line = told.pop(int(number), None)
         if line is None:
-            yield row, str(at), number
+            yield row, row, "no such number"
             continue
         shown = re.sub(r"\{(\w+)\}", lambda name: text_of(line["attributes"].get(name[1], name[0])), line["message"])
         yield row, row, f"{line['number']} {place_of(line)} {line['constraint']} {shown}"

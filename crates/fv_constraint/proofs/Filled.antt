@@ -12,7 +12,7 @@ use Rattle.std.proofs.lemmas.Map.Keys.{sorted_head, sorted_tail}
 use Rattle.std.proofs.lemmas.Map.Text.{is_eq-slice_cmp}
 use Rattle.std.proofs.lemmas.Slice.Eq.{bytes_eq-Decides}
 use Rattle.fv_datum.proofs.Maps.{seen, at_insert}
-use Rattle.fv_builtin.proofs.PutIn.{given_alone}
+use Rattle.fv_constraint.proofs.PutIn.{given_alone}
 use Rattle.fv_datum.specs.Attributes.{AttributeValue, Attributes}
 use Rattle.fv_datum.specs.Lookup.{at_name}
 

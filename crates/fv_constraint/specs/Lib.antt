@@ -1,13 +1,9 @@
 pub mod Composed
 pub mod Composing
 pub mod Effect
-pub mod FaultNames
-pub mod Flattening
 pub mod Meanings
 pub mod MeantView
 pub mod Numbered
-pub mod Placed
 pub mod PlannedViews
-pub mod Read
 pub mod Refusals
-pub mod UseViews
+pub mod Whereabouts

@@ -1,20 +1,15 @@
--- What is refused of definitions, of the constraints in their trees, and of the places where these stand.
-use Rattle.std.specs.Prelude.{ℕ, List, [], ◌∷◌, ◌||◌, ◌&&◌, Bool, true, false, not, Option, Some, None, is_some}
+-- What is refused of definitions.
+use Rattle.std.specs.Prelude.{List, [], ◌∷◌, ◌||◌, ◌&&◌, Bool, true, false, not, Option, Some, None, is_some}
 use Rattle.std.specs.List.{list_any}
-use Rattle.std.specs.Option.{option_or}
-use Rattle.fv_builtin.specs.Given.{drafted, is_same}
-use Rattle.fv_builtin.specs.Table.{takes}
+use Rattle.fv_builtin.specs.Given.{is_same}
 use Rattle.fv_datum.specs.AttributeKinds.{attribute_kind}
-use Rattle.fv_datum.specs.Attributes.{AttributeValue, Attributes}
-use Rattle.fv_datum.specs.Lookup.{at_name}
+use Rattle.fv_datum.specs.Attributes.{AttributeValue}
 use Rattle.fv_datum.specs.declared.attribute_kind.AttributeKind.{AttributeKind}
-use Rattle.fv_registry.specs.Rules.{Known, knows_field, knows_object, takes as rule_takes}
-use Rattle.fv_constraint_tree.specs.Targets.{Target, on_object, on_data}
-use Rattle.fv_constraint.specs.Composing.{attributes_of, has_foreign}
-use Rattle.fv_declare_definition.specs.Definitions.{Rule, of_data, of_objects, AttributeDefinition, Definition}
-use Rattle.fv_constraint.specs.Meanings.{Meant, builtin, declared}
+use Rattle.fv_registry.specs.Rules.{Known, knows_field, knows_object}
+use Rattle.fv_constraint.specs.Composing.{refuses_composing}
+use Rattle.fv_declare_definition.specs.Definitions.{Rule, of_data, of_objects, Definition, Definitions}
 
--- ---- definitions
+-- ---- one definition
 
 -- there are none
 abbrev pub is_none_of : {X : Type 0} → List X → Bool
@@ -40,29 +35,16 @@ is_other_kind kind (Some v) = not (is_same kind (attribute_kind v))
 abbrev pub bad_default : Definition → Bool
 bad_default d = list_any (λ a. is_other_kind a.1.kind a.1.default) d.attributes
 
--- ---- the attributes that are given
+-- ---- definitions
 
--- an attribute has no value in effect: it is neither given nor has it a default
-abbrev pub lacks_value : List (List ℕ × AttributeDefinition) → Attributes → Bool
-lacks_value attributes given = list_any (λ a. not (is_some (option_or (at_name a.0 given) a.1.default))) attributes
+-- a definition has neither a rule nor a composing constraint
+abbrev pub is_empty_in : Definitions → Bool
+is_empty_in ds = list_any (λ d. is_empty d.1) ds
 
--- a constraint refuses the attributes that are given
-abbrev pub refuses_given : Meant → Attributes → Bool
-refuses_given (builtin which) given = not (is_some (drafted which given))
-refuses_given (declared d) given = has_foreign (attributes_of (declared d)) given || lacks_value d.attributes given
+-- the rule of a definition isn't there for its sort
+abbrev pub unknown_rule : Known → Definitions → Bool
+unknown_rule k ds = list_any (λ d. is_unknown_rule k d.1.rule) ds
 
--- ---- the place where a constraint stands
-
--- a rule isn't of the place's sort, or doesn't take its kind; no rule refuses no place
-abbrev pub rule_refuses : Known → Option Rule → Target → Bool
-rule_refuses k None place = false
-rule_refuses k (Some (of_data rule)) on_object = true
-rule_refuses k (Some (of_data rule)) (on_data kind) = not (rule_takes rule kind k)
-rule_refuses k (Some (of_objects rule)) on_object = false
-rule_refuses k (Some (of_objects rule)) (on_data kind) = true
-
--- a constraint's own test isn't on the place
-abbrev pub refuses_place : Known → Meant → Target → Bool
-refuses_place k (builtin which) on_object = true
-refuses_place k (builtin which) (on_data kind) = not (takes which kind)
-refuses_place k (declared d) place = rule_refuses k d.rule place
+-- a definition has a default of another kind, or a composing constraint that is refused
+abbrev pub bad_definition : Definitions → Bool
+bad_definition ds = list_any (λ d. bad_default d.1 || list_any (refuses_composing ds d.1) d.1.composing) ds

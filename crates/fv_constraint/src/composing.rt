@@ -2,10 +2,12 @@
 ghost use Rattle.std.specs.Prelude.{◌≡◌, map};
 ghost use Rattle.fv_builtin.specs.Given.{has_kind};
 ghost use Rattle.fv_constraint.specs.Meanings.{builtin, declared};
-ghost use Rattle.fv_declare_definition.specs.DefinitionViews.{composing_view, definition_view, definition_entry, override_entry};
+ghost use Rattle.fv_declare_definition.specs.DefinitionViews.{composing_view, definition_view, definition_entry};
 ghost use Rattle.fv_constraint.specs.MeantView.{meant_view};
-ghost use Rattle.fv_constraint.specs.Composing.{attributes_of, kind_in, has_foreign, are_alike, overrides_foreign, gives_overridden, is_set, lacks_attribute, refuses_composing};
+ghost use Rattle.fv_constraint.specs.Composing.{attributes_of, kind_in, are_alike, is_set};
+ghost use Rattle.fv_constraint.specs.Whereabouts.{foreign_given, unsuited_override, lacking_attribute, unsuited_at, refused_composing};
 
+use crate::at::ConstraintAt;
 use crate::meant::{Meant, meant_by};
 use fv_builtin::{BuiltinName, kind_of_attribute, required_attributes};
 use fv_datum::{AttributeKind, Attrs};
@@ -52,45 +54,35 @@ fn are_alike(one: Option<AttributeKind>, other: Option<AttributeKind>) -> bool
     }
 }
 
-/// Whether an attribute is given that the constraint doesn't have, or has with another kind.
-pub(crate) fn has_foreign(meant: Meant, given: &Attrs) -> bool
-    ensures { result ≡ has_foreign (attributes_of (meant_view meant.entry)) given.now }
+/// The first attribute that is given and that the constraint doesn't have, or has with another kind.
+pub fn foreign_given(meant: Meant, given: &Attrs) -> Option<usize>
+    ensures { result ≡ foreign_given (attributes_of (meant_view meant.entry)) given.now }
 {
-    for (name, value) in given.entries().iter() {
+    for (number, (name, value)) in given.entries().iter().enumerate() {
         if !has_kind(kind_in(meant, name.as_str()), value.kind()) {
-            return true;
+            return Some(number);
         }
     }
-    false
+    None
 }
 
-/// Whether an overridden attribute isn't one of the composing constraint, or the one whose value it
-/// takes isn't one of the composed constraint, or they are of two kinds.
-fn overrides_foreign(composed: Meant, meant: Meant, overrides: &BTreeMap<String, String>) -> bool
-    ensures { result ≡ overrides_foreign (attributes_of (meant_view composed.entry)) (attributes_of (meant_view meant.entry))
-        (map override_entry overrides.now.entries) }
+/// The first overridden attribute that isn't one of the composing constraint, or whose value is
+/// that of what isn't an attribute of the composed constraint, or of one of another kind, or that
+/// is given as well.
+fn unsuited_override(composed: Meant, meant: Meant, composing: &Composing) -> Option<usize>
+    ensures { result ≡ unsuited_override (attributes_of (meant_view composed.entry)) (attributes_of (meant_view meant.entry))
+        (composing_view composing.now) }
 {
-    for (name, outer) in overrides.iter() {
+    for (number, (name, outer)) in composing.overrides.iter().enumerate() {
         if !are_alike(
             kind_in(meant, name.as_str()),
             kind_in(composed, outer.as_str()),
-        ) {
-            return true;
+        ) || composing.with.find(name.as_str()).is_some()
+        {
+            return Some(number);
         }
     }
-    false
-}
-
-/// Whether an attribute is both given and overridden.
-fn gives_overridden(composing: &Composing) -> bool
-    ensures { result ≡ gives_overridden (composing_view composing.now) }
-{
-    for (name, _) in composing.overrides.iter() {
-        if composing.with.find(name.as_str()).is_some() {
-            return true;
-        }
-    }
-    false
+    None
 }
 
 /// Whether an attribute is given or overridden.
@@ -100,59 +92,83 @@ fn is_set(composing: &Composing, name: &str) -> bool
     composing.with.find(name).is_some() || composing.overrides.contains_key(name)
 }
 
-/// Whether an attribute that a built-in constraint has no default for is neither given nor
+/// The first of the attributes that a built-in constraint requires that is neither given nor
 /// overridden.
-fn lacks_required(which: BuiltinName, composing: &Composing) -> bool
-    ensures { result ≡ lacks_attribute (attributes_of (builtin which)) (composing_view composing.now) }
+#[tactic(auto, using(fv_first::proofs::Turns::name_turn))]
+fn lacking_required(which: BuiltinName, composing: &Composing) -> Option<usize>
+    ensures { result ≡ lacking_attribute (builtin which) (composing_view composing.now) }
 {
-    let names = required_attributes(which);
-    for name in names {
+    for (number, name) in required_attributes(which).iter().enumerate() {
         if !is_set(composing, name) {
-            return true;
+            return Some(number);
         }
     }
-    false
+    None
 }
 
-/// Whether an attribute that a declared constraint has no default for is neither given nor
+/// The first of a declared constraint's attributes that has no default and is neither given nor
 /// overridden.
-fn lacks_declared(definition: &Definition, composing: &Composing) -> bool
-    ensures { result ≡ lacks_attribute (attributes_of (declared (definition_view definition.now))) (composing_view composing.now) }
+fn lacking_declared(definition: &Definition, composing: &Composing) -> Option<usize>
+    ensures { result ≡ lacking_attribute (declared (definition_view definition.now)) (composing_view composing.now) }
 {
-    for (name, attribute) in definition.attributes.iter() {
+    for (number, (name, attribute)) in definition.attributes.iter().enumerate() {
         if attribute.default.is_none() && !is_set(composing, name.as_str()) {
-            return true;
+            return Some(number);
         }
     }
-    false
+    None
 }
 
-/// Whether an attribute without default is neither given nor overridden.
-fn lacks_attribute(meant: Meant, composing: &Composing) -> bool
-    ensures { result ≡ lacks_attribute (attributes_of (meant_view meant.entry)) (composing_view composing.now) }
+/// The first attribute without default that is neither given nor overridden.
+fn lacking_attribute(meant: Meant, composing: &Composing) -> Option<usize>
+    ensures { result ≡ lacking_attribute (meant_view meant.entry) (composing_view composing.now) }
 {
     match meant {
-        Meant::BuiltIn(which) => lacks_required(which, composing),
-        Meant::Declared(definition) => lacks_declared(definition, composing),
+        Meant::BuiltIn(which) => lacking_required(which, composing),
+        Meant::Declared(definition) => lacking_declared(definition, composing),
     }
 }
 
-/// Whether a definition's composing constraint is refused: it is neither built in nor declared, an
-/// attribute is given or overridden that it doesn't have, or of another kind, or both given and
-/// overridden, or one without default is neither.
-pub(crate) fn refuses_composing(
+/// What first doesn't suit a composing constraint whose name stands for `meant`: an attribute that
+/// is given or overridden, or one that is neither.
+fn unsuited_at(
+    composed: Meant,
+    meant: Meant,
+    number: usize,
+    place: usize,
+    composing: &Composing,
+) -> Option<ConstraintAt>
+    ensures { result ≡ unsuited_at (attributes_of (meant_view composed.entry)) (meant_view meant.entry) number place
+        (composing_view composing.now) }
+{
+    if let Some(given) = foreign_given(meant, &composing.with) {
+        return Some(ConstraintAt::Given(number, place, given));
+    }
+    if let Some(overridden) = unsuited_override(composed, meant, composing) {
+        return Some(ConstraintAt::Overridden(number, place, overridden));
+    }
+    if let Some(lacking) = lacking_attribute(meant, composing) {
+        return Some(ConstraintAt::Lacking(number, place, lacking));
+    }
+    None
+}
+
+/// What is refused first of a definition's composing constraint, both told by their numbers: that
+/// it is neither built in nor declared, an attribute that is given or overridden and that it
+/// doesn't have, or of another kind, one that is both given and overridden, or one without default
+/// that is neither.
+pub(crate) fn refused_composing(
     definitions: &BTreeMap<String, Definition>,
     definition: &Definition,
+    number: usize,
+    place: usize,
     composing: &Composing,
-) -> bool
-    ensures { result ≡ refuses_composing (map definition_entry definitions.now.entries) (definition_view definition.now)
+) -> Option<ConstraintAt>
+    ensures { result ≡ refused_composing (map definition_entry definitions.now.entries) (definition_view definition.now) number place
         (composing_view composing.now) }
 {
     let Some(meant) = meant_by(definitions, composing.constraint.as_str()) else {
-        return true;
+        return Some(ConstraintAt::Composing(number, place));
     };
-    has_foreign(meant, &composing.with)
-        || overrides_foreign(Meant::Declared(definition), meant, &composing.overrides)
-        || gives_overridden(composing)
-        || lacks_attribute(meant, composing)
+    unsuited_at(Meant::Declared(definition), meant, number, place, composing)
 }

@@ -18,7 +18,7 @@ use std::alloc::{AllocError, Global};
 use std::collections::BTreeMap;
 
 /// The value in effect of an attribute: that which is given, else the default.
-pub(crate) fn value_of<'a>(
+pub fn value_of<'a>(
     attribute: &'a AttributeDefinition,
     given: &'a Attrs,
     name: &str,
@@ -134,7 +134,7 @@ fn put_effective(
 }
 
 /// The attributes in effect of a constraint: those that are given, and the defaults of the others.
-pub(crate) fn in_effect(alloc: Global, meant: Meant, given: &Attrs) -> Result<Attrs, AllocError>
+pub fn in_effect(alloc: Global, meant: Meant, given: &Attrs) -> Result<Attrs, AllocError>
     ensures { IfOk result (λ attrs. IsMapOf (effective (meant_view meant.entry) given.now) attrs) }
 {
     let mut entries = copy_entries(alloc, given.entries())?;

@@ -1,21 +1,14 @@
-//! What is refused of definitions, of the constraints in their trees, and of the places where these
-//! stand.
-ghost use Rattle.std.specs.Prelude.{◌≡◌, map, option_map};
+//! What is refused of definitions.
+ghost use Rattle.std.specs.Prelude.{◌≡◌, option_map};
 ghost use Rattle.fv_datum.specs.Attributes.{attribute_view};
-ghost use Rattle.fv_declare_definition.specs.DefinitionViews.{attribute_entry, definition_view, rule_view};
-ghost use Rattle.fv_constraint.specs.MeantView.{meant_view};
-ghost use Rattle.fv_constraint_tree.specs.TargetViews.{target_view};
-ghost use Rattle.fv_constraint.specs.Refusals.{is_empty, is_unknown_rule, is_other_kind, bad_default, lacks_value, refuses_given, rule_refuses, refuses_place};
+ghost use Rattle.fv_declare_definition.specs.DefinitionViews.{definition_view};
+ghost use Rattle.fv_constraint.specs.Refusals.{is_empty, is_unknown_rule, is_other_kind};
+ghost use Rattle.fv_constraint.specs.Whereabouts.{bad_default_at};
 
-use crate::composing::{has_foreign, has_kind};
-use crate::effect::value_of;
-use crate::meant::Meant;
-use fv_builtin::{takes_attributes, takes_kind};
-use fv_constraint_tree::Target;
-use fv_datum::{Attribute, AttributeKind, Attrs};
-use fv_declare_definition::{AttributeDefinition, Definition, Rule};
+use crate::composing::has_kind;
+use fv_datum::{Attribute, AttributeKind};
+use fv_declare_definition::{Definition, Rule};
 use fv_registry::RuleSet;
-use std::collections::BTreeMap;
 
 /// Whether a definition has neither a rule nor a composing constraint.
 pub(crate) fn is_empty(definition: &Definition) -> bool
@@ -24,16 +17,16 @@ pub(crate) fn is_empty(definition: &Definition) -> bool
     definition.rule.is_none() && definition.composing.is_empty()
 }
 
-/// Whether the default of one of a definition's attributes is of another kind.
-pub(crate) fn has_bad_default(definition: &Definition) -> bool
-    ensures { result ≡ bad_default (definition_view definition.now) }
+/// The first of a definition's attributes whose default is of another kind.
+pub(crate) fn bad_default(definition: &Definition) -> Option<usize>
+    ensures { result ≡ bad_default_at (definition_view definition.now) }
 {
-    for (_, attribute) in definition.attributes.iter() {
+    for (number, (_, attribute)) in definition.attributes.iter().enumerate() {
         if is_other_kind(attribute.kind, attribute.default.as_ref()) {
-            return true;
+            return Some(number);
         }
     }
-    false
+    None
 }
 
 /// Whether a definition's rule isn't registered for its sort.
@@ -54,52 +47,5 @@ fn is_other_kind(kind: AttributeKind, default: Option<&Attribute>) -> bool
     match default {
         None => false,
         Some(value) => !has_kind(Some(kind), value.kind()),
-    }
-}
-
-/// Whether an attribute has no value in effect.
-fn lacks_value(attributes: &BTreeMap<String, AttributeDefinition>, given: &Attrs) -> bool
-    ensures { result ≡ lacks_value (map attribute_entry attributes.now.entries) given.now }
-{
-    for (name, attribute) in attributes.iter() {
-        if value_of(attribute, given, name.as_str()).is_none() {
-            return true;
-        }
-    }
-    false
-}
-
-/// Whether a rule isn't of the place's sort, or doesn't take its kind.
-fn rule_refuses<R: RuleSet>(rules: &R, rule: Option<Rule>, place: Target) -> bool
-    ensures { result ≡ rule_refuses (R.known rules.now) (option_map rule_view rule) (target_view place) }
-{
-    match (rule, place) {
-        (None, _) => false,
-        (Some(Rule::Data(number)), Target::Data(kind)) => !rules.takes(number, kind),
-        (Some(Rule::Objects(_)), Target::Object) => false,
-        _ => true,
-    }
-}
-
-/// Whether a constraint refuses the attributes that are given.
-pub(crate) fn refuses_given(meant: Meant, given: &Attrs) -> bool
-    ensures { result ≡ refuses_given (meant_view meant.entry) given.now }
-{
-    match meant {
-        Meant::BuiltIn(which) => !takes_attributes(which, given),
-        Meant::Declared(definition) => {
-            has_foreign(meant, given) || lacks_value(&definition.attributes, given)
-        }
-    }
-}
-
-/// Whether a constraint's own test isn't on the place.
-pub(crate) fn refuses_place<R: RuleSet>(rules: &R, meant: Meant, place: Target) -> bool
-    ensures { result ≡ refuses_place (R.known rules.now) (meant_view meant.entry) (target_view place) }
-{
-    match (meant, place) {
-        (Meant::BuiltIn(_), Target::Object) => true,
-        (Meant::BuiltIn(which), Target::Data(kind)) => !takes_kind(which, kind),
-        (Meant::Declared(definition), _) => rule_refuses(rules, definition.rule, place),
     }
 }

@@ -1,35 +1,39 @@
 //! Constraints that are neither built in nor declared.
 ghost use Rattle.std.specs.Prelude.{◌≡◌, map, not, is_some};
-ghost use Rattle.std.specs.List.{list_any};
 ghost use Rattle.fv_constraint.specs.Meanings.{composes_unknown, meant_by};
-ghost use Rattle.fv_declare_definition.specs.DefinitionViews.{composing_view, definition_entry};
+ghost use Rattle.fv_constraint.specs.Whereabouts.{unknown_composing};
+ghost use Rattle.fv_declare_definition.specs.DefinitionViews.{definition_entry, definition_view};
+ghost use Rattle.fv_first.specs.First.{first_where};
 
+use crate::at::ConstraintAt;
 use crate::meant::meant_by;
-use fv_declare_definition::{Composing, Definition};
+use fv_declare_definition::Definition;
 use std::collections::BTreeMap;
 
-/// Whether one of the composing constraints is neither built in nor declared.
-#[tactic(auto, using(crate::proofs::Anys::composing_turn))]
-fn has_unknown(definitions: &BTreeMap<String, Definition>, composing: &[Composing]) -> bool
-    ensures { result ≡ list_any (λ c. not (is_some (meant_by (map definition_entry definitions.now.entries) c.constraint)))
-        (map composing_view composing.now) }
+/// The first of a definition's composing constraints that is neither built in nor declared.
+#[tactic(auto, using(crate::proofs::FirstTurns::composing_turn))]
+fn unknown_in(definitions: &BTreeMap<String, Definition>, definition: &Definition) -> Option<usize>
+    ensures { result ≡ first_where (λ c. not (is_some (meant_by (map definition_entry definitions.now.entries) c.constraint)))
+        (definition_view definition.now).composing }
 {
-    for constraint in composing {
+    for (number, constraint) in definition.composing.iter().enumerate() {
         if meant_by(definitions, constraint.constraint.as_str()).is_none() {
-            return true;
+            return Some(number);
         }
     }
-    false
+    None
 }
 
-/// Whether a definition is composed of a constraint that is neither built in nor declared.
-pub fn composes_unknown(definitions: &BTreeMap<String, Definition>) -> bool
-    ensures { result ≡ composes_unknown (map definition_entry definitions.now.entries) }
+/// Where a definition is composed of a constraint that is neither built in nor declared: the first
+/// such composing constraint.
+pub fn unknown_composing(definitions: &BTreeMap<String, Definition>) -> Option<ConstraintAt>
+    ensures place { result ≡ unknown_composing (map definition_entry definitions.now.entries) }
+    ensures found { is_some result ≡ composes_unknown (map definition_entry definitions.now.entries) }
 {
-    for (_, definition) in definitions.iter() {
-        if has_unknown(definitions, &definition.composing) {
-            return true;
+    for (number, (_, definition)) in definitions.iter().enumerate() {
+        if let Some(place) = unknown_in(definitions, definition) {
+            return Some(ConstraintAt::Composing(number, place));
         }
     }
-    false
+    None
 }

@@ -22,8 +22,8 @@ use serde_json::{Map, Value};
 use std::alloc::{AllocError, Global};
 use std::collections::BTreeMap;
 
-/// The kind of an attribute.
-fn kind_named(name: &str) -> Option<AttributeKind>
+/// The kind of an attribute, by the word for it.
+pub fn kind_named(name: &str) -> Option<AttributeKind>
     ensures { result ≡ at_name name.now attribute_kinds }
 {
     match name {
@@ -131,7 +131,7 @@ fn rule_number_at(value: &Value, name: &str) -> Option<u32>
 }
 
 /// `{"field":N}` or `{"object":N}`.
-fn rule_of(value: &Value) -> Option<Rule>
+pub fn rule_of(value: &Value) -> Option<Rule>
     ensures { option_map rule_view result ≡ spec_rule (json_view value.now) }
 {
     match rule_number_at(value, "field") {

@@ -11,5 +11,5 @@ mod message;
 
 pub use attributes::attrs_of;
 pub use definition::{AttributeDefinition, Composing, Definition, Rule};
-pub use definitions::definitions_of;
+pub use definitions::{definitions_of, kind_named, rule_of};
 pub use message::message_of;

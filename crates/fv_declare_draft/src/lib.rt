@@ -18,4 +18,5 @@ pub use draft::{
     CascadeDraft, Conversion, Draft, FieldDraft, FormDraft, GroupDraft, GroupForm, MessageDraft,
     PlacedCascade, PlacedUse, TypeDraft, UseDraft,
 };
+pub use places::plain_use;
 pub use shape::draft_of;

@@ -28,8 +28,8 @@ pub(crate) struct Held<'a> {
     pub(crate) cascades: Vec<PlacedCascade<'a>>,
 }
 
-/// What a field of plain data holds.
-fn plain_use(name: &str) -> Option<TypeUse>
+/// What a field of plain data holds, by the word for it.
+pub fn plain_use(name: &str) -> Option<TypeUse>
     ensures { option_map type_use_view result ≡ at_name name.now plain_kinds }
 {
     match name {

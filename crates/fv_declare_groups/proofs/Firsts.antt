@@ -1,5 +1,5 @@
 -- The first fault of a draft's groups, by what is known of each condition.
-use Rattle.std.proofs.Common.{◌≡◌, ◌≢◌, inl, inr, List, [], ◌∷◌, Bool, true, false, ◌||◌, Option, Some, None, refl, ap, subst, true≢false, sym, ◌∙◌}
+use Rattle.std.proofs.Common.{◌≡◌, inl, inr, List, [], ◌∷◌, Bool, true, false, IsTrue, ◌||◌, Option, Some, None, option_map, is_some, refl, ap, subst, true≢false, sym, ◌∙◌}
 use Rattle.std.specs.List.{list_any}
 use Rattle.fv_declare_draft.specs.Drafts.{TypeDraft, Drafted}
 use Rattle.fv_groups.specs.Groups.{Groups}
@@ -9,6 +9,13 @@ use Rattle.fv_declare_draft.specs.AllUses.{Use, uses_in}
 use Rattle.fv_declare_groups.specs.First.{IsFirst, HasSome}
 use Rattle.fv_declare_groups.specs.Graphed.{IsFaultOf}
 use Rattle.fv_declare_groups.specs.Grouping.{groups_in, named_unknown, lacks_type, MembersMeet, is_misplaced, grouping_faults, Holds}
+use Rattle.std.specs.Option.{option_or}
+use Rattle.fv_groups.specs.Whereabouts.{unknown_name, inherited_sequence}
+use Rattle.fv_groups.specs.declared.fault.NameAt.{NameAt}
+use Rattle.fv_first.proofs.Laws.{map_told}
+use Rattle.fv_groups.proofs.Placed.{unknown_told, inherited_told}
+use Rattle.fv_declare_groups.specs.Whereabouts.{group_at, unknown_in, misused_in, IsAt, IsAtGroup}
+use Rattle.fv_declare_groups.specs.declared.at.GroupingAt.{GroupingAt}
 use Rattle.fv_declare_groups.specs.declared.fault.GroupingFault.{GroupingFault}
 use Rattle.fv_declare_groups.specs.declared.fault.GroupingFault.TheVariants.{UnknownGroup, CyclicInheritance, CyclicSequence, SequenceMisused, SequenceLacksType, DefaultInTypeSequence, ConversionMisplaced, Memory}
 
@@ -120,3 +127,53 @@ module _ (d : Drafted) where
 
   pub misplaced_same : (gs : Groups) (cs : List Cascade) (b : Bool) → gs ≡ groups_in d → cs ≡ cascades_in d.types → b ≡ list_any (is_misplaced gs) cs → list_any (is_misplaced (groups_in d)) (cascades_in d.types) ≡ b
   misplaced_same gs cs b groups cascades is = sym (is ∙ ap (λ (g : Groups). list_any (is_misplaced g) cs) groups ∙ ap (list_any (is_misplaced (groups_in d))) cascades)
+
+-- ---- where a fault of the groups by themselves is
+
+or_second_of : {P : Type 0} (a b : Option P) → a ≡ None → b ≡ option_or a b
+or_second_of a b none = rw none refl
+
+nothing : {P : Type 0} (o : Option P) → is_some o ≡ false → o ≡ None
+nothing None is = refl
+nothing (Some p) is = absurd (true≢false is)
+
+grouped_at : (found : Option GroupingAt) (o : Option NameAt) → found ≡ option_map group_at o → is_some o ≡ true → IsTrue (is_some found)
+grouped_at found o same is = ap is_some same ∙ map_told group_at o ∙ is
+
+pub fault_alone : (d : Drafted) (f : GroupingFault) (found : Option GroupingAt) → IsFaultOf (groups_in d) f → IsAtGroup (groups_in d) f found
+    → unknown_in (groups_in d) (uses_in d.types) d.types (cascades_in d.types) d.forms ≡ None → IsAt d f found
+fault_alone d UnknownGroup found is at none =
+    let gs = groups_in d in
+    (at ∙ or_second_of (unknown_in gs (uses_in d.types) d.types (cascades_in d.types) d.forms) (option_map group_at (unknown_name gs)) none, grouped_at found (unknown_name gs) at (unknown_told gs ∙ is))
+fault_alone d CyclicInheritance found is at none = at
+fault_alone d CyclicSequence found is at none = at
+fault_alone d SequenceMisused found is at none =
+    let gs = groups_in d in
+    let some : is_some (inherited_sequence gs) ≡ true = inherited_told gs ∙ is.3 in
+    (at ∙ first_stays (inherited_sequence gs) (misused_in gs (uses_in d.types)) some, grouped_at found (inherited_sequence gs) at some)
+  where
+    first_stays : (o : Option NameAt) (later : Option GroupingAt) → is_some o ≡ true → option_map group_at o ≡ option_or (option_map group_at o) later
+    first_stays None later is = absurd (true≢false (sym is))
+    first_stays (Some p) later is = refl
+fault_alone d SequenceLacksType found is at none = absurd is
+fault_alone d DefaultInTypeSequence found is at none = absurd is
+fault_alone d ConversionMisplaced found is at none = absurd is
+fault_alone d Memory found is at none = absurd is
+
+-- ---- where a draft has a fault
+
+-- what is found is found in lists that are the draft's
+pub unknown_same : (d : Drafted) (gs : Groups) (us : List Use) (cs : List Cascade) (found : Option GroupingAt) → gs ≡ groups_in d → us ≡ uses_in d.types → cs ≡ cascades_in d.types → found ≡ unknown_in gs us d.types cs d.forms
+    → found ≡ unknown_in (groups_in d) (uses_in d.types) d.types (cascades_in d.types) d.forms
+unknown_same d gs us cs found groups uses cascades is =
+    is ∙ ap (λ (g : Groups). unknown_in g us d.types cs d.forms) groups ∙ ap (λ (u : List Use). unknown_in (groups_in d) u d.types cs d.forms) uses
+    ∙ ap (λ (c : List Cascade). unknown_in (groups_in d) (uses_in d.types) d.types c d.forms) cascades
+
+pub name_at : (d : Drafted) (at : GroupingAt) → Some at ≡ unknown_in (groups_in d) (uses_in d.types) d.types (cascades_in d.types) d.forms → IsAt d UnknownGroup (Some at)
+name_at d at is = (ap (λ o. option_or o (option_map group_at (unknown_name (groups_in d)))) is, refl)
+
+pub use_at : (d : Drafted) (gs : Groups) (us : List Use) (at : GroupingAt) → AreSound (groups_in d) → gs ≡ groups_in d → us ≡ uses_in d.types → Some at ≡ misused_in gs us → IsAt d SequenceMisused (Some at)
+use_at d gs us at sound groups uses is =
+    let here : Some at ≡ misused_in (groups_in d) (uses_in d.types) = is ∙ ap (λ (g : Groups). misused_in g us) groups ∙ ap (misused_in (groups_in d)) uses in
+    let none : inherited_sequence (groups_in d) ≡ None = nothing (inherited_sequence (groups_in d)) (inherited_told (groups_in d) ∙ sound.proper) in
+    (here ∙ ap (λ o. option_or (option_map group_at o) (misused_in (groups_in d) (uses_in d.types))) (sym none), refl)

@@ -1,11 +1,13 @@
 //! Where objects are validated, and where groups are converted.
 ghost use Rattle.std.specs.Prelude.{◌≡◌, ◌∷◌, [], map};
-ghost use Rattle.std.specs.List.{list_any};
 ghost use Rattle.fv_declare_draft.specs.DraftViews.{conversion_view};
-ghost use Rattle.fv_declare_groups.specs.Grouping.{is_reference, is_misplaced};
+ghost use Rattle.fv_first.specs.First.{first_where};
+ghost use Rattle.fv_declare_groups.specs.Grouping.{is_reference};
+ghost use Rattle.fv_declare_groups.specs.Whereabouts.{misplaced_at, misplaced_in};
 ghost use Rattle.fv_groups.specs.Judged.{sequence_in};
 ghost use Rattle.fv_declare_draft.specs.UseViews.{cascade_view};
 
+use crate::at::{CascadeAt, GroupingAt};
 use crate::sequences::is_sequence;
 use fv_datum::Kind;
 use fv_declare_draft::{Cascade, Conversion};
@@ -18,40 +20,46 @@ fn is_reference(kind: Kind) -> bool
     matches!(kind, Kind::Ref)
 }
 
-/// Whether one of the conversions is of a sequence.
-#[tactic(auto, using(crate::proofs::Anys::conversion_turn))]
-fn converts_sequence(graph: &GroupGraph, conversions: &[Conversion]) -> bool
-    ensures { result ≡ list_any (λ r. sequence_in graph.now (r.from ∷ [])) (map conversion_view conversions.now) }
+/// The first of the conversions that is of a sequence.
+#[tactic(auto, using(crate::proofs::FirstTurns::conversion_turn))]
+fn converted_sequence(graph: &GroupGraph, conversions: &[Conversion]) -> Option<usize>
+    ensures { result ≡ first_where (λ r. sequence_in graph.now (r.from ∷ [])) (map conversion_view conversions.now) }
 {
-    for conversion in conversions {
+    for (number, conversion) in conversions.iter().enumerate() {
         if is_sequence(graph, conversion.from) {
-            return true;
+            return Some(number);
         }
     }
-    false
+    None
 }
 
-/// Whether what is no reference is validated there, a group is converted though nothing is validated,
-/// or a sequence is converted.
-fn is_misplaced(graph: &GroupGraph, given: &Cascade) -> bool
-    ensures { result ≡ is_misplaced graph.now (cascade_view given.now) }
+/// What is misplaced at a cascade: that something is validated that is no reference, that a group is
+/// converted though nothing is validated, or the conversion of a sequence.
+fn misplaced_at(graph: &GroupGraph, given: &Cascade) -> Option<CascadeAt>
+    ensures { result ≡ misplaced_at graph.now (cascade_view given.now) }
 {
     let cascade = &given.placed.cascade;
-    (cascade.valid && !is_reference(given.placed.kind))
-        || (!cascade.valid && !cascade.conversions.is_empty())
-        || converts_sequence(graph, &cascade.conversions)
+    if cascade.valid && !is_reference(given.placed.kind) {
+        return Some(CascadeAt::Valid);
+    }
+    if !cascade.valid && !cascade.conversions.is_empty() {
+        return Some(CascadeAt::Convert);
+    }
+    match converted_sequence(graph, &cascade.conversions) {
+        None => None,
+        Some(conversion) => Some(CascadeAt::Conversion(conversion)),
+    }
 }
 
-/// What is no reference is validated somewhere, a group is converted where nothing is validated, or a
-/// sequence is converted.
-#[tactic(auto, using(crate::proofs::Anys::cascade_turn))]
-pub(crate) fn has_misplaced(graph: &GroupGraph, cascades: &[Cascade]) -> bool
-    ensures { result ≡ list_any (is_misplaced graph.now) (map cascade_view cascades.now) }
+/// Where something is misplaced.
+#[tactic(auto, using(crate::proofs::FirstTurns::cascade_turn))]
+pub(crate) fn misplaced_in(graph: &GroupGraph, cascades: &[Cascade]) -> Option<GroupingAt>
+    ensures { result ≡ misplaced_in graph.now (map cascade_view cascades.now) }
 {
-    for given in cascades {
-        if is_misplaced(graph, given) {
-            return true;
+    for (number, given) in cascades.iter().enumerate() {
+        if let Some(at) = misplaced_at(graph, given) {
+            return Some(GroupingAt::Cascade(number, at));
         }
     }
-    false
+    None
 }

@@ -2,6 +2,7 @@
 //! as they may, and what they then name by its number.
 #![tactic(auto)]
 
+mod at;
 mod conversions;
 mod declared;
 mod fault;
@@ -9,11 +10,14 @@ mod found;
 mod judging;
 mod numbers;
 mod places;
+mod rings;
 mod sequences;
 mod unknown;
 
-pub use fault::GroupingFault;
+pub use at::{CascadeAt, GroupingAt};
+pub use fault::{GroupingFault, PlacedGroupingFault};
 pub use judging::{Grouping, grouped};
 pub use numbers::{groups_named, sequences_of};
 pub use places::valid_places;
-pub use sequences::has_long_sequence;
+pub use rings::{inheritance_ring, sequence_ring};
+pub use sequences::long_sequence;

@@ -4,12 +4,14 @@ ghost use Rattle.std.specs.List.{list_any};
 ghost use Rattle.std.specs.Option.{option_map_or};
 ghost use Rattle.std.specs.Str.{bytes_eq};
 ghost use Rattle.fv_declare_draft.specs.DraftViews.{type_view};
-ghost use Rattle.fv_declare_groups.specs.First.{HasSome};
-ghost use Rattle.fv_declare_groups.specs.Grouping.{lacks_type, is_long, MemberMeets, MembersMeet};
+ghost use Rattle.fv_first.specs.First.{first_where, IsFirstIn};
+ghost use Rattle.fv_declare_groups.specs.Grouping.{lacks_type, is_long, MemberMeets};
+ghost use Rattle.fv_declare_groups.specs.Whereabouts.{misused_in, lacking_in, IsMetAt, IsMetIn};
+ghost use Rattle.fv_groups.specs.Whereabouts.{first_sequence};
 ghost use Rattle.fv_groups.specs.Groups.{number_of, is_sequence};
-ghost use Rattle.fv_groups.specs.Judged.{sequence_in};
 ghost use Rattle.fv_declare_draft.specs.UseViews.{use_view};
 
+use crate::at::GroupingAt;
 use crate::declared::members_of;
 use fv_declare_draft::{TypeDraft, Use};
 use fv_groups::GroupGraph;
@@ -27,30 +29,30 @@ pub(crate) fn is_sequence(graph: &GroupGraph, name: &str) -> bool
     }
 }
 
-/// Whether one of the names is a sequence's.
-#[tactic(auto, using(crate::proofs::Anys::name_turn))]
-fn sequence_in(graph: &GroupGraph, names: &[&str]) -> bool
-    ensures { result ≡ sequence_in graph.now (map (λ n. n.now) names.now) }
+/// The first of the names that is a sequence's.
+#[tactic(auto, using(fv_first::proofs::Turns::name_turn))]
+fn first_sequence(graph: &GroupGraph, names: &[&str]) -> Option<usize>
+    ensures { result ≡ first_sequence graph.now (map (λ n. n.now) names.now) }
 {
-    for name in names {
+    for (number, name) in names.iter().enumerate() {
         if is_sequence(graph, name) {
-            return true;
+            return Some(number);
         }
     }
-    false
+    None
 }
 
-/// A constraint is in a sequence.
-#[tactic(auto, using(crate::proofs::Anys::use_turn))]
-pub(crate) fn has_misused(graph: &GroupGraph, uses: &[Use]) -> bool
-    ensures { result ≡ list_any (λ u. sequence_in graph.now u.draft.groups) (map use_view uses.now) }
+/// Where a constraint is in a sequence.
+#[tactic(auto, using(crate::proofs::FirstTurns::use_turn))]
+pub(crate) fn misused_in(graph: &GroupGraph, uses: &[Use]) -> Option<GroupingAt>
+    ensures { result ≡ misused_in graph.now (map use_view uses.now) }
 {
-    for given in uses {
-        if sequence_in(graph, given.groups) {
-            return true;
+    for (number, given) in uses.iter().enumerate() {
+        if let Some(name) = first_sequence(graph, given.groups) {
+            return Some(GroupingAt::Use(number, name));
         }
     }
-    false
+    None
 }
 
 /// Whether a name is among these.
@@ -76,17 +78,17 @@ fn lacks_own_name(declared: &TypeDraft) -> bool
     }
 }
 
-/// A type's sequence lacks the type's own name.
-#[tactic(auto, using(crate::proofs::Anys::type_turn))]
-pub(crate) fn has_lacking(types: &[TypeDraft]) -> bool
-    ensures { result ≡ list_any lacks_type (map type_view types.now) }
+/// Where a type's sequence lacks the type's own name.
+#[tactic(auto, using(crate::proofs::FirstTurns::type_turn))]
+pub(crate) fn lacking_in(types: &[TypeDraft]) -> Option<GroupingAt>
+    ensures { result ≡ lacking_in (map type_view types.now) }
 {
-    for declared in types {
+    for (number, declared) in types.iter().enumerate() {
         if lacks_own_name(declared) {
-            return true;
+            return Some(GroupingAt::Sequence(number));
         }
     }
-    false
+    None
 }
 
 /// Whether a member of a type's sequence, other than the type itself, meets `Default`.
@@ -102,39 +104,39 @@ fn member_meets(graph: &GroupGraph, type_name: &str, name: &str) -> bool
     }
 }
 
-/// Whether one of the members of a type's sequence, other than the type itself, meets `Default`.
-fn members_meet(graph: &GroupGraph, type_name: &str, members: &[&str]) -> bool
-    ensures { IsTrue result ↔ HasSome (MemberMeets graph.now type_name.now) (map (λ n. n.now) members.now) }
+/// The first of the members of a type's sequence, other than the type itself, that meets `Default`.
+fn met_among(graph: &GroupGraph, type_name: &str, members: &[&str]) -> Option<usize>
+    ensures { IsFirstIn (IsMetAt graph.now type_name.now) (map (λ n. n.now) members.now) result }
 {
-    for name in members {
+    for (number, name) in members.iter().enumerate() {
         if member_meets(graph, type_name, name) {
-            return true;
+            return Some(number);
         }
     }
-    false
+    None
 }
 
-/// A type's sequence has a member, other than the type itself, that meets `Default`.
-pub(crate) fn has_default(graph: &GroupGraph, types: &[TypeDraft]) -> bool
-    ensures { IsTrue result ↔ HasSome (MembersMeet graph.now) (map type_view types.now) }
+/// Where a type's sequence has a member, other than the type itself, that meets `Default`.
+pub(crate) fn met_in(graph: &GroupGraph, types: &[TypeDraft]) -> Option<GroupingAt>
+    ensures { IsFirstIn (IsMetIn graph.now) (map type_view types.now) result }
 {
-    for declared in types {
-        if members_meet(graph, declared.name, members_of(declared)) {
-            return true;
+    for (number, declared) in types.iter().enumerate() {
+        if let Some(member) = met_among(graph, declared.name, members_of(declared)) {
+            return Some(GroupingAt::Member(number, member));
         }
     }
-    false
+    None
 }
 
-/// Whether a type's sequence has more than 32 members.
-#[tactic(auto, using(crate::proofs::Anys::type_turn))]
-pub fn has_long_sequence(types: &[TypeDraft]) -> bool
-    ensures { result ≡ list_any is_long (map type_view types.now) }
+/// The number of the first type whose sequence has more than 32 members.
+#[tactic(auto, using(crate::proofs::FirstTurns::type_turn))]
+pub fn long_sequence(types: &[TypeDraft]) -> Option<usize>
+    ensures { result ≡ first_where is_long (map type_view types.now) }
 {
-    for declared in types {
+    for (number, declared) in types.iter().enumerate() {
         if members_of(declared).len() > MOST_MEMBERS {
-            return true;
+            return Some(number);
         }
     }
-    false
+    None
 }

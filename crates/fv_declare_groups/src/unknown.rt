@@ -1,122 +1,133 @@
-//! Groups that aren't declared.
+//! Groups that aren't declared, and where they are named.
 ghost use Rattle.std.specs.Prelude.{◌≡◌, map};
-ghost use Rattle.std.specs.List.{list_any};
 ghost use Rattle.fv_declare_draft.specs.DraftViews.{conversion_view, type_view, form_view, draft_view};
-ghost use Rattle.fv_declare_groups.specs.Grouping.{member_unknown, members_unknown, conversion_unknown, conversions_unknown, named_unknown};
+ghost use Rattle.fv_first.specs.First.{first_where};
+ghost use Rattle.fv_declare_groups.specs.Grouping.{member_unknown, conversion_unknown};
+ghost use Rattle.fv_declare_groups.specs.Whereabouts.{unknown_use, unknown_member, unknown_conversion, unknown_form, unknown_in};
+ghost use Rattle.fv_groups.specs.Whereabouts.{first_unknown};
 ghost use Rattle.fv_groups.specs.GroupViews.{declared_view};
 ghost use Rattle.fv_groups.specs.Groups.{all_groups};
-ghost use Rattle.fv_groups.specs.Judged.{unknown_in};
 ghost use Rattle.fv_declare_draft.specs.UseViews.{use_view, cascade_view};
 
+use crate::at::{CascadeAt, GroupingAt};
 use crate::declared::{Declared, is_group, members_of};
 use fv_declare_draft::{Cascade, Conversion, Draft, FormDraft, TypeDraft, Use};
 
-/// Whether one of the names is no group's.
-#[tactic(auto, using(crate::proofs::Anys::name_turn))]
-fn unknown_in(declared: &Declared, names: &[&str]) -> bool
-    ensures { result ≡ unknown_in (all_groups (declared_view declared.now)) (map (λ n. n.now) names.now) }
+/// The first of the names that is no group's.
+#[tactic(auto, using(fv_first::proofs::Turns::name_turn))]
+fn first_unknown(declared: &Declared, names: &[&str]) -> Option<usize>
+    ensures { result ≡ first_unknown (all_groups (declared_view declared.now)) (map (λ n. n.now) names.now) }
 {
-    for name in names {
+    for (number, name) in names.iter().enumerate() {
         if !is_group(declared, name) {
-            return true;
+            return Some(number);
         }
     }
-    false
+    None
 }
 
-/// A constraint is in a group that isn't declared.
-#[tactic(auto, using(crate::proofs::Anys::use_turn))]
-fn has_unknown_use(declared: &Declared, uses: &[Use]) -> bool
-    ensures { result ≡ list_any (λ u. unknown_in (all_groups (declared_view declared.now)) u.draft.groups) (map use_view uses.now) }
+/// Where a constraint is in a group that isn't declared.
+#[tactic(auto, using(crate::proofs::FirstTurns::use_turn))]
+fn unknown_use(declared: &Declared, uses: &[Use]) -> Option<GroupingAt>
+    ensures { result ≡ unknown_use (all_groups (declared_view declared.now)) (map use_view uses.now) }
 {
-    for given in uses {
-        if unknown_in(declared, given.groups) {
-            return true;
+    for (number, given) in uses.iter().enumerate() {
+        if let Some(name) = first_unknown(declared, given.groups) {
+            return Some(GroupingAt::Use(number, name));
         }
     }
-    false
+    None
 }
 
-/// Whether one of the members of a type's sequence is neither the type itself nor a group.
-#[tactic(auto, using(crate::proofs::Anys::name_turn))]
-fn unknown_among(declared: &Declared, type_name: &str, members: &[&str]) -> bool
-    ensures { result ≡ list_any (member_unknown (all_groups (declared_view declared.now)) type_name.now)
+/// The first of the members of a type's sequence that is neither the type itself nor a group.
+#[tactic(auto, using(fv_first::proofs::Turns::name_turn))]
+fn unknown_among(declared: &Declared, type_name: &str, members: &[&str]) -> Option<usize>
+    ensures { result ≡ first_where (member_unknown (all_groups (declared_view declared.now)) type_name.now)
         (map (λ n. n.now) members.now) }
 {
-    for name in members {
+    for (number, name) in members.iter().enumerate() {
         if *name != type_name && !is_group(declared, name) {
-            return true;
+            return Some(number);
         }
     }
-    false
+    None
 }
 
-/// A type's sequence has a member that is neither the type itself nor a group.
-#[tactic(auto, using(crate::proofs::Anys::type_turn))]
-fn has_unknown_member(declared: &Declared, types: &[TypeDraft]) -> bool
-    ensures { result ≡ list_any (members_unknown (all_groups (declared_view declared.now))) (map type_view types.now) }
+/// Where a type's sequence has a member that is neither the type itself nor a group.
+#[tactic(auto, using(crate::proofs::FirstTurns::type_turn))]
+fn unknown_member(declared: &Declared, types: &[TypeDraft]) -> Option<GroupingAt>
+    ensures { result ≡ unknown_member (all_groups (declared_view declared.now)) (map type_view types.now) }
 {
-    for given in types {
-        if unknown_among(declared, given.name, members_of(given)) {
-            return true;
+    for (number, given) in types.iter().enumerate() {
+        if let Some(member) = unknown_among(declared, given.name, members_of(given)) {
+            return Some(GroupingAt::Member(number, member));
         }
     }
-    false
+    None
 }
 
-/// Whether one of the conversions is of or to what is no group.
-#[tactic(auto, using(crate::proofs::Anys::conversion_turn))]
-fn unknown_converted(declared: &Declared, conversions: &[Conversion]) -> bool
-    ensures { result ≡ list_any (conversion_unknown (all_groups (declared_view declared.now)))
+/// The first of the conversions that is of or to what is no group.
+#[tactic(auto, using(crate::proofs::FirstTurns::conversion_turn))]
+fn unknown_converted(declared: &Declared, conversions: &[Conversion]) -> Option<usize>
+    ensures { result ≡ first_where (conversion_unknown (all_groups (declared_view declared.now)))
         (map conversion_view conversions.now) }
 {
-    for conversion in conversions {
+    for (number, conversion) in conversions.iter().enumerate() {
         if !is_group(declared, conversion.from) || !is_group(declared, conversion.to) {
-            return true;
+            return Some(number);
         }
     }
-    false
+    None
 }
 
-/// A conversion is of or to what is no group.
-#[tactic(auto, using(crate::proofs::Anys::cascade_turn))]
-fn has_unknown_conversion(declared: &Declared, cascades: &[Cascade]) -> bool
-    ensures { result ≡ list_any (conversions_unknown (all_groups (declared_view declared.now)))
-        (map cascade_view cascades.now) }
+/// Where a conversion is of or to what is no group.
+#[tactic(auto, using(crate::proofs::FirstTurns::cascade_turn))]
+fn unknown_conversion(declared: &Declared, cascades: &[Cascade]) -> Option<GroupingAt>
+    ensures { result ≡ unknown_conversion (all_groups (declared_view declared.now)) (map cascade_view cascades.now) }
 {
-    for given in cascades {
-        if unknown_converted(declared, &given.placed.cascade.conversions) {
-            return true;
+    for (number, given) in cascades.iter().enumerate() {
+        if let Some(conversion) = unknown_converted(declared, &given.placed.cascade.conversions) {
+            return Some(GroupingAt::Cascade(number, CascadeAt::Conversion(conversion)));
         }
     }
-    false
+    None
 }
 
-/// A form has a group that isn't declared.
-#[tactic(auto, using(crate::proofs::Anys::form_turn))]
-fn has_unknown_form(declared: &Declared, forms: &[FormDraft]) -> bool
-    ensures { result ≡ list_any (λ f. unknown_in (all_groups (declared_view declared.now)) f.groups) (map form_view forms.now) }
+/// Where a form has a group that isn't declared.
+#[tactic(auto, using(crate::proofs::FirstTurns::form_turn))]
+fn unknown_form(declared: &Declared, forms: &[FormDraft]) -> Option<GroupingAt>
+    ensures { result ≡ unknown_form (all_groups (declared_view declared.now)) (map form_view forms.now) }
 {
-    for form in forms {
-        if unknown_in(declared, &form.groups) {
-            return true;
+    for (number, form) in forms.iter().enumerate() {
+        if let Some(name) = first_unknown(declared, &form.groups) {
+            return Some(GroupingAt::Form(number, name));
         }
     }
-    false
+    None
 }
 
-/// A constraint, a type's sequence, a conversion or a form names a group that isn't declared.
-pub(crate) fn has_unknown(
+/// Where a constraint, else a type's sequence, else a conversion, else a form names a group that isn't
+/// declared.
+pub(crate) fn unknown_in(
     declared: &Declared,
     draft: &Draft,
     uses: &[Use],
     cascades: &[Cascade],
-) -> bool
-    ensures { result ≡ named_unknown (all_groups (declared_view declared.now)) (map use_view uses.now) (draft_view draft.now).types
+) -> Option<GroupingAt>
+    ensures { result ≡ unknown_in (all_groups (declared_view declared.now)) (map use_view uses.now) (draft_view draft.now).types
         (map cascade_view cascades.now) (draft_view draft.now).forms }
 {
-    has_unknown_use(declared, uses)
-        || has_unknown_member(declared, &draft.types)
-        || has_unknown_conversion(declared, cascades)
-        || has_unknown_form(declared, &draft.forms)
+    if let Some(at) = unknown_use(declared, uses) {
+        return Some(at);
+    }
+    if let Some(at) = unknown_member(declared, &draft.types) {
+        return Some(at);
+    }
+    if let Some(at) = unknown_conversion(declared, cascades) {
+        return Some(at);
+    }
+    if let Some(at) = unknown_form(declared, &draft.forms) {
+        return Some(at);
+    }
+    None
 }

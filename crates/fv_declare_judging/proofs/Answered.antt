@@ -3,11 +3,12 @@ use Rattle.std.proofs.Common.{◌≡◌, inl, inr, List, [], ◌∷◌, ◌++◌
 use Rattle.std.specs.List.{AllZip}
 use Rattle.std.specs.Prelude.{ℕ}
 use Rattle.fv_constraint.specs.Composed.{Planned}
-use Rattle.fv_constraint.specs.Flattening.{AreTreesOfUses, unknown_rule, bad_attribute, unexpected_type}
-use Rattle.fv_constraint.specs.Flattening as flat
-use Rattle.fv_constraint.specs.Read.{IsReadTree}
-use Rattle.fv_constraint.specs.declared.fault.FlattenFault.{FlattenFault}
-use Rattle.fv_constraint.specs.declared.fault.FlattenFault.TheVariants as fault
+use Rattle.fv_flatten.specs.Flattening.{AreTreesOfUses, bad_attribute, unexpected_type}
+use Rattle.fv_constraint.specs.Refusals.{unknown_rule}
+use Rattle.fv_flatten.specs.Flattening as flat
+use Rattle.fv_flatten.specs.Read.{IsReadTree}
+use Rattle.fv_flatten.specs.declared.fault.FlattenFault.{FlattenFault}
+use Rattle.fv_flatten.specs.declared.fault.FlattenFault.TheVariants as fault
 use Rattle.fv_constraint_tree.specs.Nodes.{Node}
 use Rattle.fv_constraint_tree.specs.Trees.{Tree}
 use Rattle.fv_datum.specs.Outcomes.{first}

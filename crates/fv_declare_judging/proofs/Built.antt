@@ -2,7 +2,7 @@
 use Rattle.std.proofs.Common.{◌≡◌, ◌<◌, ◌≤◌, List, length, map, zip, true, false, Result, Ok, IfOk, refl, sym, ap, subst, ◌∙◌, arith}
 use Rattle.std.specs.List.{AllZip, list_all, list_any}
 use Rattle.fv_constraint.specs.Composed.{Planned}
-use Rattle.fv_constraint.specs.Read.{IsReadTree}
+use Rattle.fv_flatten.specs.Read.{IsReadTree}
 use Rattle.fv_constraint_tree.specs.Nodes.{Node}
 use Rattle.fv_constraint_tree.specs.TargetFits.{tree_fits}
 use Rattle.fv_constraint_tree.specs.Trees.{Tree}
@@ -20,7 +20,7 @@ use Rattle.fv_declare_schema.specs.PlacedView.{placed_view}
 use Rattle.fv_declare_schema.specs.SchemaView.{declared_by}
 use Rattle.fv_groups.specs.Groups.{Groups}
 use Rattle.fv_message.specs.Table.{Messages, all_messages}
-use Rattle.fv_message.specs.declared.fault.MessageFault.{MessageFault}
+use Rattle.fv_declare_judging.specs.declared.placed.PlacedWording.{PlacedWording}
 use Rattle.fv_model_types.specs.TypesView.{types_view}
 use Rattle.fv_model_types.specs.declared.types.Types.{Types}
 use Rattle.fv_registry.specs.Rules.{Known}
@@ -36,8 +36,8 @@ use Rattle.fv_declare_judging.proofs.Ordered.{ordered, placed, placed_fit}
 use Rattle.fv_declare_judging.proofs.Valid.{none_misplaced}
 
 -- what is told of the messages that are there
-pub told : (P : Messages → Type 0) (r : Result Messages MessageFault) (m : Messages) → r ≡ Ok m → IfOk r P → P m
-told P r m is h = subst (λ (s : Result Messages MessageFault). IfOk s P) is h
+pub told : (P : Messages → Type 0) (r : Result Messages PlacedWording) (m : Messages) → r ≡ Ok m → IfOk r P → P m
+told P r m is h = subst (λ (s : Result Messages PlacedWording). IfOk s P) is h
 
 module _
     (draft : Draft)

@@ -1,16 +1,18 @@
 -- How many nodes trees have.
-use Rattle.std.proofs.Common.{◌≡◌, ℕ, zero, suc, get_or, take, add-one, ◌+◌, ◌<◌, ◌≤◌, List, [], ◌∷◌, ◌++◌, length, map, zip, min, Option, option_map, refl, sym, ap, ◌∙◌, arith}
+use Rattle.std.proofs.Common.{◌≡◌, ℕ, zero, suc, get_or, take, add-one, ◌+◌, ◌<◌, ◌≤◌, nat_lt, Bool, true, false, if◌then◌else◌, List, [], ◌∷◌, ◌++◌, length, map, zip, min, Option, Some, None, option_map, is_some, refl, sym, ap, ap₂, ◌∙◌, arith}
 use Rattle.std.proofs.lemmas.Bool.Decides.{nat_tests}
 use Rattle.std.proofs.lemmas.List.{map-append}
 use Rattle.std.proofs.lemmas.Slice.Zip.{all_zipped_more}
 use Rattle.std.specs.List.{AllZip}
+use Rattle.std.specs.Option.{option_or}
 use Rattle.fv_constraint.specs.Composed.{Planned, IsTreeOf}
 use Rattle.fv_declare_definition.specs.Definitions.{Definitions}
-use Rattle.fv_constraint.specs.Flattening.{Use, AreTreesOfUses}
+use Rattle.fv_flatten.specs.Flattening.{Use, AreTreesOfUses}
+use Rattle.fv_declare_judging.specs.LimitPlaces.{crowded_from}
 use Rattle.fv_declare_judging.specs.Used.{used}
 use Rattle.fv_declare_draft.specs.UseViews.{use_view}
 use Rattle.fv_declare_draft.specs.declared.all_uses.Use as code
-use Rattle.fv_constraint.specs.Read.{IsReadTree, AreReadTrees}
+use Rattle.fv_flatten.specs.Read.{IsReadTree, AreReadTrees}
 use Rattle.fv_constraint_tree.specs.Targets.{Target}
 use Rattle.fv_constraint_tree.specs.Nodes.{Node}
 use Rattle.fv_constraint_tree.specs.Trees.{Tree, tree, Trees, none, more, size, sizes}
@@ -81,3 +83,40 @@ capped limit all further sum part is so = grind (arith, nat_tests, is, so)
 
 pub few : (limit all sum : ℕ) → sum ≡ min limit all → sum ≤ limit
 few limit all sum is = grind (arith, nat_tests, is)
+
+-- ---- where the count passes its limit
+
+pub crowded_more : (count n : ℕ) (ts : List (Tree Planned)) (t : Tree Planned)
+    → crowded_from count n (ts ++ t ∷ []) ≡ option_or (crowded_from count n ts) (if nat_lt 1024 (count + count_nodes ts + size t) then Some (n + length ts) else None)
+crowded_more count n [] t = ap₂ (λ (m k : ℕ). if nat_lt 1024 m then Some k else None) (omega arith) (omega arith)
+crowded_more count n (s ∷ ts) t = go (nat_lt 1024 (count + size s)) (crowded_more (count + size s) (suc n) ts t)
+  where
+    go : (b : Bool)
+        → crowded_from (count + size s) (suc n) (ts ++ t ∷ []) ≡ option_or (crowded_from (count + size s) (suc n) ts) (if nat_lt 1024 (count + size s + count_nodes ts + size t) then Some (suc n + length ts) else None)
+        → (if b then Some n else crowded_from (count + size s) (suc n) (ts ++ t ∷ []))
+        ≡ option_or (if b then Some n else crowded_from (count + size s) (suc n) ts) (if nat_lt 1024 (count + (size s + count_nodes ts) + size t) then Some (n + suc (length ts)) else None)
+    go true h = refl
+    go false h = h ∙ ap₂ (λ (m k : ℕ). option_or (crowded_from (count + size s) (suc n) ts) (if nat_lt 1024 m then Some k else None)) (omega arith) (omega arith)
+
+-- a tree with which there are too many is told exactly where there are too many
+pub crowded_told : (count n : ℕ) (ts : List (Tree Planned)) → nat_lt 1024 count ≡ false → is_some (crowded_from count n ts) ≡ nat_lt 1024 (count + count_nodes ts)
+crowded_told count n [] short = sym short ∙ ap (nat_lt 1024) (omega arith)
+crowded_told count n (t ∷ ts) short = go (nat_lt 1024 (count + size t)) refl (crowded_told (count + size t) (suc n) ts)
+  where
+    go : (b : Bool) → nat_lt 1024 (count + size t) ≡ b → (nat_lt 1024 (count + size t) ≡ false → is_some (crowded_from (count + size t) (suc n) ts) ≡ nat_lt 1024 (count + size t + count_nodes ts))
+        → is_some (if b then Some n else crowded_from (count + size t) (suc n) ts) ≡ nat_lt 1024 (count + (size t + count_nodes ts))
+    go true is h = grind (arith, nat_tests, is)
+    go false is h = h is ∙ ap (nat_lt 1024) (omega arith)
+
+-- what is found with one tree more, by a count that stops at a limit
+pub found_more : (found : Option ℕ) (nodes i : ℕ) (ts : List (Tree Planned)) (t : Tree Planned) → found ≡ crowded_from 0 0 ts → nodes ≡ min 1025 (count_nodes ts + size t) → length ts ≡ i
+    → option_or found (if nat_lt 1024 nodes then Some i else None) ≡ crowded_from 0 0 (ts ++ t ∷ [])
+found_more found nodes i ts t is so long =
+    let same : nat_lt 1024 nodes ≡ nat_lt 1024 (count_nodes ts + size t) = grind (arith, nat_tests, so) in
+    ap₂ (λ (o : Option ℕ) (b : Bool). option_or o (if b then Some i else None)) is same ∙ ap (λ (k : ℕ). option_or (crowded_from 0 0 ts) (if nat_lt 1024 (count_nodes ts + size t) then Some k else None)) (sym long)
+    ∙ ap₂ (λ (m k : ℕ). option_or (crowded_from 0 0 ts) (if nat_lt 1024 m then Some k else None)) (omega arith) (omega arith) ∙ sym (crowded_more 0 0 ts t)
+
+pub taken_long : {X : Type 0} (xs : List X) (i : ℕ) → i < length xs → length (take i xs) ≡ i
+taken_long [] i less = absurd (omega arith)
+taken_long (x ∷ xs) zero less = refl
+taken_long (x ∷ xs) (suc i) less = ap suc (taken_long xs i (omega arith))

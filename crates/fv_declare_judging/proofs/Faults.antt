@@ -1,64 +1,83 @@
--- The first fault of a draft's wording, by that of its messages.
-use Rattle.std.proofs.Common.{◌≡◌, ◌≢◌, ◌↔◌, Bool, true, false, IsTrue, Some, None, Result, Ok, Err, IfOk, IfErr, MatchResult, inl, inr, refl, sym, subst, ◌∙◌, true≢false}
-use Rattle.std.specs.Result.{result_err}
+-- The first fault of a draft's wording, by that of its messages, and its place.
+use Rattle.std.proofs.Common.{◌≡◌, ◌≢◌, false, Option, Some, None, option_map, is_some, Result, Ok, Err, IfOk, IfErr, MatchResult, inl, inr, refl, sym, ap, subst, ◌∙◌, true≢false}
+use Rattle.fv_declare_draft.specs.AllUses.{uses_in}
 use Rattle.fv_declare_draft.specs.Drafts.{Drafted}
 use Rattle.fv_message.specs.Judged.{IsLarge, IsMisspelt, AreSound, IsFault}
 use Rattle.fv_message.specs.Table.{Messages, all_messages}
+use Rattle.fv_message.specs.Whereabouts as message
 use Rattle.fv_message.specs.declared.fault.MessageFault.{MessageFault}
 use Rattle.fv_message.specs.declared.fault.MessageFault.TheVariants.{TooLarge, MessageSyntax, MessageCycle, Memory}
-use Rattle.fv_declare_judging.specs.Judging.{lacks_memory}
-use Rattle.fv_declare_judging.specs.Templates.{templates, has_long, HasMisspelt}
-use Rattle.fv_declare_judging.specs.Wording.{IsTooLarge, IsIllWritten, IsFirstFault, judged_with}
+use Rattle.fv_message.specs.declared.fault.MessagesAt.{MessagesAt}
+use Rattle.fv_message.specs.declared.fault.PlacedMessageFault.{PlacedMessageFault}
+use Rattle.fv_declare_judging.specs.Templates.{templates, has_long}
+use Rattle.fv_declare_judging.specs.Wording.{IsTooLarge, IsIllWritten, IsFirstFault}
+use Rattle.fv_declare_judging.specs.WordingPlaces.{flawed_template, worded, judged_with, IsWordedAt}
+use Rattle.fv_declare_judging.specs.declared.placed.PlacedWording.{PlacedWording}
+use Rattle.fv_declare_judging.specs.declared.placed.WordingAt.{WordingAt}
+use Rattle.fv_declare_judging.specs.declared.templates.TemplateFlaw.TheVariants.{Long, Misspelt}
+use Rattle.fv_declare_judging.proofs.Flawed.{flawed_told, misspelt_told}
 
 module _ (d : Drafted) where
-  -- where no template is too long, only the messages can be
-  not_large : has_long (templates d) ≡ false → (IsLarge d.messages → ⊥) → IsTooLarge d → ⊥
-  not_large short small (inl long) = true≢false (sym long ∙ short)
-  not_large short small (inr large) = small large
-
   -- what is found of the messages by themselves
-  abbrev pub IsFound : Result Messages MessageFault → Type 0
-  IsFound found = MatchResult found (λ m. (m ≡ all_messages d.messages) × AreSound d.messages) (IsFault d.messages)
+  abbrev pub IsFound : Result Messages PlacedMessageFault → Type 0
+  IsFound found = MatchResult found (λ m. (m ≡ all_messages d.messages) × AreSound d.messages) (λ e. IsFault d.messages e.fault × message.IsAt d.messages e.fault e.at)
 
   -- and what of all
-  abbrev pub IsJudged : Result Messages MessageFault → Type 0
+  abbrev pub IsJudged : Result Messages PlacedWording → Type 0
   IsJudged (Ok m) = (m ≡ all_messages d.messages) × IsFirstFault d None
-  IsJudged (Err fault) = fault ≢ Memory → IsFirstFault d (Some fault)
+  IsJudged (Err p) = p.fault ≢ Memory → IsFirstFault d (Some p.fault) × IsWordedAt d p.fault p.at
 
-  module _ (misspelt : Bool) (short : has_long (templates d) ≡ false) (is : IsTrue misspelt ↔ HasMisspelt (templates d)) where
-    ill : misspelt ≡ true → IsIllWritten d
-    ill so = inl (is.0 so)
+  -- a template that is too long is the first fault
+  pub long_first : (p : WordingAt) → Some p ≡ flawed_template Long (uses_in d.types) d.definitions → IsTooLarge d
+  long_first p is = inl (sym (flawed_told Long d) ∙ sym (ap is_some is))
 
-    well : misspelt ≡ false → (IsMisspelt d.messages → ⊥) → IsIllWritten d → ⊥
-    well so other (inl one) = true≢false (sym (is.1 one) ∙ so)
-    well so other (inr two) = other two
+  module _ (none : flawed_template Long (uses_in d.types) d.definitions ≡ None) where
+    short : has_long (templates d) ≡ false
+    short = sym (flawed_told Long d) ∙ ap is_some none
 
-    judged_if : (b : Bool) (found : Result Messages MessageFault) → misspelt ≡ b → IsFound found → IsJudged (judged_with b found)
-    judged_if true (Ok m) so found = λ other. (not_large short found.1.small, ill so)
-    judged_if false (Ok m) so found = (found.0, (not_large short found.1.small, well so found.1.spelt, found.1.no_cycle))
-    judged_if b (Err TooLarge) so found = λ other. inr found
-    judged_if b (Err Memory) so found = λ other. absurd (other refl)
-    judged_if true (Err MessageSyntax) so found = λ other. (not_large short found.0, ill so)
-    judged_if false (Err MessageSyntax) so found = λ other. (not_large short found.0, inr found.1)
-    judged_if true (Err MessageCycle) so found = λ other. (not_large short found.0, ill so)
-    judged_if false (Err MessageCycle) so found = λ other. (not_large short found.0, well so found.1, found.2)
+    -- where no template is too long, only the messages can be
+    not_large : (IsLarge d.messages → ⊥) → IsTooLarge d → ⊥
+    not_large small (inl long) = true≢false (sym long ∙ short)
+    not_large small (inr large) = small large
 
-    pub judged : (found told : Result Messages MessageFault) → IsFound found → told ≡ judged_with misspelt found → IsJudged told
-    judged found told h e = subst IsJudged (sym e) (judged_if misspelt found refl h)
+    module _ (misspelt : Option WordingAt) (is : misspelt ≡ flawed_template Misspelt (uses_in d.types) d.definitions) where
+      ill : (p : WordingAt) → misspelt ≡ Some p → IsIllWritten d
+      ill p so = inl ((misspelt_told d).0 (ap is_some (sym is ∙ so)))
 
-  pub taken : (told : Result Messages MessageFault) → IsJudged told → IfOk told (λ m. (m ≡ all_messages d.messages) × IsFirstFault d None)
+      at_template : (p : WordingAt) → misspelt ≡ Some p → IsWordedAt d MessageSyntax (Some p)
+      at_template p so = inl (sym so ∙ is, ap is_some (sym is ∙ so))
+
+      well : misspelt ≡ None → (IsMisspelt d.messages → ⊥) → IsIllWritten d → ⊥
+      well so other (inl one) = true≢false (sym ((misspelt_told d).1 one) ∙ ap is_some (sym is ∙ so))
+      well so other (inr two) = other two
+
+      refused_if : (o : Option WordingAt) (f : MessageFault) (at : Option MessagesAt) → misspelt ≡ o → IsFault d.messages f → message.IsAt d.messages f at → IsJudged (Err (worded o f at))
+      refused_if (Some p) TooLarge at so fault placed = λ other. (inr fault, inr (none, (at, placed, refl)))
+      refused_if None TooLarge at so fault placed = λ other. (inr fault, inr (none, (at, placed, refl)))
+      refused_if (Some p) Memory at so fault placed = λ other. absurd (other refl)
+      refused_if None Memory at so fault placed = λ other. absurd (other refl)
+      refused_if (Some p) MessageSyntax at so fault placed = λ other. ((not_large fault.0, ill p so), at_template p so)
+      refused_if None MessageSyntax at so fault placed = λ other. ((not_large fault.0, inr fault.1), inr (sym is ∙ so, (at, placed, refl)))
+      refused_if (Some p) MessageCycle at so fault placed = λ other. ((not_large fault.0, ill p so), at_template p so)
+      refused_if None MessageCycle at so fault placed = λ other. ((not_large fault.0, well so fault.1, fault.2), ap (option_map _) placed)
+
+      judged_if : (o : Option WordingAt) (found : Result Messages PlacedMessageFault) → misspelt ≡ o → IsFound found → IsJudged (judged_with o found)
+      judged_if (Some p) (Ok m) so found = λ other. ((not_large found.1.small, ill p so), at_template p so)
+      judged_if None (Ok m) so found = (found.0, (not_large found.1.small, well so found.1.spelt, found.1.no_cycle))
+      judged_if (Some p) (Err e) so found = refused_if (Some p) e.fault e.at so found.0 found.1
+      judged_if None (Err e) so found = refused_if None e.fault e.at so found.0 found.1
+
+      pub judged : (found : Result Messages PlacedMessageFault) (told : Result Messages PlacedWording) → IsFound found → told ≡ judged_with misspelt found → IsJudged told
+      judged found told h e = subst IsJudged (sym e) (judged_if misspelt found refl h)
+
+  pub taken : (told : Result Messages PlacedWording) → IsJudged told → IfOk told (λ m. (m ≡ all_messages d.messages) × IsFirstFault d None)
   taken (Ok m) h = h
-  taken (Err fault) h = tt
+  taken (Err p) h = tt
 
-  pub refused : (told : Result Messages MessageFault) → IsJudged told → IfErr told (λ f. f ≢ Memory → IsFirstFault d (Some f))
+  pub refused : (told : Result Messages PlacedWording) → IsJudged told → IfErr told (λ p. p.fault ≢ Memory → IsFirstFault d (Some p.fault))
   refused (Ok m) h = tt
-  refused (Err fault) h = h
+  refused (Err p) h = λ other. (h other).0
 
-  -- what is told of the wording is its first fault, where memory wasn't refused
-  pub first_fault : (told : Result Messages MessageFault) → lacks_memory (result_err told) ≡ false → IfOk told (λ m. (m ≡ all_messages d.messages) × IsFirstFault d None)
-      → IfErr told (λ f. f ≢ Memory → IsFirstFault d (Some f)) → IsFirstFault d (result_err told)
-  first_fault (Ok m) kept taken refused = taken.1
-  first_fault (Err TooLarge) kept taken refused = refused (λ e. cc)
-  first_fault (Err MessageSyntax) kept taken refused = refused (λ e. cc)
-  first_fault (Err MessageCycle) kept taken refused = refused (λ e. cc)
-  first_fault (Err Memory) kept taken refused = cc
+  pub placed : (told : Result Messages PlacedWording) → IsJudged told → IfErr told (λ p. p.fault ≢ Memory → IsWordedAt d p.fault p.at)
+  placed (Ok m) h = tt
+  placed (Err p) h = λ other. (h other).1

@@ -6,7 +6,7 @@ use Rattle.std.proofs.lemmas.List.{length-map}
 use Rattle.std.specs.List.{AllByRecursion, AllZip, list_any}
 use Rattle.serde_json.specs.Data as json
 use Rattle.fv_constraint.specs.Composed.{Planned}
-use Rattle.fv_constraint.specs.Flattening.{AreTreesOfUses}
+use Rattle.fv_flatten.specs.Flattening.{AreTreesOfUses}
 use Rattle.fv_constraint_tree.specs.Trees.{Tree}
 use Rattle.fv_datum.proofs.Bools.{or_right}
 use Rattle.fv_datum.specs.Parsing.{json_of}

@@ -14,7 +14,7 @@ use Rattle.fv_declare_groups.specs.Grouping.{is_misplaced}
 use Rattle.fv_declare_groups.specs.Numbered.{groups_named, type_ranks, valid_places}
 use Rattle.fv_groups.specs.Groups.{Groups}
 use Rattle.fv_constraint_tree.specs.TargetFits.{tree_fits}
-use Rattle.fv_constraint.specs.Read.{IsReadTree}
+use Rattle.fv_flatten.specs.Read.{IsReadTree}
 use Rattle.fv_constraint_tree.specs.Nodes.{Node}
 use Rattle.fv_constraint_tree.specs.Trees.{Tree, size}
 use Rattle.fv_registry.specs.Rules.{Known}

@@ -1,5 +1,5 @@
 -- The answer by the faults that come later is that by those before them too, where none of these holds.
-use Rattle.std.proofs.Common.{◌≡◌, ◌≢◌, inl, inr, List, [], ◌∷◌, drop, Bool, true, false, Option, Some, None, Result, Ok, Err, refl, ap, ◌∙◌}
+use Rattle.std.proofs.Common.{◌≡◌, ◌≢◌, inl, inr, List, [], ◌∷◌, drop, Bool, true, false, Option, Some, None, Result, Ok, Err, refl, sym, ap, subst, ◌∙◌}
 use Rattle.std.specs.Prelude.{ℕ, option_and_then}
 use Rattle.std.specs.Option.{ok_or}
 use Rattle.serde_json.specs.Data as json
@@ -16,12 +16,14 @@ use Rattle.fv_declare_groups.specs.declared.fault.GroupingFault.{GroupingFault}
 use Rattle.fv_declare_schema.specs.Declarations.{Declarations}
 use Rattle.fv_registry.specs.Rules.{Known}
 use Rattle.fv_declare_judging.specs.Conditions.{unknown_name}
-use Rattle.fv_declare_judging.specs.Declares.{draft_in, faults, IsAnswer, Declares}
+use Rattle.fv_declare_judging.specs.Declares.{draft_in, OfDraft, faults, IsAnswer, Declares}
 use Rattle.fv_declare_judging.specs.FaultNames.{grouping_fault}
 use Rattle.fv_declare_judging.specs.Judging.{IsAnswerTo, AreRead, DeclaredBy, draft_faults, composition_faults, tree_faults, name_conditions}
 use Rattle.fv_declare_judging.specs.Naming.{bad_name}
+use Rattle.fv_declare_judging.specs.Whereabouts.{IsAt, IsNameAt, IsPlaced, PlacedIn}
 use Rattle.fv_declare_judging.specs.declared.fault.DeclFault.{DeclFault}
-use Rattle.fv_declare_judging.specs.declared.fault.DeclFault.TheVariants.{NotJson, Shape, BadName, UnknownName, CyclicComposition}
+use Rattle.fv_declare_judging.specs.declared.fault.DeclFault.TheVariants.{NotJson, Shape, BadName, UnknownName, UnknownGroup, CyclicInheritance, CyclicSequence, SequenceMisused, SequenceLacksType, DefaultInTypeSequence, ConversionMisplaced, CyclicComposition, EmptyConstraint, TooLarge, UnknownRule, Attribute, UnexpectedType, BadPattern, MessageSyntax, MessageCycle, Memory}
+use Rattle.fv_declare_judging.specs.declared.placed.At.{At}
 use Rattle.fv_declare_judging.proofs.Answered.{untrue, of_draft, not_of_draft, grouped, passed}
 
 module _ (k : Known) (d : Drafted) where
@@ -107,6 +109,62 @@ module _ (k : Known) (bytes : List ℕ) where
   unfolding Declares
   unread f e = let h = no_json (json_of bytes) f e in inl (h.0, ap (λ g. Err g) h.1)
 
+  -- and has no place
+  pub unread_placed : (f : DeclFault) → ok_or (json_of bytes) NotJson ≡ Err f → IsPlaced k bytes f None
+  unread_placed f e = subst (λ (g : DeclFault). IsPlaced k bytes g None) (sym (no_json (json_of bytes) f e).1) refl
+
   pub declared_by : (j : json.Data) → json_of bytes ≡ Some j → (answer : Result Declarations DeclFault) → DeclaredBy k j answer → Declares k bytes answer
   unfolding DeclaredBy
   declared_by j is answer told = told bytes is
+
+-- where the draft of a JSON value has a fault, that of a text which is the value has it
+pub placed_by : (k : Known) (bytes : List ℕ) (j : json.Data) → json_of bytes ≡ Some j → (fault : DeclFault) (at : Option At) → PlacedIn k j fault at → IsPlaced k bytes fault at
+placed_by k bytes j read fault at (inl h) = subst (λ (f : DeclFault). IsPlaced k bytes f at) (sym h.0) h.1
+placed_by k bytes j read fault at (inr placed) = go fault (placed.0, ap (option_and_then draft_of) read ∙ placed.1, placed.2)
+  where
+    go : (f : DeclFault) → OfDraft bytes (λ d. IsAt k d f at) → IsPlaced k bytes f at
+    go NotJson h = h.2
+    go Shape h = h.2
+    go BadName h = h
+    go UnknownName h = h
+    go UnknownGroup h = h
+    go CyclicInheritance h = h
+    go CyclicSequence h = h
+    go SequenceMisused h = h
+    go SequenceLacksType h = h
+    go DefaultInTypeSequence h = h
+    go ConversionMisplaced h = h
+    go CyclicComposition h = h
+    go EmptyConstraint h = h
+    go TooLarge h = h
+    go UnknownRule h = h
+    go Attribute h = h
+    go UnexpectedType h = h
+    go BadPattern h = h
+    go MessageSyntax h = h
+    go MessageCycle h = h
+    go Memory h = h
+
+-- where a fault of names is, the draft has it
+pub name_placed : (k : Known) (d : Drafted) (f : DeclFault) (at : Option At) → IsNameAt d f at → IsAt k d f at
+name_placed k d NotJson at h = absurd h
+name_placed k d Shape at h = absurd h
+name_placed k d BadName at h = h
+name_placed k d UnknownName at h = h
+name_placed k d UnknownGroup at h = absurd h
+name_placed k d CyclicInheritance at h = absurd h
+name_placed k d CyclicSequence at h = absurd h
+name_placed k d SequenceMisused at h = absurd h
+name_placed k d SequenceLacksType at h = absurd h
+name_placed k d DefaultInTypeSequence at h = absurd h
+name_placed k d ConversionMisplaced at h = absurd h
+name_placed k d CyclicComposition at h = absurd h
+name_placed k d EmptyConstraint at h = absurd h
+name_placed k d TooLarge at h = absurd h
+name_placed k d UnknownRule at h = absurd h
+name_placed k d Attribute at h = absurd h
+name_placed k d UnexpectedType at h = absurd h
+name_placed k d BadPattern at h = absurd h
+name_placed k d MessageSyntax at h = absurd h
+name_placed k d MessageCycle at h = absurd h
+name_placed k d Memory at h = absurd h

@@ -4,9 +4,9 @@ use Rattle.std.specs.List.{list_any, AllZip}
 use Rattle.fv_datum.specs.Lookup.{at_name}
 use Rattle.fv_model_types.specs.Types.{Declared, has_unknown, too_many}
 use Rattle.fv_constraint.specs.Composed.{Planned}
-use Rattle.fv_constraint.specs.Flattening as flat
+use Rattle.fv_flatten.specs.Flattening as flat
 use Rattle.fv_constraint.specs.Meanings.{composes_unknown, meant_by}
-use Rattle.fv_constraint.specs.Read.{IsReadTree}
+use Rattle.fv_flatten.specs.Read.{IsReadTree}
 use Rattle.fv_constraint_tree.specs.Nodes.{Node}
 use Rattle.fv_constraint_tree.specs.Trees.{Tree}
 use Rattle.fv_declare_draft.specs.AllUses.{uses_in}

@@ -3,7 +3,8 @@ use Rattle.std.specs.Prelude.{◌≡◌, ◌⊎◌, ℕ, List, [], ◌∷◌, tr
 use Rattle.std.specs.List.{list_any}
 use Rattle.fv_constraint.specs.Composed as composed
 use Rattle.fv_constraint.specs.Composed.{Planned}
-use Rattle.fv_constraint.specs.Flattening.{AreTreesOfUses, is_empty_in, unknown_rule, bad_attribute, unexpected_type, HasBadPattern}
+use Rattle.fv_flatten.specs.Flattening.{AreTreesOfUses, bad_attribute, unexpected_type, HasBadPattern}
+use Rattle.fv_constraint.specs.Refusals.{is_empty_in, unknown_rule}
 use Rattle.fv_constraint_tree.specs.Trees.{Tree}
 use Rattle.fv_datum.specs.Parsing.{json_of}
 use Rattle.fv_declare_draft.specs.AllCascades.{cascades_in}

@@ -2,8 +2,8 @@
 use Rattle.std.specs.Prelude.{ℕ, List, [], codes}
 use Rattle.fv_declare_judging.specs.declared.fault.DeclFault.{DeclFault}
 use Rattle.fv_declare_judging.specs.declared.fault.DeclFault.TheVariants.{NotJson, Shape, BadName, UnknownName, UnknownGroup, CyclicInheritance, CyclicSequence, SequenceMisused, SequenceLacksType, DefaultInTypeSequence, ConversionMisplaced, CyclicComposition, EmptyConstraint, TooLarge, UnknownRule, Attribute, UnexpectedType, BadPattern, MessageSyntax, MessageCycle, Memory}
-use Rattle.fv_constraint.specs.declared.fault.FlattenFault.{FlattenFault}
-use Rattle.fv_constraint.specs.declared.fault.FlattenFault.TheVariants as flat
+use Rattle.fv_flatten.specs.declared.fault.FlattenFault.{FlattenFault}
+use Rattle.fv_flatten.specs.declared.fault.FlattenFault.TheVariants as flat
 use Rattle.fv_declare_groups.specs.declared.fault.GroupingFault.{GroupingFault}
 use Rattle.fv_declare_groups.specs.declared.fault.GroupingFault.TheVariants as group
 use Rattle.fv_message.specs.declared.fault.MessageFault.{MessageFault}

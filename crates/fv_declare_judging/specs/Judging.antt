@@ -1,8 +1,8 @@
 -- What is found on the way to a schema; for private clauses.
-use Rattle.std.specs.Prelude.{◌≡◌, ℕ, ◌+◌, ◌<◌, ◌≤◌, List, [], ◌∷◌, length, drop, zip, Bool, true, false, Option, Some, None, option_map, if◌then◌else◌, Result, Ok}
+use Rattle.std.specs.Prelude.{◌≡◌, ℕ, ◌+◌, ◌<◌, ◌≤◌, List, [], ◌∷◌, length, drop, zip, Bool, true, false, Option, Some, option_map, Result, Ok}
 use Rattle.std.specs.List.{AllByRecursion, AllZip}
 use Rattle.fv_constraint.specs.Composed.{Planned}
-use Rattle.fv_constraint.specs.Read.{IsReadTree}
+use Rattle.fv_flatten.specs.Read.{IsReadTree}
 use Rattle.fv_constraint_tree.specs.TargetFits.{tree_fits}
 use Rattle.serde_json.specs.Data as json
 use Rattle.fv_datum.specs.Parsing.{json_of}
@@ -12,7 +12,7 @@ use Rattle.fv_declare_judging.specs.Naming.{bad_name}
 use Rattle.fv_declare_judging.specs.Schemas.{IsDeclared}
 use Rattle.fv_declare_draft.specs.Drafts.{FieldDraft, Drafted}
 use Rattle.fv_declare_draft.specs.Places.{PlacedCascade}
-use Rattle.fv_model_types.specs.Types.{Declared, kind_of, too_many}
+use Rattle.fv_model_types.specs.Types.{kind_of}
 use Rattle.fv_constraint_tree.specs.Nodes.{Node}
 use Rattle.fv_constraint_tree.specs.Trees.{Tree, size}
 use Rattle.fv_declare_schema.specs.Declarations.{Placed, Declarations, count_nodes}
@@ -54,10 +54,6 @@ name_conditions d = (bad_name d, BadName) ∷ (unknown_name d, UnknownName) ∷ 
 abbrev pub is_wordy : Option MessageFault → Bool
 is_wordy (Some message.TooLarge) = true
 is_wordy _ = false
-
--- types, unless there are too many of them or of the fields of one, or too many containers stand one in another
-abbrev pub unless_many : Declared → Option Declared
-unless_many ts = if too_many ts then None else Some ts
 
 -- a fault of messages is want of memory
 abbrev pub lacks_memory : Option MessageFault → Bool

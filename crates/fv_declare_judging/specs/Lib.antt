@@ -2,10 +2,14 @@ pub mod Conditions
 pub mod Declares
 pub mod FaultNames
 pub mod Judging
+pub mod LimitPlaces
+pub mod NamePlaces
 pub mod Naming
 pub mod Parts
 pub mod Schemas
 pub mod Templates
 pub mod Types
 pub mod Used
+pub mod Whereabouts
 pub mod Wording
+pub mod WordingPlaces

@@ -2,7 +2,7 @@
 use Rattle.std.specs.Prelude.{◌≡◌, ℕ, List, map, zip}
 use Rattle.std.specs.List.{AllByRecursion, AllZip}
 use Rattle.fv_constraint.specs.Composed.{Planned}
-use Rattle.fv_constraint.specs.Read.{IsReadTree}
+use Rattle.fv_flatten.specs.Read.{IsReadTree}
 use Rattle.fv_constraint_tree.specs.Trees.{Tree}
 use Rattle.fv_datum.specs.Ascending.{IsAscending}
 use Rattle.fv_declare_draft.specs.AllCascades.{cascades_in}

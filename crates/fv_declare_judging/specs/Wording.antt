@@ -1,5 +1,5 @@
 -- What can be wrong with the wording of declarations.
-use Rattle.std.specs.Prelude.{◌≡◌, Bool, true, false, Option, Some, None, Result, Err}
+use Rattle.std.specs.Prelude.{◌≡◌, true, Option, Some, None}
 use mathlib.Core.Logic.{◌⊎◌}
 use Rattle.fv_declare_draft.specs.Drafts.{Drafted}
 use Rattle.fv_message.specs.Judged.{IsLarge, IsMisspelt, IsCircular}
@@ -23,10 +23,3 @@ IsFirstFault d (Some MessageSyntax) = (IsTooLarge d → ⊥) × IsIllWritten d
 IsFirstFault d (Some MessageCycle) = (IsTooLarge d → ⊥) × (IsIllWritten d → ⊥) × IsCircular (all_messages d.messages)
 IsFirstFault d (Some Memory) = ⊥
 IsFirstFault d None = (IsTooLarge d → ⊥) × (IsIllWritten d → ⊥) × (IsCircular (all_messages d.messages) → ⊥)
-
--- for a private clause: what is found of messages, where a template may be ill written beside them
-abbrev pub judged_with : {T : Type 0} → Bool → Result T MessageFault → Result T MessageFault
-judged_with misspelt (Err TooLarge) = Err TooLarge
-judged_with misspelt (Err Memory) = Err Memory
-judged_with true _ = Err MessageSyntax
-judged_with false found = found

@@ -5,7 +5,7 @@ ghost use Rattle.fv_constraint.specs.Composed.{Planned};
 ghost use Rattle.fv_datum.specs.Outcomes.{Gives};
 ghost use Rattle.fv_declare_draft.specs.DraftViews.{form_view, draft_view};
 ghost use Rattle.fv_constraint_tree.specs.TargetFits.{tree_fits};
-ghost use Rattle.fv_constraint.specs.Read.{IsReadTree};
+ghost use Rattle.fv_flatten.specs.Read.{IsReadTree};
 ghost use Rattle.fv_datum.specs.Ascending.{IsAscending};
 ghost use Rattle.fv_model_types.specs.TypesView.{types_view};
 ghost use Rattle.fv_constraint_tree.specs.Trees.{Tree};
@@ -144,7 +144,7 @@ pub(crate) fn build(
         → AllZip (λ u o. tree_fits k u.place o ≡ true) (used_in (draft_view draft.now)) trees.items → fits k s ≡ true) }
     ensures refused { IfErr result (λ f. f ≡ DeclFault.Memory) }
 {
-    let (Some(types), Ok(messages)) = (parts.types, parts.wording) else {
+    let (Ok(types), Ok(messages)) = (parts.types, parts.wording) else {
         unreachable!()
     };
     let Grouping { graph, cascades } = parts.groups;

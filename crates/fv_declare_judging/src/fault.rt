@@ -1,8 +1,8 @@
 ghost use Rattle.std.specs.Prelude.{◌≡◌};
 ghost use Rattle.fv_declare_judging.specs.FaultNames.{decl_fault_name, decl_fault_code};
 
-use fv_constraint::FlattenFault;
 use fv_declare_groups::GroupingFault;
+use fv_flatten::FlattenFault;
 use fv_message::MessageFault;
 use std::alloc::{AllocError, AllocFailed};
 use thiserror::Error;

@@ -1,29 +1,33 @@
 //! Declarations whose names are known and stand as they may: the trees that their uses are composed to, or
 //! the first fault.
-ghost use Rattle.std.specs.Prelude.{◌≡◌, ◌≢◌, ◌||◌, List, nat_lt, Ok, Err, IfOk, IfErr, map, min, is_some, not, true, false};
+ghost use Rattle.std.specs.Prelude.{◌≡◌, ◌≢◌, List, nat_lt, Some, None, Ok, Err, IfOk, IfErr, map, if◌then◌else◌, is_some, not, false, true};
 ghost use Rattle.std.specs.List.{AllZip, list_any};
-ghost use Rattle.std.specs.Result.{result_err};
+ghost use Rattle.std.specs.Option.{option_or};
 ghost use Rattle.fv_constraint.specs.Composed.{Planned};
 ghost use Rattle.fv_constraint.specs.Meanings.{meant_by};
+ghost use Rattle.fv_flatten.specs.Whereabouts as constraint;
 ghost use Rattle.fv_declare_draft.specs.DraftViews.{draft_view};
-ghost use Rattle.fv_constraint.specs.Flattening.{AreTreesOfUses, FlattensAll};
+ghost use Rattle.fv_flatten.specs.Flattening.{AreTreesOfUses, FlattensAll};
 ghost use Rattle.fv_declare_groups.specs.Grouping.{groups_in};
 ghost use Rattle.fv_constraint_tree.specs.TargetFits.{tree_fits};
 ghost use Rattle.fv_constraint_tree.specs.Trees.{Tree};
-ghost use Rattle.fv_declare_schema.specs.Declarations.{count_nodes};
-ghost use Rattle.fv_declare_judging.specs.Conditions.{has_many};
-ghost use Rattle.fv_declare_judging.specs.Judging.{IsAnswerTo, AreRead, composition_faults, tree_faults, is_wordy, lacks_memory};
+ghost use Rattle.fv_declare_judging.specs.Judging.{IsAnswerTo, AreRead, composition_faults, tree_faults, lacks_memory};
+ghost use Rattle.fv_declare_judging.specs.LimitPlaces.{declared_limit, crowded_from, first_limit, types_told};
 ghost use Rattle.fv_declare_judging.specs.Parts.{IsChecked, IsWhole};
 ghost use Rattle.fv_declare_judging.specs.Used.{used};
+ghost use Rattle.fv_declare_judging.specs.Whereabouts.{IsAt};
+ghost use Rattle.fv_declare_judging.specs.WordingPlaces.{fault_told, limit_told};
 ghost use Rattle.fv_declare_draft.specs.UseViews.{use_view};
 
 use crate::fault::DeclFault;
 use crate::parts::Parts;
+use crate::placed::{At, LimitAt, PlacedFault, PlacedWording, WordingAt};
 use crate::used::used_in;
-use fv_constraint::{Composition, FlattenFault, flatten_all, has_empty, trees_are_unique};
+use fv_constraint::{Composition, ConstraintAt, empty_definition};
 use fv_constraint_tree::Occurrence;
 use fv_declare_draft::{Draft, Use};
-use fv_declare_groups::has_long_sequence;
+use fv_declare_groups::long_sequence;
+use fv_flatten::{FlattenFault, PlacedFlattenFault, flatten_all, trees_are_unique};
 use fv_groups::GroupGraph;
 use fv_message::{MessageFault, Messages};
 use fv_registry::RuleSet;
@@ -36,55 +40,96 @@ const MOST_DECLARED: usize = 256;
 const MOST_NODES: usize = 1024;
 
 /// Too many forms, declared constraints or groups, or members of a sequence or groups that one
-/// inherits.
-fn has_many(draft: &Draft, groups: &GroupGraph) -> bool
+/// inherits: the first of these.
+fn declared_limit(draft: &Draft, groups: &GroupGraph) -> Option<LimitAt>
     requires { groups.now ≡ groups_in (draft_view draft.now) }
-    ensures { result ≡ has_many (draft_view draft.now) }
+    ensures { result ≡ declared_limit (draft_view draft.now) }
 {
-    draft.forms.len() > MOST_DECLARED
-        || draft.definitions.len() > MOST_DECLARED
-        || groups.is_large()
-        || has_long_sequence(&draft.types)
-}
-
-/// Whether a limit on messages is passed.
-fn is_wordy(wording: &Result<Messages, MessageFault>) -> bool
-    ensures { result ≡ is_wordy (result_err wording.now) }
-{
-    matches!(wording, Err(MessageFault::TooLarge))
+    if draft.forms.len() > MOST_DECLARED {
+        return Some(LimitAt::Forms);
+    }
+    if draft.definitions.len() > MOST_DECLARED {
+        return Some(LimitAt::Definitions);
+    }
+    if let Some(limit) = groups.passed_limit() {
+        return Some(LimitAt::Groups(limit));
+    }
+    match long_sequence(&draft.types) {
+        None => None,
+        Some(number) => Some(LimitAt::Sequence(number)),
+    }
 }
 
 /// Whether memory was refused.
-fn lacks_memory(wording: &Result<Messages, MessageFault>) -> bool
-    ensures { result ≡ lacks_memory (result_err wording.now) }
+fn lacks_memory(wording: &Result<Messages, PlacedWording>) -> bool
+    ensures { result ≡ lacks_memory (fault_told wording.now) }
 {
-    matches!(wording, Err(MessageFault::Memory))
+    match wording {
+        Err(placed) => matches!(placed.fault, MessageFault::Memory),
+        Ok(_) => false,
+    }
 }
 
-/// Too many of these, or nodes of all trees, or a limit on messages is passed.
-fn is_large(
-    draft: &Draft,
-    groups: &GroupGraph,
-    wording: &Result<Messages, MessageFault>,
-    nodes: usize,
-) -> bool
-    requires { groups.now ≡ groups_in (draft_view draft.now) }
-    ensures { result ≡ ((has_many (draft_view draft.now) || is_wordy (result_err wording.now)) || nat_lt 1024 nodes) }
+/// Which limit of the wording is passed.
+fn wording_limit(wording: &Result<Messages, PlacedWording>) -> Option<WordingAt>
+    ensures { result ≡ limit_told wording.now }
 {
-    has_many(draft, groups) || is_wordy(wording) || nodes > MOST_NODES
+    match wording {
+        Err(placed) if matches!(placed.fault, MessageFault::TooLarge) => placed.at,
+        _ => None,
+    }
 }
 
-/// How many nodes the trees of the uses have, but no more than 1,025. No tree is made.
-fn count_nodes(composition: &Composition, uses: &[Use]) -> usize
+/// What is found already, else a number at which so many nodes are too many.
+fn first_beyond(found: Option<usize>, number: usize, nodes: usize) -> Option<usize>
+    ensures { result ≡ option_or found (if nat_lt 1024 nodes then Some number else None) }
+{
+    if found.is_none() && nodes > MOST_NODES {
+        return Some(number);
+    }
+    found
+}
+
+/// The first use with whose tree the trees of the uses have more than 1,024 nodes. No tree is made.
+fn crowded_use(composition: &Composition, uses: &[Use]) -> Option<usize>
     requires { list_any (λ u. not (is_some (meant_by composition.now u.draft.constraint))) (map use_view uses.now) ≡ false }
-    ensures { (ts : List (Tree Planned)) × AreTreesOfUses composition.now (map used (map use_view uses.now)) ts
-        × (result ≡ min 1025 (count_nodes ts)) }
+    ensures { (ts : List (Tree Planned)) × AreTreesOfUses composition.now (map used (map use_view uses.now)) ts × (result ≡ crowded_from 0 0 ts) }
 {
     let mut count = 0;
-    for given in uses {
+    let mut crowded = None;
+    for (number, given) in uses.iter().enumerate() {
         count = (count + composition.size_of(given.constraint)).min(MOST_NODES + 1);
+        crowded = first_beyond(crowded, number, count);
     }
-    count
+    crowded
+}
+
+/// The first limit that is passed: of types, of what else is declared, of the wording, of nodes.
+fn first_limit(
+    draft: &Draft,
+    uses: &[Use],
+    parts: &Parts,
+    composition: &Composition,
+) -> Option<LimitAt>
+    requires groups { parts.now.groups.graph ≡ groups_in (draft_view draft.now) }
+    requires named { list_any (λ u. not (is_some (meant_by composition.now u.draft.constraint))) (map use_view uses.now) ≡ false }
+    ensures { (ts : List (Tree Planned)) × AreTreesOfUses composition.now (map used (map use_view uses.now)) ts
+        × (result ≡ first_limit (types_told parts.now.types) (draft_view draft.now) (limit_told parts.now.wording) ts) }
+{
+    let crowded = crowded_use(composition, uses);
+    if let Err(at) = &parts.types {
+        return Some(LimitAt::Types(*at));
+    }
+    if let Some(at) = declared_limit(draft, &parts.groups.graph) {
+        return Some(at);
+    }
+    if let Some(at) = wording_limit(&parts.wording) {
+        return Some(LimitAt::Wording(at));
+    }
+    match crowded {
+        None => None,
+        Some(number) => Some(LimitAt::Use(number)),
+    }
 }
 
 /// The trees of uses, each read at its place.
@@ -93,11 +138,14 @@ fn trees_of<'a, R: RuleSet>(
     rules: &R,
     composition: &Composition<'a>,
     uses: &[Use<'a>],
-) -> Result<Vec<Occurrence>, FlattenFault>
+) -> Result<Vec<Occurrence>, PlacedFlattenFault>
     requires { list_any (λ u. not (is_some (meant_by composition.now u.draft.constraint))) (map use_view uses.now) ≡ false }
     ensures taken { IfOk result (λ v. FlattensAll (R.known rules.now) composition.now (map used (map use_view uses.now)) (Ok v.items)) }
-    ensures refused { IfErr result (λ f. f ≢ FlattenFault.Memory
-        → FlattensAll (R.known rules.now) composition.now (map used (map use_view uses.now)) (Err f)) }
+    ensures refused { IfErr result (λ p. p.fault ≢ FlattenFault.Memory
+        → FlattensAll (R.known rules.now) composition.now (map used (map use_view uses.now)) (Err p.fault)) }
+    ensures placed { IfErr result (λ p. p.fault ≢ FlattenFault.Memory
+        → (ts : List (Tree Planned)) → AreTreesOfUses composition.now (map used (map use_view uses.now)) ts
+        → constraint.IsAt (R.known rules.now) composition.now (map used (map use_view uses.now)) ts p.fault p.at) }
     ensures fits { IfOk result (λ v. AllZip (λ u o. tree_fits (R.known rules.now) u.place o ≡ true)
         (map used (map use_view uses.now)) v.items) }
 {
@@ -114,29 +162,37 @@ fn flattened<'a, R: RuleSet>(
     uses: &[Use<'a>],
     parts: &Parts,
     composition: &Composition<'a>,
-) -> Result<Vec<Occurrence>, DeclFault>
+) -> Result<Vec<Occurrence>, PlacedFault>
     requires checked { IsChecked (draft_view draft.now) (map use_view uses.now) parts.now }
     requires composed { composition.now ≡ (draft_view draft.now).definitions }
     ensures taken { IfOk result (λ v. AreRead (R.known rules.now) (draft_view draft.now) tree_faults v.items) }
     ensures whole { IfOk result (λ _. IsWhole parts.now) }
-    ensures refused { IfErr result (λ f. f ≢ DeclFault.Memory
-        → IsAnswerTo (R.known rules.now) (draft_view draft.now) tree_faults (Err f)) }
+    ensures refused { IfErr result (λ p. p.fault ≢ DeclFault.Memory → IsAnswerTo (R.known rules.now) (draft_view draft.now) tree_faults (Err p.fault)) }
+    ensures placed { IfErr result (λ p. p.fault ≢ DeclFault.Memory → IsAt (R.known rules.now) (draft_view draft.now) p.fault p.at) }
 {
     trees_are_unique();
     if lacks_memory(&parts.wording) {
-        return Err(DeclFault::Memory);
+        return Err(PlacedFault {
+            fault: DeclFault::Memory,
+            at: None,
+        });
     }
-    if has_empty(&draft.definitions) {
-        return Err(DeclFault::EmptyConstraint);
+    if let Some(number) = empty_definition(&draft.definitions) {
+        return Err(PlacedFault {
+            fault: DeclFault::EmptyConstraint,
+            at: Some(At::Constraints(ConstraintAt::Definition(number))),
+        });
     }
-    let nodes = count_nodes(composition, uses);
-    if parts.types.is_none() || is_large(draft, &parts.groups.graph, &parts.wording, nodes) {
-        return Err(DeclFault::TooLarge);
+    if let Some(limit) = first_limit(draft, uses, parts, composition) {
+        return Err(PlacedFault {
+            fault: DeclFault::TooLarge,
+            at: Some(At::Limit(limit)),
+        });
     }
     let trees = trees_of(alloc, rules, composition, uses)?;
     match &parts.wording {
         Ok(_) => Ok(trees),
-        Err(fault) => Err(DeclFault::from(*fault)),
+        Err(placed) => Err(PlacedFault::from(*placed)),
     }
 }
 
@@ -148,15 +204,18 @@ pub(crate) fn composed<'a, R: RuleSet>(
     draft: &'a Draft<'a>,
     uses: &[Use<'a>],
     parts: &Parts,
-) -> Result<Vec<Occurrence>, DeclFault>
+) -> Result<Vec<Occurrence>, PlacedFault>
     requires { IsChecked (draft_view draft.now) (map use_view uses.now) parts.now }
     ensures taken { IfOk result (λ v. AreRead (R.known rules.now) (draft_view draft.now) composition_faults v.items) }
     ensures whole { IfOk result (λ _. IsWhole parts.now) }
-    ensures refused { IfErr result (λ f. f ≢ DeclFault.Memory
-        → IsAnswerTo (R.known rules.now) (draft_view draft.now) composition_faults (Err f)) }
+    ensures refused { IfErr result (λ p. p.fault ≢ DeclFault.Memory → IsAnswerTo (R.known rules.now) (draft_view draft.now) composition_faults (Err p.fault)) }
+    ensures placed { IfErr result (λ p. p.fault ≢ DeclFault.Memory → IsAt (R.known rules.now) (draft_view draft.now) p.fault p.at) }
 {
     let Some(composition) = Composition::new(alloc, &draft.definitions)? else {
-        return Err(DeclFault::CyclicComposition);
+        return Err(PlacedFault {
+            fault: DeclFault::CyclicComposition,
+            at: None,
+        });
     };
     flattened(alloc, rules, draft, uses, parts, &composition)
 }

@@ -1,6 +1,6 @@
-//! Declarations judged: a JSON value in, a schema or the first fault out (`schema_of`). Drafts are judged: whether
-//! each declared name is a name, and free; the templates of messages; groups; the trees that uses of
-//! constraints become.
+//! Declarations judged: a JSON value in, a schema or the first fault out (`schema_of`), with the fault's
+//! place (`judge`). Drafts are judged: whether each declared name is a name, and free; the templates of
+//! messages; groups; the trees that uses of constraints become.
 #![tactic(auto)]
 
 mod build;
@@ -9,6 +9,7 @@ mod judging;
 mod names;
 mod naming;
 mod parts;
+mod placed;
 mod reading;
 mod templates;
 mod types;
@@ -17,4 +18,6 @@ mod user;
 mod wording;
 
 pub use fault::DeclFault;
-pub use reading::schema_of;
+pub use placed::{At, LimitAt, NamesAt, PlacedFault, WordingAt};
+pub use reading::{judge, schema_of};
+pub use user::user_messages;

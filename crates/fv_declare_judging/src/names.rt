@@ -1,42 +1,51 @@
 //! What can be wrong with names, and the types where nothing is.
-ghost use Rattle.std.specs.Prelude.{◌≡◌, map, not, option_map, is_some};
-ghost use Rattle.std.specs.List.{list_any};
-ghost use Rattle.fv_declare_definition.specs.DefinitionViews.{definition_entry};
-ghost use Rattle.fv_constraint.specs.Meanings.{meant_by};
+ghost use Rattle.std.specs.Prelude.{◌≡◌, ◌≢◌, ◌∷◌, [], Some, None, IfOk, IfErr, map, is_some};
 ghost use Rattle.fv_datum.specs.Lookup.{at_name};
-ghost use Rattle.fv_datum.specs.Outcomes.{Gives, first, unless_fault};
-ghost use Rattle.fv_declare_draft.specs.DraftViews.{form_view, draft_view};
-ghost use Rattle.fv_model_types.specs.Types.{declared_view};
-ghost use Rattle.fv_model_types.specs.TypesView.{types_view};
-ghost use Rattle.fv_declare_judging.specs.Conditions.{unknown_root};
-ghost use Rattle.fv_declare_judging.specs.Types.{types_declared};
-ghost use Rattle.fv_declare_judging.specs.Judging.{name_conditions, unless_many};
+ghost use Rattle.fv_datum.specs.Outcomes.{first};
+ghost use Rattle.fv_declare_definition.specs.DefinitionViews.{definition_entry};
 ghost use Rattle.fv_declare_draft.specs.AllUses.{uses_in};
+ghost use Rattle.fv_declare_draft.specs.DraftViews.{form_view, draft_view};
 ghost use Rattle.fv_declare_draft.specs.UseViews.{use_view};
+ghost use Rattle.fv_first.specs.First.{first_of};
+ghost use Rattle.fv_model_types.specs.Types.{declared_view};
+ghost use Rattle.fv_declare_judging.specs.Judging.{name_conditions};
+ghost use Rattle.fv_declare_judging.specs.NamePlaces as place;
+ghost use Rattle.fv_declare_judging.specs.Parts.{AreTypesOf};
+ghost use Rattle.fv_declare_judging.specs.Whereabouts.{IsNameAt};
 
 use crate::fault::DeclFault;
 use crate::naming::bad_name;
+use crate::placed::{At, NamesAt, PlacedFault};
 use crate::types::types_for;
-use fv_constraint::{composes_unknown, meant_by};
+use fv_constraint::{meant_by, unknown_composing};
 use fv_declare_definition::Definition;
 use fv_declare_draft::{Draft, FormDraft, Use};
-use fv_model_types::{Fields, Types, TypesFault};
+use fv_model_types::{Fields, Types, TypesAt, TypesFault};
 use indexmap::IndexMap;
 use std::alloc::Global;
 use std::collections::BTreeMap;
 
-/// A constraint is used that is neither built in nor declared.
-#[tactic(auto, using(crate::proofs::Anys::use_turn))]
-fn has_unknown_constraint(definitions: &BTreeMap<String, Definition>, uses: &[Use]) -> bool
-    ensures { result ≡ list_any (λ u. not (is_some (meant_by (map definition_entry definitions.now.entries) u.draft.constraint)))
-        (map use_view uses.now) }
+/// The first use of a constraint that is neither built in nor declared.
+#[tactic(auto, using(crate::proofs::FirstTurns::use_turn))]
+fn unknown_use(definitions: &BTreeMap<String, Definition>, uses: &[Use]) -> Option<At>
+    ensures { result ≡ place.unknown_use (map definition_entry definitions.now.entries) (map use_view uses.now) }
 {
-    for given in uses {
+    for (number, given) in uses.iter().enumerate() {
         if meant_by(definitions, given.constraint).is_none() {
-            return true;
+            return Some(At::Names(NamesAt::Use(number)));
         }
     }
-    false
+    None
+}
+
+/// The first constraint, neither built in nor declared, of which one is composed.
+fn unknown_part(definitions: &BTreeMap<String, Definition>) -> Option<At>
+    ensures { result ≡ place.unknown_part (map definition_entry definitions.now.entries) }
+{
+    match unknown_composing(definitions) {
+        None => None,
+        Some(at) => Some(At::Constraints(at)),
+    }
 }
 
 /// Whether a type has the name.
@@ -46,45 +55,78 @@ fn is_declared(declared: &IndexMap<String, Fields>, name: &str) -> bool
     declared.contains_key(name)
 }
 
-/// A form's root is none of the types.
-#[tactic(auto, using(crate::proofs::Anys::form_turn))]
-fn has_unknown_root(declared: &IndexMap<String, Fields>, forms: &[FormDraft]) -> bool
-    ensures { result ≡ unknown_root (declared_view declared.now) (map form_view forms.now) }
+/// The first form whose root is none of the types.
+#[tactic(auto, using(crate::proofs::FirstTurns::form_turn))]
+fn unknown_root(declared: &IndexMap<String, Fields>, forms: &[FormDraft]) -> Option<At>
+    ensures { result ≡ place.unknown_root (declared_view declared.now) (map form_view forms.now) }
 {
-    for form in forms {
+    for (number, form) in forms.iter().enumerate() {
         if !is_declared(declared, form.root) {
-            return true;
+            return Some(At::Names(NamesAt::Root(number)));
         }
     }
-    false
+    None
 }
 
-/// The types, unless a declared name is bad or a name is unknown; `None` where there are more than
-/// 256 of them, a type has more than 256 fields, or more than four containers stand one in another.
-#[tactic(auto, unfolding(crate::specs::Conditions::unknown_name))]
+/// The first name that is unknown, but for those that fields refer to.
+fn unknown_outside(
+    declared: &IndexMap<String, Fields>,
+    definitions: &BTreeMap<String, Definition>,
+    uses: &[Use],
+    forms: &[FormDraft],
+) -> Option<At>
+    ensures { let ds = map definition_entry definitions.now.entries in result ≡ first_of (place.unknown_use ds (map use_view uses.now)
+        ∷ place.unknown_part ds ∷ place.unknown_root (declared_view declared.now) (map form_view forms.now) ∷ []) }
+{
+    if let Some(at) = unknown_use(definitions, uses) {
+        return Some(at);
+    }
+    if let Some(at) = unknown_part(definitions) {
+        return Some(at);
+    }
+    unknown_root(declared, forms)
+}
+
+/// The types, unless a declared name is bad or a name is unknown; or which of their limits is passed: there
+/// are more than 256 of them, a type has more than 256 fields, or more than four containers stand one in another.
 pub(crate) fn known_types(
     alloc: Global,
     draft: &Draft,
     uses: &[Use],
-) -> Result<Option<Types>, DeclFault>
+) -> Result<Result<Types, TypesAt>, PlacedFault>
     requires { map use_view uses.now ≡ uses_in (draft_view draft.now).types }
-    ensures { Gives DeclFault.Memory (option_map types_view) result (unless_fault
-        (first (name_conditions (draft_view draft.now))) (unless_many (types_declared (draft_view draft.now)))) }
+    ensures named { IfOk result (λ _. first (name_conditions (draft_view draft.now)) ≡ None) }
+    ensures taken { IfOk result (λ types. AreTypesOf (draft_view draft.now) types) }
+    ensures refused { IfErr result (λ p. p.fault ≢ DeclFault.Memory → first (name_conditions (draft_view draft.now)) ≡ Some p.fault) }
+    ensures placed { IfErr result (λ p. p.fault ≢ DeclFault.Memory → IsNameAt (draft_view draft.now) p.fault p.at) }
 {
-    if bad_name(draft) {
-        return Err(DeclFault::BadName);
+    if let Some(at) = bad_name(draft) {
+        return Err(PlacedFault {
+            fault: DeclFault::BadName,
+            at: Some(At::Names(at)),
+        });
     }
     let declared = types_for(alloc, &draft.types)?;
-    if has_unknown_constraint(&draft.definitions, uses)
-        || composes_unknown(&draft.definitions)
-        || has_unknown_root(&declared, &draft.forms)
-    {
-        return Err(DeclFault::UnknownName);
+    if let Some(at) = unknown_outside(&declared, &draft.definitions, uses, &draft.forms) {
+        return Err(PlacedFault {
+            fault: DeclFault::UnknownName,
+            at: Some(at),
+        });
     }
-    match Types::build(alloc, declared) {
-        Ok(types) => Ok(Some(types)),
-        Err(TypesFault::TooLarge) => Ok(None),
-        Err(TypesFault::UnknownType) => Err(DeclFault::UnknownName),
-        Err(TypesFault::Memory) => Err(DeclFault::Memory),
+    let placed = match Types::build(alloc, declared) {
+        Ok(types) => return Ok(Ok(types)),
+        Err(placed) => placed,
+    };
+    match (placed.fault, placed.at) {
+        (TypesFault::TooLarge, Some(at)) => Ok(Err(at)),
+        (TypesFault::UnknownType, Some(at)) => Err(PlacedFault {
+            fault: DeclFault::UnknownName,
+            at: Some(At::Names(NamesAt::Reference(at))),
+        }),
+        // Want of memory alone has no place.
+        _ => Err(PlacedFault {
+            fault: DeclFault::Memory,
+            at: None,
+        }),
     }
 }

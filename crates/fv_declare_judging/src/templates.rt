@@ -1,97 +1,111 @@
 //! The templates of uses and of declared constraints.
-ghost use Rattle.std.specs.Prelude.{◌≡◌, ◌↔◌, ◌++◌, IfOk, IsTrue, OnOk, map};
-ghost use Rattle.std.specs.List.{filter_map};
-ghost use Rattle.fv_declare_definition.specs.DefinitionViews.{definition_entry, definition_view, composing_view};
+ghost use Rattle.std.specs.Prelude.{◌≡◌, map, option_map, string_bytes};
+ghost use Rattle.fv_declare_definition.specs.DefinitionViews.{definition_entry, composing_view};
 ghost use Rattle.fv_declare_draft.specs.UseViews.{use_view};
-ghost use Rattle.fv_declare_judging.specs.Templates.{definition_templates, has_long, HasMisspelt, own_templates, use_templates};
+ghost use Rattle.fv_first.specs.First.{first_in};
+ghost use Rattle.fv_declare_judging.specs.WordingPlaces as place;
 
+use crate::placed::WordingAt;
 use fv_declare_definition::{Composing, Definition};
 use fv_declare_draft::Use;
 use fv_message::{check_template, template_fits};
-use std::alloc::{AllocError, Global};
 use std::collections::BTreeMap;
 
-/// Adds the templates that uses give.
-fn add_used<'a>(templates: &mut Vec<&'a str>, uses: &[Use<'a>]) -> Result<(), AllocError>
-    ensures { OnOk result (map (λ t. t.now) templates.new.items ≡ map (λ t. t.now) templates.old.items
-        ++ use_templates (map use_view uses.now)) }
-{
-    for given in uses {
-        if let Some(template) = given.message {
-            templates.push(template)?;
-        }
-    }
-    Ok(())
+/// What a text can lack as a template.
+#[derive(Clone, Copy)]
+pub(crate) enum TemplateFlaw {
+    /// It is too long.
+    Long,
+    /// It is no template.
+    Misspelt,
 }
 
-/// Adds the templates of constraints that one is composed of.
-fn add_composing<'a>(
-    templates: &mut Vec<&'a str>,
-    composing: &'a [Composing],
-) -> Result<(), AllocError>
-    ensures { OnOk result (map (λ t. t.now) templates.new.items ≡ map (λ t. t.now) templates.old.items
-        ++ filter_map (λ c. c.message) (map composing_view composing.now)) }
+/// Whether a text has a flaw as a template.
+fn has_flaw(flaw: TemplateFlaw, template: &str) -> bool
+    ensures { result ≡ place.has_flaw flaw template.now }
 {
-    for part in composing {
-        if let Some(template) = &part.message {
-            templates.push(template.as_str())?;
-        }
+    match flaw {
+        TemplateFlaw::Long => !template_fits(template),
+        TemplateFlaw::Misspelt => !check_template(template),
     }
-    Ok(())
 }
 
-/// Adds the templates of a declared constraint: its own, and those of the constraints that it is
+/// The same of a text that may be missing.
+fn is_flawed(flaw: TemplateFlaw, template: Option<&str>) -> bool
+    ensures { result ≡ place.is_flawed flaw (option_map (λ t. t.now) template.entry) }
+{
+    match template {
+        None => false,
+        Some(template) => has_flaw(flaw, template),
+    }
+}
+
+/// The same of a text that is owned.
+fn is_flawed_text(flaw: TemplateFlaw, template: &Option<String>) -> bool
+    ensures { result ≡ place.is_flawed flaw (option_map string_bytes template.now) }
+{
+    match template {
+        None => false,
+        Some(template) => has_flaw(flaw, template.as_str()),
+    }
+}
+
+/// The first use with a flawed message.
+#[tactic(auto, using(crate::proofs::FirstTurns::use_turn))]
+fn flawed_use(flaw: TemplateFlaw, uses: &[Use]) -> Option<WordingAt>
+    ensures { result ≡ place.flawed_use flaw (map use_view uses.now) }
+{
+    for (number, given) in uses.iter().enumerate() {
+        if is_flawed(flaw, given.message) {
+            return Some(WordingAt::Use(number));
+        }
+    }
+    None
+}
+
+/// The first composing constraint with a flawed message.
+#[tactic(auto, using(crate::proofs::FirstTurns::composing_turn))]
+fn flawed_composing(flaw: TemplateFlaw, composing: &[Composing]) -> Option<usize>
+    ensures { result ≡ place.flawed_composing flaw (map composing_view composing.now) }
+{
+    for (number, part) in composing.iter().enumerate() {
+        if is_flawed_text(flaw, &part.message) {
+            return Some(number);
+        }
+    }
+    None
+}
+
+/// The first flawed message of declared constraints: for each its own, then those of the constraints that it is
 /// composed of.
-fn add_defined<'a>(
-    templates: &mut Vec<&'a str>,
-    definition: &'a Definition,
-) -> Result<(), AllocError>
-    ensures { OnOk result (map (λ t. t.now) templates.new.items ≡ map (λ t. t.now) templates.old.items
-        ++ own_templates (definition_view definition.now)) }
+#[tactic(auto, using(crate::proofs::FirstTurns::entry_turn))]
+fn flawed_definition(
+    flaw: TemplateFlaw,
+    definitions: &BTreeMap<String, Definition>,
+) -> Option<WordingAt>
+    ensures { result ≡ first_in (place.flawed_definition flaw) (map definition_entry definitions.now.entries) }
 {
-    if let Some(template) = &definition.message {
-        templates.push(template.as_str())?;
-    }
-    add_composing(templates, &definition.composing)
-}
-
-/// The templates of uses and of declared constraints.
-pub(crate) fn templates_of<'a>(
-    alloc: Global,
-    definitions: &'a BTreeMap<String, Definition>,
-    uses: &[Use<'a>],
-) -> Result<Vec<&'a str>, AllocError>
-    ensures { IfOk result (λ v. map (λ t. t.now) v.items ≡ use_templates (map use_view uses.now)
-        ++ definition_templates (map definition_entry definitions.now.entries)) }
-{
-    let mut templates = Vec::new(alloc);
-    add_used(&mut templates, uses)?;
-    for (_, definition) in definitions.iter() {
-        add_defined(&mut templates, definition)?;
-    }
-    Ok(templates)
-}
-
-/// Whether one of some texts is too long for a template.
-pub(crate) fn has_long(templates: &[&str]) -> bool
-    ensures { result ≡ has_long (map (λ t. t.now) templates.now) }
-{
-    for template in templates {
-        if !template_fits(template) {
-            return true;
+    for (number, (_, definition)) in definitions.iter().enumerate() {
+        if is_flawed_text(flaw, &definition.message) {
+            return Some(WordingAt::Definition(number));
+        }
+        if let Some(part) = flawed_composing(flaw, &definition.composing) {
+            return Some(WordingAt::Composing(number, part));
         }
     }
-    false
+    None
 }
 
-/// Whether one of some texts is no template.
-pub(crate) fn has_misspelt(templates: &[&str]) -> bool
-    ensures { IsTrue result ↔ HasMisspelt (map (λ t. t.now) templates.now) }
+/// The first template with a flaw: of uses, then of declared constraints.
+pub(crate) fn flawed_template(
+    flaw: TemplateFlaw,
+    definitions: &BTreeMap<String, Definition>,
+    uses: &[Use],
+) -> Option<WordingAt>
+    ensures { result ≡ place.flawed_template flaw (map use_view uses.now) (map definition_entry definitions.now.entries) }
 {
-    for template in templates {
-        if !check_template(template) {
-            return true;
-        }
+    match flawed_use(flaw, uses) {
+        Some(at) => Some(at),
+        None => flawed_definition(flaw, definitions),
     }
-    false
 }

@@ -1,6 +1,6 @@
 //! What is used, each of what it judges.
 ghost use Rattle.std.specs.Prelude.{◌≡◌, IfOk, map};
-ghost use Rattle.fv_constraint.specs.UseViews.{use_view as flat_use_view};
+ghost use Rattle.fv_flatten.specs.UseViews.{use_view as flat_use_view};
 ghost use Rattle.fv_declare_judging.specs.Used.{used};
 ghost use Rattle.fv_declare_draft.specs.UseViews.{use_view};
 
@@ -11,12 +11,12 @@ use std::alloc::{AllocError, Global};
 pub(crate) fn used_in<'a>(
     alloc: Global,
     uses: &[Use<'a>],
-) -> Result<Vec<fv_constraint::Use<'a>>, AllocError>
+) -> Result<Vec<fv_flatten::Use<'a>>, AllocError>
     ensures { IfOk result (λ v. map flat_use_view v.items ≡ map used (map use_view uses.now)) }
 {
     let mut flat = Vec::with_capacity(alloc, uses.len())?;
     for given in uses {
-        flat.push(fv_constraint::Use {
+        flat.push(fv_flatten::Use {
             constraint: given.constraint,
             message: given.message,
             given: given.given,

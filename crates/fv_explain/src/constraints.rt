@@ -1,9 +1,9 @@
 //! The lines of constraints.
-use crate::lines::{Used, constraint_line};
+use crate::lines::{PartLine, Used, constraint_line, part_line};
 use fv_datum::Attrs;
 use fv_declare_draft::MessageDraft;
 use fv_declare_schema::{Placed, Schema};
-use fv_explain_places::{built_in_key, find_message};
+use fv_explain_places::{built_in_key, find_message, reported};
 use fv_groups::{GroupId, Groups};
 use fv_message::Messages;
 use indexmap::IndexMap;
@@ -80,7 +80,55 @@ fn use_line(
     Ok(Some(constraint_line(alloc, as_json, &used)?))
 }
 
-/// Adds the lines of constraints, at their places.
+/// The line of a constraint that a used one is composed of, by its number in the tree, with the number of the one
+/// that is reported.
+fn part_line_of(
+    alloc: Global,
+    as_json: bool,
+    placed: &Placed,
+    (number, reported): (usize, Option<usize>),
+    (built_in, messages): (&Messages, &[MessageDraft]),
+) -> Result<Option<String>, AllocError> {
+    let (used, occurrence) = (placed.number(), placed.occurrence());
+    let Some(node) = occurrence.node(number) else {
+        return Ok(None);
+    };
+    let message = shown_message(alloc, built_in, messages, node.message())?;
+    let reported = match reported {
+        None => None,
+        Some(other) => match occurrence.node(other) {
+            None => None,
+            Some(node) => Some((used.saturating_add(other), node.constraint())),
+        },
+    };
+    let part = PartLine {
+        used,
+        number: used.saturating_add(number),
+        node,
+        message: message.as_str(),
+        reported,
+    };
+    Ok(Some(part_line(alloc, as_json, &part)?))
+}
+
+/// Adds the lines of the constraints that a used one is composed of, in preorder.
+fn add_parts(
+    alloc: Global,
+    lines: &mut Vec<String>,
+    as_json: bool,
+    placed: &Placed,
+    told: (&Messages, &[MessageDraft]),
+) -> Result<(), AllocError> {
+    let all = reported(alloc, placed.occurrence())?;
+    for (number, reported) in all.iter().enumerate().skip(1) {
+        if let Some(line) = part_line_of(alloc, as_json, placed, (number, *reported), told)? {
+            lines.push(line)?;
+        }
+    }
+    Ok(())
+}
+
+/// Adds the lines of constraints, at their places, each with what it is composed of.
 pub(crate) fn add_constraints(
     alloc: Global,
     lines: &mut Vec<String>,
@@ -96,6 +144,7 @@ pub(crate) fn add_constraints(
         let line = use_line(alloc, as_json, groups, place.as_str(), placed, told)?;
         if let Some(line) = line {
             lines.push(line)?;
+            add_parts(alloc, lines, as_json, placed, told)?;
         }
     }
     Ok(())

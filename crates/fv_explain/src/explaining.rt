@@ -5,7 +5,7 @@ ghost use Rattle.fv_declare_schema.specs.Declarations.{Declarations};
 use crate::fault::ExplainFault;
 use crate::lines::fault_line;
 use crate::taken::taken_lines;
-use fv_declare::{DeclFault, read_schema};
+use fv_declare::{DeclFault, read_placed};
 use fv_explain_faults::locate;
 use fv_registry::RuleSet;
 use std::alloc::Global;
@@ -50,20 +50,20 @@ pub fn explain<R: RuleSet, W: Write>(
     ensures taken { IfOk result (λ o. o ≡ None → ((s : Declarations) × Declares (R.known rules.now) bytes.now (Ok s))) }
     ensures refused { IfOk result (λ o. IfSome o (λ f. Declares (R.known rules.now) bytes.now (Err f))) }
 {
-    match read_schema(alloc, rules, bytes) {
+    match read_placed(alloc, rules, bytes) {
         Ok(schema) => {
             let lines = taken_lines(alloc, &schema, bytes, as_json)?;
             write_lines(output, &lines)?;
             flush(output)?;
             Ok(None)
         }
-        Err(DeclFault::Memory) => Err(ExplainFault::Memory),
-        Err(fault) => {
-            let found = locate(alloc, rules, bytes, fault)?;
-            let line = fault_line(alloc, as_json, fault, &found)?;
+        Err(placed) if matches!(placed.fault, DeclFault::Memory) => Err(ExplainFault::Memory),
+        Err(placed) => {
+            let found = locate(alloc, rules, bytes, placed)?;
+            let line = fault_line(alloc, as_json, placed.fault, &found)?;
             write_line(output, line.as_str())?;
             flush(output)?;
-            Ok(Some(fault))
+            Ok(Some(placed.fault))
         }
     }
 }

@@ -1,9 +1,9 @@
 //! The lines of forms.
 use crate::constraints::names_of;
 use crate::lines::{Told, form_line};
-use crate::reach::{Edges, all_edges, reached, valid_edges};
 use fv_declare_draft::FormDraft;
 use fv_declare_schema::Schema;
+use fv_explain_warnings::{Edges, all_edges, reached, valid_edges};
 use fv_model_types::{TypeId, Types};
 use std::alloc::{AllocError, Global};
 

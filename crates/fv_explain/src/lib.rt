@@ -7,10 +7,9 @@ mod explaining;
 mod fault;
 mod forms;
 mod groups;
+mod limits;
 mod lines;
-mod reach;
 mod taken;
-mod unreached;
 
 pub use explaining::explain;
 pub use fault::ExplainFault;

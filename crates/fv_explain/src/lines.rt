@@ -15,6 +15,19 @@ pub(crate) struct Used<'a> {
     pub(crate) message: &'a str,
 }
 
+/// A constraint that a used one is composed of.
+#[derive(Drop)]
+pub(crate) struct PartLine<'a> {
+    /// The number of the use.
+    pub(crate) used: usize,
+    /// Its own number, as `occurrence` counts.
+    pub(crate) number: usize,
+    pub(crate) node: &'a Node,
+    pub(crate) message: &'a str,
+    /// The constraint that is reported where this one refuses, by its number and its name.
+    pub(crate) reported: Option<(usize, &'a str)>,
+}
+
 /// Adds names as a JSON array.
 fn push_array(out: &mut String, names: &[&str]) -> Result<(), AllocError> {
     let mut first = true;
@@ -121,6 +134,53 @@ pub(crate) fn constraint_line(
     }
 }
 
+fn part_text(alloc: Global, part: &PartLine) -> Result<String, AllocError> {
+    let (number, constraint) = (part.number, part.node.constraint());
+    let mut out = format!(in alloc; "  {number} {constraint}")?;
+    push_attributes(&mut out, part.node)?;
+    match part.reported {
+        None => out.push_str(" asks nothing itself")?,
+        Some((other, name)) if other != number => write!(out, " reported as {other} {name}")?,
+        Some(_) => {
+            out.push_str(" message ")?;
+            push_text(&mut out, part.message)?;
+        }
+    }
+    Ok(out)
+}
+
+fn part_json(alloc: Global, part: &PartLine) -> Result<String, AllocError> {
+    let (used, number) = (part.used, part.number);
+    let mut out = format!(in alloc;
+        "{{\"line\":\"part\",\"number\":{number},\"use\":{used},\"constraint\":"
+    )?;
+    push_text(&mut out, part.node.constraint())?;
+    out.push_str(",\"attributes\":")?;
+    push_attributes_json(&mut out, part.node)?;
+    match part.reported {
+        None => out.push_str(",\"reported\":null")?,
+        Some((other, _)) => write!(out, ",\"reported\":{other}")?,
+    }
+    out.push_str(",\"message\":")?;
+    push_text(&mut out, part.message)?;
+    out.push('}')?;
+    Ok(out)
+}
+
+/// The line of a constraint that a used one is composed of: its number and name, its attributes in effect, and as
+/// what it is reported: by its own message, or as another.
+pub(crate) fn part_line(
+    alloc: Global,
+    as_json: bool,
+    part: &PartLine,
+) -> Result<String, AllocError> {
+    if as_json {
+        part_json(alloc, part)
+    } else {
+        part_text(alloc, part)
+    }
+}
+
 /// The line of a group: the groups that it stands for, in their order where it is a sequence.
 pub(crate) fn group_line(
     alloc: Global,
@@ -186,6 +246,42 @@ pub(crate) fn form_line(alloc: Global, as_json: bool, form: &Told) -> Result<Str
         let plain = form.plain.join(alloc, ", ")?;
         write!(out, "; may hold {plain} by plain references")?;
     }
+    Ok(out)
+}
+
+/// How much there is of something, and how much may be.
+#[derive(Clone, Copy)]
+pub(crate) struct Limit {
+    pub(crate) name: &'static str,
+    /// What it is, where the name doesn't say it.
+    pub(crate) of: &'static str,
+    pub(crate) used: usize,
+    pub(crate) most: usize,
+}
+
+/// The line of the limits that are used.
+pub(crate) fn limits_line(
+    alloc: Global,
+    as_json: bool,
+    limits: &[Limit],
+) -> Result<String, AllocError> {
+    let (front, end) = if as_json {
+        ("{\"line\":\"limits\"", "}")
+    } else {
+        ("limits", "")
+    };
+    let mut out = String::from_str(alloc, front)?;
+    let mut between = ':';
+    for limit in limits {
+        let (name, of, used, most) = (limit.name, limit.of, limit.used, limit.most);
+        if as_json {
+            write!(out, ",\"{name}\":{{\"used\":{used},\"most\":{most}}}")?;
+        } else {
+            write!(out, "{between} {used} of {most} {name}{of}")?;
+        }
+        between = ',';
+    }
+    out.push_str(end)?;
     Ok(out)
 }
 

@@ -3,8 +3,8 @@ use crate::constraints::add_constraints;
 use crate::fault::ExplainFault;
 use crate::forms::add_forms;
 use crate::groups::add_groups;
+use crate::limits::used_limits;
 use crate::lines::warning_line;
-use crate::unreached::unreached;
 use fv_datum::read_json;
 use fv_declare_draft::{Draft, draft_of, uses_in};
 use fv_declare_schema::Schema;
@@ -12,7 +12,7 @@ use fv_explain_places::use_places;
 use fv_explain_warnings::warnings;
 use std::alloc::{AllocError, Global};
 
-/// The lines of a draft that is taken, and of its warnings.
+/// The lines of a draft that is taken, of its warnings, and of the limits that it uses.
 fn draft_lines(
     alloc: Global,
     schema: &Schema,
@@ -25,17 +25,15 @@ fn draft_lines(
     add_constraints(alloc, &mut lines, schema, &draft.messages, &places, as_json)?;
     add_groups(alloc, &mut lines, schema.groups(), as_json)?;
     add_forms(alloc, &mut lines, schema, &draft.forms, as_json)?;
-    for warning in &warnings(alloc, schema, bytes, &draft.messages, &places)? {
+    for warning in &warnings(alloc, schema, bytes, draft, &places)? {
         lines.push(warning_line(alloc, as_json, warning)?)?;
     }
-    for warning in &unreached(alloc, schema, &draft.forms)? {
-        lines.push(warning_line(alloc, as_json, warning)?)?;
-    }
+    lines.push(used_limits(alloc, schema, &draft.forms, as_json)?)?;
     Ok(lines)
 }
 
-/// The lines of declarations that are taken as a schema: those of constraints, of groups and of forms, and
-/// warnings behind them.
+/// The lines of declarations that are taken as a schema: those of constraints, of groups and of forms, warnings
+/// behind them, and at the end the limits that are used.
 pub(crate) fn taken_lines(
     alloc: Global,
     schema: &Schema,

@@ -1,11 +1,13 @@
-//! The places of faults in declarations: which member is at fault and what is wrong with it, in plain words.
-//! Which fault it is, `fv_declare` has answered; here it is only looked for.
+//! The faults of declarations in words. Which fault it is, and where, `fv_declare` has answered by numbers: here
+//! they become the member that is at fault, and what is wrong there. Where a text is no JSON, the library that
+//! reads it tells.
 #![tactic(auto)]
 
-mod attributes;
+mod grouping;
 mod limits;
 mod locating;
-mod occurrences;
-mod templates;
+mod naming;
+mod rings;
+mod wording;
 
 pub use locating::locate;

@@ -1,6 +1,6 @@
 //! Keys of messages, and the parameters in their texts.
 use fv_builtin::{BuiltinName, builtin_named, kind_of_attribute};
-use fv_declare_draft::{Draft, MessageDraft};
+use fv_declare_draft::MessageDraft;
 use std::alloc::{AllocError, Global};
 use std::mem;
 
@@ -62,39 +62,4 @@ pub fn parameters(alloc: Global, template: &str) -> Result<Vec<String>, AllocErr
         escaped = character == '\\' && !escaped;
     }
     Ok(names)
-}
-
-/// Adds the numbers of the user's messages that a parameter leads to: itself, or through a built-in message.
-fn push_keys(
-    alloc: Global,
-    numbers: &mut Vec<usize>,
-    messages: &[MessageDraft],
-    name: &str,
-) -> Result<(), AllocError> {
-    if let Some(number) = find_message(messages, name) {
-        numbers.push(number)?;
-        return Ok(());
-    }
-    let Some(which) = built_in_key(name) else {
-        return Ok(());
-    };
-    for name in built_in_parameters(alloc, which)? {
-        if let Some(number) = find_message(messages, name) {
-            numbers.push(number)?;
-        }
-    }
-    Ok(())
-}
-
-/// The user's messages that the text of each leads to.
-pub fn key_edges(alloc: Global, draft: &Draft) -> Result<Vec<Vec<usize>>, AllocError> {
-    let mut edges = Vec::with_capacity(alloc, draft.messages.len())?;
-    for message in &draft.messages {
-        let mut numbers = Vec::new(alloc);
-        for name in parameters(alloc, message.template)? {
-            push_keys(alloc, &mut numbers, &draft.messages, name.as_str())?;
-        }
-        edges.push(numbers)?;
-    }
-    Ok(edges)
 }

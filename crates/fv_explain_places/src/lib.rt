@@ -1,18 +1,21 @@
-//! Places in declarations, by the JSON members on the way to them, and values as they are shown in a line; and
-//! the first member whose form isn't kept.
+//! Places in declarations, by the JSON members on the way to them, and what stands there; values as they are shown
+//! in a line; and in words what isn't of its form.
 #![tactic(auto)]
 
-mod ending;
-mod form;
+mod drafts;
 mod keys;
 mod kinds;
-mod members;
+mod misfits;
 mod places;
+mod reporting;
+mod told;
 mod words;
 
-pub use ending::{End, Found, Search, found_at};
-pub use form::shape;
-pub use keys::{built_in_key, built_in_parameters, find_message, key_edges, parameters};
+pub use drafts::{ComposingPart, at, entry_at, group_at, is_group, is_type, names_of, part_at};
+pub use keys::{built_in_key, built_in_parameters, find_message, parameters};
 pub use kinds::{KINDS, attribute_word, kind_word};
-pub use places::{cascade_place, inner, item, member, use_places};
+pub use misfits::shape;
+pub use places::{cascade_place, inner, item, member, path, use_place, use_places};
+pub use reporting::reported;
+pub use told::{Found, Told, Untold, found_at};
 pub use words::{push_text, shown, who};

@@ -1,4 +1,5 @@
 //! Places in declarations, by the JSON members on the way to them.
+use crate::told::Untold;
 use crate::words::shown;
 use fv_datum::is_name;
 use fv_declare_draft::{Cascade, TypeDraft, Use};
@@ -28,6 +29,15 @@ pub fn item(alloc: Global, place: &str, index: usize) -> Result<String, AllocErr
 pub fn inner(alloc: Global, place: &str, first: &str, name: &str) -> Result<String, AllocError> {
     let place = member(alloc, place, first)?;
     member(alloc, place.as_str(), name)
+}
+
+/// The place of a member of a member and so on, from the outermost on.
+pub fn path(alloc: Global, names: &[&str]) -> Result<String, AllocError> {
+    let mut place = String::new(alloc);
+    for name in names {
+        place = member(alloc, place.as_str(), name)?;
+    }
+    Ok(place)
 }
 
 /// The place of a type.
@@ -111,6 +121,17 @@ pub fn use_places(
         before = Some(given);
     }
     Ok(places)
+}
+
+/// The place of the use of that number.
+pub fn use_place(
+    alloc: Global,
+    types: &[TypeDraft],
+    uses: &[Use],
+    number: usize,
+) -> Result<String, Untold> {
+    let places = use_places(alloc, types, uses)?;
+    places.into_iter().nth(number).ok_or(Untold::Absent)
 }
 
 /// The place at which objects are validated, or not.

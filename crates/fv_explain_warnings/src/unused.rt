@@ -1,10 +1,9 @@
 //! Messages that nothing leads to.
 use crate::parameters::led_to;
-use crate::uses::reporting;
 use fv_constraint_tree::Occurrence;
 use fv_declare_draft::MessageDraft;
 use fv_declare_schema::Schema;
-use fv_explain_places::{Found, built_in_key, member};
+use fv_explain_places::{Found, built_in_key, member, reported};
 use std::alloc::{AllocError, Global};
 
 /// Flags the messages that a use may show.
@@ -14,11 +13,11 @@ fn flag_use(
     messages: &[MessageDraft],
     occurrence: &Occurrence,
 ) -> Result<(), AllocError> {
-    for (number, reports) in reporting(alloc, occurrence)?.iter().enumerate() {
+    for (number, by) in reported(alloc, occurrence)?.iter().enumerate() {
         let Some(node) = occurrence.node(number) else {
             break;
         };
-        if *reports {
+        if *by == Some(number) {
             for met in led_to(alloc, messages, &node.attributes, node.message())? {
                 if let Some(flag) = used.get_mut(met) {
                     *flag = true;

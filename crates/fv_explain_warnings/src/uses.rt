@@ -2,10 +2,10 @@
 use crate::parameters::left_over;
 use crate::patterns::pattern_warning;
 use crate::rules::rule_warnings;
-use fv_constraint_tree::{Node, Occurrence, Test};
+use fv_constraint_tree::Node;
 use fv_declare_draft::MessageDraft;
 use fv_declare_schema::{Placed, Schema};
-use fv_explain_places::{Found, shown, who};
+use fv_explain_places::{Found, reported, shown, who};
 use fv_model_types::Types;
 use std::alloc::{AllocError, Global};
 
@@ -60,29 +60,6 @@ fn add_node(
     Ok(())
 }
 
-/// Whether a constraint may be reported itself, and not only those that it is composed of.
-fn asks(node: &Node) -> bool {
-    node.single || !matches!(node.test, Test::Nothing)
-}
-
-/// For each constraint of a use whether it may be reported itself. What stands below one that reports as one
-/// isn't.
-pub(crate) fn reporting(alloc: Global, occurrence: &Occurrence) -> Result<Vec<bool>, AllocError> {
-    let mut flags = Vec::new(alloc);
-    let mut silent: usize = 0;
-    for number in 0..occurrence.size() {
-        let Some(node) = occurrence.node(number) else {
-            break;
-        };
-        let heard = number >= silent;
-        flags.push(heard && asks(node))?;
-        if heard && node.single {
-            silent = number.saturating_add(node.below).saturating_add(1);
-        }
-    }
-    Ok(flags)
-}
-
 /// Adds the warnings of a use, with all that it is composed of.
 fn add_use(
     alloc: Global,
@@ -94,7 +71,7 @@ fn add_use(
     let Some(root) = occurrence.node(0) else {
         return Ok(());
     };
-    for (number, reports) in reporting(alloc, occurrence)?.iter().enumerate() {
+    for (number, by) in reported(alloc, occurrence)?.iter().enumerate() {
         let Some(node) = occurrence.node(number) else {
             break;
         };
@@ -105,7 +82,7 @@ fn add_use(
             (types, messages),
             (place, placed),
             (who.as_str(), node),
-            *reports,
+            *by == Some(number),
         )?;
     }
     Ok(())

@@ -5,3 +5,4 @@ pub mod Judged
 pub mod Marked
 pub mod Once
 pub mod Tables
+pub mod Whereabouts

@@ -4,9 +4,10 @@ ghost use Rattle.std.specs.List.{cons_option};
 ghost use Rattle.std.specs.Option.{option_map_or};
 ghost use Rattle.fv_groups.specs.GroupViews.{names_view, declared_view};
 ghost use Rattle.fv_groups.specs.Groups.{all_groups, number_of, numbers_of, name_at, is_sequence, is_a_sequence, inherited_by, members_of};
-ghost use Rattle.fv_groups.specs.Judged.{unknown_in, has_unknown, sequence_in, has_inherited_sequence, has_large, is_large};
+ghost use Rattle.fv_groups.specs.Whereabouts.{first_unknown, first_sequence, first_large, unknown_name, inherited_sequence, passed_limit};
 
 use crate::draft::GroupDraft;
+use crate::fault::{GroupLimit, NameAt};
 use indexmap::IndexMap;
 use std::alloc::{AllocError, Global};
 use std::marker::Model;
@@ -102,28 +103,31 @@ impl DeclaredGroups {
         }
     }
 
-    /// Whether one of the names is no group's.
-    fn unknown_in(&self, names: &[String]) -> bool
-        ensures { result ≡ unknown_in self.now (names_view names.now) }
+    /// The first of the names that is no group's.
+    #[tactic(auto, using(fv_first::proofs::Turns::text_turn))]
+    fn first_unknown(&self, names: &[String]) -> Option<usize>
+        ensures { result ≡ first_unknown self.now (names_view names.now) }
     {
-        for name in names {
+        for (number, name) in names.iter().enumerate() {
             if self.find(name.as_str()).is_none() {
-                return true;
+                return Some(number);
             }
         }
-        false
+        None
     }
 
-    /// Whether a group inherits a group, or has a member, that isn't declared.
-    pub(crate) fn has_unknown(&self) -> bool
-        ensures { result ≡ has_unknown self.now }
+    /// Where a group inherits a group, or has a member, that isn't declared.
+    #[tactic(auto, using(fv_first::proofs::Turns::next_turn))]
+    pub(crate) fn unknown_name(&self) -> Option<NameAt>
+        ensures { result ≡ unknown_name self.now }
     {
-        for (_, draft) in self.declared.iter() {
-            if self.unknown_in(draft.names()) {
-                return true;
+        for (number, (_, draft)) in self.declared.iter().enumerate() {
+            if let Some(name) = self.first_unknown(draft.names()) {
+                let group = number + 1;
+                return Some(NameAt { group, name });
             }
         }
-        false
+        None
     }
 
     /// Whether the group of that name is a sequence.
@@ -136,47 +140,57 @@ impl DeclaredGroups {
         }
     }
 
-    /// Whether one of the names is a sequence's.
-    fn sequence_in(&self, names: &[String]) -> bool
-        ensures { result ≡ sequence_in self.now (names_view names.now) }
+    /// The first of the names that is a sequence's.
+    #[tactic(auto, using(fv_first::proofs::Turns::text_turn))]
+    fn first_sequence(&self, names: &[String]) -> Option<usize>
+        ensures { result ≡ first_sequence self.now (names_view names.now) }
     {
-        for name in names {
+        for (number, name) in names.iter().enumerate() {
             if self.is_sequence_named(name.as_str()) {
-                return true;
+                return Some(number);
             }
         }
-        false
+        None
     }
 
-    /// Whether a group inherits a sequence.
-    pub(crate) fn has_inherited_sequence(&self) -> bool
-        ensures { result ≡ has_inherited_sequence self.now }
+    /// Where a group inherits a sequence.
+    #[tactic(auto, using(fv_first::proofs::Turns::next_turn))]
+    pub(crate) fn inherited_sequence(&self) -> Option<NameAt>
+        ensures { result ≡ inherited_sequence self.now }
     {
-        for (_, draft) in self.declared.iter() {
-            if self.sequence_in(draft.inherited()) {
-                return true;
+        for (number, (_, draft)) in self.declared.iter().enumerate() {
+            if let Some(name) = self.first_sequence(draft.inherited()) {
+                let group = number + 1;
+                return Some(NameAt { group, name });
             }
         }
-        false
+        None
     }
 
-    /// Whether a group is declared with too many names.
-    fn has_large(&self) -> bool
-        ensures { result ≡ has_large self.now }
+    /// The first group that is declared with too many names.
+    #[tactic(auto, using(fv_first::proofs::Turns::next_turn))]
+    fn first_large(&self) -> Option<usize>
+        ensures { result ≡ first_large self.now }
     {
-        for (_, draft) in self.declared.iter() {
+        for (number, (_, draft)) in self.declared.iter().enumerate() {
             if draft.names().len() > MOST_NAMES {
-                return true;
+                return Some(number + 1);
             }
         }
-        false
+        None
     }
 
-    /// Whether a limit is passed.
-    pub(crate) fn is_large(&self) -> bool
-        ensures { result ≡ is_large self.now }
+    /// The limit that is passed, how many groups there are asked first.
+    pub(crate) fn passed_limit(&self) -> Option<GroupLimit>
+        ensures { result ≡ passed_limit self.now }
     {
-        self.count() > MOST_GROUPS || self.has_large()
+        if self.count() > MOST_GROUPS {
+            return Some(GroupLimit::Groups);
+        }
+        match self.first_large() {
+            None => None,
+            Some(group) => Some(GroupLimit::Group(group)),
+        }
     }
 
     /// The numbers of the groups of these names.

@@ -51,3 +51,42 @@ impl From<AllocError> for GroupFault {
         GroupFault::Memory
     }
 }
+
+/// A name that a group is declared with.
+#[derive(Clone, Copy, Debug, PartialEq, Eq)]
+pub struct NameAt {
+    /// The group's number; that of `Default` is 0.
+    pub group: usize,
+    /// The name's number among those that the group is declared with.
+    pub name: usize,
+}
+
+/// A limit that groups can pass.
+#[derive(Clone, Copy, Debug, PartialEq, Eq)]
+pub enum GroupLimit {
+    /// That of all groups.
+    Groups,
+    /// That of the names that a group is declared with, by the group's number.
+    Group(usize),
+}
+
+/// Why declared groups weren't taken, and where that is.
+#[derive(Clone, Copy, Debug, PartialEq, Eq)]
+pub struct PlacedGroupFault {
+    pub fault: GroupFault,
+    /// The name that is at fault; none for a cycle and for want of memory.
+    pub at: Option<NameAt>,
+}
+
+impl From<AllocError> for PlacedGroupFault {
+    ghost use Rattle.std.specs.Prelude.{◌≡◌, None};
+
+    ghost from_gives = { λ _ e. (e.fault ≡ Memory) × (e.at ≡ None) };
+
+    fn from(_e: AllocError) -> PlacedGroupFault {
+        PlacedGroupFault {
+            fault: GroupFault::Memory,
+            at: None,
+        }
+    }
+}

@@ -1,17 +1,18 @@
 //! Declared groups before their limits are asked.
-ghost use Rattle.std.specs.Prelude.{◌≡◌, ◌<◌, ◌↔◌, ◌≢◌, true, false, length, option_map, IsTrue, IfOk, IfSome, MatchResult};
+ghost use Rattle.std.specs.Prelude.{◌≡◌, ◌<◌, ◌↔◌, ◌≢◌, true, false, length, option_map, IsTrue, IfErr, IfOk, IfSome, MatchResult};
 ghost use mathlib.Core.Logic.{◌⊎◌};
 ghost use Rattle.fv_graph.specs.Graph.{next_of};
 ghost use Rattle.fv_groups.specs.GroupViews.{declared_view};
 ghost use Rattle.fv_groups.specs.Groups.{all_groups, number_of, is_sequence, MeetsDefault};
 ghost use Rattle.fv_groups.specs.Judged.{AreSound, IsFault, is_large};
+ghost use Rattle.fv_groups.specs.Whereabouts.{IsAt, passed_limit};
 ghost use Rattle.fv_groups.specs.Marked.{AreMeetingIn};
 ghost use Rattle.fv_groups.specs.declared.fault.GroupFault.TheVariants.{TooLarge, Memory};
 
 use crate::acyclic::Acyclic;
 use crate::declared::{DeclaredGroups, GroupId};
 use crate::draft::GroupDraft;
-use crate::fault::GroupFault;
+use crate::fault::{GroupFault, GroupLimit, PlacedGroupFault};
 use crate::groups::Groups;
 use crate::marking::only;
 use indexmap::IndexMap;
@@ -26,7 +27,7 @@ pub struct GroupGraph {
     inheritance: Acyclic,
     expansion: Acyclic,
     meeting: Vec<bool>,
-    large: bool,
+    limit: Option<GroupLimit>,
 }
 
 impl Model for GroupGraph {
@@ -38,7 +39,7 @@ impl Model for GroupGraph {
 
     ghost view = { λ g. g.groups };
 
-    ghost invariant = { λ g. IsGraph g.groups g.inheritance g.expansion g.meeting.items g.large };
+    ghost invariant = { λ g. IsGraph g.groups g.inheritance g.expansion g.meeting.items g.limit };
 }
 
 impl GroupGraph {
@@ -51,31 +52,44 @@ impl GroupGraph {
     pub fn new(
         alloc: Global,
         declared: IndexMap<String, GroupDraft>,
-    ) -> Result<GroupGraph, GroupFault>
-        ensures { let gs = all_groups (declared_view declared) in
-            MatchResult result (λ g. (g ≡ gs) × AreSound gs) (λ e. (e ≢ TooLarge) × IsFault gs e) }
+    ) -> Result<GroupGraph, PlacedGroupFault>
+        ensures made { let gs = all_groups (declared_view declared) in
+            MatchResult result (λ g. (g ≡ gs) × AreSound gs) (λ e. (e.fault ≢ TooLarge) × IsFault gs e.fault) }
+        ensures placed { IfErr result (λ e. IsAt (all_groups (declared_view declared)) e.fault e.at) }
     {
         let groups = DeclaredGroups::new(declared);
-        if groups.has_unknown() {
-            return Err(GroupFault::UnknownGroup);
+        if let Some(name) = groups.unknown_name() {
+            return Err(PlacedGroupFault {
+                fault: GroupFault::UnknownGroup,
+                at: Some(name),
+            });
         }
         let Some(inheritance) = Acyclic::new(alloc, groups.inherited(alloc)?)? else {
-            return Err(GroupFault::CyclicInheritance);
+            return Err(PlacedGroupFault {
+                fault: GroupFault::CyclicInheritance,
+                at: None,
+            });
         };
         let Some(expansion) = Acyclic::new(alloc, groups.members(alloc)?)? else {
-            return Err(GroupFault::CyclicSequence);
+            return Err(PlacedGroupFault {
+                fault: GroupFault::CyclicSequence,
+                at: None,
+            });
         };
-        if groups.has_inherited_sequence() {
-            return Err(GroupFault::SequenceMisused);
+        if let Some(name) = groups.inherited_sequence() {
+            return Err(PlacedGroupFault {
+                fault: GroupFault::SequenceMisused,
+                at: Some(name),
+            });
         }
         let meeting = meeting_default(alloc, groups.count(), &inheritance, &expansion)?;
-        let large = groups.is_large();
+        let limit = groups.passed_limit();
         Ok(GroupGraph {
             groups,
             inheritance,
             expansion,
             meeting,
-            large,
+            limit,
         })
     }
 
@@ -102,20 +116,20 @@ impl GroupGraph {
         self.meeting[group.index]
     }
 
-    /// Whether there are more than 256 groups, or more than 32 that one inherits directly or that are
-    /// members of one.
-    pub fn is_large(&self) -> bool
-        ensures { result ≡ is_large self.now }
+    /// The first limit that is passed: that of 256 groups, or that of 32 groups that one inherits directly or
+    /// that are members of one.
+    pub fn passed_limit(&self) -> Option<GroupLimit>
+        ensures { result ≡ passed_limit self.now }
     {
-        self.large
+        self.limit
     }
 
-    /// The groups with their tables; refused by `TooLarge` where `is_large` says so, and by `Memory`.
+    /// The groups with their tables; refused by `TooLarge` where a limit is passed, and by `Memory`.
     pub fn finish(self, alloc: Global) -> Result<Groups, GroupFault>
         ensures { MatchResult result (λ gs. (gs ≡ self) × AreSound self × (is_large self ≡ false))
             (λ e. (e ≡ Memory) ⊎ ((e ≡ TooLarge) × (is_large self ≡ true))) }
     {
-        if self.large {
+        if self.limit.is_some() {
             return Err(GroupFault::TooLarge);
         }
         Ok(Groups::new(alloc, self.groups, &self.inheritance, &self.expansion)?)

@@ -11,11 +11,13 @@ mod groups;
 mod laws;
 mod marking;
 mod ranking;
+mod rings;
 
 pub use declared::GroupId;
 pub use draft::GroupDraft;
-pub use fault::GroupFault;
+pub use fault::{GroupFault, GroupLimit, NameAt, PlacedGroupFault};
 pub use graph::GroupGraph;
 pub use groups::Groups;
 pub use laws::{ranks_are_plain, ranks_unfold};
 pub use ranking::add_new;
+pub use rings::{inheritance_ring, sequence_ring};

@@ -1,5 +1,5 @@
 -- The full replacement, and the function that it is where no key leads to itself.
-use Rattle.std.proofs.Common.{◌≡◌, ◌<◌, ◌≤◌, ◌+◌, ◌↔◌, ℕ, zero, suc, List, [], ◌∷◌, ◌++◌, map, length, Bool, true, false, IsTrue, cond, not, ◌||◌, Option, Some, None, option_map, is_some, unwrap_or, bytes_eq, inl, inr, ◌⊎◌, refl, sym, ap, subst, ◌∙◌, arith}
+use Rattle.std.proofs.Common.{◌≡◌, ◌<◌, ◌≤◌, ◌+◌, ◌↔◌, ℕ, zero, suc, List, [], ◌∷◌, ◌++◌, map, length, slice_get, slice_index, Bool, true, false, IsTrue, cond, not, ◌||◌, Option, Some, None, option_map, is_some, unwrap_or, MatchOption, bytes_eq, inl, inr, ◌⊎◌, refl, sym, ap, subst, ◌∙◌, arith}
 use Rattle.std.proofs.lemmas.List.{append-nil}
 use Rattle.std.specs.List.{cons_option, sum}
 use Rattle.std.specs.Option.{option_map_or}
@@ -17,14 +17,15 @@ use Rattle.fv_message.specs.Full.{attribute_text, shown, Become, nothing, byte, 
 use Rattle.fv_message.specs.Evaluated.{key_text, full_pieces, full_text}
 use Rattle.fv_message.specs.Judged.{HasLongKey, IsMisspelt}
 use Rattle.fv_message.specs.Judging.{is_misspelt}
+use Rattle.fv_message.specs.Whereabouts.{IsLongAt}
 use Rattle.fv_message.proofs.Spelled.{spelled_read}
 use Rattle.fv_message.proofs.Keys.{next_below, key_unfolds}
 use Rattle.fv_message.proofs.Cycles.{MeetsUnreadable, IsFull, unread_pieces, unread_on}
-use Rattle.fv_message.proofs.Weights.{HasLongNumber, sum_cons}
+use Rattle.fv_message.proofs.Weights.{IsLongNumber, sum_cons}
 
 -- ---- templates
 
-unread : (t : List ℕ) → is_template t ≡ false → IsTemplate t → ⊥
+pub unread : (t : List ℕ) → is_template t ≡ false → IsTemplate t → ⊥
 unread t e (ps, s) = no (sym e ∙ ap is_some ((spelled_read t ps).1 s))
   where
     no : false ≡ true → ⊥
@@ -259,22 +260,30 @@ full_made ms attributes each none template is = full_of ms attributes (readable_
 
 -- ---- keys whose texts become too long
 
-message_at : (ms : Messages) (i : ℕ) → i < length ms → (m : List ℕ × List ℕ) × IsIn ms m × (text_at ms i ≡ m.1)
+message_at : (ms : Messages) (i : ℕ) → i < length ms → (m : List ℕ × List ℕ) × (slice_get ms i ≡ Some m) × (text_at ms i ≡ m.1)
 message_at [] i less = absurd (omega arith)
-message_at (m ∷ ms) zero less = (m, inl refl, refl)
-message_at (m ∷ ms) (suc i) less = let r = message_at ms i (omega arith) in (r.0, inr r.1, r.2)
+message_at (m ∷ ms) zero less = (m, refl, refl)
+message_at (m ∷ ms) (suc i) less = message_at ms i (omega arith)
+
+got_in : (ms : Messages) (i : ℕ) (m : List ℕ × List ℕ) → slice_get ms i ≡ Some m → IsIn ms m
+got_in [] i m e = absurd (cc)
+got_in (n ∷ ms) zero m e = inl (cc)
+got_in (n ∷ ms) (suc i) m e = inr (got_in ms i m e)
 
 message_number : (ms : Messages) (m : List ℕ × List ℕ) → IsIn ms m → (i : ℕ) × (i < length ms) × (text_at ms i ≡ m.1)
 message_number [] m h = absurd h
 message_number (n ∷ ms) m (inl e) = (0, omega arith, ap (λ (x : List ℕ × List ℕ). x.1) e)
 message_number (n ∷ ms) m (inr h) = let r = message_number ms m h in (suc r.0, omega (arith, r.1), r.2)
 
-long_key : (ms : Messages) → HasLongNumber ms → HasLongKey ms
-long_key ms (i, less, full, long) =
+long_at : (ms : Messages) (i : ℕ) → IsLongNumber ms i → IsLongAt ms i
+long_at ms i (less, full, long) =
     let m = message_at ms i less in
     (m.0, m.1, key_text ms [] i, subst (λ (t : List ℕ). IsFullText ms [] t (key_text ms [] i)) m.2 (pieces (text_at ms i), template_spelled (text_at ms i) (full_readable ms i full), key_become ms [] i full), long)
 
-long_number : (ms : Messages) → HasLongKey ms → HasLongNumber ms
+pub long_key : (ms : Messages) (i : ℕ) → IsLongAt ms i → HasLongKey ms
+long_key ms i (m, is, full, text, long) = (m, got_in ms i m is, full, text, long)
+
+long_number : (ms : Messages) → HasLongKey ms → (i : ℕ) × IsLongNumber ms i
 long_number ms (m, h, t, (ps, s, d), long) =
     let i = message_number ms m h in
     let told = evaluated ms [] d in
@@ -282,10 +291,14 @@ long_number ms (m, h, t, (ps, s, d), long) =
     let is : is_template (text_at ms i.0) ≡ true = ap is_template i.2 ∙ spelled_template m.1 (ps, s) in
     let full : IsFull ms i.0 = full_from ms i.0 is (λ j k. told.0 j (subst (λ (l : List Piece). IsIn (keys_in ms l) j) read k)) in
     let same : t ≡ key_text ms [] i.0 = told.1 ∙ ap (full_pieces ms []) (sym read) ∙ sym (key_unfolds ms [] i.0 full.0) in
-    (i.0, i.1, full, subst (λ (x : List ℕ). 65536 < length x) same long)
+    (i.0, (i.1, full, subst (λ (x : List ℕ). 65536 < length x) same long))
 
-pub by_key : (ms : Messages) (r : Bool) → IsTrue r ↔ HasLongNumber ms → IsTrue r ↔ HasLongKey ms
-by_key ms r found = (λ e. long_key ms (found.0 e), λ h. found.1 (long_number ms h))
+-- what is found above the limit is a key whose text becomes too long
+pub long_found : (ms : Messages) (order table : List ℕ) (found : Option ℕ) → ((i : ℕ) → IsIn order i → 65536 < slice_index table i → IsLongNumber ms i)
+    → ((i : ℕ) → IsLongNumber ms i → IsIn order i × (65536 < slice_index table i))
+    → MatchOption found ((i : ℕ) → IsIn order i → 65536 < slice_index table i → ⊥) (λ i. IsIn order i × (65536 < slice_index table i)) → MatchOption found (HasLongKey ms → ⊥) (IsLongAt ms)
+long_found ms order table None there back none = λ h. (let n = long_number ms h in let at = back n.0 n.1 in none n.0 at.0 at.1)
+long_found ms order table (Some i) there back is = long_at ms i (there i is.0 is.1)
 
 -- ---- messages that aren't well written
 

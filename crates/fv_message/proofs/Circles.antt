@@ -90,7 +90,7 @@ module _ (ms : Messages) where
       go (Some i) n rest (inl e) = (name, inl refl, n ∙ ap (λ (w : ℕ). Some w) e)
       go (Some i) n rest (inr k) = let r = rest k in (r.0, inr r.1, r.2)
 
-  parameter_of : (i j : ℕ) (key : List ℕ) → number_of ms key ≡ Some i → IsIn (next_keys ms i) j → (name : List ℕ) × (number_of ms name ≡ Some j) × HasParameter ms key name
+  pub parameter_of : (i j : ℕ) (key : List ℕ) → number_of ms key ≡ Some i → IsIn (next_keys ms i) j → (name : List ℕ) × (number_of ms name ≡ Some j) × HasParameter ms key name
   parameter_of i j key n h =
       let r = name_in (pieces (text_at ms i)) j h in
       (r.0, r.2, (text_at ms i, pieces (text_at ms i), named_text ms key i n, go (is_template (text_at ms i)) refl, r.1))
@@ -106,7 +106,7 @@ module _ (ms : Messages) where
       let q = names_of more k j p.0 p.1 l in
       (q.0, q.1, (p.0, p.2, q.2))
 
-  last_name : (more i j : ℕ) → graph.LeadsIn (next_keys ms) more i j → (name : List ℕ) × (number_of ms name ≡ Some j)
+  pub last_name : (more i j : ℕ) → graph.LeadsIn (next_keys ms) more i j → (name : List ℕ) × (number_of ms name ≡ Some j)
   last_name zero i j h = let r = name_in (pieces (text_at ms i)) j h in (r.0, r.2)
   last_name (suc more) i j (k, h, l) = last_name more k j l
 

@@ -4,10 +4,13 @@ pub mod Circles
 pub mod Cuts
 pub mod Cycles
 pub mod Expansions
+pub mod FirstTurns
+pub mod KeyRings
 pub mod Keys
 pub mod Named
 pub mod Numbers
 pub mod Pieces
+pub mod Placed
 pub mod Plain
 pub mod Seen
 pub mod Shown

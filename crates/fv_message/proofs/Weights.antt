@@ -1,5 +1,5 @@
 -- How long the texts of keys become.
-use Rattle.std.proofs.Common.{◌≡◌, ◌<◌, ◌≤◌, ◌+◌, ◌↔◌, ℕ, zero, suc, List, [], ◌∷◌, ◌++◌, map, length, take, drop, min, Bool, true, false, IsTrue, Option, Some, None, is_some, if◌then◌else◌, get_or, slice_index, Vec, Global, inl, inr, refl, sym, ap, subst, ◌∙◌, arith, length-append}
+use Rattle.std.proofs.Common.{◌≡◌, ◌<◌, ◌≤◌, ◌+◌, ℕ, zero, suc, List, [], ◌∷◌, ◌++◌, map, length, take, drop, min, Bool, true, false, Option, Some, None, is_some, if◌then◌else◌, get_or, slice_index, Vec, Global, inl, inr, refl, sym, ap, subst, ◌∙◌, arith, length-append}
 use Rattle.std.specs.List.{cons_option, sum}
 use Rattle.std.proofs.lemmas.List.{length-map, take_more, take_all}
 use Rattle.std.proofs.lemmas.List.Sums.{sum_by-append}
@@ -57,9 +57,9 @@ map_lengths g (x ∷ xs) = ap (λ (l : List ℕ). length (g x) ∷ l) (map_lengt
 
 -- ---- keys
 
--- the text of the key of some number becomes too long
-abbrev pub HasLongNumber : Messages → Type 0
-HasLongNumber ms = (i : ℕ) × (i < length ms) × IsFull ms i × (65536 < length (key_text ms [] i))
+-- the text of the key of a number becomes too long
+abbrev pub IsLongNumber : Messages → ℕ → Type 0
+IsLongNumber ms i = (i < length ms) × IsFull ms i × (65536 < length (key_text ms [] i))
 
 -- how many bytes of what each key's text becomes are none of another key's, where the text is a template
 abbrev pub AreOwnLens : Messages → List ℕ → Type 0
@@ -92,30 +92,27 @@ module _ (ms : Messages) (edges : List (Vec ℕ Global)) (are : AreEdgesOf ms ed
   key_len i less full = len_in (length edges) i less full ∙ ap (λ (n : ℕ). length (value_in (key_joined ms []) (next_keys ms) n i)) are.0
 
   -- a weight above the limit is a key whose text becomes too long
-  pub long_is : (order table : List ℕ) (r : Bool) → IsRestOrder (next_of edges) (length edges) order
-      → ((i : ℕ) → IsIn order i → slice_index table i ≡ min 65537 (weight (own_of lens) (next_of edges) (length edges) i))
-      → (IsTrue r ↔ ((i : ℕ) × IsIn order i × (65536 < slice_index table i))) → IsTrue r ↔ HasLongNumber ms
-  long_is order table r o weights found = (
-    λ e. there (found.0 e),
-    λ h. (let at = back h in found.1 (h.0, at, above h.0 (weights h.0 at) (key_len h.0 h.1 h.2.1) h.3)),
-  )
-    where
-      there : ((i : ℕ) × IsIn order i × (65536 < slice_index table i)) → HasLongNumber ms
-      there (i, at, above) =
-          let part = o.part.0 i at in
-          let less : i < length ms = omega (arith, part.0, are.0) in
-          let full = full_of ms (next_of edges) (edges_all ms edges are) i part.1 in
-          (i, less, full, omega (arith, above, weights i at, key_len i less full.1))
+  module _ (order table : List ℕ) (o : IsRestOrder (next_of edges) (length edges) order)
+      (weights : (i : ℕ) → IsIn order i → slice_index table i ≡ min 65537 (weight (own_of lens) (next_of edges) (length edges) i)) where
+    pub long_of : (i : ℕ) → IsIn order i → 65536 < slice_index table i → IsLongNumber ms i
+    long_of i at above =
+        let part = o.part.0 i at in
+        let less : i < length ms = omega (arith, part.0, are.0) in
+        let full = full_of ms (next_of edges) (edges_all ms edges are) i part.1 in
+        (less, full, omega (arith, above, weights i at, key_len i less full.1))
 
-      back : (h : HasLongNumber ms) → IsIn order h.0
-      back h = elim (o.others h.0 (omega (arith, h.1, are.0))) [
-        | inl at ↦ at
-        | inr m ↦ absurd (elim (meets_either ms (next_of edges) (edges_all ms edges are) h.0 m) [ inl c ↦ h.2.0 c | inr u ↦ h.2.1 u ])
-      ]
+    in_order : (i : ℕ) → IsLongNumber ms i → IsIn order i
+    in_order i h = elim (o.others i (omega (arith, h.0, are.0))) [
+      | inl at ↦ at
+      | inr m ↦ absurd (elim (meets_either ms (next_of edges) (edges_all ms edges are) i m) [ inl c ↦ h.1.0 c | inr u ↦ h.1.1 u ])
+    ]
 
-      above : (i : ℕ) → slice_index table i ≡ min 65537 (weight (own_of lens) (next_of edges) (length edges) i)
-          → weight (own_of lens) (next_of edges) (length edges) i ≡ length (key_text ms [] i) → 65536 < length (key_text ms [] i) → 65536 < slice_index table i
-      above i w k l = omega (arith, w, k, l)
+    above_of : (i : ℕ) → slice_index table i ≡ min 65537 (weight (own_of lens) (next_of edges) (length edges) i)
+        → weight (own_of lens) (next_of edges) (length edges) i ≡ length (key_text ms [] i) → 65536 < length (key_text ms [] i) → 65536 < slice_index table i
+    above_of i w k l = omega (arith, w, k, l)
+
+    pub of_long : (i : ℕ) → IsLongNumber ms i → IsIn order i × (65536 < slice_index table i)
+    of_long i h = let at = in_order i h in (at, above_of i (weights i at) (key_len i h.0 h.1.1) h.2)
 
 -- ---- numbers at places
 

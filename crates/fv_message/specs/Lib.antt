@@ -12,3 +12,4 @@ pub mod Reading
 pub mod Table
 pub mod Template
 pub mod Views
+pub mod Whereabouts

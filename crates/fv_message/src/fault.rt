@@ -44,3 +44,39 @@ impl From<AllocError> for MessageFault {
         MessageFault::Memory
     }
 }
+
+/// Where a user's messages have a fault, by numbers from 0 in the order of their map.
+#[derive(Clone, Copy, Debug, PartialEq, Eq)]
+pub enum MessagesAt {
+    /// The messages as a whole.
+    Messages,
+    /// The key of a message.
+    Key(usize),
+    /// The text of a message.
+    Text(usize),
+    /// What the text of a key becomes, by the key's number among all keys: the user's, and behind them
+    /// those of the built-in messages that the user gives no text.
+    Full(usize),
+}
+
+/// Why a user's messages weren't taken, and where that is.
+#[derive(Clone, Copy, Debug, PartialEq, Eq, Error)]
+#[error("{fault}")]
+pub struct PlacedMessageFault {
+    pub fault: MessageFault,
+    /// None for want of memory, and for a cycle, whose keys `key_ring` tells.
+    pub at: Option<MessagesAt>,
+}
+
+impl From<AllocError> for PlacedMessageFault {
+    ghost use Rattle.std.specs.Prelude.{◌≡◌, None};
+
+    ghost from_gives = { λ _ e. (e.fault ≡ Memory) × (e.at ≡ None) };
+
+    fn from(_e: AllocError) -> PlacedMessageFault {
+        PlacedMessageFault {
+            fault: MessageFault::Memory,
+            at: None,
+        }
+    }
+}

@@ -10,14 +10,16 @@ mod laws;
 mod lengths;
 mod messages;
 mod reading;
+mod rings;
 mod showing;
 mod table;
 mod template;
 
-pub use fault::MessageFault;
+pub use fault::{MessageFault, MessagesAt, PlacedMessageFault};
 pub use laws::{
     attributes_are_not_read, full_text_is_made, key_becomes_its_text, pieces_are_spelled,
     plain_text_stays,
 };
 pub use messages::Messages;
+pub use rings::{key_name, key_ring};
 pub use template::{check_template, template_fits};

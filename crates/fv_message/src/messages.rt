@@ -1,22 +1,23 @@
 //! Messages by key, and the texts that templates become.
-ghost use Rattle.std.specs.Prelude.{◌≡◌, ◌<◌, ◌++◌, true, false, length, IfOk, IfSome, OnOk, MatchResult, string_bytes};
+ghost use Rattle.std.specs.Prelude.{◌≡◌, ◌<◌, ◌++◌, true, length, None, is_some, IfOk, IfErr, IfSome, OnOk, MatchResult, string_bytes};
 ghost use Rattle.fv_datum.specs.Attributes.{Attributes};
 ghost use Rattle.fv_message.specs.Expanded.{AreExpansions};
 ghost use Rattle.fv_message.specs.Evaluated.{full_pieces, full_text, key_text};
 ghost use Rattle.fv_message.specs.Full.{IsTextOf};
 ghost use Rattle.fv_message.specs.Judged.{AreSound, IsFault};
-ghost use Rattle.fv_message.specs.Judging.{AreWhole, IsFaultOf};
+ghost use Rattle.fv_message.specs.Judging.{AreWhole, IsFaultOf, IsFoundAt};
 ghost use Rattle.fv_message.specs.Parts.{part_pieces};
 ghost use Rattle.fv_message.specs.Table.{all_messages};
 ghost use Rattle.fv_message.specs.Numbers.{AreReadable};
 ghost use Rattle.fv_message.specs.Reading.{is_template};
 ghost use Rattle.fv_message.specs.Views.{messages_view};
+ghost use Rattle.fv_message.specs.Whereabouts.{IsAt};
 
 use crate::expanding::{Expanding, at};
 use crate::expansion::Expansion;
-use crate::fault::MessageFault;
-use crate::lengths::has_long_key;
-use crate::reading::{are_large, is_misspelt};
+use crate::fault::{MessageFault, MessagesAt, PlacedMessageFault};
+use crate::lengths::long_key;
+use crate::reading::{large_in, misspelt_in};
 use crate::showing::{write_expansion, write_parameter};
 use crate::table::Table;
 use crate::template::{Part, split_part};
@@ -53,21 +54,32 @@ impl Model for Messages {
 fn expansions_of(
     alloc: Global,
     keys: &Table,
-    misspelt: bool,
-) -> Result<Vec<Expansion>, MessageFault>
-    requires { misspelt ≡ false → AreReadable keys.now }
-    ensures { MatchResult result (λ found. AreExpansions keys.now found.items × AreWhole keys.now misspelt) (IsFaultOf keys.now misspelt) }
+    misspelt: Option<MessagesAt>,
+) -> Result<Vec<Expansion>, PlacedMessageFault>
+    requires { misspelt ≡ None → AreReadable keys.now }
+    ensures judged { MatchResult result (λ found. AreExpansions keys.now found.items × AreWhole keys.now (is_some misspelt))
+        (λ e. IsFaultOf keys.now (is_some misspelt) e.fault) }
+    ensures placed { IfErr result (λ e. IsFoundAt keys.now misspelt e.fault e.at) }
 {
     let edges = keys.edges(alloc)?;
     let order = order_rest(alloc, &edges)?;
-    if has_long_key(alloc, keys, &edges, &order)? {
-        return Err(MessageFault::TooLarge);
+    if let Some(key) = long_key(alloc, keys, &edges, &order)? {
+        return Err(PlacedMessageFault {
+            fault: MessageFault::TooLarge,
+            at: Some(MessagesAt::Full(key)),
+        });
     }
-    if misspelt {
-        return Err(MessageFault::MessageSyntax);
+    if misspelt.is_some() {
+        return Err(PlacedMessageFault {
+            fault: MessageFault::MessageSyntax,
+            at: misspelt,
+        });
     }
     if order.len() < edges.len() {
-        return Err(MessageFault::MessageCycle);
+        return Err(PlacedMessageFault {
+            fault: MessageFault::MessageCycle,
+            at: None,
+        });
     }
     let maker = Expanding { messages: keys };
     Ok(table(alloc, &maker, edges.len(), &order)?)
@@ -82,14 +94,25 @@ impl Messages {
     /// a key is no parameter's name; else by `MessageCycle` where the text of a key, of the user's or of
     /// the built-in ones, leads back to that key through parameters that are keys; `Memory` at any
     /// place.
-    pub fn read(alloc: Global, user: IndexMap<String, String>) -> Result<Messages, MessageFault>
-        ensures { let given = messages_view user in
-            MatchResult result (λ m. (m ≡ all_messages given) × AreSound given) (IsFault given) }
+    ///
+    /// The place of `TooLarge` is the messages where there are too many, else the first text that is too
+    /// long, else a key whose text becomes too long; that of `MessageSyntax` is in the first message that
+    /// isn't well written, its key before its text. `MessageCycle` has none: see `key_ring`.
+    pub fn read(
+        alloc: Global,
+        user: IndexMap<String, String>,
+    ) -> Result<Messages, PlacedMessageFault>
+        ensures judged { let given = messages_view user in
+            MatchResult result (λ m. (m ≡ all_messages given) × AreSound given) (λ e. IsFault given e.fault) }
+        ensures placed { IfErr result (λ e. IsAt (messages_view user) e.fault e.at) }
     {
-        if are_large(&user) {
-            return Err(MessageFault::TooLarge);
+        if let Some(at) = large_in(&user) {
+            return Err(PlacedMessageFault {
+                fault: MessageFault::TooLarge,
+                at: Some(at),
+            });
         }
-        let misspelt = is_misspelt(&user);
+        let misspelt = misspelt_in(&user);
         let keys = Table::new(alloc, user)?;
         let expansions = expansions_of(alloc, &keys, misspelt)?;
         Ok(Messages { keys, expansions })

@@ -7,6 +7,7 @@ ghost use Rattle.fv_message.specs.Table.{all_messages, with_message};
 ghost use Rattle.fv_message.specs.Numbers.{keys_in, number_of, text_at};
 ghost use Rattle.fv_message.specs.Reading.{is_template};
 ghost use Rattle.fv_message.specs.Views.{messages_view};
+ghost use Rattle.fv_message.specs.Whereabouts.{name_at};
 
 use crate::built_in::{built_in_key, built_in_texts};
 use crate::template::{Part, check_template, split_part};
@@ -79,6 +80,16 @@ impl Table {
     {
         match self.texts.get_index(key) {
             Some((_, text)) => text.as_str(),
+            None => "",
+        }
+    }
+
+    /// The key of a number; empty where there is none.
+    pub(crate) fn name(&self, key: usize) -> &str
+        ensures { result.now ≡ name_at self.now key }
+    {
+        match self.texts.get_index(key) {
+            Some((name, _)) => name.as_str(),
             None => "",
         }
     }

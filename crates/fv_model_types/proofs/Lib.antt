@@ -7,6 +7,7 @@ pub mod Flawless
 pub mod Lookups
 pub mod Members
 pub mod Orders
+pub mod Placed
 pub mod Plain
 pub mod PlainJson
 pub mod Seen

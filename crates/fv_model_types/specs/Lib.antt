@@ -8,4 +8,5 @@ pub mod Spelled
 pub mod Tells
 pub mod Types
 pub mod TypesView
+pub mod Whereabouts
 pub mod Writing

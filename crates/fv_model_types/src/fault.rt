@@ -39,3 +39,36 @@ impl<T: Drop> From<AllocFailed<T>> for TypesFault {
         TypesFault::Memory
     }
 }
+
+/// Where declared types have a fault, by numbers from 0 in the order of their maps.
+#[derive(Clone, Copy, Debug, PartialEq, Eq)]
+pub enum TypesAt {
+    /// The types as a whole: there are too many.
+    Types,
+    /// A type, which has too many fields.
+    Type(usize),
+    /// A type, and which of its fields.
+    Field(usize, usize),
+}
+
+/// Why declared types weren't taken, and where that is.
+#[derive(Clone, Copy, Debug, PartialEq, Eq, Error)]
+#[error("{fault}")]
+pub struct PlacedTypesFault {
+    pub fault: TypesFault,
+    /// None for want of memory.
+    pub at: Option<TypesAt>,
+}
+
+impl<T: Drop> From<AllocFailed<T>> for PlacedTypesFault {
+    ghost use Rattle.std.specs.Prelude.{◌≡◌, None};
+
+    ghost from_gives = { λ _ e. (e.fault ≡ Memory) × (e.at ≡ None) };
+
+    fn from(_e: AllocFailed<T>) -> PlacedTypesFault {
+        PlacedTypesFault {
+            fault: TypesFault::Memory,
+            at: None,
+        }
+    }
+}

@@ -8,7 +8,7 @@ mod reading;
 mod type_use;
 mod types;
 
-pub use fault::TypesFault;
+pub use fault::{PlacedTypesFault, TypesAt, TypesFault};
 pub use flaws::{Flaws, TypeNames, flaws_among, flaws_of, is_other, type_at};
 pub use reading::read_use;
 pub use type_use::TypeUse;

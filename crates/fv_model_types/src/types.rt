@@ -1,10 +1,11 @@
-ghost use Rattle.std.specs.Prelude.{◌≡◌, ◌≢◌, false, length, option_map, slice_get, MatchResult, IfOk, IfSome, Some, None};
-ghost use Rattle.std.specs.Bool.{OnFalse};
+ghost use Rattle.std.specs.Prelude.{◌≡◌, ◌≢◌, false, length, option_map, is_some, slice_get, IsTrue, MatchResult, IfOk, IfErr, IfSome, Some, None};
+ghost use Rattle.std.specs.Option.{IfNone};
 ghost use Rattle.fv_datum.specs.Lookup.{at_name};
 ghost use Rattle.fv_model_types.specs.declared.fault.TypesFault.TheVariants.{Memory};
-ghost use Rattle.fv_model_types.specs.Types.{FieldsApart, declared_view, fields_view, type_use_view, is_unknown, unknown_in, has_unknown, has_large, deep_in, has_deep, types_fault, name_at, number_of};
+ghost use Rattle.fv_model_types.specs.Types.{AreApart, FieldsApart, declared_view, fields_view, type_use_view, is_unknown, has_deep, types_fault, name_at, number_of};
+ghost use Rattle.fv_model_types.specs.Whereabouts.{unknown_field, unknown_reference_at, deep_field, large_in, large_type_at, large_at, types_fault_at};
 
-use crate::fault::TypesFault;
+use crate::fault::{PlacedTypesFault, TypesAt, TypesFault};
 use crate::type_use::{TypeUse, is_deeper};
 use indexmap::IndexMap;
 use std::alloc::{AllocError, Global};
@@ -43,19 +44,31 @@ impl Types {
     /// The types of a map of type names to maps of field names to type uses, numbered in the map's
     /// order.
     ///
-    /// Refused by `UnknownType` for a reference to a type that isn't declared, else by `TooLarge`
-    /// for more than 256 types, a type of more than 256 fields, or a field that holds more than four
-    /// containers one in another; `Memory` at any place.
-    pub fn build(alloc: Global, declared: IndexMap<String, Fields>) -> Result<Types, TypesFault>
-        ensures { MatchResult result (λ ts. (types_fault (declared_view declared) ≡ None)
+    /// Refused by `UnknownType` for a reference to a type that isn't declared, at the first field that
+    /// has one, else by `TooLarge` for more than 256 types, else at the first type of more than 256
+    /// fields or with a field that holds more than four containers one in another: at the type for its
+    /// fields, else at its first such field; `Memory` at any place.
+    pub fn build(
+        alloc: Global,
+        declared: IndexMap<String, Fields>,
+    ) -> Result<Types, PlacedTypesFault>
+        ensures made { MatchResult result (λ ts. (types_fault (declared_view declared) ≡ None)
             × (types_view ts ≡ declared_view declared))
-            (λ e. e ≢ Memory → types_fault (declared_view declared) ≡ Some e) }
+            (λ e. e.fault ≢ Memory → types_fault (declared_view declared) ≡ Some e.fault) }
+        ensures placed { IfErr result (λ e. e.at ≡ types_fault_at (declared_view declared) e.fault) }
+        ensures found { IfErr result (λ e. e.fault ≢ Memory → IsTrue (is_some e.at)) }
     {
-        if has_unknown(&declared) {
-            return Err(TypesFault::UnknownType);
+        if let Some(field) = unknown_reference(&declared) {
+            return Err(PlacedTypesFault {
+                fault: TypesFault::UnknownType,
+                at: Some(field),
+            });
         }
-        if declared.len() > MOST_TYPES || has_large(&declared) || has_deep(&declared) {
-            return Err(TypesFault::TooLarge);
+        if let Some(large) = too_large(&declared) {
+            return Err(PlacedTypesFault {
+                fault: TypesFault::TooLarge,
+                at: Some(large),
+            });
         }
         Ok(Types {
             declared: Rc::new(alloc, declared)?,
@@ -145,63 +158,80 @@ fn is_unknown(declared: &IndexMap<String, Fields>, type_use: &TypeUse) -> bool
     }
 }
 
-fn unknown_in(declared: &IndexMap<String, Fields>, fields: &Fields) -> bool
-    ensures { result ≡ unknown_in (declared_view declared.now) (fields_view fields.now) }
+/// The first of the fields that refers to a type that isn't declared.
+#[tactic(auto, using(crate::proofs::Placed::entry_turn))]
+fn unknown_field(declared: &IndexMap<String, Fields>, fields: &Fields) -> Option<usize>
+    ensures { result ≡ unknown_field (declared_view declared.now) (fields_view fields.now) }
 {
-    for (_, type_use) in fields.iter() {
+    for (number, (_, type_use)) in fields.iter().enumerate() {
         if is_unknown(declared, type_use) {
-            return true;
+            return Some(number);
         }
     }
-    false
+    None
 }
 
-fn has_unknown(declared: &IndexMap<String, Fields>) -> bool
-    ensures { result ≡ has_unknown (declared_view declared.now) }
+/// Where a field refers to a type that isn't declared.
+#[tactic(auto, using(crate::proofs::Placed::entry_turn))]
+fn unknown_reference(declared: &IndexMap<String, Fields>) -> Option<TypesAt>
+    ensures { result ≡ unknown_reference_at (declared_view declared.now) }
 {
-    for (_, fields) in declared.iter() {
-        if unknown_in(declared, fields) {
-            return true;
+    for (number, (_, fields)) in declared.iter().enumerate() {
+        if let Some(field) = unknown_field(declared, fields) {
+            return Some(TypesAt::Field(number, field));
         }
     }
-    false
+    None
 }
 
-/// Whether a type has too many fields.
-fn has_large(declared: &IndexMap<String, Fields>) -> bool
-    ensures exact { result ≡ has_large (declared_view declared.now) }
-    ensures apart { OnFalse result (FieldsApart (declared_view declared.now)) }
+/// The first of the fields that holds too many containers one in another.
+#[tactic(auto, using(crate::proofs::Placed::entry_turn))]
+fn deep_field(fields: &Fields) -> Option<usize>
+    ensures { result ≡ deep_field (fields_view fields.now) }
 {
-    for (_, fields) in declared.iter() {
-        if fields.len() > MOST_FIELDS {
-            return true;
-        }
-    }
-    false
-}
-
-/// Whether a field holds too many containers one in another.
-fn deep_in(fields: &Fields) -> bool
-    ensures { result ≡ deep_in (fields_view fields.now) }
-{
-    for (_, type_use) in fields.iter() {
+    for (number, (_, type_use)) in fields.iter().enumerate() {
         if is_deeper(type_use, MOST_NESTED) {
-            return true;
+            return Some(number);
         }
     }
-    false
+    None
 }
 
-/// The same of one of the types.
-fn has_deep(declared: &IndexMap<String, Fields>) -> bool
-    ensures { result ≡ has_deep (declared_view declared.now) }
+/// Where the type of that number is too large, which has these fields.
+fn large_in(number: usize, fields: &Fields) -> Option<TypesAt>
+    ensures exact { result ≡ large_in number (fields_view fields.now) }
+    ensures apart { AreApart (fields_view fields.now) }
 {
-    for (_, fields) in declared.iter() {
-        if deep_in(fields) {
-            return true;
+    if fields.len() > MOST_FIELDS {
+        return Some(TypesAt::Type(number));
+    }
+    let field = deep_field(fields)?;
+    Some(TypesAt::Field(number, field))
+}
+
+/// Where the first type that is too large is so.
+#[tactic(auto, using(crate::proofs::Placed::entry_turn))]
+fn large_type(declared: &IndexMap<String, Fields>) -> Option<TypesAt>
+    ensures exact { result ≡ large_type_at (declared_view declared.now) }
+    ensures apart { IfNone result (FieldsApart (declared_view declared.now)) }
+{
+    for (number, (_, fields)) in declared.iter().enumerate() {
+        if let Some(at) = large_in(number, fields) {
+            return Some(at);
         }
     }
-    false
+    None
+}
+
+/// Where the types are too large.
+fn too_large(declared: &IndexMap<String, Fields>) -> Option<TypesAt>
+    ensures exact { result ≡ large_at (declared_view declared.now) }
+    ensures apart { IfNone result (FieldsApart (declared_view declared.now)) }
+{
+    if declared.len() > MOST_TYPES {
+        return Some(TypesAt::Types);
+    }
+    large_type(declared)
 }
 
 /// What the field of that name holds.

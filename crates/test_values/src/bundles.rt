@@ -4,18 +4,19 @@ use fv_bundle::{Bundle, Object};
 use fv_datum::read_text;
 use fv_model::{BundleFault, read_bundle, set_field};
 use fv_model_text::{fields_text, write_bundle, write_fields, write_text};
-use fv_model_types::Types;
+use fv_model_types::{PlacedTypesFault, Types};
 use std::alloc::Global;
 use std::test::Fail;
 
-/// Types, with `;` between them: the number and the fields of `A`, or the fault. Four containers are taken,
-/// one in another, and a type that isn't declared comes before a limit.
+/// Types, with `;` between them: the number and the fields of `A`, or the fault with its place. Four containers
+/// are taken, one in another, and a type that isn't declared comes before a limit.
 const TYPES: &str = r#"
 B = b: B;A = a: I, by: &B in P => 1 {"a": Integer, "by": Map(Ref("B"))}
 A = to: &A, at: M, day: E, price: D, text: T => 0 {"to": Ref("A"), "at": Instant, "day": Date, "price": Decimal, "text": Text}
 A = a: T in L in P in O in L => 0 {"a": List(Optional(Map(List(Text))))}
-A = a: T in L in P in O in L in O => TooLarge
-A = a: T in L in P in O in L in O;B = a: &C in L => UnknownType
+A = a: T in L in P in O in L in O => TooLarge Some(Field(0, 0))
+B = b: B;A = a: I, by: T in L in P in O in L in O, of: T in L in P in O in L in O => TooLarge Some(Field(1, 1))
+A = a: T in L in P in O in L in O;B = a: &C in L => UnknownType Some(Field(1, 0))
 "#;
 
 /// The number of the type `A`, and its fields.
@@ -32,7 +33,10 @@ impl Rows for Declared {
         let lines = given.replace(alloc, ";", "\n")?;
         match Types::build(alloc, declared(alloc, lines.as_str())?) {
             Ok(types) => types_shown(alloc, &types),
-            Err(fault) => Ok(String::from_str(alloc, fault.name())?),
+            Err(PlacedTypesFault { fault, at }) => {
+                let name = fault.name();
+                Ok(format!(in alloc; "{name} {at:?}")?)
+            }
         }
     }
 }

@@ -1,8 +1,8 @@
 //! The texts of faults, one of each type; those of most types stand whole in `test_walks`.
 use crate::given::check;
 use fv_builtin::BuiltinFault;
-use fv_constraint::FlattenFault;
 use fv_datum::{DatumFault, JsonFault};
+use fv_flatten::FlattenFault;
 use fv_groups::GroupFault;
 use fv_message::MessageFault;
 use fv_model::BundleFault;

@@ -1,20 +1,22 @@
 //! Messages, and what templates become.
 use crate::given::{Rows, attributes, check_rows};
-use fv_message::{Messages, check_template};
+use fv_message::{Messages, PlacedMessageFault, check_template};
 use indexmap::IndexMap;
 use std::alloc::Global;
 use std::test::Fail;
 
 /// Messages as `KEY = TEMPLATE`, with `;` between them, and behind `|` a template: what it becomes with the
-/// attributes below, `no template`, or the fault of the messages.
+/// attributes below, `no template`, or the fault of the messages with its
+/// place.
 const MESSAGES: &str = r#"
 p = x | at most {limit} => at most 2
 app.tag = \{{note}\} {nobody} {jakarta.validation.constraints.NotNull.message} | {app.tag} => {{jakarta.validation.constraints.Null.message}} {nobody} must not be null
 a = {b}; b = {c}{limit}; c = \{limit\} | {a}-{b}{list} => {limit}2-{limit}2[a, b]
 p = x | a {b => no template
 p = x | ${limit} => no template
-p = a {b | x => MessageSyntax
-p = {q}; q = {p} | x => MessageCycle
+p = a; q = a {b; r = a {b | x => MessageSyntax Some(Text(1))
+p = a; {q = a {b | x => MessageSyntax Some(Key(1))
+p = {q}; q = {p} | x => MessageCycle None
 "#;
 
 /// The attributes of every row.
@@ -44,7 +46,10 @@ impl Rows for Texts {
         }
         match Messages::read(alloc, declared(alloc, messages)?) {
             Ok(messages) => Ok(messages.text(alloc, template, &attributes(alloc, ATTRIBUTES)?)?),
-            Err(fault) => Ok(String::from_str(alloc, fault.name())?),
+            Err(PlacedMessageFault { fault, at }) => {
+                let name = fault.name();
+                Ok(format!(in alloc; "{name} {at:?}")?)
+            }
         }
     }
 }

@@ -1,10 +1,11 @@
 //! What constraints report of data and of objects, by the rules of the house.
 use crate::given::{attributes, built, bundle_of, check, datum_of, type_use};
 use fv_bundle::Object;
-use fv_constraint::{Occurrence, Use, composes_unknown, flatten, meant_by, report, report_object};
+use fv_constraint::{meant_by, unknown_composing};
 use fv_constraint_tree::{Target, passes_all};
 use fv_datum::{Attrs, Datum, Kind, read_text};
 use fv_declare_definition::{Definition, definitions_of};
+use fv_flatten::{Occurrence, Use, flatten, report, report_object};
 use fv_house::{house_registry, luhn, not_after, one_of, sum_is};
 use fv_message::Messages;
 use fv_registry::{FieldCall, ObjectCall, RuleSet, Ruled};
@@ -69,7 +70,7 @@ fn flattened<R: RuleSet>(
     place: Target,
 ) -> Result<Occurrence, Fail> {
     let constraint = name_in(used);
-    if composes_unknown(definitions) || meant_by(definitions, constraint).is_none() {
+    if unknown_composing(definitions).is_some() || meant_by(definitions, constraint).is_none() {
         return Err("a constraint".into());
     }
     let given = attributes(alloc, with)?;

@@ -1,6 +1,6 @@
 use Rattle.std.proofs.Common.{◌≡◌, ◌∙◌, Some, None, option_map, is_some, sym, ap}
 use Rattle.std.specs.Option.{option_or}
-use Rattle.fv_builtin.proofs.PutIn.{given_stays}
+use Rattle.fv_constraint.proofs.PutIn.{given_stays}
 use Rattle.fv_datum.specs.Attributes.{attribute_view}
 use Rattle.fv_datum.specs.Lookup.{at_name}
 use Rattle.fv_constraint.specs.Meanings.{declared}

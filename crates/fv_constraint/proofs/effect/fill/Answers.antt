@@ -4,7 +4,7 @@ use Rattle.std.specs.Cmp.Lexicographic.{slice_cmp}
 use Rattle.std.specs.Option.{option_or}
 use Rattle.fv_datum.specs.Maps.{ascends}
 use Rattle.fv_datum.proofs.Maps.{put_seen, ascends-insert}
-use Rattle.fv_builtin.proofs.PutIn.{stands, given_stays}
+use Rattle.fv_constraint.proofs.PutIn.{stands, given_stays}
 use Rattle.fv_datum.specs.Attributes.{AttributeValue, Attributes, attribute_view, entry_view}
 use Rattle.fv_datum.specs.Lookup.{at_name}
 use Rattle.fv_constraint.proofs.Filled.{fill_stays, fill_put}

@@ -1,7 +1,7 @@
 use Rattle.std.proofs.Common.{◌≡◌, ◌∙◌, ℕ, List, map, None, cond, option_map, option_and_then, string_bytes, bytes_eq, sym, ap}
 use Rattle.std.specs.Option.{option_or}
 use Rattle.fv_datum.specs.Maps.{ascends}
-use Rattle.fv_builtin.proofs.PutIn.{given_alone}
+use Rattle.fv_constraint.proofs.PutIn.{given_alone}
 use Rattle.fv_datum.specs.Attributes.{Attributes, attribute_view, entry_view}
 use Rattle.fv_datum.specs.Lookup.{at_name}
 use Rattle.fv_constraint.specs.Meanings.{declared}

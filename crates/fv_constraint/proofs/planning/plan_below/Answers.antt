@@ -12,7 +12,6 @@ use Rattle.fv_constraint.specs.Effect.{effective, handed}
 use Rattle.fv_constraint.specs.Numbered.{composing_at, handed_map}
 use Rattle.fv_constraint.specs.PlannedViews.{planned_view}
 use Rattle.fv_constraint.proofs.Handed.{handed_map_is}
-use Rattle.fv_constraint.proofs.Unique.{planned_same}
 use Rattle.fv_constraint.proofs.planning.plan_below.Goals as goal
 
 unwrapped : {X Y : Type 0} (f : X → Y) (o : Option X) (d : X) → f (unwrap_or o d) ≡ unwrap_or (option_map f o) (f d)
@@ -51,6 +50,7 @@ returns c =
     let above = effective (declared (definition_view d)) p.given in
     let given : c.in_ok-handed.field-0 ≡ handed_map one (effective p.meant p.given) =
     same_map (handed one above) c.in_ok-handed.field-0 (handed_map one above) c.in_ok-handed.ensures (handed_map_is one above) ∙ ap (λ (m : Meant). handed_map one (effective m p.given)) (sym is) in
-    planned_same c.as_str-name.result.now one.constraint (meant_view c.unwrap_or.result) (unwrap_or (meant_by ds one.constraint) p.meant) (option_map (λ t. t.now) c.text_of.result) one.message c.in_ok-handed.field-0
-    (handed_map one (effective p.meant p.given)) name meant c.text_of.ensures given
-    ∙ ap (composing_at ds p) (sym here)
+    let same : ◌≡◌ {A = Planned}
+    (record { constraint = c.as_str-name.result.now; meant = meant_view c.unwrap_or.result; own = option_map (λ t. t.now) c.text_of.result; given = c.in_ok-handed.field-0 })
+    (composing_at ds p (Some one)) = rw (name, meant, c.text_of.ensures, given) refl in
+    same ∙ ap (composing_at ds p) (sym here)

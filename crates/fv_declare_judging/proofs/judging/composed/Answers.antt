@@ -38,4 +38,4 @@ returns-clause-refused g c =
     let d = draft_view c.args.draft.now in
     let ds = d.definitions in
     let no_cycle : IsCyclic ds → ⊥ = there (IsCyclic ds) (IsCyclic ds → ⊥) (λ (x : Definitions). x ≡ ds) c.in_ok-composition.field-0 _ c.in-Some.is c.in_ok-composition.ensures in
-    IfErr-weaker c.flattened.result _ _ (λ f h other. acyclic (g.R.RuleSet.known c.args.rules.now) d no_cycle (Err f) (h other)) c.flattened.ensures.refused
+    IfErr-weaker c.flattened.result _ _ (λ p h other. acyclic (g.R.RuleSet.known c.args.rules.now) d no_cycle (Err p.fault) (h other)) c.flattened.ensures.refused

@@ -1,8 +1,8 @@
 use Rattle.std.proofs.Common.{◌≡◌, List, map, not, is_some, false, sym, ap, subst, ◌∙◌}
 use Rattle.std.specs.List.{list_any}
 use Rattle.fv_constraint.specs.Meanings.{meant_by}
-use Rattle.fv_constraint.specs.Flattening as flat
-use Rattle.fv_constraint.specs.UseViews.{use_view as flat_use_view}
+use Rattle.fv_flatten.specs.Flattening as flat
+use Rattle.fv_flatten.specs.UseViews.{use_view as flat_use_view}
 use Rattle.fv_declare_draft.specs.UseViews.{use_view}
 use Rattle.fv_declare_judging.specs.Used.{used}
 use Rattle.fv_declare_judging.proofs.Found.{any_map}

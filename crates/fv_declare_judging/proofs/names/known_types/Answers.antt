@@ -1,34 +1,55 @@
-use Rattle.std.proofs.Common.{◌≡◌, [], ◌∷◌, Bool, true, false, not, Some, None, Ok, map, is_some, refl, sym, ap, ◌∙◌}
-use Rattle.std.specs.List.{list_any}
-use Rattle.fv_constraint.specs.Meanings.{composes_unknown, meant_by}
-use Rattle.fv_datum.specs.Outcomes.{first, unless_fault}
+use Rattle.std.proofs.Common.{◌≡◌, List, false, Some, map, is_some, sym, ap, ◌∙◌}
+use Rattle.fv_declare_draft.specs.AllUses.{Use, uses_in}
 use Rattle.fv_declare_draft.specs.DraftViews.{type_view, form_view, draft_view}
-use Rattle.fv_declare_draft.specs.Drafts.{Drafted}
-use Rattle.fv_model_types.specs.Types.{declared_view, types_fault}
-use Rattle.fv_model_types.specs.declared.fault.TypesFault.TheVariants.{UnknownType, TooLarge}
-use Rattle.fv_declare_judging.specs.Conditions.{unknown_constraint, unknown_name, unknown_root}
+use Rattle.fv_declare_draft.specs.UseViews.{use_view}
+use Rattle.fv_model_types.specs.Types.{Declared, declared_view, types_fault}
+use Rattle.fv_model_types.specs.declared.fault.TypesFault.TheVariants.{UnknownType, TooLarge, Memory}
+use Rattle.fv_declare_judging.specs.NamePlaces.{bad_name}
 use Rattle.fv_declare_judging.specs.Types.{type_declared, types_declared}
-use Rattle.fv_declare_judging.specs.Naming.{bad_name}
-use Rattle.fv_declare_judging.specs.Judging.{name_conditions, unless_many}
+use Rattle.fv_declare_judging.proofs.Named.{bad_first, outside, found_outside, all_named, named_large, unknown_type}
 use Rattle.fv_declare_judging.proofs.names.known_types.Goals as goal
 
-large : (unknown many : Bool) → first ((unknown, UnknownType) ∷ (many, TooLarge) ∷ []) ≡ Some TooLarge → (unknown ≡ false) × (many ≡ true)
-large true many e = cc
-large false true e = (refl, refl)
-large false false e = cc
+pub returns-in-Some-clause-refused : goal.returns-in-Some-clause-refused
+returns-in-Some-clause-refused c = λ other. bad_first (draft_view c.args.draft.now) (sym (ap is_some c.in-Some.ensures))
 
--- there are no types where a limit of them is passed
-none_large : (d : Drafted) → bad_name d ≡ false → unknown_constraint d ≡ false → composes_unknown d.definitions ≡ false → unknown_root (types_declared d) d.forms ≡ false → types_fault (types_declared d) ≡ Some TooLarge
-    → unless_fault (first (name_conditions d)) (unless_many (types_declared d)) ≡ Ok None
-unfolding unknown_name
-none_large d bad used composed roots fault = let found = large _ _ fault in rw (bad, used, composed, found.0, roots, found.1) refl
-
-pub returns-in-Err-TooLarge : goal.returns-in-Err-TooLarge
-returns-in-Err-TooLarge c =
+pub returns-in-Some-unknown_outside-clause-refused : goal.returns-in-Some-unknown_outside-clause-refused
+returns-in-Some-unknown_outside-clause-refused c =
     let d = draft_view c.args.draft.now in
+    let ds = d.definitions in
+    let good : is_some (bad_name d) ≡ false = sym (ap is_some c.in_default.ensures) in
     let declared : declared_view c.in_ok-declared.declared ≡ types_declared d = c.in_ok-declared.ensures ∙ ap (λ ts. map type_declared (map type_view ts)) c.deref.ensures.value in
-    let used : unknown_constraint d ≡ false = ap (list_any (λ u. not (is_some (meant_by d.definitions u.draft.constraint)))) (sym c.requires) ∙ sym c.if-has_unknown_constraint.ensures in
-    let roots : unknown_root (types_declared d) d.forms ≡ false =
-    ap (λ ts. unknown_root ts d.forms) (sym declared) ∙ ap (λ fs. unknown_root (declared_view c.in_ok-declared.declared) (map form_view fs)) (sym c.deref-else-composes_unknown.ensures.value) ∙ sym c.if-has_unknown_root.ensures in
-    let fault : types_fault (types_declared d) ≡ Some TooLarge = ap types_fault (sym declared) ∙ c.in-Err-TooLarge.ensures (λ is. cc) ∙ ap (λ f. Some f) c.in-Err-TooLarge.field-0-is in
-    none_large d (sym c.if-bad_name.ensures) used (sym c.if-composes_unknown.ensures) roots fault
+    let fs = map form_view c.deref-2.result.now in
+    let same = ap (λ (ts : Declared). outside ts ds (map use_view c.args.uses.now) fs) declared ∙ ap (λ (us : List Use). outside (types_declared d) ds us fs) c.requires ∙ ap (λ xs. outside (types_declared d) ds (uses_in d.types) (map form_view xs)) c.deref-2.ensures.value in
+    λ other. found_outside d good c.in-Some-unknown_outside.at (c.in-Some-unknown_outside.ensures ∙ same)
+
+pub returns-in-Ok-clause-named : goal.returns-in-Ok-clause-named
+returns-in-Ok-clause-named c =
+    let d = draft_view c.args.draft.now in
+    let ds = d.definitions in
+    let good : is_some (bad_name d) ≡ false = sym (ap is_some c.in_default.ensures) in
+    let declared : declared_view c.in_ok-declared.declared ≡ types_declared d = c.in_ok-declared.ensures ∙ ap (λ ts. map type_declared (map type_view ts)) c.deref.ensures.value in
+    let fs = map form_view c.deref-2.result.now in
+    let same = ap (λ (ts : Declared). outside ts ds (map use_view c.args.uses.now) fs) declared ∙ ap (λ (us : List Use). outside (types_declared d) ds us fs) c.requires ∙ ap (λ xs. outside (types_declared d) ds (uses_in d.types) (map form_view xs)) c.deref-2.ensures.value in
+    all_named d good (c.in_default-unknown_outside.ensures ∙ same) (ap types_fault (sym declared) ∙ c.in-Ok.ensures.made.0)
+
+pub returns-in-TooLarge-Some-clause-named : goal.returns-in-TooLarge-Some-clause-named
+returns-in-TooLarge-Some-clause-named c =
+    let d = draft_view c.args.draft.now in
+    let ds = d.definitions in
+    let good : is_some (bad_name d) ≡ false = sym (ap is_some c.in_default.ensures) in
+    let declared : declared_view c.in_ok-declared.declared ≡ types_declared d = c.in_ok-declared.ensures ∙ ap (λ ts. map type_declared (map type_view ts)) c.deref.ensures.value in
+    let fs = map form_view c.deref-2.result.now in
+    let same = ap (λ (ts : Declared). outside ts ds (map use_view c.args.uses.now) fs) declared ∙ ap (λ (us : List Use). outside (types_declared d) ds us fs) c.requires ∙ ap (λ xs. outside (types_declared d) ds (uses_in d.types) (map form_view xs)) c.deref-2.ensures.value in
+    let fault : types_fault (types_declared d) ≡ Some TooLarge = ap types_fault (sym declared) ∙ c.in-Err.ensures.made (λ is. let other : TooLarge ≡ Memory = sym c.in-TooLarge-Some.is-0 ∙ is in cc) ∙ ap (λ f. Some f) c.in-TooLarge-Some.is-0 in
+    named_large d good (c.in_default-unknown_outside.ensures ∙ same) fault
+
+pub returns-in-UnknownType-Some-clause-refused : goal.returns-in-UnknownType-Some-clause-refused
+returns-in-UnknownType-Some-clause-refused c =
+    let d = draft_view c.args.draft.now in
+    let ds = d.definitions in
+    let good : is_some (bad_name d) ≡ false = sym (ap is_some c.in_default.ensures) in
+    let declared : declared_view c.in_ok-declared.declared ≡ types_declared d = c.in_ok-declared.ensures ∙ ap (λ ts. map type_declared (map type_view ts)) c.deref.ensures.value in
+    let fs = map form_view c.deref-2.result.now in
+    let same = ap (λ (ts : Declared). outside ts ds (map use_view c.args.uses.now) fs) declared ∙ ap (λ (us : List Use). outside (types_declared d) ds us fs) c.requires ∙ ap (λ xs. outside (types_declared d) ds (uses_in d.types) (map form_view xs)) c.deref-2.ensures.value in
+    let fault : types_fault (types_declared d) ≡ Some UnknownType = ap types_fault (sym declared) ∙ c.in-Err.ensures.made (λ is. let other : UnknownType ≡ Memory = sym c.in-UnknownType-Some.is-0 ∙ is in cc) ∙ ap (λ f. Some f) c.in-UnknownType-Some.is-0 in
+    λ other. unknown_type d good (c.in_default-unknown_outside.ensures ∙ same) fault

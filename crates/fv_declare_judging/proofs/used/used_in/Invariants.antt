@@ -1,5 +1,5 @@
 use Rattle.std.proofs.Common.{◌≡◌, ◌++◌, map, drop}
-use Rattle.fv_constraint.specs.UseViews.{use_view as flat_use_view}
+use Rattle.fv_flatten.specs.UseViews.{use_view as flat_use_view}
 use Rattle.fv_declare_draft.specs.UseViews.{use_view}
 use Rattle.fv_declare_judging.specs.Used.{used}
 use Rattle.fv_declare_judging.proofs.used.used_in.Given as goal

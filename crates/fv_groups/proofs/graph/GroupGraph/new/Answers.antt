@@ -1,13 +1,20 @@
-use Rattle.std.proofs.Common.{◌≡◌, ◌≢◌, ◌∙◌, ℕ, List, Vec, true, false, length, sym, ap, subst}
+use Rattle.std.proofs.Common.{◌≡◌, ◌≢◌, ◌∙◌, ℕ, List, Vec, true, false, length, is_some, sym, ap, subst}
 use Rattle.std.specs.declared.alloc.Global.{Global}
 use Rattle.fv_graph.specs.Graph.{next_of, IsCyclic}
 use Rattle.fv_groups.specs.Groups.{Groups, inherit_next, member_next}
 use Rattle.fv_groups.specs.Judged.{AreSound, IsFault, has_unknown, has_inherited_sequence}
 use Rattle.fv_groups.specs.Marked.{AreMeetingIn}
 use Rattle.fv_groups.specs.Tables.{AreEdges}
-use Rattle.fv_groups.specs.declared.fault.GroupFault.TheVariants.{CyclicInheritance, CyclicSequence, SequenceMisused, TooLarge}
+use Rattle.fv_groups.specs.declared.fault.GroupFault.TheVariants.{UnknownGroup, CyclicInheritance, CyclicSequence, SequenceMisused, TooLarge}
 use Rattle.fv_groups.proofs.Edges.{inherited_edges, member_edges, inherited_within, members_within, cyclic_same, acyclic_same, meeting_same}
+use Rattle.fv_groups.proofs.Placed.{not_large, unknown_told, inherited_told}
 use Rattle.fv_groups.proofs.graph.GroupGraph.new.Goals as goal
+
+pub returns-in-Some-clause-made : goal.returns-in-Some-clause-made
+returns-in-Some-clause-made c =
+    let gs : Groups = c.new-groups.result in
+    let unknown : has_unknown gs ≡ true = sym (ap is_some c.in-Some.ensures ∙ unknown_told c.new-groups.result) in
+    subst (λ (es : Groups). (UnknownGroup ≢ TooLarge) × IsFault es UnknownGroup) c.new-groups.ensures (not_large, unknown)
 
 pub new-requires : goal.new-requires
 new-requires c =
@@ -15,13 +22,13 @@ new-requires c =
     let edges = c.in_ok-inherited.field-0.items in
     inherited_within gs edges (inherited_edges gs edges c.in_ok-inherited.ensures)
 
-pub returns-in_default : goal.returns-in_default
-returns-in_default c =
+pub returns-in_default-2-clause-made : goal.returns-in_default-2-clause-made
+returns-in_default-2-clause-made c =
     let gs : Groups = c.new-groups.result in
     let edges = c.in_ok-inherited.field-0.items in
     let are : AreEdges (inherit_next gs) (length gs) edges = inherited_edges gs edges c.in_ok-inherited.ensures in
-    let known : has_unknown gs ≡ false = sym c.has_unknown.ensures ∙ c.if-has_unknown.false in
-    let cycle : IsCyclic (next_of edges) = rw c.in_default.is at c.in_ok-inheritance.ensures in
+    let known : has_unknown gs ≡ false = sym (ap is_some c.in_default.ensures ∙ unknown_told c.new-groups.result) in
+    let cycle : IsCyclic (next_of edges) = rw c.in_default-2.is at c.in_ok-inheritance.ensures in
     subst (λ (es : Groups). (CyclicInheritance ≢ TooLarge) × IsFault es CyclicInheritance) c.new-groups.ensures
     (λ e. cc, (known, cyclic_same (next_of edges) (inherit_next gs) are.1 cycle))
 
@@ -31,30 +38,30 @@ new-requires-2 c =
     let edges = c.in_ok-members.field-0.items in
     members_within gs edges (member_edges gs edges c.in_ok-members.ensures)
 
-pub returns-in_default-2 : goal.returns-in_default-2
-returns-in_default-2 c =
+pub returns-in_default-3-clause-made : goal.returns-in_default-3-clause-made
+returns-in_default-3-clause-made c =
     let gs : Groups = c.new-groups.result in
     let edges = c.in_ok-inherited.field-0.items in
     let edges' = c.in_ok-members.field-0.items in
     let are : AreEdges (inherit_next gs) (length gs) edges = inherited_edges gs edges c.in_ok-inherited.ensures in
     let are' : AreEdges (member_next gs) (length gs) edges' = member_edges gs edges' c.in_ok-members.ensures in
-    let known : has_unknown gs ≡ false = sym c.has_unknown.ensures ∙ c.if-has_unknown.false in
-    let found = rw c.in-Some.is at c.in_ok-inheritance.ensures in
-    let cycle : IsCyclic (next_of edges') = rw c.in_default-2.is at c.in_ok-expansion.ensures in
+    let known : has_unknown gs ≡ false = sym (ap is_some c.in_default.ensures ∙ unknown_told c.new-groups.result) in
+    let found = rw c.in-Some-2.is at c.in_ok-inheritance.ensures in
+    let cycle : IsCyclic (next_of edges') = rw c.in_default-3.is at c.in_ok-expansion.ensures in
     subst (λ (es : Groups). (CyclicSequence ≢ TooLarge) × IsFault es CyclicSequence) c.new-groups.ensures
     (λ e. cc, (known, acyclic_same (next_of edges) (inherit_next gs) are.1 found.1, cyclic_same (next_of edges') (member_next gs) are'.1 cycle))
 
-pub returns-then-has_inherited_sequence : goal.returns-then-has_inherited_sequence
-returns-then-has_inherited_sequence c =
+pub returns-in-Some-inherited_sequence-clause-made : goal.returns-in-Some-inherited_sequence-clause-made
+returns-in-Some-inherited_sequence-clause-made c =
     let gs : Groups = c.new-groups.result in
     let edges = c.in_ok-inherited.field-0.items in
     let edges' = c.in_ok-members.field-0.items in
     let are : AreEdges (inherit_next gs) (length gs) edges = inherited_edges gs edges c.in_ok-inherited.ensures in
     let are' : AreEdges (member_next gs) (length gs) edges' = member_edges gs edges' c.in_ok-members.ensures in
-    let known : has_unknown gs ≡ false = sym c.has_unknown.ensures ∙ c.if-has_unknown.false in
-    let misused : has_inherited_sequence gs ≡ true = sym c.has_inherited_sequence.ensures ∙ c.if-has_inherited_sequence.true in
-    let found = rw c.in-Some.is at c.in_ok-inheritance.ensures in
-    let found' = rw c.in-Some-2.is at c.in_ok-expansion.ensures in
+    let known : has_unknown gs ≡ false = sym (ap is_some c.in_default.ensures ∙ unknown_told c.new-groups.result) in
+    let misused : has_inherited_sequence gs ≡ true = sym (ap is_some c.in-Some-inherited_sequence.ensures ∙ inherited_told c.new-groups.result) in
+    let found = rw c.in-Some-2.is at c.in_ok-inheritance.ensures in
+    let found' = rw c.in-Some-3.is at c.in_ok-expansion.ensures in
     subst (λ (es : Groups). (SequenceMisused ≢ TooLarge) × IsFault es SequenceMisused) c.new-groups.ensures
     (λ e. cc, (known, acyclic_same (next_of edges) (inherit_next gs) are.1 found.1, acyclic_same (next_of edges') (member_next gs) are'.1 found'.1, misused))
 
@@ -62,14 +69,14 @@ pub meeting_default-requires-clause-inheritance : goal.meeting_default-requires-
 meeting_default-requires-clause-inheritance c =
     let gs : Groups = c.new-groups.result in
     let edges = c.in_ok-inherited.field-0.items in
-    let found = rw c.in-Some.is at c.in_ok-inheritance.ensures in
+    let found = rw c.in-Some-2.is at c.in_ok-inheritance.ensures in
     ap length found.0 ∙ (inherited_edges gs edges c.in_ok-inherited.ensures).0 ∙ sym c.count.ensures
 
 pub meeting_default-requires-clause-expansion : goal.meeting_default-requires-clause-expansion
 meeting_default-requires-clause-expansion c =
     let gs : Groups = c.new-groups.result in
     let edges' = c.in_ok-members.field-0.items in
-    let found' = rw c.in-Some-2.is at c.in_ok-expansion.ensures in
+    let found' = rw c.in-Some-3.is at c.in_ok-expansion.ensures in
     ap length found'.0 ∙ (member_edges gs edges' c.in_ok-members.ensures).0 ∙ sym c.count.ensures
 
 pub invariant_of-result : goal.invariant_of-result
@@ -77,39 +84,39 @@ invariant_of-result c =
     let gs : Groups = c.new-groups.result in
     let edges = c.in_ok-inherited.field-0.items in
     let edges' = c.in_ok-members.field-0.items in
-    let found = rw c.in-Some.is at c.in_ok-inheritance.ensures in
-    let found' = rw c.in-Some-2.is at c.in_ok-expansion.ensures in
+    let found = rw c.in-Some-2.is at c.in_ok-inheritance.ensures in
+    let found' = rw c.in-Some-3.is at c.in_ok-expansion.ensures in
     let are : AreEdges (inherit_next gs) (length gs) edges = inherited_edges gs edges c.in_ok-inherited.ensures in
     let are' : AreEdges (member_next gs) (length gs) edges' = member_edges gs edges' c.in_ok-members.ensures in
-    let kept : AreEdges (inherit_next gs) (length gs) c.in-Some.inheritance = subst (λ (es : List (Vec ℕ Global)). AreEdges (inherit_next gs) (length gs) es) (sym found.0) are in
-    let kept' : AreEdges (member_next gs) (length gs) c.in-Some-2.expansion = subst (λ (es : List (Vec ℕ Global)). AreEdges (member_next gs) (length gs) es) (sym found'.0) are' in
+    let kept : AreEdges (inherit_next gs) (length gs) c.in-Some-2.inheritance = subst (λ (es : List (Vec ℕ Global)). AreEdges (inherit_next gs) (length gs) es) (sym found.0) are in
+    let kept' : AreEdges (member_next gs) (length gs) c.in-Some-3.expansion = subst (λ (es : List (Vec ℕ Global)). AreEdges (member_next gs) (length gs) es) (sym found'.0) are' in
     let flags = c.in_ok-meeting.meeting.items in
-    let meets : AreMeetingIn (next_of c.in-Some.inheritance) (next_of c.in-Some-2.expansion) (length gs) flags =
-    subst (λ (n : ℕ). AreMeetingIn (next_of c.in-Some.inheritance) (next_of c.in-Some-2.expansion) n flags) c.count.ensures c.in_ok-meeting.ensures in
+    let meets : AreMeetingIn (next_of c.in-Some-2.inheritance) (next_of c.in-Some-3.expansion) (length gs) flags =
+    subst (λ (n : ℕ). AreMeetingIn (next_of c.in-Some-2.inheritance) (next_of c.in-Some-3.expansion) n flags) c.count.ensures c.in_ok-meeting.ensures in
     record {
       sound = record {
-        known = sym c.has_unknown.ensures ∙ c.if-has_unknown.false;
+        known = sym (ap is_some c.in_default.ensures ∙ unknown_told c.new-groups.result);
         inheritance = acyclic_same (next_of edges) (inherit_next gs) are.1 found.1;
         expansion = acyclic_same (next_of edges') (member_next gs) are'.1 found'.1;
-        proper = sym c.has_inherited_sequence.ensures ∙ c.if-has_inherited_sequence.false;
+        proper = sym (ap is_some c.in_default-inherited_sequence.ensures ∙ inherited_told c.new-groups.result);
       };
       inherited_are = kept;
       members_are = kept';
-      meeting_are = meeting_same gs (next_of c.in-Some.inheritance) (next_of c.in-Some-2.expansion) flags kept.1 kept'.1 meets;
-      large_is = c.is_large-large.ensures;
+      meeting_are = meeting_same gs (next_of c.in-Some-2.inheritance) (next_of c.in-Some-3.expansion) flags kept.1 kept'.1 meets;
+      limit_is = c.passed_limit-limit.ensures;
     }
 
-pub returns : goal.returns
-returns c =
+pub returns-clause-made : goal.returns-clause-made
+returns-clause-made c =
     let gs : Groups = c.new-groups.result in
     let edges = c.in_ok-inherited.field-0.items in
     let edges' = c.in_ok-members.field-0.items in
-    let found = rw c.in-Some.is at c.in_ok-inheritance.ensures in
-    let found' = rw c.in-Some-2.is at c.in_ok-expansion.ensures in
+    let found = rw c.in-Some-2.is at c.in_ok-inheritance.ensures in
+    let found' = rw c.in-Some-3.is at c.in_ok-expansion.ensures in
     let sound : AreSound gs = record {
-      known = sym c.has_unknown.ensures ∙ c.if-has_unknown.false;
+      known = sym (ap is_some c.in_default.ensures ∙ unknown_told c.new-groups.result);
       inheritance = acyclic_same (next_of edges) (inherit_next gs) (inherited_edges gs edges c.in_ok-inherited.ensures).1 found.1;
       expansion = acyclic_same (next_of edges') (member_next gs) (member_edges gs edges' c.in_ok-members.ensures).1 found'.1;
-      proper = sym c.has_inherited_sequence.ensures ∙ c.if-has_inherited_sequence.false;
+      proper = sym (ap is_some c.in_default-inherited_sequence.ensures ∙ inherited_told c.new-groups.result);
     } in
     (c.new-groups.ensures, subst AreSound c.new-groups.ensures sound)

@@ -1,0 +1,12 @@
+pub mod Deciding
+pub mod FirstTurns
+pub mod Fitting
+pub mod Gathered
+pub mod Readings
+pub mod Shapes
+pub mod Signatures
+pub mod Spots
+pub mod Told
+pub mod Trees
+pub mod Unbuilt
+pub mod Unique

@@ -1,0 +1,4 @@
+pub mod Declarations
+pub mod FormViews
+pub mod MisfitViews
+pub mod Misfits
