@@ -5,7 +5,8 @@
     tests/mistakes.py PROGRAM    with another build of formd
 
 `tests/data/mistakes/in_declarations.jsonl` has declarations, which `formd explain` has to refuse by one line or to take with a warning;
-`in_lines.jsonl` has lines, some behind others, under `declarations.json`, of which `formd rehearse` has to tell the last in one line.
+`in_lines.jsonl` has lines, some behind others, under `declarations.json`, of which `formd rehearse` has to tell the last in one line;
+`in_three_forms.jsonl` has 200 more under declarations of their own, written from the description of the refusals alone.
 Of each `told` is the part of the answer that names the place.
 """
 
@@ -38,7 +39,7 @@ def explained(row, folder):
 def rehearsed(row):
     """The line that tells of a mistake in the last of some lines."""
     lines = [*row.get("before", []), row["text"]]
-    words = [PROGRAM, "rehearse", "--declarations", DATA / "declarations.json", "--now", "0"]
+    words = [PROGRAM, "rehearse", "--declarations", DATA / row.get("declarations", "declarations.json"), "--now", "0"]
     ran = subprocess.run(words, input="".join(line + "\n" for line in lines), capture_output=True, text=True)
     told = [words for words in ran.stderr.splitlines() if words.startswith(f"line {len(lines)}: ")]
     return told[0] if len(told) == 1 else None
@@ -50,7 +51,8 @@ def main():
     failed = 0
     with tempfile.TemporaryDirectory() as name:
         answers = [(row, explained(row, Path(name))) for row in rows("in_declarations.jsonl")]
-    answers += [(row, rehearsed(row)) for row in rows("in_lines.jsonl")]
+    for name in ("in_lines.jsonl", "in_three_forms.jsonl"):
+        answers += [(row, rehearsed(row)) for row in rows(name)]
     for row, answer in answers:
         if answer is None or row["told"] not in answer:
             failed += 1

@@ -22,6 +22,8 @@ ROOT = Path(__file__).resolve().parent.parent
 ROWS = ROOT / "tests" / "data" / "words.rows"
 PROGRAM = Path(sys.argv[1] if len(sys.argv) > 1 else ROOT / "crates" / "formd" / "out" / "formd").resolve()
 GET = '{"do":"get","id":"r1"}'
+# What a rehearsal says of it on standard error.
+TOLD = 'line 1: C6 NoRecord: id: there is no record "r1"\n'
 MARKS = "><!?"
 DECLARATIONS = '{"types":{"Item":{"fields":{"count":{"type":"integer"}}}},"forms":{"item":{"root":"Item"}}}'
 MOST_BYTES = 16_777_216
@@ -181,7 +183,8 @@ def failing_streams(folder):
         os.close(no_file)
     for words in [], served, ["rehearse", "--declarations", "d.json"], ["declarations", "d.json"], ["explain", "d.json"]:
         with open("/dev/full", "wb") as full:
-            ended(words, 4, b"formd: write\n", input=GET.encode(), stdout=full)
+            told = TOLD if "rehearse" in words else ""
+            ended(words, 4, f"{told}formd: write\n".encode(), input=GET.encode(), stdout=full)
 
 
 def main():

@@ -7,11 +7,22 @@ use crate::failure::Failure;
 use formd_task::{Service, read_file};
 use fv_engine::{Clock, Engine, Reply};
 use fv_engine_lines::{Responder, Text, answer_lines};
-use fv_explain_line::{explain_refusal, record_asked};
+use fv_explain_line::{Untold, explain_refusal, records_asked};
 use fv_registry::RuleSet;
 use sqlite::MemStore;
-use std::alloc::{AllocError, Global};
+use std::alloc::Global;
 use std::io::{Read, Write};
+
+/// Why an engine refused a line, in words.
+fn refusal_words<R: RuleSet + Drop>(
+    alloc: Global,
+    engine: &Engine<R, MemStore>,
+    line: &[u8],
+    reply: &str,
+    records: &[String],
+) -> Result<String, Untold> {
+    explain_refusal(alloc, engine.rules(), engine.schema(), line, reply, records)
+}
 
 /// An engine in memory, and where it tells in words why it refuses a line.
 struct Rehearsal<'e, R: RuleSet, E: Write> {
@@ -32,39 +43,31 @@ impl<'e, R: RuleSet + Drop, E: Write> Drop for Rehearsal<'e, R, E> {
 }
 
 impl<'e, R: RuleSet + Drop, E: Write> Rehearsal<'e, R, E> {
-    /// The reply to a get of the record that is needed to tell why a line was refused, if one is.
-    fn record(
+    /// The replies to gets of the records that are needed to tell why a line was refused.
+    fn records(
         &mut self,
         alloc: Global,
         line: &[u8],
         reply: &str,
         now: i64,
-    ) -> Result<Option<Reply>, AllocError>
+    ) -> Result<Vec<String>, Untold>
         requires { IsMoment now }
     {
-        let Some(id) = record_asked(alloc, line, reply)? else {
-            return Ok(None);
-        };
-        let get = format!(in alloc; "{{\"do\":\"get\",\"id\":\"{id}\"}}")?;
-        Ok(Some(self.engine.run(alloc, get.as_bytes(), now)))
+        let mut shown = Vec::new(alloc);
+        for id in records_asked(alloc, line, reply)? {
+            let get = format!(in alloc; "{{\"do\":\"get\",\"id\":\"{id}\"}}")?;
+            let record = self.engine.run(alloc, get.as_bytes(), now);
+            shown.push(String::from_str(alloc, record.text())?)?;
+        }
+        Ok(shown)
     }
 
     /// Why a line was refused, in words.
-    fn words(
-        &mut self,
-        alloc: Global,
-        line: &[u8],
-        reply: &str,
-        now: i64,
-    ) -> Result<Option<String>, AllocError>
+    fn words(&mut self, alloc: Global, line: &[u8], reply: &str, now: i64) -> Result<String, Untold>
         requires { IsMoment now }
     {
-        let record = self.record(alloc, line, reply, now)?;
-        let shown = match &record {
-            Some(record) => Some(record.text()),
-            None => None,
-        };
-        explain_refusal(alloc, self.engine.schema(), line, reply, shown)
+        let records = self.records(alloc, line, reply, now)?;
+        refusal_words(alloc, &self.engine, line, reply, &records)
     }
 
     /// Writes why a line was refused. Nothing is written where there is nothing to tell, or no memory
@@ -72,7 +75,7 @@ impl<'e, R: RuleSet + Drop, E: Write> Rehearsal<'e, R, E> {
     fn tell(&mut self, alloc: Global, line: &[u8], reply: &str, now: i64)
         requires { IsMoment now }
     {
-        if let Ok(Some(words)) = self.words(alloc, line, reply, now) {
+        if let Ok(words) = self.words(alloc, line, reply, now) {
             let number = self.lines;
             let _ = writeln!(self.error, "line {number}: {words}");
         }
@@ -100,7 +103,7 @@ impl<'e, R: RuleSet + Drop, E: Write> Responder for Rehearsal<'e, R, E> {
 
 /// Answers lines over a database in memory under the declarations of a file, until the reader's end,
 /// as a service over an empty database would, and tells on the error writer in one line of words why
-/// each line with C2, C3, C5, C8 or C9 was refused. Nothing is kept.
+/// each line with C2 to C9, C13 or C14 was refused. Nothing is kept.
 ///
 /// Refused as declarations not readable, then by their fault, then as not read or not written; for want
 /// of memory at any place.

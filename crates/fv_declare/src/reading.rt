@@ -28,7 +28,7 @@ fn value_of(alloc: Global, bytes: &[u8]) -> Result<Value, DeclFault>
 
 /// The schema that a text declares, where these rules are there; else its first fault, as `read_schema`
 /// answers it, with its place. `NotJson` and `Shape` have none here, since there are no declarations, and a
-/// cycle is told by its ring, apart; `Memory` has none at all.
+/// cycle is told by its ring, apart; a place that stands with `Memory` tells nothing.
 pub fn read_placed<R: RuleSet>(
     alloc: Global,
     rules: &R,

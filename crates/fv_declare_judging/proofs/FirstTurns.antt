@@ -1,5 +1,5 @@
 -- What is found first, seen from one element on.
-use Rattle.std.proofs.Common.{◌≡◌, ℕ, ◌+◌, ◌<◌, List, ◌∷◌, length, get_or, drop, map, Option, refl, add-one}
+use Rattle.std.proofs.Common.{◌≡◌, ℕ, ◌+◌, ◌<◌, List, length, get_or, drop, map, Option}
 use Rattle.std.specs.Option.{option_or}
 use Rattle.fv_declare_definition.specs.Definitions as definitions
 use Rattle.fv_declare_definition.specs.DefinitionViews.{composing_view}
@@ -40,7 +40,3 @@ use_turn = first_turn use_view
 pub composing_turn : {P : Type 0} (f : ℕ → definitions.Composing → Option P) (xs : List Composing) (i : ℕ) (x : Composing) → i < length xs → x ≡ get_or xs i x
     → first_from f i (map composing_view (drop i xs)) ≡ option_or (f i (composing_view x)) (first_from f (i + 1) (map composing_view (drop (i + 1) xs)))
 composing_turn = first_turn composing_view
-
--- where an iterator gives an element
-pub entry_turn : {X P : Type 0} (f : ℕ → X → Option P) (i : ℕ) (x : X) (xs : List X) → first_from f i (x ∷ xs) ≡ option_or (f i x) (first_from f (i + 1) xs)
-entry_turn f i x xs = rw add-one refl

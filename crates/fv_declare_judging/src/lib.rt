@@ -1,5 +1,4 @@
-//! Declarations judged: a JSON value in, a schema or the first fault out (`schema_of`), with the fault's
-//! place (`judge`). Drafts are judged: whether each declared name is a name, and free; the templates of
+//! Declarations judged: a JSON value in, a schema or the first fault out, with its place (`judge`). Drafts are judged: whether each declared name is a name, and free; the templates of
 //! messages; groups; the trees that uses of constraints become.
 #![tactic(auto)]
 
@@ -19,5 +18,5 @@ mod wording;
 
 pub use fault::DeclFault;
 pub use placed::{At, LimitAt, NamesAt, PlacedFault, WordingAt};
-pub use reading::{judge, schema_of};
+pub use reading::judge;
 pub use user::user_messages;

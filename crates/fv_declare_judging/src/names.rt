@@ -113,7 +113,7 @@ pub(crate) fn known_types(
             at: Some(at),
         });
     }
-    let placed = match Types::build(alloc, declared) {
+    let placed = match Types::build_placed(alloc, declared) {
         Ok(types) => return Ok(Ok(types)),
         Err(placed) => placed,
     };

@@ -58,7 +58,7 @@ fn bad_form(forms: &[FormDraft]) -> Option<NamesAt>
 }
 
 /// The first attribute that is named as no name.
-#[tactic(auto, using(crate::proofs::FirstTurns::entry_turn))]
+#[tactic(auto, using(fv_first::proofs::Turns::entry_turn))]
 fn bad_attribute(attributes: &BTreeMap<String, AttributeDefinition>) -> Option<usize>
     ensures { result ≡ place.bad_attribute (map attribute_entry attributes.now.entries) }
 {
@@ -71,7 +71,7 @@ fn bad_attribute(attributes: &BTreeMap<String, AttributeDefinition>) -> Option<u
 }
 
 /// A constraint that is named as no name or like a built-in, or its attribute that is named as no name.
-#[tactic(auto, using(crate::proofs::FirstTurns::entry_turn))]
+#[tactic(auto, using(fv_first::proofs::Turns::entry_turn))]
 fn bad_definition(definitions: &BTreeMap<String, Definition>) -> Option<NamesAt>
     ensures { result ≡ first_in place.bad_definition (map definition_entry definitions.now.entries) }
 {

@@ -90,7 +90,7 @@ pub enum At {
 #[derive(Clone, Copy, Debug, PartialEq, Eq)]
 pub struct PlacedFault {
     pub fault: DeclFault,
-    /// None for want of memory, and for a fault whose place isn't looked for.
+    /// None for a fault whose place isn't looked for; of no meaning for want of memory.
     pub at: Option<At>,
 }
 

@@ -36,8 +36,10 @@ fn schema_of_draft<R: RuleSet>(
     Ok(schema)
 }
 
-/// The schema that a JSON value declares, where these rules are there; else its first fault, as `schema_of`
-/// answers it, with its place: none for `Shape`, for the four faults of cycles and for `Memory`.
+/// The schema that a JSON value declares, where these rules are there.
+///
+/// Refused by the first fault, from `Shape` on, whose condition holds, with its place; by `Memory` at any place.
+/// `Shape` and the four faults of cycles have no place here, and a place that stands with `Memory` tells nothing.
 pub fn judge<R: RuleSet>(alloc: Global, rules: &R, value: &Value) -> Result<Schema, PlacedFault>
     ensures taken { IfOk result (λ s. DeclaredBy (R.known rules.now) (json_view value.now) (Ok s)) }
     ensures fits { IfOk result (λ s. fits (R.known rules.now) s ≡ true) }
@@ -51,19 +53,5 @@ pub fn judge<R: RuleSet>(alloc: Global, rules: &R, value: &Value) -> Result<Sche
             at: None,
         }),
         Some(draft) => schema_of_draft(alloc, rules, &draft),
-    }
-}
-
-/// The schema that a JSON value declares, where these rules are there.
-///
-/// Refused by the first fault, from `Shape` on, whose condition holds; by `Memory` at any place.
-pub fn schema_of<R: RuleSet>(alloc: Global, rules: &R, value: &Value) -> Result<Schema, DeclFault>
-    ensures taken { IfOk result (λ s. DeclaredBy (R.known rules.now) (json_view value.now) (Ok s)) }
-    ensures fits { IfOk result (λ s. fits (R.known rules.now) s ≡ true) }
-    ensures refused { IfErr result (λ f. f ≢ DeclFault.Memory → DeclaredBy (R.known rules.now) (json_view value.now) (Err f)) }
-{
-    match judge(alloc, rules, value) {
-        Ok(schema) => Ok(schema),
-        Err(placed) => Err(placed.fault),
     }
 }

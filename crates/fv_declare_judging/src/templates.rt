@@ -78,7 +78,7 @@ fn flawed_composing(flaw: TemplateFlaw, composing: &[Composing]) -> Option<usize
 
 /// The first flawed message of declared constraints: for each its own, then those of the constraints that it is
 /// composed of.
-#[tactic(auto, using(crate::proofs::FirstTurns::entry_turn))]
+#[tactic(auto, using(fv_first::proofs::Turns::entry_turn))]
 fn flawed_definition(
     flaw: TemplateFlaw,
     definitions: &BTreeMap<String, Definition>,

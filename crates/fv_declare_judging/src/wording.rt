@@ -75,5 +75,5 @@ pub(crate) fn wording(alloc: Global, draft: &Draft, uses: &[Use]) -> Result<Mess
     }
     let misspelt = flawed_template(TemplateFlaw::Misspelt, &draft.definitions, uses);
     let user = user_messages(alloc, &draft.messages)?;
-    judged_with(misspelt, Messages::read(alloc, user))
+    judged_with(misspelt, Messages::read_placed(alloc, user))
 }

@@ -72,7 +72,7 @@ impl Model for Schema {
 }
 
 impl Schema {
-    ghost use Rattle.fv_declare_schema.specs.SchemaView.{declared_by};
+    ghost use Rattle.fv_declare_schema.specs.SchemaView.{declared_by, form_groups_view, forms_view};
 
     /// What these parts declare: the types, the uses of constraints, the forms by their names, the
     /// groups, the ranks of each type's sequence, the places whose objects are validated, and the
@@ -113,6 +113,14 @@ impl Schema {
         ensures ordered { AreOrdered self.now }
     {
         &self.occurrences
+    }
+
+    /// The forms by their names.
+    pub fn forms(&self) -> &IndexMap<String, Form>
+        ensures roots { forms_view self.now.types result.now ≡ self.now.forms }
+        ensures groups { form_groups_view result.now ≡ self.now.form_groups }
+    {
+        &self.forms
     }
 
     /// The type of a form's root.

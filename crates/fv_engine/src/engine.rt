@@ -309,6 +309,13 @@ impl<R: RuleSet + Drop, S: Alter> Engine<R, S> {
         self.book.schema()
     }
 
+    /// The rules that are there.
+    pub fn rules(&self) -> &SharedRules<R>
+        ensures { R.known result.now ≡ self.now.known }
+    {
+        &self.rules
+    }
+
     /// The database, without the engine. It takes no memory.
     pub fn into_connection(self) -> Connection<S>
         ensures same { result ≡ self.machine.records.connection }

@@ -13,7 +13,7 @@ use serde_json::Value;
 use std::alloc::{AllocError, Global};
 
 /// The most groups that a check names, repeats included.
-const MOST_GROUPS: usize = 32;
+pub const MOST_GROUPS: usize = 32;
 
 /// The most ids that a list gives.
 const MOST_IDS: u64 = 1000;
@@ -151,8 +151,8 @@ fn after_of(value: &Value) -> Option<Option<&str>>
     }
 }
 
-/// The limit that a JSON value is: a whole number from 1 to 1,000.
-fn limit_in(value: &Value) -> Option<u32>
+/// The limit of a list that a JSON value is: a whole number from 1 to 1,000; none where it is none.
+pub fn limit_in(value: &Value) -> Option<u32>
     ensures { result ≡ limit_in (json_view value.now) }
 {
     let limit = value.as_u64()?;

@@ -36,8 +36,9 @@ fn is_id(text: &str) -> bool
     all_id_bytes(bytes)
 }
 
-/// The id that a JSON value is.
-pub(crate) fn id_in(value: &Value) -> Option<&str>
+/// The id that a JSON value is: a text of 1 to 64 ASCII letters, ASCII digits, `_` and `-`; none where it is
+/// none.
+pub fn id_in(value: &Value) -> Option<&str>
     ensures { option_map (λ s. s.now) result ≡ id_in (json_view value.now) }
 {
     let id = value.as_str()?;

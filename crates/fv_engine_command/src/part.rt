@@ -12,7 +12,7 @@ use serde_json::Value;
 use std::alloc::{AllocError, Global};
 
 /// The most parts of a batch.
-const MOST_PARTS: usize = 64;
+pub const MOST_PARTS: usize = 64;
 
 /// A part of a command that changes records, borrowed from the line's JSON.
 #[derive(Clone, Copy)]

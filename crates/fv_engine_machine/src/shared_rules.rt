@@ -73,4 +73,8 @@ impl<R: RuleSet> RuleSet for SharedRules<R> {
     fn knows_object(&self, rule: u32) -> bool {
         self.rules.rules.knows_object(rule)
     }
+
+    fn named_fields(&self, rule: u32) -> &'static [(&'static str, Kind)] {
+        self.rules.rules.named_fields(rule)
+    }
 }

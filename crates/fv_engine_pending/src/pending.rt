@@ -25,7 +25,7 @@ pub struct Pending<'a> {
 
 impl<'a> Pending<'a> {
     /// Nothing on the way.
-    pub(crate) fn new(alloc: Global) -> Pending<'a>
+    pub fn new(alloc: Global) -> Pending<'a>
         ensures { pending_view result ≡ [] }
     {
         Pending {
@@ -41,7 +41,7 @@ impl<'a> Pending<'a> {
     }
 
     /// Leaves a record at an id, or none, in place of what stands there.
-    pub(crate) fn leave(&mut self, id: &'a str, stored: Option<Stored>) -> Result<(), AllocError>
+    pub fn leave(&mut self, id: &'a str, stored: Option<Stored>) -> Result<(), AllocError>
         ensures { OnOk result (pending_view self.new
             ≡ left_at id.now (option_map stored_view stored) (pending_view self.old)) }
     {

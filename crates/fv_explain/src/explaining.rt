@@ -3,7 +3,7 @@ ghost use Rattle.fv_declare_judging.specs.Declares.{Declares};
 ghost use Rattle.fv_declare_schema.specs.Declarations.{Declarations};
 
 use crate::fault::ExplainFault;
-use crate::lines::fault_line;
+use crate::lines::{ExplainedLine, Lines};
 use crate::taken::taken_lines;
 use fv_declare::{DeclFault, read_placed};
 use fv_explain_faults::locate;
@@ -11,28 +11,12 @@ use fv_registry::RuleSet;
 use std::alloc::Global;
 use std::io::Write;
 
-/// Writes a line with its end.
-fn write_line<W: Write>(output: &mut W, line: &str) -> Result<(), ExplainFault> {
-    if output.write_all(line.as_bytes()).is_err() || output.write_all(b"\n").is_err() {
-        return Err(ExplainFault::Write);
-    }
-    Ok(())
-}
-
-/// Writes lines, each with its end.
+/// Writes lines, each with its end, and flushes.
 fn write_lines<W: Write>(output: &mut W, lines: &[String]) -> Result<(), ExplainFault> {
     for line in lines {
-        write_line(output, line.as_str())?;
+        writeln!(output, "{line}").map_err(|_| ExplainFault::Write)?;
     }
-    Ok(())
-}
-
-/// Flushes.
-fn flush<W: Write>(output: &mut W) -> Result<(), ExplainFault> {
-    match output.flush() {
-        Ok(()) => Ok(()),
-        Err(_) => Err(ExplainFault::Write),
-    }
+    output.flush().map_err(|_| ExplainFault::Write)
 }
 
 /// Writes what declarations declare with some rules, a line each, plain or as a JSON object, and warnings
@@ -52,17 +36,23 @@ pub fn explain<R: RuleSet, W: Write>(
 {
     match read_placed(alloc, rules, bytes) {
         Ok(schema) => {
-            let lines = taken_lines(alloc, &schema, bytes, as_json)?;
+            let lines = taken_lines(alloc, rules, &schema, bytes, as_json)?;
             write_lines(output, &lines)?;
-            flush(output)?;
             Ok(None)
         }
         Err(placed) if matches!(placed.fault, DeclFault::Memory) => Err(ExplainFault::Memory),
         Err(placed) => {
             let found = locate(alloc, rules, bytes, placed)?;
-            let line = fault_line(alloc, as_json, placed.fault, &found)?;
-            write_line(output, line.as_str())?;
-            flush(output)?;
+            let line = ExplainedLine::Fault {
+                code: placed.fault.code(),
+                name: placed.fault.name(),
+                place: found.place.as_str(),
+                text: found.text.as_str(),
+            };
+            let texts = Vec::new(alloc);
+            let mut lines = Lines { as_json, texts };
+            lines.add(alloc, &line)?;
+            write_lines(output, &lines.texts)?;
             Ok(Some(placed.fault))
         }
     }

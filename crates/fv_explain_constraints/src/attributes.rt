@@ -1,8 +1,8 @@
 //! What is wrong with the attributes that constraints get, in words.
 use fv_builtin::{kind_of_attribute, required_attributes};
-use fv_constraint::{Meant, Planned};
+use fv_constraint::{Meant, Planned, foreign_given};
 use fv_datum::{Attribute, AttributeKind, Attrs};
-use fv_explain_places::{Told, attribute_word, found_at, member, shown};
+use fv_explain_places::{Found, Told, attribute_word, entry_at, member, shown};
 use std::alloc::{AllocError, Global};
 
 /// The most of a count.
@@ -12,18 +12,17 @@ const MOST_COUNT: i64 = 2147483647;
 fn kind_in(meant: Meant, name: &str) -> Option<AttributeKind> {
     match meant {
         Meant::BuiltIn(which) => kind_of_attribute(which, name),
-        Meant::Declared(definition) => match definition.attributes.get(name) {
-            None => None,
-            Some(attribute) => Some(attribute.kind),
-        },
+        Meant::Declared(definition) => {
+            let attribute = definition.attributes.get(name);
+            attribute.map(|attribute| attribute.kind)
+        }
     }
 }
 
 /// What is wrong with an attribute of some kind that a constraint doesn't have, or has of another kind.
 pub(crate) fn foreign(
     alloc: Global,
-    who: &str,
-    meant: Meant,
+    (who, meant): (&str, Meant),
     name: &str,
     kind: AttributeKind,
 ) -> Result<String, AllocError> {
@@ -37,31 +36,15 @@ pub(crate) fn foreign(
     }
 }
 
-/// The attribute that a constraint gets and doesn't have, or has of another kind.
-fn foreign_of<'a>(planned: &'a Planned) -> Option<(&'a str, &'a Attribute)> {
-    for (name, value) in planned.with.entries().iter() {
-        if kind_in(planned.meant, name.as_str()) != Some(value.kind()) {
-            return Some((name.as_str(), value));
-        }
-    }
-    None
-}
-
 /// The attribute without a default that a constraint doesn't get.
 fn lacking_of<'a>(planned: &'a Planned) -> Option<&'a str> {
-    let lacks = |name: &str| planned.with.find(name).is_none();
+    let is_lacking = |name: &&str| planned.with.find(name).is_none();
     match planned.meant {
-        Meant::BuiltIn(which) => required_attributes(which)
-            .iter()
-            .copied()
-            .find(|name| lacks(name)),
+        Meant::BuiltIn(which) => required_attributes(which).iter().copied().find(is_lacking),
         Meant::Declared(definition) => {
-            for (name, attribute) in definition.attributes.iter() {
-                if attribute.default.is_none() && lacks(name.as_str()) {
-                    return Some(name.as_str());
-                }
-            }
-            None
+            let all = definition.attributes.iter();
+            let required = all.filter(|(_, attribute)| attribute.default.is_none());
+            required.map(|(name, _)| name.as_str()).find(is_lacking)
         }
     }
 }
@@ -96,27 +79,32 @@ fn refused(alloc: Global, who: &str, with: &Attrs) -> Result<String, AllocError>
     }
 }
 
-/// A constraint in the tree of a use that refuses the attributes that it gets, by its number in the tree: those of
-/// the used one stand in the use.
+/// A constraint in the tree of a use that refuses the attributes that it gets: those of the used one stand in the
+/// use, whose place this is.
 pub(crate) fn refused_at(
     alloc: Global,
     place: String,
     who: &str,
-    (number, planned): (usize, &Planned),
+    (node, planned): (usize, &Planned),
 ) -> Told {
-    let given = match number {
+    let given = match node {
         0 => member(alloc, place.as_str(), "with")?,
         _ => place.clone()?,
     };
-    if let Some((name, value)) = foreign_of(planned) {
-        let text = foreign(alloc, who, planned.meant, name, value.kind())?;
-        return found_at(member(alloc, given.as_str(), name)?, text);
+    if let Some(number) = foreign_given(planned.meant, &planned.with) {
+        let (name, value) = entry_at(planned.with.entries(), number)?;
+        let place = member(alloc, given.as_str(), name)?;
+        let text = foreign(alloc, (who, planned.meant), name, value.kind())?;
+        return Ok(Found { place, text });
     }
     match lacking_of(planned) {
         Some(name) => {
             let text = format!(in alloc; "attribute \"{name}\" of {who} is missing")?;
-            found_at(place, text)
+            Ok(Found { place, text })
         }
-        None => found_at(given, refused(alloc, who, &planned.with)?),
+        None => {
+            let text = refused(alloc, who, &planned.with)?;
+            Ok(Found { place: given, text })
+        }
     }
 }

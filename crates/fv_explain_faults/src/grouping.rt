@@ -1,10 +1,9 @@
 //! The faults of groups in words.
-use fv_declare_draft::{Cascade, Conversion, Draft, Use, cascades_in};
+use fv_declare_draft::{Conversion, Draft, cascades_in};
 use fv_declare_groups::{CascadeAt, GroupingAt};
 use fv_declare_judging::DeclFault;
 use fv_explain_places::{
-    Told, Untold, at, cascade_place, found_at, group_at, inner, is_group, is_type, item, kind_word,
-    member, names_of, path, shown, use_place,
+    Found, Refused, Told, at, cascade_place, inner, item, kind_word, member, path, shown,
 };
 use std::alloc::{AllocError, Global};
 
@@ -14,12 +13,12 @@ fn undeclared(alloc: Global, name: &str) -> Result<String, AllocError> {
     format!(in alloc; "group {name} isn't declared")
 }
 
-/// One of the names in an array: a sequence where none may stand, else no group.
+/// One of the names in an array, whose place this is: a sequence where none may stand, else no group.
 fn listed(
     alloc: Global,
     fault: DeclFault,
-    place: String,
-    (names, index): (&[&str], usize),
+    (names, place): (&[&str], String),
+    index: usize,
     rule: &str,
 ) -> Told {
     let name = at(names, index)?;
@@ -27,168 +26,119 @@ fn listed(
         DeclFault::SequenceMisused => format!(in alloc; "{name} is a sequence: {rule}")?,
         _ => undeclared(alloc, name)?,
     };
-    found_at(item(alloc, place.as_str(), index)?, text)
+    let place = item(alloc, place.as_str(), index)?;
+    Ok(Found { place, text })
 }
 
-/// A group of a use.
-fn of_use(
-    alloc: Global,
-    draft: &Draft,
-    uses: &[Use],
-    fault: DeclFault,
-    (number, name): (usize, usize),
-) -> Told {
-    let place = use_place(alloc, &draft.types, uses, number)?;
-    let place = member(alloc, place.as_str(), "groups")?;
-    let names = at(uses, number)?.groups;
-    listed(
-        alloc,
-        fault,
-        place,
-        (names, name),
-        "no constraint stands in it",
-    )
+/// Whether a name is a type's.
+fn is_type(draft: &Draft, name: &str) -> bool {
+    let types = &draft.types;
+    types.binary_search_by(|other| other.name.cmp(name)).is_ok()
 }
 
-/// A name that a group is declared with.
-fn of_group(
-    alloc: Global,
-    draft: &Draft,
-    fault: DeclFault,
-    (number, name): (usize, usize),
-) -> Told {
-    let group = group_at(draft, number)?;
-    let (kind, names) = names_of(group);
-    let place = path(alloc, &["groups", group.name, kind])?;
-    listed(alloc, fault, place, (names, name), "no group inherits it")
+/// Whether a name is a group's.
+fn is_group(draft: &Draft, name: &str) -> bool {
+    let groups = &draft.groups;
+    name == "Default"
+        || groups
+            .binary_search_by(|other| other.name.cmp(name))
+            .is_ok()
 }
 
-/// A group of a form.
-fn of_form(alloc: Global, draft: &Draft, (number, index): (usize, usize)) -> Told {
-    let form = at(&draft.forms, number)?;
-    let text = undeclared(alloc, at(&form.groups, index)?)?;
-    let place = path(alloc, &["forms", form.name, "groups"])?;
-    found_at(item(alloc, place.as_str(), index)?, text)
-}
-
-/// What is wrong with a member of a type's sequence.
+/// What is wrong with a member of the sequence of a type, whose name is `own`.
 fn wrong_member(
-    alloc: Global,
-    draft: &Draft,
+    refused: &Refused,
     fault: DeclFault,
     own: &str,
     name: &str,
 ) -> Result<String, AllocError> {
-    if !matches!(fault, DeclFault::DefaultInTypeSequence) {
-        if !is_type(draft, name) {
-            return undeclared(alloc, name);
-        }
-        return format!(in alloc;
-            "{name} is another type: only groups and {own} itself stand in its sequence"
-        );
-    }
-    if name == "Default" {
-        return format!(in alloc;
+    let alloc = refused.alloc;
+    match fault {
+        DeclFault::DefaultInTypeSequence if name == "Default" => format!(in alloc;
             "Default stands in the sequence that replaces it: {own} stands for it there"
-        );
+        ),
+        DeclFault::DefaultInTypeSequence => format!(in alloc;
+            "{name} inherits or contains Default, which the sequence replaces"
+        ),
+        _ if is_type(refused.draft, name) => format!(in alloc;
+            "{name} is another type: only groups and {own} itself stand in its sequence"
+        ),
+        _ => undeclared(alloc, name),
     }
-    format!(in alloc; "{name} inherits or contains Default, which the sequence replaces")
-}
-
-/// A member of a type's sequence.
-fn of_member(
-    alloc: Global,
-    draft: &Draft,
-    fault: DeclFault,
-    (number, index): (usize, usize),
-) -> Told {
-    let declared = at(&draft.types, number)?;
-    let own = declared.name;
-    let members = declared.sequence.as_ref().ok_or(Untold::Absent)?;
-    let text = wrong_member(alloc, draft, fault, own, at(members, index)?)?;
-    let place = path(alloc, &["types", own, "sequence"])?;
-    found_at(item(alloc, place.as_str(), index)?, text)
-}
-
-/// A type's sequence that lacks the type.
-fn of_sequence(alloc: Global, draft: &Draft, number: usize) -> Told {
-    let name = at(&draft.types, number)?.name;
-    let text = format!(in alloc; "the sequence lacks {name}, its own type")?;
-    found_at(path(alloc, &["types", name, "sequence"])?, text)
 }
 
 /// What is wrong with a conversion.
 fn wrong_conversion(
-    alloc: Global,
-    draft: &Draft,
+    refused: &Refused,
     fault: DeclFault,
     conversion: &Conversion,
 ) -> Result<String, AllocError> {
-    let from = conversion.from;
-    if matches!(fault, DeclFault::ConversionMisplaced) {
-        return format!(in alloc; "{from} is a sequence: it isn't converted, only converted to");
-    }
-    if is_group(draft, from) {
-        return undeclared(alloc, conversion.to);
-    }
-    undeclared(alloc, from)
-}
-
-/// What is wrong at a cascade, whose place this is.
-fn in_cascade(
-    alloc: Global,
-    draft: &Draft,
-    fault: DeclFault,
-    (place, given): (&str, &Cascade),
-    part: CascadeAt,
-) -> Told {
-    match part {
-        CascadeAt::Valid => {
-            let kind = kind_word(given.placed.kind);
-            let text = format!(in alloc; "only references are valid, not {kind}")?;
-            found_at(member(alloc, place, "valid")?, text)
-        }
-        CascadeAt::Convert => {
-            let text = "groups are converted only where valid is true";
-            let place = member(alloc, place, "convert")?;
-            found_at(place, String::from_str(alloc, text)?)
-        }
-        CascadeAt::Conversion(number) => {
-            let conversion = at(&given.placed.cascade.conversions, number)?;
-            let text = wrong_conversion(alloc, draft, fault, conversion)?;
-            found_at(inner(alloc, place, "convert", conversion.from)?, text)
-        }
+    let (alloc, from) = (refused.alloc, conversion.from);
+    match fault {
+        DeclFault::ConversionMisplaced => format!(in alloc;
+            "{from} is a sequence: it isn't converted, only converted to"
+        ),
+        _ if is_group(refused.draft, from) => undeclared(alloc, conversion.to),
+        _ => undeclared(alloc, from),
     }
 }
 
 /// A cascade.
-fn of_cascade(
-    alloc: Global,
-    draft: &Draft,
-    fault: DeclFault,
-    number: usize,
-    part: CascadeAt,
-) -> Told {
+fn of_cascade(refused: &Refused, fault: DeclFault, number: usize, part: CascadeAt) -> Told {
+    let (alloc, draft) = (refused.alloc, refused.draft);
     let cascades = cascades_in(alloc, &draft.types)?;
     let given = at(&cascades, number)?;
     let place = cascade_place(alloc, &draft.types, given)?;
-    in_cascade(alloc, draft, fault, (place.as_str(), given), part)
+    let place = place.as_str();
+    let (place, text) = match part {
+        CascadeAt::Valid => {
+            let kind = kind_word(given.placed.kind);
+            let text = format!(in alloc; "only references are valid, not {kind}")?;
+            (member(alloc, place, "valid")?, text)
+        }
+        CascadeAt::Convert => {
+            let text = format!(in alloc; "groups are converted only where valid is true")?;
+            (member(alloc, place, "convert")?, text)
+        }
+        CascadeAt::Conversion(number) => {
+            let conversion = at(&given.placed.cascade.conversions, number)?;
+            let text = wrong_conversion(refused, fault, conversion)?;
+            (inner(alloc, place, &["convert", conversion.from])?, text)
+        }
+    };
+    Ok(Found { place, text })
 }
 
-/// A fault of groups. The uses are the draft's.
-pub(crate) fn grouping_at(
-    alloc: Global,
-    draft: &Draft,
-    uses: &[Use],
-    fault: DeclFault,
-    place: GroupingAt,
-) -> Told {
+/// A fault of groups.
+pub(crate) fn grouping_at(refused: &Refused, fault: DeclFault, place: GroupingAt) -> Told {
+    let (alloc, draft) = (refused.alloc, refused.draft);
     match place {
-        GroupingAt::Use(number, name) => of_use(alloc, draft, uses, fault, (number, name)),
-        GroupingAt::Member(number, name) => of_member(alloc, draft, fault, (number, name)),
-        GroupingAt::Sequence(number) => of_sequence(alloc, draft, number),
-        GroupingAt::Cascade(number, part) => of_cascade(alloc, draft, fault, number, part),
-        GroupingAt::Form(number, name) => of_form(alloc, draft, (number, name)),
-        GroupingAt::Group(number, name) => of_group(alloc, draft, fault, (number, name)),
+        GroupingAt::Use(number, index) => {
+            let (given, place) = refused.use_at(number)?;
+            let names = (given.groups, member(alloc, place.as_str(), "groups")?);
+            listed(alloc, fault, names, index, "no constraint stands in it")
+        }
+        GroupingAt::Group(number, index) => {
+            let names = refused.names_at(number)?;
+            listed(alloc, fault, names, index, "no group inherits it")
+        }
+        GroupingAt::Form(number, index) => {
+            let form = at(&draft.forms, number)?;
+            let place = path(alloc, &["forms", form.name, "groups"])?;
+            listed(alloc, fault, (&form.groups, place), index, "")
+        }
+        GroupingAt::Member(number, index) => {
+            let (declared, members, place) = refused.members_at(number)?;
+            let text = wrong_member(refused, fault, declared.name, at(members, index)?)?;
+            let place = item(alloc, place.as_str(), index)?;
+            Ok(Found { place, text })
+        }
+        GroupingAt::Sequence(number) => {
+            let (declared, _, place) = refused.members_at(number)?;
+            let name = declared.name;
+            let text = format!(in alloc; "the sequence lacks {name}, its own type")?;
+            Ok(Found { place, text })
+        }
+        GroupingAt::Cascade(number, part) => of_cascade(refused, fault, number, part),
     }
 }

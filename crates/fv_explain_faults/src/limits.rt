@@ -1,31 +1,16 @@
 //! The limits that are passed, in words.
 use crate::wording::template_at;
-use fv_declare_draft::{Draft, Use};
 use fv_declare_judging::{LimitAt, WordingAt, user_messages};
-use fv_explain_places::{
-    Told, Untold, at, find_message, found_at, group_at, names_of, path, shown, use_place,
-};
+use fv_explain_places::{Found, Refused, Told, at, find_message, path, shown};
 use fv_groups::GroupLimit;
 use fv_message::{MessagesAt, key_name};
 use fv_model_types::{TypeUse, TypesAt};
 use std::alloc::Global;
 
-/// The most types, fields of a type, forms, declared constraints and groups, of each.
-const MOST_DECLARED: usize = 256;
-
-/// The most containers one in another.
-const MOST_NESTED: usize = 4;
-
-/// The most members of a sequence, or groups that one inherits.
-const MOST_NAMES: usize = 32;
-
-/// The most messages.
-const MOST_MESSAGES: usize = 1024;
-
 /// A place that has more of something than may be.
-fn at_most(alloc: Global, place: &[&str], count: usize, most: usize, what: &str) -> Told {
-    let text = format!(in alloc; "{count} {what}, at most {most}")?;
-    found_at(path(alloc, place)?, text)
+fn at_most(alloc: Global, place: String, count: usize, most: &str) -> Told {
+    let text = format!(in alloc; "{count} {most}")?;
+    Ok(Found { place, text })
 }
 
 /// How many containers stand one in another.
@@ -39,65 +24,34 @@ fn nested(type_use: &TypeUse) -> usize {
 }
 
 /// In the types and their fields.
-fn types_limit(alloc: Global, draft: &Draft, place: TypesAt) -> Told {
+fn types_limit(refused: &Refused, place: TypesAt) -> Told {
+    let (alloc, types) = (refused.alloc, &refused.draft.types);
     match place {
-        TypesAt::Types => at_most(alloc, &["types"], draft.types.len(), MOST_DECLARED, "types"),
+        TypesAt::Types => {
+            let place = path(alloc, &["types"])?;
+            at_most(alloc, place, types.len(), "types, at most 256")
+        }
         TypesAt::Type(number) => {
-            let declared = at(&draft.types, number)?;
-            let place = ["types", declared.name, "fields"];
-            at_most(
-                alloc,
-                &place,
-                declared.fields.len(),
-                MOST_DECLARED,
-                "fields",
-            )
+            let declared = at(types, number)?;
+            let place = path(alloc, &["types", declared.name, "fields"])?;
+            at_most(alloc, place, declared.fields.len(), "fields, at most 256")
         }
         TypesAt::Field(number, field) => {
-            let declared = at(&draft.types, number)?;
+            let declared = at(types, number)?;
             let field = at(&declared.fields, field)?;
-            let place = ["types", declared.name, "fields", field.name];
-            let what = "containers one in another";
-            at_most(alloc, &place, nested(&field.type_use), MOST_NESTED, what)
+            let place = path(alloc, &["types", declared.name, "fields", field.name])?;
+            let count = nested(&field.type_use);
+            at_most(alloc, place, count, "containers one in another, at most 4")
         }
     }
-}
-
-/// In the groups.
-fn groups_limit(alloc: Global, draft: &Draft, limit: GroupLimit) -> Told {
-    match limit {
-        GroupLimit::Groups => {
-            let count = draft.groups.len().saturating_add(1);
-            at_most(
-                alloc,
-                &["groups"],
-                count,
-                MOST_DECLARED,
-                "groups with Default",
-            )
-        }
-        GroupLimit::Group(number) => {
-            let group = group_at(draft, number)?;
-            let (kind, names) = names_of(group);
-            let place = ["groups", group.name, kind];
-            at_most(alloc, &place, names.len(), MOST_NAMES, "groups")
-        }
-    }
-}
-
-/// The members of a type's sequence.
-fn sequence_limit(alloc: Global, draft: &Draft, number: usize) -> Told {
-    let declared = at(&draft.types, number)?;
-    let members = declared.sequence.as_ref().ok_or(Untold::Absent)?;
-    let place = ["types", declared.name, "sequence"];
-    at_most(alloc, &place, members.len(), MOST_NAMES, "members")
 }
 
 /// What the text of a key becomes, by the key's number among all: one of the user's, or of a built-in message.
-fn full_text(alloc: Global, draft: &Draft, number: usize) -> Told {
-    let key = key_name(alloc, user_messages(alloc, &draft.messages)?, number)?;
+fn full_text(refused: &Refused, number: usize) -> Told {
+    let (alloc, messages) = (refused.alloc, &refused.draft.messages);
+    let key = key_name(alloc, user_messages(alloc, messages)?, number)?;
     let key = key.as_str();
-    let place = match find_message(&draft.messages, key) {
+    let place = match find_message(messages, key) {
         Some(_) => path(alloc, &["messages", key])?,
         None => path(alloc, &["messages"])?,
     };
@@ -105,44 +59,58 @@ fn full_text(alloc: Global, draft: &Draft, number: usize) -> Told {
     let text = format!(in alloc;
         "the text of key {key} becomes longer than 65536 bytes with the texts of its parameters"
     )?;
-    found_at(place, text)
+    Ok(Found { place, text })
 }
 
 /// In the wording.
-fn wording_limit(alloc: Global, draft: &Draft, uses: &[Use], place: WordingAt) -> Told {
+fn wording_limit(refused: &Refused, place: WordingAt) -> Told {
+    let alloc = refused.alloc;
     match place {
         WordingAt::Messages(MessagesAt::Messages) => {
-            let count = draft.messages.len();
-            at_most(alloc, &["messages"], count, MOST_MESSAGES, "messages")
+            let place = path(alloc, &["messages"])?;
+            let count = refused.draft.messages.len();
+            at_most(alloc, place, count, "messages, at most 1024")
         }
-        WordingAt::Messages(MessagesAt::Full(number)) => full_text(alloc, draft, number),
+        WordingAt::Messages(MessagesAt::Full(number)) => full_text(refused, number),
         _ => {
-            let (told, template) = template_at(alloc, draft, uses, place)?;
+            let (place, template) = template_at(refused, place)?;
             let count = template.len();
             let text = format!(in alloc; "a template of {count} bytes, at most 4096")?;
-            found_at(told, text)
+            Ok(Found { place, text })
         }
     }
 }
 
 /// A limit that is passed.
-pub(crate) fn limit_at(alloc: Global, draft: &Draft, uses: &[Use], place: LimitAt) -> Told {
-    match place {
-        LimitAt::Types(place) => types_limit(alloc, draft, place),
-        LimitAt::Forms => at_most(alloc, &["forms"], draft.forms.len(), MOST_DECLARED, "forms"),
+pub(crate) fn limit_at(refused: &Refused, place: LimitAt) -> Told {
+    let (alloc, draft) = (refused.alloc, refused.draft);
+    let (part, count, most) = match place {
+        LimitAt::Forms => ("forms", draft.forms.len(), "forms, at most 256"),
         LimitAt::Definitions => {
             let count = draft.definitions.len();
-            at_most(alloc, &["constraints"], count, MOST_DECLARED, "constraints")
+            ("constraints", count, "constraints, at most 256")
         }
-        LimitAt::Groups(limit) => groups_limit(alloc, draft, limit),
-        LimitAt::Sequence(number) => sequence_limit(alloc, draft, number),
-        LimitAt::Wording(place) => wording_limit(alloc, draft, uses, place),
+        LimitAt::Groups(GroupLimit::Groups) => {
+            let count = draft.groups.len().saturating_add(1);
+            ("groups", count, "groups with Default, at most 256")
+        }
+        LimitAt::Groups(GroupLimit::Group(number)) => {
+            let (names, place) = refused.names_at(number)?;
+            return at_most(alloc, place, names.len(), "groups, at most 32");
+        }
+        LimitAt::Sequence(number) => {
+            let (_, members, place) = refused.members_at(number)?;
+            return at_most(alloc, place, members.len(), "members, at most 32");
+        }
+        LimitAt::Types(place) => return types_limit(refused, place),
+        LimitAt::Wording(place) => return wording_limit(refused, place),
         LimitAt::Use(number) => {
-            let text = "more than 1024 constraints up to here, with all that they are composed of";
-            found_at(
-                use_place(alloc, &draft.types, uses, number)?,
-                String::from_str(alloc, text)?,
-            )
+            let (_, place) = refused.use_at(number)?;
+            let text = format!(in alloc;
+                "more than 1024 constraints up to here, with all that they are composed of"
+            )?;
+            return Ok(Found { place, text });
         }
-    }
+    };
+    at_most(alloc, path(alloc, &[part])?, count, most)
 }

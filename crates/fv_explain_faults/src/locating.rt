@@ -7,7 +7,7 @@ use fv_datum::read_json;
 use fv_declare_draft::{Draft, draft_of, uses_in};
 use fv_declare_judging::{At, DeclFault, PlacedFault};
 use fv_explain_constraints::constraint_at;
-use fv_explain_places::{Found, Told, Untold, found_at, shape};
+use fv_explain_places::{Found, Refused, Told, Untold, shape};
 use fv_registry::RuleSet;
 use serde_json::Value;
 use std::alloc::{AllocError, Global};
@@ -30,20 +30,22 @@ fn not_json(alloc: Global, bytes: &[u8]) -> Told {
     } else {
         "no JSON goes on with what stands here"
     };
-    found_at(place, String::from_str(alloc, text)?)
+    let text = String::from_str(alloc, text)?;
+    Ok(Found { place, text })
 }
 
 /// A fault of a draft.
 fn in_draft<R: RuleSet>(alloc: Global, rules: &R, draft: &Draft, placed: PlacedFault) -> Told {
     let uses = uses_in(alloc, &draft.types)?;
+    let refused = Refused { alloc, draft, uses };
     let fault = placed.fault;
     match placed.at {
-        Some(At::Names(place)) => name_at(alloc, draft, &uses, place),
-        Some(At::Groups(place)) => grouping_at(alloc, draft, &uses, fault, place),
-        Some(At::Constraints(place)) => constraint_at(alloc, rules, draft, &uses, fault, place),
-        Some(At::Limit(place)) => limit_at(alloc, draft, &uses, place),
-        Some(At::Wording(place)) => wording_at(alloc, draft, &uses, place),
-        None => ring_of(alloc, draft, fault),
+        Some(At::Names(place)) => name_at(&refused, place),
+        Some(At::Groups(place)) => grouping_at(&refused, fault, place),
+        Some(At::Constraints(place)) => constraint_at(&refused, rules, fault, place),
+        Some(At::Limit(place)) => limit_at(&refused, place),
+        Some(At::Wording(place)) => wording_at(&refused, place),
+        None => ring_of(&refused, fault),
     }
 }
 
@@ -52,9 +54,7 @@ fn tell<R: RuleSet>(alloc: Global, rules: &R, bytes: &[u8], placed: PlacedFault)
     if matches!(placed.fault, DeclFault::NotJson) {
         return not_json(alloc, bytes);
     }
-    let Ok(value) = read_json(alloc, bytes) else {
-        return Err(Untold::Memory);
-    };
+    let value = read_json(alloc, bytes).map_err(|_| Untold::Memory)?;
     if matches!(placed.fault, DeclFault::Shape) {
         return shape(alloc, &value);
     }

@@ -1,118 +1,101 @@
 //! Names in words: a declared one that is none or is taken, and one that names nothing that is declared.
 use fv_datum::is_name;
-use fv_declare_draft::{Draft, FieldDraft, TypeDraft, Use};
 use fv_declare_judging::NamesAt;
 use fv_explain_constraints::unknown_constraint;
-use fv_explain_places::{Told, Untold, at, entry_at, found_at, member, path, shown, use_place};
+use fv_explain_places::{Found, Refused, Told, Untold, at, entry_at, path, shown};
 use fv_model_types::{TypeUse, TypesAt};
-use std::alloc::{AllocError, Global};
+use std::alloc::Global;
 
-/// The place of a declared name, and the name.
-fn declared_at<'a>(
-    alloc: Global,
-    draft: &'a Draft<'a>,
-    place: NamesAt,
-) -> Result<(String, &'a str), Untold> {
-    let (part, name) = match place {
-        NamesAt::Type(number) => ("types", at(&draft.types, number)?.name),
-        NamesAt::Field(number, field) => {
-            let declared = at(&draft.types, number)?;
-            let name = at(&declared.fields, field)?.name;
-            let place = path(alloc, &["types", declared.name, "fields", name])?;
-            return Ok((place, name));
+/// A declared name, with the members on the way to it: that it is none, else that it is taken.
+fn bad_name(alloc: Global, names: &[&str], place: NamesAt) -> Told {
+    let name = names.last().copied().unwrap_or("");
+    let text = match place {
+        _ if !is_name(name) => {
+            let name = shown(alloc, name)?;
+            format!(in alloc;
+                "{name} is no name: an ASCII letter or _, then ASCII letters, digits and _, at most 64"
+            )?
         }
-        NamesAt::Form(number) => ("forms", at(&draft.forms, number)?.name),
-        NamesAt::Definition(number) => {
-            let (name, _) = entry_at(&draft.definitions, number)?;
-            ("constraints", name)
-        }
-        NamesAt::Attribute(number, attribute) => {
-            let (owner, definition) = entry_at(&draft.definitions, number)?;
-            let (name, _) = entry_at(&definition.attributes, attribute)?;
-            let place = path(alloc, &["constraints", owner, "attributes", name])?;
-            return Ok((place, name));
-        }
-        NamesAt::Group(number) => ("groups", at(&draft.groups, number)?.name),
-        NamesAt::Use(_) | NamesAt::Root(_) | NamesAt::Reference(_) => {
-            return Err(Untold::Absent);
-        }
-    };
-    Ok((path(alloc, &[part, name])?, name))
-}
-
-/// What is wrong with a declared name: that it is none, else that it is taken.
-fn bad(alloc: Global, place: NamesAt, name: &str) -> Result<String, AllocError> {
-    if !is_name(name) {
-        let name = shown(alloc, name)?;
-        return format!(in alloc;
-            "{name} is no name: an ASCII letter or _, then ASCII letters, digits and _, at most 64"
-        );
-    }
-    match place {
         NamesAt::Definition(_) => {
-            format!(in alloc; "{name} is the name of a built-in constraint")
+            format!(in alloc; "{name} is the name of a built-in constraint")?
         }
         NamesAt::Group(_) if name != "Default" => {
-            format!(in alloc; "\"{name}\" is the name of a type")
+            format!(in alloc; "\"{name}\" is the name of a type")?
         }
-        _ => String::from_str(alloc, "Default is the group that is always declared"),
-    }
-}
-
-/// A declared name that is none or is taken.
-fn bad_name(alloc: Global, draft: &Draft, place: NamesAt) -> Told {
-    let (told, name) = declared_at(alloc, draft, place)?;
-    found_at(told, bad(alloc, place, name)?)
+        _ => format!(in alloc; "Default is the group that is always declared")?,
+    };
+    let place = path(alloc, names)?;
+    Ok(Found { place, text })
 }
 
 /// A type that isn't declared, at its place.
 fn unknown_type(alloc: Global, place: String, name: &str) -> Told {
     let name = shown(alloc, name)?;
     let text = format!(in alloc; "type {name} isn't declared")?;
-    found_at(place, text)
+    Ok(Found { place, text })
 }
 
 /// The reference in what a field holds: a container has one place inside it.
-fn reference_in(alloc: Global, held: &TypeUse, place: String) -> Told {
-    let place = member(alloc, place.as_str(), "type")?;
-    match held {
+fn reference_in(alloc: Global, held: &TypeUse, mut place: String) -> Told {
+    let (step, inside) = match held {
         TypeUse::Ref(name) => {
-            unknown_type(alloc, member(alloc, place.as_str(), "ref")?, name.as_str())
+            place.push_str(".ref")?;
+            return unknown_type(alloc, place, name.as_str());
         }
-        TypeUse::List(held) => reference_in(alloc, held, member(alloc, place.as_str(), "list")?),
-        TypeUse::Optional(held) => {
-            reference_in(alloc, held, member(alloc, place.as_str(), "optional")?)
-        }
-        TypeUse::Map(held) => reference_in(alloc, held, member(alloc, place.as_str(), "map")?),
-        _ => Err(Untold::Absent),
-    }
+        TypeUse::List(held) => (".list", held),
+        TypeUse::Optional(held) => (".optional", held),
+        TypeUse::Map(held) => (".map", held),
+        _ => return Err(Untold::Absent),
+    };
+    place.push_str(step)?;
+    place.push_str(".type")?;
+    reference_in(alloc, inside, place)
 }
 
-/// The type that a field refers to.
-fn field_reference(alloc: Global, declared: &TypeDraft, field: &FieldDraft) -> Told {
-    let place = path(alloc, &["types", declared.name, "fields", field.name])?;
-    reference_in(alloc, &field.type_use, place)
+/// A declared name at fault.
+fn declared_name(refused: &Refused, place: NamesAt) -> Told {
+    let (alloc, draft) = (refused.alloc, refused.draft);
+    let (part, name) = match place {
+        NamesAt::Type(number) => ("types", at(&draft.types, number)?.name),
+        NamesAt::Form(number) => ("forms", at(&draft.forms, number)?.name),
+        NamesAt::Group(number) => ("groups", at(&draft.groups, number)?.name),
+        NamesAt::Definition(number) => ("constraints", entry_at(&draft.definitions, number)?.0),
+        NamesAt::Field(number, field) => {
+            let declared = at(&draft.types, number)?;
+            let field = at(&declared.fields, field)?;
+            let names = ["types", declared.name, "fields", field.name];
+            return bad_name(alloc, &names, place);
+        }
+        NamesAt::Attribute(number, attribute) => {
+            let (owner, definition) = entry_at(&draft.definitions, number)?;
+            let (name, _) = entry_at(&definition.attributes, attribute)?;
+            let names = ["constraints", owner, "attributes", name];
+            return bad_name(alloc, &names, place);
+        }
+        _ => return Err(Untold::Absent),
+    };
+    bad_name(alloc, &[part, name], place)
 }
 
 /// A name at fault.
-pub(crate) fn name_at(alloc: Global, draft: &Draft, uses: &[Use], place: NamesAt) -> Told {
+pub(crate) fn name_at(refused: &Refused, place: NamesAt) -> Told {
+    let (alloc, draft) = (refused.alloc, refused.draft);
     match place {
         NamesAt::Use(number) => {
-            let told = use_place(alloc, &draft.types, uses, number)?;
-            unknown_constraint(alloc, told, at(uses, number)?.constraint)
+            let (given, place) = refused.use_at(number)?;
+            unknown_constraint(alloc, place, given.constraint)
         }
         NamesAt::Root(number) => {
             let form = at(&draft.forms, number)?;
-            unknown_type(
-                alloc,
-                path(alloc, &["forms", form.name, "root"])?,
-                form.root,
-            )
+            let place = path(alloc, &["forms", form.name, "root"])?;
+            unknown_type(alloc, place, form.root)
         }
         NamesAt::Reference(TypesAt::Field(number, field)) => {
             let declared = at(&draft.types, number)?;
-            field_reference(alloc, declared, at(&declared.fields, field)?)
+            let field = at(&declared.fields, field)?;
+            let names = ["types", declared.name, "fields", field.name, "type"];
+            reference_in(alloc, &field.type_use, path(alloc, &names)?)
         }
-        _ => bad_name(alloc, draft, place),
+        _ => declared_name(refused, place),
     }
 }

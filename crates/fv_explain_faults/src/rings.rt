@@ -2,15 +2,17 @@
 //! constraints that are composed of themselves, and keys whose texts lead back to them.
 use fv_constraint::composition_ring;
 use fv_datum::is_name;
-use fv_declare_draft::Draft;
 use fv_declare_groups::{inheritance_ring, sequence_ring};
 use fv_declare_judging::{DeclFault, user_messages};
-use fv_explain_places::{Told, Untold, at, find_message, found_at, path, shown};
+use fv_explain_places::{Found, Refused, Told, Untold, at, entry_at, find_message, path, shown};
 use fv_message::key_ring;
 use std::alloc::{AllocError, Global};
 
 /// The most names of a ring that are shown.
 const MOST_SHOWN: usize = 20;
+
+/// What is in a ring, by its number and its name.
+type Member<'a> = (usize, &'a str);
 
 /// Adds a name of a ring: one that is no name, as a message's key, as a JSON string.
 fn push_name(alloc: Global, text: &mut String, name: &str) -> Result<(), AllocError> {
@@ -20,114 +22,81 @@ fn push_name(alloc: Global, text: &mut String, name: &str) -> Result<(), AllocEr
     text.push_str(shown(alloc, name)?.as_str())
 }
 
-/// A ring by its names, from one of them on, as `A -> B -> A`.
-fn chain(alloc: Global, names: &[&str], first: usize) -> Result<String, AllocError> {
-    let mut text = String::new(alloc);
-    let turned = names.iter().skip(first).chain(names.iter().take(first));
-    for name in turned.take(MOST_SHOWN) {
+/// A ring from its member of the least number on, as `A -> B -> A`, behind some words; and the name of that member.
+fn chain<'a>(alloc: Global, words: &str, ring: &[Member<'a>]) -> Result<(&'a str, String), Untold> {
+    let least = ring.iter().map(|(number, _)| *number).min();
+    let at_least = ring.iter().position(|(number, _)| Some(*number) == least);
+    let first = at_least.ok_or(Untold::Absent)?;
+    let mut text = String::from_str(alloc, words)?;
+    let turned = ring.iter().skip(first).chain(ring.iter().take(first));
+    for (_, name) in turned.take(MOST_SHOWN) {
         push_name(alloc, &mut text, name)?;
         text.push_str(" -> ")?;
     }
-    if names.len() > MOST_SHOWN {
+    if ring.len() > MOST_SHOWN {
         text.push_str("… -> ")?;
     }
-    if let Some(name) = names.get(first) {
-        push_name(alloc, &mut text, name)?;
-    }
-    Ok(text)
+    let (_, name) = at(ring, first)?;
+    push_name(alloc, &mut text, name)?;
+    Ok((*name, text))
 }
 
-/// Where the least of some numbers stands.
-fn least_at(numbers: &[usize]) -> usize {
-    let least = numbers.iter().min();
-    numbers
-        .iter()
-        .position(|number| Some(number) == least)
-        .unwrap_or(0)
-}
-
-/// A ring of what is declared, by its numbers among some names, from the least on.
-fn ring_at(
-    alloc: Global,
-    (part, names): (&str, &[&str]),
-    ring: Option<Vec<usize>>,
-    leads: &str,
-) -> Told {
-    let ring = ring.ok_or(Untold::Absent)?;
-    let mut told = Vec::with_capacity(alloc, ring.len())?;
-    for number in &ring {
-        told.push(*at(names, *number)?)?;
-    }
-    let first = least_at(&ring);
-    let name = at(&told, first)?;
-    let chain = chain(alloc, &told, first)?;
+/// A ring of what is declared, each of which leads so to the next.
+fn declared(alloc: Global, part: &str, ring: &[Member], leads: &str) -> Told {
+    let (name, chain) = chain(alloc, "", ring)?;
+    let place = path(alloc, &[part, name])?;
     let text = format!(in alloc; "{name} {leads} itself: {chain}")?;
-    found_at(path(alloc, &[part, name])?, text)
+    Ok(Found { place, text })
 }
 
-/// The names of all groups, in the order of their numbers.
-fn group_names<'a>(alloc: Global, draft: &'a Draft<'a>) -> Result<Vec<&'a str>, AllocError> {
-    let mut names = vec![in alloc; "Default"]?;
-    for group in &draft.groups {
-        names.push(group.name)?;
+/// A ring of groups by their numbers, of which `Default` is the first.
+fn of_groups(refused: &Refused, ring: Option<Vec<usize>>, leads: &str) -> Told {
+    let mut members = Vec::new(refused.alloc);
+    for number in &ring.ok_or(Untold::Absent)? {
+        let name = match *number {
+            0 => "Default",
+            number => refused.group_at(number)?.name,
+        };
+        members.push((*number, name))?;
     }
-    Ok(names)
+    declared(refused.alloc, "groups", &members, leads)
 }
 
-/// The names of the declared constraints, in the order of their numbers.
-fn definition_names<'a>(alloc: Global, draft: &'a Draft<'a>) -> Result<Vec<&'a str>, AllocError> {
-    let mut names = Vec::with_capacity(alloc, draft.definitions.len())?;
-    for (name, _) in draft.definitions.iter() {
-        names.push(name.as_str())?;
+/// A ring of declared constraints.
+fn of_definitions(refused: &Refused) -> Told {
+    let (alloc, definitions) = (refused.alloc, &refused.draft.definitions);
+    let mut members = Vec::new(alloc);
+    for number in &composition_ring(alloc, definitions)?.ok_or(Untold::Absent)? {
+        members.push((*number, entry_at(definitions, *number)?.0))?;
     }
-    Ok(names)
+    declared(alloc, "constraints", &members, "is composed of")
 }
 
-/// A group that inherits itself.
-fn cyclic_inheritance(alloc: Global, draft: &Draft) -> Told {
-    let names = group_names(alloc, draft)?;
-    let ring = inheritance_ring(alloc, draft)?;
-    ring_at(alloc, ("groups", &names), ring, "inherits")
-}
-
-/// A sequence that contains itself.
-fn cyclic_sequence(alloc: Global, draft: &Draft) -> Told {
-    let names = group_names(alloc, draft)?;
-    let ring = sequence_ring(alloc, draft)?;
-    ring_at(alloc, ("groups", &names), ring, "contains")
-}
-
-/// A constraint that is composed of itself.
-fn cyclic_composition(alloc: Global, draft: &Draft) -> Told {
-    let names = definition_names(alloc, draft)?;
-    let ring = composition_ring(alloc, &draft.definitions)?;
-    ring_at(alloc, ("constraints", &names), ring, "is composed of")
-}
-
-/// A key whose text leads back to it: the first that the draft has a message of.
-fn message_cycle(alloc: Global, draft: &Draft) -> Told {
-    let ring = key_ring(alloc, user_messages(alloc, &draft.messages)?)?;
+/// A ring of keys, from the first on that the draft has a message of.
+fn of_keys(refused: &Refused) -> Told {
+    let (alloc, messages) = (refused.alloc, &refused.draft.messages);
+    let ring = key_ring(alloc, user_messages(alloc, messages)?)?;
     let ring = ring.ok_or(Untold::Absent)?;
-    let mut keys = Vec::with_capacity(alloc, ring.len())?;
-    let mut numbers = Vec::with_capacity(alloc, ring.len())?;
+    let mut members = Vec::new(alloc);
     for key in &ring {
-        let key = key.as_str();
-        keys.push(key)?;
-        numbers.push(find_message(&draft.messages, key).unwrap_or(draft.messages.len()))?;
+        let number = find_message(messages, key.as_str()).unwrap_or(messages.len());
+        members.push((number, key.as_str()))?;
     }
-    let first = least_at(&numbers);
-    let chain = chain(alloc, &keys, first)?;
-    let text = format!(in alloc; "the text leads back to its key: {chain}")?;
-    found_at(path(alloc, &["messages", at(&keys, first)?])?, text)
+    let (key, text) = chain(alloc, "the text leads back to its key: ", &members)?;
+    let place = path(alloc, &["messages", key])?;
+    Ok(Found { place, text })
 }
 
 /// A fault that is a ring.
-pub(crate) fn ring_of(alloc: Global, draft: &Draft, fault: DeclFault) -> Told {
+pub(crate) fn ring_of(refused: &Refused, fault: DeclFault) -> Told {
+    let (alloc, draft) = (refused.alloc, refused.draft);
     match fault {
-        DeclFault::CyclicInheritance => cyclic_inheritance(alloc, draft),
-        DeclFault::CyclicSequence => cyclic_sequence(alloc, draft),
-        DeclFault::CyclicComposition => cyclic_composition(alloc, draft),
-        DeclFault::MessageCycle => message_cycle(alloc, draft),
+        DeclFault::CyclicInheritance => {
+            of_groups(refused, inheritance_ring(alloc, draft)?, "inherits")
+        }
+        DeclFault::CyclicSequence => of_groups(refused, sequence_ring(alloc, draft)?, "contains"),
+        DeclFault::CyclicComposition => of_definitions(refused),
+        DeclFault::MessageCycle => of_keys(refused),
         _ => Err(Untold::Absent),
     }
 }

@@ -1,65 +1,54 @@
 //! The wording of declarations in words: what is no template, and what is no parameter's name.
-use fv_declare_draft::{Draft, Use};
 use fv_declare_judging::WordingAt;
-use fv_explain_places::{
-    Told, Untold, at, entry_at, found_at, member, part_at, path, shown, use_place,
-};
+use fv_explain_places::{Found, Refused, Told, Untold, at, entry_at, member, path, shown};
 use fv_message::MessagesAt;
-use std::alloc::Global;
-
-/// The text that there is.
-fn text_of(text: &Option<String>) -> Result<&str, Untold> {
-    match text {
-        None => Err(Untold::Absent),
-        Some(text) => Ok(text.as_str()),
-    }
-}
 
 /// The place of a text that is to be a template, and the text.
 pub(crate) fn template_at<'a>(
-    alloc: Global,
-    draft: &'a Draft<'a>,
-    uses: &[Use<'a>],
+    refused: &Refused<'a>,
     place: WordingAt,
 ) -> Result<(String, &'a str), Untold> {
-    match place {
+    let (alloc, draft) = (refused.alloc, refused.draft);
+    let (place, template) = match place {
         WordingAt::Use(number) => {
-            let told = use_place(alloc, &draft.types, uses, number)?;
-            let message = at(uses, number)?.message.ok_or(Untold::Absent)?;
-            Ok((member(alloc, told.as_str(), "message")?, message))
+            let (given, place) = refused.use_at(number)?;
+            (member(alloc, place.as_str(), "message")?, given.message)
         }
         WordingAt::Definition(number) => {
             let (name, definition) = entry_at(&draft.definitions, number)?;
-            let told = path(alloc, &["constraints", name, "message"])?;
-            Ok((told, text_of(&definition.message)?))
+            let message = definition.message.as_ref();
+            let place = path(alloc, &["constraints", name, "message"])?;
+            (place, message.map(|message| message.as_str()))
         }
         WordingAt::Composing(number, index) => {
-            let part = part_at(alloc, draft, number, index)?;
-            let told = member(alloc, part.place.as_str(), "message")?;
-            Ok((told, text_of(&part.composing.message)?))
+            let part = refused.part_at(number, index)?;
+            let message = part.composing.message.as_ref();
+            let place = member(alloc, part.place.as_str(), "message")?;
+            (place, message.map(|message| message.as_str()))
         }
         WordingAt::Messages(MessagesAt::Text(number)) => {
             let message = at(&draft.messages, number)?;
-            Ok((path(alloc, &["messages", message.key])?, message.template))
+            let place = path(alloc, &["messages", message.key])?;
+            (place, Some(message.template))
         }
-        WordingAt::Messages(_) => Err(Untold::Absent),
-    }
+        WordingAt::Messages(_) => return Err(Untold::Absent),
+    };
+    Ok((place, template.ok_or(Untold::Absent)?))
 }
 
 /// A key that is no parameter's name, or a text that is no template.
-pub(crate) fn wording_at(alloc: Global, draft: &Draft, uses: &[Use], place: WordingAt) -> Told {
+pub(crate) fn wording_at(refused: &Refused, place: WordingAt) -> Told {
+    let alloc = refused.alloc;
     if let WordingAt::Messages(MessagesAt::Key(number)) = place {
-        let key = at(&draft.messages, number)?.key;
-        let text = "a key is one or more characters other than {, } and \\";
-        return found_at(
-            path(alloc, &["messages", key])?,
-            String::from_str(alloc, text)?,
-        );
+        let key = at(&refused.draft.messages, number)?.key;
+        let place = path(alloc, &["messages", key])?;
+        let text = format!(in alloc; "a key is one or more characters other than {{, }} and \\")?;
+        return Ok(Found { place, text });
     }
-    let (told, template) = template_at(alloc, draft, uses, place)?;
+    let (place, template) = template_at(refused, place)?;
     let template = shown(alloc, template)?;
     let text = format!(in alloc;
         "a brace or a dollar sign in front of one that has no backslash and is no part of a {{name}}: {template}"
     )?;
-    found_at(told, text)
+    Ok(Found { place, text })
 }

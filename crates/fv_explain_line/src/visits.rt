@@ -1,223 +1,105 @@
-//! How often objects of a bundle would be judged, and through which place most of them are reached.
-
+//! Which record has too many visits, and with which group: C9.
+use crate::records::{id_of, left_by, record_at};
 use fv_bundle::Bundle;
-use fv_datum::Datum;
-use fv_declare_schema::{Schema, ValidPlace};
-use fv_extract::{Place, find};
-use fv_groups::{GroupId, Groups};
-use fv_model_types::TypeId;
-use std::alloc::{AllocError, Global};
+use fv_engine_command::{Command, Part};
+use fv_engine_pending::Pending;
+use fv_explain_bundles::{Words, Written};
+use fv_explain_places::Untold;
+use fv_store::Stored;
+use fv_walk::{WalkFault, visits};
 
-/// The most visits that are counted.
-const MOST: usize = 100000;
-
-/// An object that is reached, with the group that is carried there, and how many stand before it on the
-/// way.
-#[derive(Clone, Copy)]
-struct Arrival<'b> {
-    depth: usize,
-    object: &'b str,
-    group: GroupId,
-}
-
-/// How many visits there are, none but the most where there are more; and the valid place through
-/// which most go, by its number, with how many.
-#[derive(Clone, Copy)]
-pub(crate) struct Visits {
-    pub(crate) count: usize,
-    pub(crate) is_more: bool,
-    pub(crate) place: Option<(usize, usize)>,
-}
-
-/// The plain groups that a group stands for.
-fn ranks_of(groups: &Groups, group: GroupId) -> &[GroupId] {
-    if group.index < groups.count() {
-        groups.ranks(group)
-    } else {
-        &[]
+/// Whether a bundle has more visits for these groups than there may be.
+fn is_over(out: &Words, bundle: &Bundle, groups: &[String]) -> Result<bool, Untold> {
+    match visits(out.alloc, out.schema, bundle, groups) {
+        Err(WalkFault::TooManyVisits) => Ok(true),
+        Err(WalkFault::Memory) => Err(Untold::Memory),
+        _ => Ok(false),
     }
 }
 
-/// The group that is carried on through a place.
-fn converted(place: &ValidPlace, group: GroupId) -> GroupId {
-    for conversion in &place.conversions {
-        if conversion.from == group {
-            return conversion.to;
+/// The first of the groups that are asked for, or of `Default` where none is, with which, together with those before
+/// it, a bundle has more visits than there may be.
+fn first_over<'g>(
+    out: &Words,
+    bundle: &Bundle,
+    asked: &[&'g str],
+) -> Result<Option<&'g str>, Untold> {
+    let mut groups = Vec::with_capacity(out.alloc, asked.len())?;
+    if asked.is_empty() && is_over(out, bundle, &groups)? {
+        return Ok(Some("Default"));
+    }
+    for name in asked {
+        groups.push(String::from_str(out.alloc, name)?)?;
+        if is_over(out, bundle, &groups)? {
+            return Ok(Some(*name));
         }
     }
-    group
+    Ok(None)
 }
 
-/// Adds an arrival for each plain group that one stands for.
-fn add_ranks<'b>(
-    arrivals: &mut Vec<Arrival<'b>>,
-    groups: &Groups,
-    object: &'b str,
-    group: GroupId,
-    depth: usize,
-) -> Result<(), AllocError> {
-    for rank in ranks_of(groups, group) {
-        arrivals.push(Arrival {
-            depth,
-            object,
-            group: *rank,
-        })?;
+/// The names of the groups that a form asks for.
+fn asked_by<'s>(out: &Words<'s>, form: &str) -> Result<Vec<&'s str>, Untold> {
+    let groups = out.schema.groups();
+    let asked = out.schema.groups_of(form).ok_or(Untold::Absent)?;
+    let names = asked.iter().map(|group| groups.name(*group));
+    Ok(names.collect(out.alloc)?)
+}
+
+/// Adds with which group a record has too many visits.
+fn over_words(out: &mut Words, id: &str, group: &str) -> Written {
+    write!(out.text, "record \"{id}\": more than 4096 visits")?;
+    Ok(write!(out.text, " with the group {group}")?)
+}
+
+/// Adds, of a batch, the last part that has an id.
+fn push_last(out: &mut Words, command: &Command, id: &str) -> Written {
+    if let Command::Batch { parts } = command {
+        let last = parts.iter().rposition(|part| id_of(part) == id);
+        write!(out.text, "parts[{}], ", last.unwrap_or(0))?;
     }
     Ok(())
 }
 
-/// The number of the first valid place of a type.
-fn first_place(schema: &Schema, type_id: TypeId) -> usize {
-    schema
-        .valid_places()
-        .partition_point(|place| place.type_index < type_id.index)
-}
-
-/// What is counted on the way.
-#[derive(Drop)]
-struct Count<'b> {
-    /// The arrivals that aren't counted yet.
-    arrivals: Vec<Arrival<'b>>,
-    /// The objects from the root to the arrival that is counted last.
-    path: Vec<&'b str>,
-    /// How many visits went through each valid place.
-    through: Vec<usize>,
-}
-
-/// Adds what is reached through one place of an object.
-fn add_through<'b>(
-    alloc: Global,
-    schema: &Schema,
-    bundle: &'b Bundle,
-    count: &mut Count<'b>,
-    arrival: Arrival<'b>,
-    number: usize,
-    place: &ValidPlace,
-) -> Result<(), AllocError> {
-    let Some(object) = bundle.object(arrival.object) else {
-        return Ok(());
-    };
-    let there = Place {
-        field: place.field,
-        steps: &place.steps,
-    };
-    for (_, datum) in find(alloc, object, there)? {
-        if let Datum::Ref(name) = datum {
-            let name = name.as_str();
-            if !count.path.contains(&name) {
-                let depth = count.path.len();
-                let before = count.arrivals.len();
-                let group = converted(place, arrival.group);
-                add_ranks(&mut count.arrivals, schema.groups(), name, group, depth)?;
-                let added = count.arrivals.len().saturating_sub(before);
-                if let Some(through) = count.through.get_mut(number) {
-                    *through = through.saturating_add(added);
-                }
+/// Adds the first record, by the order of its parts, that a command leaves with too many visits for the groups of its
+/// form, and with which group.
+fn left_words<'a>(
+    out: &mut Words,
+    command: &Command<'a>,
+    parts: &[Part<'a>],
+    stored: Pending<'a>,
+) -> Written {
+    let left = left_by(out, parts, stored)?;
+    for part in parts {
+        let id = id_of(part);
+        if let Some(Stored { form, bundle }) = record_at(&left, Some(id)) {
+            let asked = asked_by(out, form.as_str())?;
+            if let Some(group) = first_over(out, bundle, &asked)? {
+                push_last(out, command, id)?;
+                over_words(out, id, group)?;
+                return Ok(write!(out.text, " of the form {form}")?);
             }
         }
     }
-    Ok(())
+    Err(Untold::Absent)
 }
 
-/// Adds what is reached from an arrival.
-fn add_reached<'b>(
-    alloc: Global,
-    schema: &Schema,
-    bundle: &'b Bundle,
-    count: &mut Count<'b>,
-    arrival: Arrival<'b>,
-) -> Result<(), AllocError> {
-    count.path.truncate(arrival.depth);
-    count.path.push(arrival.object)?;
-    let Some(object) = bundle.object(arrival.object) else {
-        return Ok(());
-    };
-    let Some(type_id) = schema.types().find(object.type_name()) else {
-        return Ok(());
-    };
-    let first = first_place(schema, type_id);
-    for (index, place) in schema.valid_places_of(type_id).iter().enumerate() {
-        let number = first.saturating_add(index);
-        add_through(alloc, schema, bundle, count, arrival, number, place)?;
-    }
-    Ok(())
-}
-
-/// The place with the highest count.
-fn busiest(through: &[usize]) -> Option<(usize, usize)> {
-    let mut most = None;
-    for (number, count) in through.iter().enumerate() {
-        match most {
-            Some((_, other)) if other >= *count => {}
-            _ if *count > 0 => most = Some((number, *count)),
-            _ => {}
+/// Adds which record has too many visits, and with which group; of a check of one field that it asks for too many.
+pub(crate) fn visits_words<'a>(
+    out: &mut Words,
+    command: &Command<'a>,
+    stored: Pending<'a>,
+) -> Written {
+    match command {
+        Command::Alone(part) => left_words(out, command, &[*part], stored),
+        Command::Batch { parts } => left_words(out, command, parts, stored),
+        Command::Check { id, groups } => {
+            let record = record_at(&stored, Some(*id)).ok_or(Untold::Absent)?;
+            let group = first_over(out, &record.bundle, groups)?;
+            over_words(out, id, group.ok_or(Untold::Absent)?)
         }
+        Command::CheckField { .. } | Command::CheckValue { .. } => {
+            out.push("groups: more than 4096 visits, one for each plain group of a sequence")
+        }
+        Command::Get { .. } | Command::List { .. } => Err(Untold::Absent),
     }
-    most
-}
-
-/// The visits of a bundle for groups that are asked.
-pub(crate) fn visits_of(
-    alloc: Global,
-    schema: &Schema,
-    bundle: &Bundle,
-    asked: &[GroupId],
-) -> Result<Visits, AllocError> {
-    let mut count = Count {
-        arrivals: Vec::new(alloc),
-        path: Vec::new(alloc),
-        through: Vec::new(alloc),
-    };
-    for _ in schema.valid_places() {
-        count.through.push(0)?;
-    }
-    for group in asked {
-        add_ranks(
-            &mut count.arrivals,
-            schema.groups(),
-            bundle.root(),
-            *group,
-            0,
-        )?;
-    }
-    let mut total = 0;
-    for _ in 0..MOST {
-        let Some(arrival) = count.arrivals.pop() else {
-            return Ok(Visits {
-                count: total,
-                is_more: false,
-                place: busiest(&count.through),
-            });
-        };
-        total = total.saturating_add(1).min(MOST);
-        add_reached(alloc, schema, bundle, &mut count, arrival)?;
-    }
-    Ok(Visits {
-        count: total,
-        is_more: !count.arrivals.is_empty(),
-        place: busiest(&count.through),
-    })
-}
-
-/// The name of a valid place: its type and field.
-pub(crate) fn place_named(
-    alloc: Global,
-    schema: &Schema,
-    number: usize,
-) -> Result<String, AllocError> {
-    let Some(place) = schema.valid_places().get(number) else {
-        return Ok(String::new(alloc));
-    };
-    let type_id = TypeId {
-        index: place.type_index,
-    };
-    let type_name = schema.types().name(type_id);
-    let field = match schema.types().fields_at(type_id) {
-        Some(fields) => match fields.get_index(place.field) {
-            Some((name, _)) => name.as_str(),
-            None => "",
-        },
-        None => "",
-    };
-    format!(in alloc; "{type_name}.{field}")
 }

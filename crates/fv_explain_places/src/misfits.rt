@@ -1,7 +1,7 @@
 //! Shape in words: where declarations aren't of their form, and what is wrong there.
 use crate::places::{item, member};
 use crate::told::{Told, Untold, found_at};
-use crate::words::shown;
+use crate::words::Named;
 use fv_form::{Flaw, FormFault, FormName, Inward, ValueForm, ask, draft_misfit};
 use serde_json::Value;
 use std::alloc::{AllocError, Global};
@@ -29,6 +29,43 @@ fn value_at<'a>(value: &'a Value, steps: &[Inward]) -> Result<&'a Value, Untold>
         value = inside.ok_or(Untold::Absent)?;
     }
     Ok(value)
+}
+
+/// What is wrong at a place.
+#[derive(Clone, Copy)]
+pub(crate) enum Wrong<'a> {
+    /// The object has a member of that name, which has no business there.
+    Stranger(&'a Value, &'a str),
+    /// The object lacks the member of that name.
+    Lacking(&'a Value, &'static str),
+    /// The value isn't of the form.
+    Misfit(&'a Value),
+}
+
+/// What is wrong at the place of a fault.
+pub(crate) fn wrong_in<'a>(value: &'a Value, fault: &FormFault<'a>) -> Result<Wrong<'a>, Untold> {
+    match (fault.flaw, fault.steps.split_first()) {
+        (Flaw::Stranger, Some((Inward::Member(name), outer))) => {
+            Ok(Wrong::Stranger(value_at(value, outer)?, *name))
+        }
+        (Flaw::Stranger, _) => Err(Untold::Absent),
+        (Flaw::Lacking(name), _) => Ok(Wrong::Lacking(value_at(value, &fault.steps)?, name)),
+        (Flaw::Misfit, _) => Ok(Wrong::Misfit(value_at(value, &fault.steps)?)),
+    }
+}
+
+/// The members that an object of a form may have, but for the one that names a command.
+pub(crate) fn members_of(alloc: Global, form: FormName, object: &Value) -> Result<String, Untold> {
+    let ValueForm::Object(entries) = ask(form, object) else {
+        return Err(Untold::Absent);
+    };
+    let mut names = Vec::with_capacity(alloc, entries.len())?;
+    for entry in entries {
+        if entry.name != "do" {
+            names.push(entry.name)?;
+        }
+    }
+    Ok(names.join(alloc, ", ")?)
 }
 
 /// What a JSON value is.
@@ -83,9 +120,9 @@ fn misfit(alloc: Global, form: FormName, value: &Value) -> Result<String, AllocE
     }
     match (form, value.as_str()) {
         (FormName::Held, Some(word)) => {
-            let word = shown(alloc, word)?;
             format!(in alloc;
-                "unknown type {word}; expected text, integer, decimal, boolean, date, instant, or an object with ref, list, optional or map"
+                "unknown type {}; expected text, integer, decimal, boolean, date, instant, or an object with ref, list, optional or map",
+                Named(word)
             )
         }
         _ => {
@@ -96,21 +133,13 @@ fn misfit(alloc: Global, form: FormName, value: &Value) -> Result<String, AllocE
 }
 
 /// The members that an object of a form may have. What is neither a sequence nor a container may yet become one.
-fn members_of(alloc: Global, form: FormName, object: &Value) -> Result<String, Untold> {
-    let ValueForm::Object(entries) = ask(form, object) else {
-        return Err(Untold::Absent);
-    };
-    let mut names = Vec::with_capacity(alloc, entries.len())?;
-    for entry in entries {
-        names.push(entry.name)?;
+fn known_in(alloc: Global, form: FormName, object: &Value) -> Result<String, Untold> {
+    let members = members_of(alloc, form, object)?;
+    match (form, members.as_str()) {
+        (FormName::Group, _) => Ok(String::from_str(alloc, "inherits, sequence")?),
+        (FormName::Held, "ref") => Ok(String::from_str(alloc, "ref, list, optional, map")?),
+        _ => Ok(members),
     }
-    let names = names.join(alloc, ", ")?;
-    let known = match (form, names.as_str()) {
-        (FormName::Group, _) => "inherits, sequence",
-        (FormName::Held, "ref") => "ref, list, optional, map",
-        (_, names) => names,
-    };
-    Ok(String::from_str(alloc, known)?)
 }
 
 /// What is wrong with a member that has no business in an object of a form.
@@ -119,29 +148,22 @@ fn stranger(alloc: Global, form: FormName, object: &Value, name: &str) -> Result
         let text = "inherits and sequence can't stand together";
         return Ok(String::from_str(alloc, text)?);
     }
-    let name = shown(alloc, name)?;
-    let members = members_of(alloc, form, object)?;
-    Ok(format!(in alloc; "unknown member {name}; expected {members}")?)
+    let known = known_in(alloc, form, object)?;
+    Ok(format!(in alloc; "unknown member {}; expected {known}", Named(name))?)
 }
 
 /// What is wrong where declarations aren't of their form.
-fn wrong(alloc: Global, value: &Value, fault: &FormFault) -> Result<String, Untold> {
-    match (fault.flaw, fault.steps.split_first()) {
-        (Flaw::Stranger, Some((Inward::Member(name), outer))) => {
-            stranger(alloc, fault.form, value_at(value, outer)?, name)
-        }
-        (Flaw::Stranger, _) => Err(Untold::Absent),
-        (Flaw::Lacking(name), _) => Ok(format!(in alloc; "missing member \"{name}\"")?),
-        (Flaw::Misfit, _) => {
-            let value = value_at(value, &fault.steps)?;
-            Ok(misfit(alloc, fault.form, value)?)
-        }
+fn words_of(alloc: Global, value: &Value, fault: &FormFault) -> Result<String, Untold> {
+    match wrong_in(value, fault)? {
+        Wrong::Stranger(object, name) => stranger(alloc, fault.form, object, name),
+        Wrong::Lacking(_, name) => Ok(format!(in alloc; "missing member \"{name}\"")?),
+        Wrong::Misfit(value) => Ok(misfit(alloc, fault.form, value)?),
     }
 }
 
 /// Where a value isn't declarations, and what is wrong there. The place is empty where it is the whole.
 pub fn shape(alloc: Global, value: &Value) -> Told {
     let fault = draft_misfit(alloc, value)?.ok_or(Untold::Absent)?;
-    let text = wrong(alloc, value, &fault)?;
+    let text = words_of(alloc, value, &fault)?;
     found_at(place_of(alloc, &fault.steps)?, text)
 }

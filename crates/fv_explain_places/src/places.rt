@@ -1,4 +1,5 @@
 //! Places in declarations, by the JSON members on the way to them.
+use crate::drafts::at;
 use crate::told::Untold;
 use crate::words::shown;
 use fv_datum::is_name;
@@ -25,27 +26,18 @@ pub fn item(alloc: Global, place: &str, index: usize) -> Result<String, AllocErr
     format!(in alloc; "{place}[{index}]")
 }
 
-/// The place of a member of a member, as `types.Item`.
-pub fn inner(alloc: Global, place: &str, first: &str, name: &str) -> Result<String, AllocError> {
-    let place = member(alloc, place, first)?;
-    member(alloc, place.as_str(), name)
-}
-
-/// The place of a member of a member and so on, from the outermost on.
-pub fn path(alloc: Global, names: &[&str]) -> Result<String, AllocError> {
-    let mut place = String::new(alloc);
+/// The place of a member of a member and so on, from a place on.
+pub fn inner(alloc: Global, place: &str, names: &[&str]) -> Result<String, AllocError> {
+    let mut place = String::from_str(alloc, place)?;
     for name in names {
         place = member(alloc, place.as_str(), name)?;
     }
     Ok(place)
 }
 
-/// The place of a type.
-fn type_place(alloc: Global, types: &[TypeDraft], index: usize) -> Result<String, AllocError> {
-    match types.get(index) {
-        None => String::from_str(alloc, "types"),
-        Some(declared) => member(alloc, "types", declared.name),
-    }
+/// The place of a member of a member and so on, from the outermost on.
+pub fn path(alloc: Global, names: &[&str]) -> Result<String, AllocError> {
+    inner(alloc, "", names)
 }
 
 /// The place of a field.
@@ -54,16 +46,11 @@ fn field_place(
     types: &[TypeDraft],
     index: usize,
     field: usize,
-) -> Result<String, AllocError> {
-    let place = type_place(alloc, types, index)?;
-    let name = match types.get(index) {
-        None => None,
-        Some(declared) => declared.fields.get(field),
-    };
-    match name {
-        None => member(alloc, place.as_str(), "fields"),
-        Some(field) => inner(alloc, place.as_str(), "fields", field.name),
-    }
+) -> Result<String, Untold> {
+    let declared = at(types, index)?;
+    let field = at(&declared.fields, field)?;
+    let names = ["types", declared.name, "fields", field.name];
+    Ok(path(alloc, &names)?)
 }
 
 /// Adds the members that steps lead through. The keys of a map have no place of their own.
@@ -80,11 +67,11 @@ fn push_steps(place: &mut String, steps: &[Step]) -> Result<(), AllocError> {
 }
 
 /// The place of the array that a use stands in.
-fn array_place(alloc: Global, types: &[TypeDraft], given: &Use) -> Result<String, AllocError> {
+fn array_place(alloc: Global, types: &[TypeDraft], given: &Use) -> Result<String, Untold> {
     match &given.place {
         Place::Whole => {
-            let place = type_place(alloc, types, given.type_index)?;
-            member(alloc, place.as_str(), "constraints")
+            let declared = at(types, given.type_index)?;
+            Ok(path(alloc, &["types", declared.name, "constraints"])?)
         }
         Place::Field(field, steps, _) => {
             let mut place = field_place(alloc, types, given.type_index, *field)?;
@@ -97,41 +84,19 @@ fn array_place(alloc: Global, types: &[TypeDraft], given: &Use) -> Result<String
     }
 }
 
-/// Whether two uses stand in one array.
-fn together(one: &Use, other: &Use) -> bool {
-    one.type_index == other.type_index && one.place == other.place
-}
-
-/// The places of uses, which are all of some types, in order.
-pub fn use_places(
-    alloc: Global,
-    types: &[TypeDraft],
-    uses: &[Use],
-) -> Result<Vec<String>, AllocError> {
-    let mut places = Vec::with_capacity(alloc, uses.len())?;
-    let mut before: Option<&Use> = None;
-    let mut index: usize = 0;
-    for given in uses {
-        index = match before {
-            Some(other) if together(other, given) => index.saturating_add(1),
-            _ => 0,
-        };
-        let array = array_place(alloc, types, given)?;
-        places.push(item(alloc, array.as_str(), index)?)?;
-        before = Some(given);
-    }
-    Ok(places)
-}
-
-/// The place of the use of that number.
+/// The place of the use of a number, among all uses, which are of these types, in order.
 pub fn use_place(
     alloc: Global,
     types: &[TypeDraft],
     uses: &[Use],
     number: usize,
 ) -> Result<String, Untold> {
-    let places = use_places(alloc, types, uses)?;
-    places.into_iter().nth(number).ok_or(Untold::Absent)
+    let given = at(uses, number)?;
+    let before = uses.iter().take(number);
+    let together = before.filter(|other| other.type_index == given.type_index
+        && other.place == given.place);
+    let index = together.count();
+    Ok(item(alloc, array_place(alloc, types, given)?.as_str(), index)?)
 }
 
 /// The place at which objects are validated, or not.
@@ -139,7 +104,7 @@ pub fn cascade_place(
     alloc: Global,
     types: &[TypeDraft],
     given: &Cascade,
-) -> Result<String, AllocError> {
+) -> Result<String, Untold> {
     let mut place = field_place(alloc, types, given.type_index, given.field)?;
     push_steps(&mut place, &given.placed.steps)?;
     Ok(place)

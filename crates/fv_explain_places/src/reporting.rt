@@ -2,14 +2,20 @@
 use fv_constraint_tree::{Node, Occurrence, Test};
 use std::alloc::{AllocError, Global};
 
-/// Whether a constraint may be reported, and not only those that it is composed of.
-fn asks(node: &Node) -> bool {
-    node.single || !matches!(node.test, Test::Nothing)
+/// A constraint in the tree of a use.
+#[derive(Clone, Copy)]
+pub struct ReportedNode<'a> {
+    pub node: &'a Node,
+    /// The number in the tree of the one that is reported where it refuses: of the outermost around it that reports
+    /// as one, else its own; none where it asks nothing itself.
+    pub by: Option<usize>,
 }
 
-/// For each constraint in the tree of a use, in preorder, the number of the one that is reported where it refuses:
-/// of the outermost around it that reports as one, else its own; none where it asks nothing itself.
-pub fn reported(alloc: Global, occurrence: &Occurrence) -> Result<Vec<Option<usize>>, AllocError> {
+/// The constraints in the tree of a use, in preorder.
+pub fn reported<'a>(
+    alloc: Global,
+    occurrence: &'a Occurrence,
+) -> Result<Vec<ReportedNode<'a>>, AllocError> {
     let mut reported = Vec::with_capacity(alloc, occurrence.size())?;
     let mut single: usize = 0;
     let mut silent: usize = 0;
@@ -21,8 +27,12 @@ pub fn reported(alloc: Global, occurrence: &Occurrence) -> Result<Vec<Option<usi
             single = number;
             silent = number.saturating_add(node.below).saturating_add(1);
         }
-        let told = if number < silent { single } else { number };
-        reported.push(if asks(node) { Some(told) } else { None })?;
+        let by = match node.test {
+            Test::Nothing if !node.single => None,
+            _ if number < silent => Some(single),
+            _ => Some(number),
+        };
+        reported.push(ReportedNode { node, by })?;
     }
     Ok(reported)
 }

@@ -1,5 +1,6 @@
 //! Values as they are shown in a line.
 use std::alloc::{AllocError, Global};
+use std::fmt;
 
 /// The most characters of a value that are shown.
 const MOST_SHOWN: usize = 60;
@@ -12,29 +13,34 @@ fn is_control(character: char) -> bool {
     )
 }
 
-/// Adds a character of a JSON string.
-fn push_character(out: &mut String, character: char) -> Result<(), AllocError> {
+/// Writes a character of a JSON string.
+fn write_character<W: fmt::Write>(f: &mut fmt::Formatter<W>, character: char) -> fmt::Result {
     match character {
-        '"' => out.push_str("\\\""),
-        '\\' => out.push_str("\\\\"),
-        '\n' => out.push_str("\\n"),
-        '\r' => out.push_str("\\r"),
-        '\t' => out.push_str("\\t"),
+        '"' => f.write_str("\\\""),
+        '\\' => f.write_str("\\\\"),
+        '\n' => f.write_str("\\n"),
+        '\r' => f.write_str("\\r"),
+        '\t' => f.write_str("\\t"),
         _ if is_control(character) => {
             let code = character as u32;
-            write!(out, "\\u{code:04x}")
+            write!(f, "\\u{code:04x}")
         }
-        _ => out.push(character),
+        _ => f.write_char(character),
     }
 }
 
-/// Adds a text as a JSON string in which no character ends a line.
-pub fn push_text(out: &mut String, text: &str) -> Result<(), AllocError> {
-    out.push('"')?;
-    for character in text.chars() {
-        push_character(out, character)?;
+/// A text as a JSON string in which no character ends a line.
+#[derive(Clone, Copy)]
+struct Quoted<'a>(&'a str);
+
+impl fmt::Display for Quoted<'_> {
+    fn fmt<W: fmt::Write>(&self, f: &mut fmt::Formatter<W>) -> fmt::Result {
+        f.write_char('"')?;
+        for character in self.0.chars() {
+            write_character(f, character)?;
+        }
+        f.write_char('"')
     }
-    out.push('"')
 }
 
 /// The end of the first characters of a text that are shown, if there are more.
@@ -44,16 +50,26 @@ fn cut_at(text: &str) -> Option<usize> {
 }
 
 /// A text as a JSON string, cut at 60 characters.
-pub fn shown(alloc: Global, text: &str) -> Result<String, AllocError> {
-    let mut out = String::new(alloc);
-    match cut_at(text) {
-        None => push_text(&mut out, text)?,
-        Some(at) => {
-            push_text(&mut out, text.get(..at).unwrap_or(""))?;
-            out.push('…')?;
+#[derive(Clone, Copy)]
+pub struct Named<'a>(pub &'a str);
+
+impl fmt::Display for Named<'_> {
+    fn fmt<W: fmt::Write>(&self, f: &mut fmt::Formatter<W>) -> fmt::Result {
+        match cut_at(self.0) {
+            None => write!(f, "{}", Quoted(self.0)),
+            Some(at) => write!(f, "{}…", Quoted(self.0.get(..at).unwrap_or(""))),
         }
     }
-    Ok(out)
+}
+
+/// Adds a text as a JSON string in which no character ends a line.
+pub fn push_text(out: &mut String, text: &str) -> Result<(), AllocError> {
+    write!(out, "{}", Quoted(text))
+}
+
+/// A text as a JSON string, cut at 60 characters.
+pub fn shown(alloc: Global, text: &str) -> Result<String, AllocError> {
+    format!(in alloc; "{}", Named(text))
 }
 
 /// A constraint by its name, with the one that is used where it is composed of it: the first of its tree is the

@@ -1,4 +1,5 @@
 //! Groups in which no constraint stands.
+use crate::reach::inherits;
 use fv_declare_schema::Schema;
 use fv_explain_places::{Found, member};
 use fv_groups::{GroupId, Groups};
@@ -18,28 +19,9 @@ fn used_groups(alloc: Global, schema: &Schema) -> Result<Vec<bool>, AllocError> 
 }
 
 /// Whether a constraint stands in a plain group or in what it inherits.
-fn plain_is_used(groups: &Groups, used: &[bool], group: GroupId) -> bool {
-    for index in 0..groups.count() {
-        let other = GroupId { index };
-        let stands = matches!(used.get(index), Some(true));
-        if stands && group.index < groups.count() && groups.inherits(group, other) {
-            return true;
-        }
-    }
-    false
-}
-
-/// Whether a constraint stands in what a group stands for.
 fn is_used(groups: &Groups, used: &[bool], group: GroupId) -> bool {
-    if group.index >= groups.count() {
-        return true;
-    }
-    for rank in groups.ranks(group) {
-        if plain_is_used(groups, used, *rank) {
-            return true;
-        }
-    }
-    false
+    let mut all = used.iter().enumerate();
+    all.any(|(index, stands)| *stands && inherits(groups, group, GroupId { index }))
 }
 
 /// Adds a warning for each declared group in which no constraint stands.
@@ -52,11 +34,12 @@ pub(crate) fn add_empty(
     let used = used_groups(alloc, schema)?;
     for index in 1..groups.count() {
         let group = GroupId { index };
-        if !is_used(groups, &used, group) {
+        let mut ranks = groups.ranks(group).iter();
+        if !ranks.any(|rank| is_used(groups, &used, *rank)) {
             let place = member(alloc, "groups", groups.name(group))?;
-            let text =
-                "no constraint stands in this group or in what it stands for, so that a check of it finds nothing: right where nothing is to be asked";
-            let text = String::from_str(alloc, text)?;
+            let text = format!(in alloc;
+                "no constraint stands in this group or in what it stands for, so that a check of it finds nothing: right where nothing is to be asked"
+            )?;
             warnings.push(Found { place, text })?;
         }
     }

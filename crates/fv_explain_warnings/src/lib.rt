@@ -1,4 +1,5 @@
-//! Warnings of declarations that are taken, and may not mean what they say; which types lead to which.
+//! Warnings of declarations that are taken, and may not mean what they say; which types lead to which, and which
+//! groups inherit which.
 #![tactic(auto)]
 
 mod empty;
@@ -8,9 +9,8 @@ mod reach;
 mod rules;
 mod twice;
 mod unreached;
-mod unused;
 mod uses;
 mod warning;
 
-pub use reach::{Edges, all_edges, reached, valid_edges};
+pub use reach::{Edges, all_edges, inherits, reached, valid_edges};
 pub use warning::warnings;

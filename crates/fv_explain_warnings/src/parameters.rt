@@ -1,118 +1,73 @@
-//! Parameters of messages that nothing stands for.
+//! What the templates of messages lead to by their parameters.
 use fv_datum::Attrs;
 use fv_declare_draft::MessageDraft;
 use fv_explain_places::{built_in_key, built_in_parameters, find_message, parameters};
+use indexmap::IndexSet;
 use std::alloc::{AllocError, Global};
 
-/// What a search of parameters has come to.
+/// What a template leads to, and the texts that it leads to.
 #[derive(Drop)]
-struct Left<'a> {
-    messages: &'a [MessageDraft<'a>],
+pub(crate) struct Led<'a> {
+    user: &'a [MessageDraft<'a>],
     attributes: &'a Attrs,
-    /// Which messages are met, and their numbers in the order of that.
-    seen: Vec<bool>,
-    met: Vec<usize>,
-    /// The parameters that nothing stands for.
-    left: Vec<String>,
+    /// The messages of the user, by their numbers.
+    pub(crate) messages: IndexSet<usize>,
+    /// The parameters that are neither keys nor attributes.
+    pub(crate) left: IndexSet<String>,
 }
 
-impl<'a> Left<'a> {
+impl<'a> Led<'a> {
     /// Goes over a parameter that is no key of a built-in message.
-    fn plain(&mut self, alloc: Global, name: &str) -> Result<(), AllocError> {
-        let Some(number) = find_message(self.messages, name) else {
-            let known = self.left.iter().any(|other| other.as_str() == name);
-            if self.attributes.find(name).is_none() && !known {
-                self.left.push(String::from_str(alloc, name)?)?;
-            }
-            return Ok(());
-        };
-        if let Some(flag) = self.seen.get_mut(number) {
-            if !*flag {
-                *flag = true;
-                self.met.push(number)?;
-            }
+    fn add_plain(&mut self, alloc: Global, name: &str) -> Result<(), AllocError> {
+        if let Some(number) = find_message(self.user, name) {
+            self.messages.insert(number)?;
+        } else if self.attributes.find(name).is_none() {
+            self.left.insert(String::from_str(alloc, name)?)?;
         }
         Ok(())
     }
 
     /// Goes over a parameter.
-    fn parameter(&mut self, alloc: Global, name: &str) -> Result<(), AllocError> {
-        if find_message(self.messages, name).is_none() {
-            if let Some(which) = built_in_key(name) {
+    fn add(&mut self, alloc: Global, name: &str) -> Result<(), AllocError> {
+        match built_in_key(name) {
+            Some(which) if find_message(self.user, name).is_none() => {
                 for name in built_in_parameters(alloc, which)? {
-                    self.plain(alloc, name)?;
+                    self.add_plain(alloc, name)?;
                 }
-                return Ok(());
+                Ok(())
             }
+            _ => self.add_plain(alloc, name),
         }
-        self.plain(alloc, name)
     }
 
     /// Goes over the parameters of a template.
-    fn template(&mut self, alloc: Global, template: &str) -> Result<(), AllocError> {
+    fn add_template(&mut self, alloc: Global, template: &str) -> Result<(), AllocError> {
         for name in parameters(alloc, template)? {
-            self.parameter(alloc, name.as_str())?;
+            self.add(alloc, name.as_str())?;
         }
         Ok(())
     }
 }
 
-/// Goes over a template and the texts that it leads to.
-fn searched<'a>(
+/// What a template of a constraint with these attributes leads to, where the user has these messages.
+pub(crate) fn led_by<'a>(
     alloc: Global,
-    messages: &'a [MessageDraft<'a>],
+    user: &'a [MessageDraft<'a>],
     attributes: &'a Attrs,
     template: &str,
-) -> Result<Left<'a>, AllocError> {
-    let mut left = Left {
-        messages,
+) -> Result<Led<'a>, AllocError> {
+    let mut led = Led {
+        user,
         attributes,
-        seen: vec![in alloc; false; messages.len()]?,
-        met: Vec::new(alloc),
-        left: Vec::new(alloc),
+        messages: IndexSet::new(alloc),
+        left: IndexSet::new(alloc),
     };
-    left.template(alloc, template)?;
-    for at in 0..messages.len() {
-        let Some(number) = left.met.get(at).copied() else {
-            break;
-        };
-        if let Some(message) = messages.get(number) {
-            left.template(alloc, message.template)?;
+    led.add_template(alloc, template)?;
+    for at in 0..user.len() {
+        let number = led.messages.get_index(at).copied();
+        if let Some(message) = number.and_then(|number| user.get(number)) {
+            led.add_template(alloc, message.template)?;
         }
     }
-    Ok(left)
-}
-
-/// The parameters of a template, and of the texts that it leads to, that are neither keys nor attributes.
-pub(crate) fn left_over<'a>(
-    alloc: Global,
-    messages: &'a [MessageDraft<'a>],
-    attributes: &'a Attrs,
-    template: &str,
-) -> Result<Vec<String>, AllocError> {
-    let Left {
-        messages: _,
-        attributes: _,
-        seen: _,
-        met: _,
-        left,
-    } = searched(alloc, messages, attributes, template)?;
-    Ok(left)
-}
-
-/// The numbers of the messages that a template leads to.
-pub(crate) fn led_to<'a>(
-    alloc: Global,
-    messages: &'a [MessageDraft<'a>],
-    attributes: &'a Attrs,
-    template: &str,
-) -> Result<Vec<usize>, AllocError> {
-    let Left {
-        messages: _,
-        attributes: _,
-        seen: _,
-        met,
-        left: _,
-    } = searched(alloc, messages, attributes, template)?;
-    Ok(met)
+    Ok(led)
 }

@@ -37,21 +37,19 @@ fn wide_class(regexp: &str) -> Option<(&'static str, &'static str)> {
 /// What is to be said of a constraint that is a Pattern.
 pub(crate) fn pattern_warning(
     alloc: Global,
-    who: &str,
-    node: &Node,
+    (who, node): (&str, &Node),
 ) -> Result<Option<String>, AllocError> {
-    if node.constraint() != "Pattern" {
-        return Ok(None);
-    }
     let Some(Attribute::Text(regexp)) = node.attributes.find("regexp") else {
         return Ok(None);
     };
-    let Some((class, instead)) = wide_class(regexp.as_str()) else {
-        return Ok(None);
-    };
-    let regexp = shown(alloc, regexp.as_str())?;
-    let text = format!(in alloc;
-        "regexp {regexp} of {who} has {class}, which takes more than ASCII; {instead} takes ASCII alone"
-    )?;
-    Ok(Some(text))
+    match wide_class(regexp.as_str()) {
+        Some((class, instead)) if node.constraint() == "Pattern" => {
+            let regexp = shown(alloc, regexp.as_str())?;
+            let text = format!(in alloc;
+                "regexp {regexp} of {who} has {class}, which takes more than ASCII; {instead} takes ASCII alone"
+            )?;
+            Ok(Some(text))
+        }
+        _ => Ok(None),
+    }
 }

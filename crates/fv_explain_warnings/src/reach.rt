@@ -1,5 +1,6 @@
-//! The types that others lead to.
+//! The types that others lead to, and the groups that others inherit.
 use fv_declare_schema::Schema;
+use fv_groups::{GroupId, Groups};
 use fv_model_types::{TypeId, TypeUse, Types};
 use std::alloc::{AllocError, Global};
 
@@ -7,62 +8,55 @@ use std::alloc::{AllocError, Global};
 pub type Edges = Vec<Vec<usize>>;
 
 /// The type that a type use refers to, in whatever containers.
-fn referred<'a>(type_use: &'a TypeUse) -> Option<&'a str> {
+fn target(types: &Types, type_use: &TypeUse) -> Option<usize> {
     match type_use {
-        TypeUse::Ref(name) => Some(name.as_str()),
-        TypeUse::List(held) | TypeUse::Map(held) | TypeUse::Optional(held) => referred(held),
+        TypeUse::Ref(name) => types.find(name.as_str()).map(|found| found.index),
+        TypeUse::List(held) | TypeUse::Map(held) | TypeUse::Optional(held) => target(types, held),
         _ => None,
     }
 }
 
-/// The type that a field refers to.
-fn target(types: &Types, id: TypeId, field: usize) -> Option<usize> {
-    let (_, type_use) = types.fields_at(id)?.get_index(field)?;
-    let found = types.find(referred(type_use)?)?;
-    Some(found.index)
+/// No edges, for so many types.
+fn no_edges(alloc: Global, types: &Types) -> Result<Edges, AllocError> {
+    let none = (0..types.count()).map(|_| Vec::new(alloc));
+    none.collect(alloc)
 }
 
-/// Adds an edge.
-fn add_edge(edges: &mut Edges, from: usize, to: Option<usize>) -> Result<(), AllocError> {
-    if let (Some(nodes), Some(to)) = (edges.get_mut(from), to) {
+/// Adds the edge from a type to the one that a field of it refers to.
+fn add_edge(
+    edges: &mut Edges,
+    types: &Types,
+    from: usize,
+    type_use: &TypeUse,
+) -> Result<(), AllocError> {
+    if let (Some(nodes), Some(to)) = (edges.get_mut(from), target(types, type_use)) {
         nodes.push(to)?;
     }
     Ok(())
 }
 
-/// No edges, for so many types.
-fn no_edges(alloc: Global, count: usize) -> Result<Edges, AllocError> {
-    let mut edges = Vec::with_capacity(alloc, count)?;
-    for _ in 0..count {
-        edges.push(Vec::new(alloc))?;
-    }
-    Ok(edges)
-}
-
 /// The types that each leads to through places whose objects are validated.
 pub fn valid_edges(alloc: Global, schema: &Schema) -> Result<Edges, AllocError> {
     let types = schema.types();
-    let mut edges = no_edges(alloc, types.count())?;
+    let mut edges = no_edges(alloc, types)?;
     for place in schema.valid_places() {
-        let id = TypeId {
-            index: place.type_index,
-        };
-        add_edge(&mut edges, place.type_index, target(types, id, place.field))?;
+        let index = place.type_index;
+        let fields = types.fields_at(TypeId { index });
+        if let Some((_, type_use)) = fields.and_then(|fields| fields.get_index(place.field)) {
+            add_edge(&mut edges, types, index, type_use)?;
+        }
     }
     Ok(edges)
 }
 
 /// The types that each leads to by any reference.
 pub fn all_edges(alloc: Global, types: &Types) -> Result<Edges, AllocError> {
-    let mut edges = no_edges(alloc, types.count())?;
+    let mut edges = no_edges(alloc, types)?;
     for index in 0..types.count() {
-        let id = TypeId { index };
-        let count = match types.fields_at(id) {
-            None => 0,
-            Some(fields) => fields.len(),
-        };
-        for field in 0..count {
-            add_edge(&mut edges, index, target(types, id, field))?;
+        if let Some(fields) = types.fields_at(TypeId { index }) {
+            for type_use in fields.values() {
+                add_edge(&mut edges, types, index, type_use)?;
+            }
         }
     }
     Ok(edges)
@@ -85,19 +79,22 @@ fn add_new(
     Ok(())
 }
 
-/// For each type whether one leads to it, or is it.
-pub fn reached(alloc: Global, edges: &Edges, from: usize) -> Result<Vec<bool>, AllocError> {
+/// For each type whether one of some leads to it, or is it.
+pub fn reached(alloc: Global, edges: &Edges, from: &[usize]) -> Result<Vec<bool>, AllocError> {
     let mut seen = vec![in alloc; false; edges.len()]?;
     let mut found = Vec::new(alloc);
-    add_new(&mut found, &mut seen, &[from])?;
+    add_new(&mut found, &mut seen, from)?;
     for at in 0..edges.len() {
-        let node = match found.get(at) {
-            None => break,
-            Some(node) => *node,
-        };
-        if let Some(nodes) = edges.get(node) {
+        let node = found.get(at).copied();
+        if let Some(nodes) = node.and_then(|node| edges.get(node)) {
             add_new(&mut found, &mut seen, nodes)?;
         }
     }
     Ok(seen)
+}
+
+/// Whether a group is another one or inherits it.
+pub fn inherits(groups: &Groups, group: GroupId, other: GroupId) -> bool {
+    let is_within = group.index < groups.count() && other.index < groups.count();
+    is_within && groups.inherits(group, other)
 }

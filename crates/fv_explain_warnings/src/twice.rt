@@ -11,59 +11,26 @@ const MOST_TOLD: usize = 100;
 /// How deep arrays and objects may nest, as where JSON is read.
 const MOST_DEPTH: usize = 127;
 
-/// One step on the way to a value.
+/// Warnings of the members that stand twice.
 #[derive(Drop)]
-enum Step {
-    Item(usize),
-    Member(String),
-}
-
-/// The members that stand twice, and the steps to the value that is read.
-#[derive(Drop)]
-struct Twice {
-    warnings: Vec<Found>,
-    steps: Vec<Step>,
-}
+struct Twice(Vec<Found>);
 
 impl Twice {
-    /// The place of the value that is read.
-    fn place(&self, alloc: Global) -> Result<String, AllocError> {
-        let mut place = String::new(alloc);
-        for step in &self.steps {
-            place = match step {
-                Step::Item(index) => item(alloc, place.as_str(), *index)?,
-                Step::Member(name) => member(alloc, place.as_str(), name.as_str())?,
-            };
-        }
-        Ok(place)
-    }
-
-    /// Tells that the member that is read stands twice.
-    fn warn(&mut self, alloc: Global, name: &str) -> Result<(), AllocError> {
-        if self.warnings.len() >= MOST_TOLD {
-            return Ok(());
-        }
-        let place = self.place(alloc)?;
-        let name = shown(alloc, name)?;
-        let text = format!(in alloc; "member {name} stands twice: the last one counts")?;
-        self.warnings.push(Found { place, text })?;
-        Ok(())
-    }
-
-    /// Steps to the next member of an object, of which these names stood before, each so often.
-    fn step_to(
+    /// Counts a member of the object at a place, of which these names stood before, each so often, and tells one that
+    /// stands there for the second time.
+    fn count(
         &mut self,
         alloc: Global,
         names: &mut BTreeMap<String, usize>,
         name: String,
+        place: &str,
     ) -> Result<(), AllocError> {
-        self.steps.push(Step::Member(name.clone()?))?;
-        let count = match names.get(&name) {
-            None => 1,
-            Some(before) => before.saturating_add(1),
-        };
-        if count == 2 {
-            self.warn(alloc, name.as_str())?;
+        let count = names.get(&name).copied().unwrap_or(0).saturating_add(1);
+        if count == 2 && self.0.len() < MOST_TOLD {
+            let name = shown(alloc, name.as_str())?;
+            let text = format!(in alloc; "member {name} stands twice: the last one counts")?;
+            let place = String::from_str(alloc, place)?;
+            self.0.push(Found { place, text })?;
         }
         drop(names.insert(name, count)?);
         Ok(())
@@ -75,26 +42,24 @@ impl<'de> Deserialize<'de> for Twice {
         alloc: Global,
         from: &mut Deserializer<'de, '_, F>,
     ) -> Result<Twice, F::Error> {
-        let mut twice = Twice {
-            warnings: Vec::new(alloc),
-            steps: Vec::new(alloc),
-        };
-        look(alloc, from, &mut twice, MOST_DEPTH)?;
+        let mut twice = Twice(Vec::new(alloc));
+        look(alloc, from, &mut twice, "", MOST_DEPTH)?;
         Ok(twice)
     }
 }
 
-/// Looks at a value.
+/// Looks at the value at a place.
 #[cycle(look)]
 fn look<F: Format>(
     alloc: Global,
     from: &mut Deserializer<'_, '_, F>,
     twice: &mut Twice,
+    place: &str,
     depth: usize,
 ) -> Result<(), F::Error> {
     match from.peek()? {
-        Kind::Seq if depth > 0 => look_at_items(alloc, from, twice, depth - 1),
-        Kind::Map if depth > 0 => look_at_members(alloc, from, twice, depth - 1),
+        Kind::Seq if depth > 0 => look_at_items(alloc, from, twice, place, depth - 1),
+        Kind::Map if depth > 0 => look_at_members(alloc, from, twice, place, depth - 1),
         _ => from.skip(),
     }
 }
@@ -105,20 +70,18 @@ fn look_at_items<F: Format>(
     alloc: Global,
     from: &mut Deserializer<'_, '_, F>,
     twice: &mut Twice,
+    place: &str,
     depth: usize,
 ) -> Result<(), F::Error> {
     from.begin_seq()?;
-    let mut index = 0usize;
-    for _ in 0..u64::MAX {
+    for index in 0..usize::MAX {
         if !from.next_item()? {
             break;
         }
-        if twice.steps.push(Step::Item(index)).is_err() {
+        let Ok(inside) = item(alloc, place, index) else {
             return Err(from.no_memory());
-        }
-        look(alloc, from, twice, depth)?;
-        drop(twice.steps.pop());
-        index = index.saturating_add(1);
+        };
+        look(alloc, from, twice, inside.as_str(), depth)?;
     }
     Ok(())
 }
@@ -129,6 +92,7 @@ fn look_at_members<F: Format>(
     alloc: Global,
     from: &mut Deserializer<'_, '_, F>,
     twice: &mut Twice,
+    place: &str,
     depth: usize,
 ) -> Result<(), F::Error> {
     from.begin_map()?;
@@ -138,11 +102,16 @@ fn look_at_members<F: Format>(
             break;
         }
         let name = from.string(alloc)?;
-        if twice.step_to(alloc, &mut names, name).is_err() {
+        let Ok(inside) = member(alloc, place, name.as_str()) else {
+            return Err(from.no_memory());
+        };
+        if twice
+            .count(alloc, &mut names, name, inside.as_str())
+            .is_err()
+        {
             return Err(from.no_memory());
         }
-        look(alloc, from, twice, depth)?;
-        drop(twice.steps.pop());
+        look(alloc, from, twice, inside.as_str(), depth)?;
     }
     Ok(())
 }
@@ -155,8 +124,8 @@ pub(crate) fn add_twice(
 ) -> Result<(), AllocError> {
     let read: Result<Twice, serde_json::Error> = serde_json::from_slice(alloc, bytes);
     match read {
-        Ok(twice) => {
-            for warning in twice.warnings {
+        Ok(Twice(told)) => {
+            for warning in told {
                 warnings.push(warning)?;
             }
             Ok(())

@@ -1,104 +1,100 @@
-//! Warnings of constraints.
-use crate::parameters::left_over;
+//! Warnings of constraints, and of messages that none of them shows.
+use crate::parameters::led_by;
 use crate::patterns::pattern_warning;
-use crate::rules::rule_warnings;
+use crate::rules::add_rule_warnings;
 use fv_constraint_tree::Node;
 use fv_declare_draft::MessageDraft;
 use fv_declare_schema::{Placed, Schema};
-use fv_explain_places::{Found, reported, shown, who};
-use fv_model_types::Types;
+use fv_explain_places::{Found, ReportedNode, built_in_key, member, reported, shown, who};
+use fv_registry::RuleSet;
 use std::alloc::{AllocError, Global};
 
-/// Adds a warning at a place.
-fn push(
+/// Adds what is to be said of the parameters of a constraint's message, and flags the messages that it may show.
+fn add_message(
     alloc: Global,
-    warnings: &mut Vec<Found>,
-    place: &str,
-    text: String,
-) -> Result<(), AllocError> {
-    let place = String::from_str(alloc, place)?;
-    warnings.push(Found { place, text })?;
-    Ok(())
-}
-
-/// Adds the warnings of the parameters of a constraint's message.
-fn add_parameters(
-    alloc: Global,
-    warnings: &mut Vec<Found>,
-    place: &str,
-    (who, node): (&str, &Node),
+    texts: &mut Vec<String>,
+    shows: &mut Vec<bool>,
     messages: &[MessageDraft],
-) -> Result<(), AllocError> {
-    for name in left_over(alloc, messages, &node.attributes, node.message())? {
-        let name = shown(alloc, name.as_str())?;
-        let text = format!(in alloc;
-            "the message of {who} has the parameter {name}, which is no key of messages and no attribute: it is shown in its braces"
-        )?;
-        push(alloc, warnings, place, text)?;
-    }
-    Ok(())
-}
-
-/// Adds the warnings of a constraint of a use.
-fn add_node(
-    alloc: Global,
-    warnings: &mut Vec<Found>,
-    (types, messages): (&Types, &[MessageDraft]),
-    (place, placed): (&str, &Placed),
     (who, node): (&str, &Node),
-    reports: bool,
 ) -> Result<(), AllocError> {
-    for text in rule_warnings(alloc, types, placed.type_id(), who, node)? {
-        push(alloc, warnings, place, text)?;
+    let led = led_by(alloc, messages, &node.attributes, node.message())?;
+    for name in led.left.iter() {
+        let name = shown(alloc, name.as_str())?;
+        texts.push(format!(in alloc;
+            "the message of {who} has the parameter {name}, which is no key of messages and no attribute: it is shown in its braces"
+        )?)?;
     }
-    if let Some(text) = pattern_warning(alloc, who, node)? {
-        push(alloc, warnings, place, text)?;
-    }
-    if reports {
-        add_parameters(alloc, warnings, place, (who, node), messages)?;
+    for number in led.messages.iter() {
+        if let Some(flag) = shows.get_mut(*number) {
+            *flag = true;
+        }
     }
     Ok(())
 }
 
-/// Adds the warnings of a use, with all that it is composed of.
-fn add_use(
+/// What is to be said of a use, with all that it is composed of.
+fn of_use<R: RuleSet>(
     alloc: Global,
-    warnings: &mut Vec<Found>,
-    (types, messages): (&Types, &[MessageDraft]),
-    (place, placed): (&str, &Placed),
-) -> Result<(), AllocError> {
-    let occurrence = placed.occurrence();
-    let Some(root) = occurrence.node(0) else {
-        return Ok(());
-    };
-    for (number, by) in reported(alloc, occurrence)?.iter().enumerate() {
-        let Some(node) = occurrence.node(number) else {
-            break;
-        };
-        let who = who(alloc, root.constraint(), number, node.constraint())?;
-        add_node(
+    rules: &R,
+    shows: &mut Vec<bool>,
+    (schema, messages): (&Schema, &[MessageDraft]),
+    placed: &Placed,
+) -> Result<Vec<String>, AllocError> {
+    let mut texts = Vec::new(alloc);
+    let all = reported(alloc, placed.occurrence())?;
+    let used = all.first().map_or("", |first| first.node.constraint());
+    for (number, ReportedNode { node, by }) in all.iter().enumerate() {
+        let who = who(alloc, used, number, node.constraint())?;
+        let told = (who.as_str(), *node);
+        add_rule_warnings(
             alloc,
-            warnings,
-            (types, messages),
-            (place, placed),
-            (who.as_str(), node),
-            *by == Some(number),
+            &mut texts,
+            rules,
+            (schema.types(), placed.type_id()),
+            told,
         )?;
+        if let Some(text) = pattern_warning(alloc, told)? {
+            texts.push(text)?;
+        }
+        if *by == Some(number) {
+            add_message(alloc, &mut texts, shows, messages, told)?;
+        }
     }
-    Ok(())
+    Ok(texts)
 }
 
-/// Adds the warnings of all uses, at their places.
-pub(crate) fn add_uses(
+/// Adds the warnings of all uses, at their places, and tells for each message whether a use may show it.
+pub(crate) fn add_uses<R: RuleSet>(
     alloc: Global,
+    rules: &R,
     warnings: &mut Vec<Found>,
     schema: &Schema,
     messages: &[MessageDraft],
     places: &[String],
-) -> Result<(), AllocError> {
+) -> Result<Vec<bool>, AllocError> {
+    let mut shows = vec![in alloc; false; messages.len()]?;
     for (placed, place) in schema.occurrences().iter().zip(places) {
-        let judged = (schema.types(), messages);
-        add_use(alloc, warnings, judged, (place.as_str(), placed))?;
+        for text in of_use(alloc, rules, &mut shows, (schema, messages), placed)? {
+            let place = place.clone()?;
+            warnings.push(Found { place, text })?;
+        }
+    }
+    Ok(shows)
+}
+
+/// Adds a warning for each message that no use may show, but for those of built-in constraints.
+pub(crate) fn add_unused(
+    alloc: Global,
+    warnings: &mut Vec<Found>,
+    messages: &[MessageDraft],
+    shows: &[bool],
+) -> Result<(), AllocError> {
+    for (message, is_shown) in messages.iter().zip(shows) {
+        if !*is_shown && built_in_key(message.key).is_none() {
+            let place = member(alloc, "messages", message.key)?;
+            let text = format!(in alloc; "no constraint that is used shows this message")?;
+            warnings.push(Found { place, text })?;
+        }
     }
     Ok(())
 }

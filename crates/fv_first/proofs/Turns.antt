@@ -18,7 +18,11 @@ pub name_turn : {P : Type 0} (f : ℕ → List ℕ → Option P) (xs : List (Bor
     → first_from f i (map (λ n. n.now) (drop i xs)) ≡ option_or (f i x.now) (first_from f (i + 1) (map (λ n. n.now) (drop (i + 1) xs)))
 name_turn = first_turn (λ (n : Bor (List ℕ)). n.now)
 
--- where an iterator gives an element, and numbers begin at 1
+-- where an iterator gives an element
+pub entry_turn : {X P : Type 0} (f : ℕ → X → Option P) (i : ℕ) (x : X) (xs : List X) → first_from f i (x ∷ xs) ≡ option_or (f i x) (first_from f (i + 1) xs)
+entry_turn f i x xs = rw add-one refl
+
+-- the same where numbers begin at 1
 pub next_turn : {X P : Type 0} (f : ℕ → X → Option P) (i : ℕ) (x : X) (xs : List X)
     → first_from f (i + 1) (x ∷ xs) ≡ option_or (f (i + 1) x) (first_from f (i + 1 + 1) xs)
 next_turn f i x xs = rw (add-one, add-one) refl

@@ -101,3 +101,11 @@ impl<T: Drop> From<AllocFailed<T>> for PlacedFlattenFault {
         }
     }
 }
+
+impl From<PlacedFlattenFault> for FlattenFault {
+    ghost from_gives = { λ p e. e ≡ p.fault };
+
+    fn from(placed: PlacedFlattenFault) -> FlattenFault {
+        placed.fault
+    }
+}

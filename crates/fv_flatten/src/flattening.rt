@@ -59,43 +59,30 @@ pub fn flatten_all<'a, R: RuleSet>(
 ///
 /// Refused by `CyclicComposition`, then by `EmptyConstraint`, then by `TooLarge` (more than 1,024
 /// constraints in the tree), then by `UnknownRule`, `Attribute`, `UnexpectedType` and `BadPattern`,
-/// in this order; by `Memory` at any place. All but `CyclicComposition` and `TooLarge` are told at
-/// the first place that has the fault, the only use being 0.
+/// in this order; by `Memory` at any place.
 pub fn flatten<R: RuleSet>(
     alloc: Global,
     rules: &R,
     definitions: &BTreeMap<String, Definition>,
     used: &Use,
-) -> Result<Occurrence, PlacedFlattenFault>
+) -> Result<Occurrence, FlattenFault>
     requires composed { composes_unknown (map definition_entry definitions.now.entries) ≡ false }
     requires named { is_some (meant_by (map definition_entry definitions.now.entries) used.now.constraint.now) ≡ true }
     ensures taken { IfOk result (λ o. Flattens (R.known rules.now) (map definition_entry definitions.now.entries)
         (use_view used.now) (Ok o)) }
-    ensures refused { IfErr result (λ f. f.fault ≢ FlattenFault.Memory
-        → Flattens (R.known rules.now) (map definition_entry definitions.now.entries) (use_view used.now) (Err f.fault)) }
-    ensures placed { let ds = map definition_entry definitions.now.entries in IfErr result (λ f. f.fault ≢ FlattenFault.Memory
-        → (ts : List (Tree Planned)) → AreTreesOfUses ds (use_view used.now ∷ []) ts
-        → IsAt (R.known rules.now) ds (use_view used.now ∷ []) ts f.fault f.at) }
+    ensures refused { IfErr result (λ f. f ≢ FlattenFault.Memory
+        → Flattens (R.known rules.now) (map definition_entry definitions.now.entries) (use_view used.now) (Err f)) }
     ensures fits { IfOk result (λ o. tree_fits (R.known rules.now) (target_view used.now.place) o ≡ true) }
 {
     let Some(composition) = Composition::new(alloc, definitions)? else {
-        return Err(PlacedFlattenFault {
-            fault: FlattenFault::CyclicComposition,
-            at: None,
-        });
+        return Err(FlattenFault::CyclicComposition);
     };
     let size = composition.size_of(used.constraint);
-    if let Some(number) = empty_definition(definitions) {
-        return Err(PlacedFlattenFault {
-            fault: FlattenFault::EmptyConstraint,
-            at: Some(ConstraintAt::Definition(number)),
-        });
+    if empty_definition(definitions).is_some() {
+        return Err(FlattenFault::EmptyConstraint);
     }
     if size > MOST_NODES {
-        return Err(PlacedFlattenFault {
-            fault: FlattenFault::TooLarge,
-            at: None,
-        });
+        return Err(FlattenFault::TooLarge);
     }
     let mut occurrences = flatten_all(alloc, rules, &composition, &[*used])?;
     let Some(occurrence) = occurrences.pop() else {

@@ -1,6 +1,12 @@
+pub mod Bundled
+pub mod Commanded
+pub mod Counted
 pub mod Drafted
 pub mod Found
 pub mod Inside
+pub mod Naming
+pub mod Parted
+pub mod Passed
 pub mod Placed
 pub mod Told
 pub mod Turns

@@ -8,7 +8,9 @@ use Rattle.fv_datum.specs.declared.attribute_kind.AttributeKind.{AttributeKind}
 use Rattle.fv_declare_definition.specs.Attributes.{attr_of, attribute_of}
 use Rattle.fv_declare_definition.specs.Definitions as spec
 use Rattle.fv_declare_definition.specs.Written.{attribute_definition_of, attribute_kind_of, composing_of, definition_of, message_of, override_of, rule_of}
-use Rattle.fv_form.specs.Declarations.{must, may, asked, of_definition, of_attribute, of_composing}
+use Rattle.fv_form.specs.Asked.{asked}
+use Rattle.fv_form.specs.Declarations.{of_definition, of_attribute, of_composing}
+use Rattle.fv_form.specs.Entries.{must, may}
 use Rattle.fv_form.specs.Misfits.{Entry, Misfit, first_of, first_misfit, in_entry}
 use Rattle.fv_form.specs.declared.form_name.FormName.{FormName}
 use Rattle.fv_form.specs.declared.form_name.FormName.TheVariants as part

@@ -1,26 +1,14 @@
 -- What the forms of declarations ask of JSON.
-use Rattle.std.specs.Prelude.{ℕ, List, [], ◌∷◌, Bool, true, false, if◌then◌else◌, is_some, codes}
+use Rattle.std.specs.Prelude.{ℕ, List, [], ◌∷◌, Bool, if◌then◌else◌, is_some, codes}
 use Rattle.serde_json.specs.Data as json
-use Rattle.serde_json.specs.Find.{as_bool, as_str, get}
+use Rattle.serde_json.specs.Find.{get}
 use Rattle.fv_datum.specs.Lookup.{at_name}
 use Rattle.fv_declare_definition.specs.Attributes.{attribute_of}
-use Rattle.fv_declare_definition.specs.Written.{attribute_kind_of, rule_of}
 use Rattle.fv_declare_draft.specs.Places.{plain_kinds}
-use Rattle.fv_form.specs.Misfits.{Entry, Form, fits, unfit, items, members, object}
+use Rattle.fv_form.specs.Entries.{must, may, leaf}
+use Rattle.fv_form.specs.Misfits.{Entry, Form, unfit, items, object}
 use Rattle.fv_form.specs.declared.form_name.FormName.{FormName}
 use Rattle.fv_form.specs.declared.form_name.FormName.TheVariants as part
-
--- a member that has to be there
-abbrev pub must : List ℕ → FormName → Entry FormName
-must name form = record { name = name; required = true; form = form }
-
--- a member that may be missing
-abbrev pub may : List ℕ → FormName → Entry FormName
-may name form = record { name = name; required = false; form = form }
-
--- a value that is as it has to be by itself, or not
-abbrev pub leaf : Bool → Form FormName
-leaf b = if b then fits else unfit
 
 -- an object that has the member of a name
 abbrev pub has : List ℕ → json.Data → Bool
@@ -100,35 +88,3 @@ abbrev pub of_use : List (Entry FormName)
 of_use =
     must (codes "constraint") part.Text ∷ may (codes "with") part.With ∷ may (codes "groups") part.Names
     ∷ may (codes "message") part.Text ∷ []
-
--- what each form asks
-abbrev pub asked : FormName → json.Data → Form FormName
-asked part.Declarations j = object declarations
-asked part.Types j = members part.Type
-asked part.Type j = object of_type
-asked part.Fields j = members part.Place
-asked part.Forms j = members part.Form
-asked part.Form j = object of_form
-asked part.Groups j = members part.Group
-asked part.Group j = group_form j
-asked part.Sequence j = sequence_form j
-asked part.Definitions j = members part.Definition
-asked part.Definition j = object of_definition
-asked part.Attributes j = members part.Attribute
-asked part.Attribute j = object of_attribute
-asked part.AttributeKind j = leaf (is_some (attribute_kind_of j))
-asked part.Rule j = leaf (is_some (rule_of j))
-asked part.Compose j = items part.Composing
-asked part.Composing j = object of_composing
-asked part.Override j = members part.Text
-asked part.Messages j = members part.Text
-asked part.Place j = object of_place
-asked part.Held j = held_form j
-asked part.Uses j = items part.Use
-asked part.Use j = object of_use
-asked part.With j = members part.Value
-asked part.Value j = value_form j
-asked part.Convert j = members part.Text
-asked part.Names j = items part.Text
-asked part.Text j = leaf (is_some (as_str j))
-asked part.Flag j = leaf (is_some (as_bool j))

@@ -1,17 +1,23 @@
 //! What each form asks of a value.
 ghost use Rattle.std.specs.Prelude.{◌≡◌};
 ghost use Rattle.serde_json.specs.View.{view as json_view};
-ghost use Rattle.fv_form.specs.Declarations.{asked, leaf, value_form, group_form, sequence_form, held_form, container_form};
+ghost use Rattle.fv_form.specs.Asked.{asked};
+ghost use Rattle.fv_form.specs.Declarations.{value_form, group_form, sequence_form, held_form, container_form};
+ghost use Rattle.fv_form.specs.Entries.{leaf};
 ghost use Rattle.fv_form.specs.FormViews.{form_view};
 
+use crate::commands::{
+    command_form, groups_form, is_command_name, is_part_name, part_form, parts_form,
+};
 use crate::form::ValueForm;
 use crate::form_name::FormName;
 use crate::tables::{
-    ATTRIBUTE, COMPOSING, DECLARATIONS, DEFINITION, FORM, LIST, MAP, OPTIONAL, PLACE, PLAIN_GROUP,
-    REFERENCE, SEQUENCE, TYPE, USE,
+    ATTRIBUTE, BUNDLE, COMPOSING, DECLARATIONS, DEFINITION, FORM, LIST, MAP, OBJECT, OPTIONAL,
+    PLACE, PLAIN_GROUP, REFERENCE, SEQUENCE, TYPE, USE,
 };
 use fv_declare_definition::{kind_named, rule_of};
 use fv_declare_draft::plain_use;
+use fv_engine_command::{id_in, limit_in};
 use serde_json::Value;
 
 /// A value that is as it has to be by itself, or not.
@@ -131,5 +137,18 @@ pub fn ask(form: FormName, value: &Value) -> ValueForm
         FormName::Names => ValueForm::Items(FormName::Text),
         FormName::Text => leaf(value.as_str().is_some()),
         FormName::Flag => leaf(value.as_bool().is_some()),
+        FormName::Command => command_form(value),
+        FormName::CommandName => leaf(is_command_name(value)),
+        FormName::Part => part_form(value),
+        FormName::PartName => leaf(is_part_name(value)),
+        FormName::Parts => parts_form(value),
+        FormName::AskedGroups => groups_form(value),
+        FormName::Id => leaf(id_in(value).is_some()),
+        FormName::Limit => leaf(limit_in(value).is_some()),
+        FormName::Bundle => ValueForm::Object(&BUNDLE),
+        FormName::Objects => ValueForm::Members(FormName::Object),
+        FormName::Object => ValueForm::Object(&OBJECT),
+        FormName::Given => ValueForm::Members(FormName::Any),
+        FormName::Any => ValueForm::Fits,
     }
 }

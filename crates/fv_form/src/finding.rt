@@ -5,7 +5,7 @@ ghost use Rattle.std.specs.Option.{option_or};
 ghost use Rattle.std.specs.Str.{bytes_eq};
 ghost use Rattle.serde_json.specs.Find.{get_member};
 ghost use Rattle.serde_json.specs.View.{view as json_view, items_view, members_view};
-ghost use Rattle.fv_form.specs.Declarations.{asked};
+ghost use Rattle.fv_form.specs.Asked.{asked};
 ghost use Rattle.fv_form.specs.FormViews.{entry_view};
 ghost use Rattle.fv_form.specs.MisfitViews.{step_view, flaw_view, misfit_view};
 ghost use Rattle.fv_form.specs.Misfits.{here, under, first_misfit, in_items, in_members, in_entry, first_of, stranger_in};

@@ -1,4 +1,4 @@
-/// The forms that a value can be asked to have, by what stands there in declarations.
+/// The forms that a value can be asked to have, by what stands there in declarations or in a command.
 #[derive(Clone, Copy, Debug, PartialEq, Eq)]
 pub enum FormName {
     /// The declarations as a whole.
@@ -37,4 +37,25 @@ pub enum FormName {
     Names,
     Text,
     Flag,
+    /// A command, its bundle included.
+    Command,
+    /// The name of a command.
+    CommandName,
+    /// A part of a batch.
+    Part,
+    /// The name of a part.
+    PartName,
+    Parts,
+    /// The groups that a check asks for.
+    AskedGroups,
+    Id,
+    Limit,
+    Bundle,
+    /// The objects of a bundle.
+    Objects,
+    Object,
+    /// The fields that an object gives.
+    Given,
+    /// Any value.
+    Any,
 }

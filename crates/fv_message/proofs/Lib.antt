@@ -4,7 +4,6 @@ pub mod Circles
 pub mod Cuts
 pub mod Cycles
 pub mod Expansions
-pub mod FirstTurns
 pub mod KeyRings
 pub mod Keys
 pub mod Named

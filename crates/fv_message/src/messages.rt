@@ -94,11 +94,21 @@ impl Messages {
     /// a key is no parameter's name; else by `MessageCycle` where the text of a key, of the user's or of
     /// the built-in ones, leads back to that key through parameters that are keys; `Memory` at any
     /// place.
-    ///
-    /// The place of `TooLarge` is the messages where there are too many, else the first text that is too
-    /// long, else a key whose text becomes too long; that of `MessageSyntax` is in the first message that
-    /// isn't well written, its key before its text. `MessageCycle` has none: see `key_ring`.
-    pub fn read(
+    pub fn read(alloc: Global, user: IndexMap<String, String>) -> Result<Messages, MessageFault>
+        ensures { let given = messages_view user in
+            MatchResult result (λ m. (m ≡ all_messages given) × AreSound given) (IsFault given) }
+    {
+        match Messages::read_placed(alloc, user) {
+            Ok(messages) => Ok(messages),
+            Err(placed) => Err(placed.fault),
+        }
+    }
+
+    /// The same messages, or the fault that `read` answers with its place: that of `TooLarge` is the messages
+    /// where there are too many, else the first text that is too long, else a key whose text becomes too
+    /// long; that of `MessageSyntax` is in the first message that isn't well written, its key before its text.
+    /// `MessageCycle` has none: see `key_ring`.
+    pub fn read_placed(
         alloc: Global,
         user: IndexMap<String, String>,
     ) -> Result<Messages, PlacedMessageFault>

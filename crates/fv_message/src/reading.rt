@@ -12,7 +12,7 @@ use indexmap::IndexMap;
 const MOST_MESSAGES: usize = 1024;
 
 /// The first of the texts that is too long for a template.
-#[tactic(auto, using(crate::proofs::FirstTurns::next_turn))]
+#[tactic(auto, using(fv_first::proofs::Turns::entry_turn))]
 fn first_long(user: &IndexMap<String, String>) -> Option<usize>
     ensures { result ≡ first_long (messages_view user.now) }
 {
@@ -38,7 +38,7 @@ pub(crate) fn large_in(user: &IndexMap<String, String>) -> Option<MessagesAt>
 }
 
 /// Where one of the keys is no parameter's name, or its text is no template.
-#[tactic(auto, using(crate::proofs::FirstTurns::next_turn))]
+#[tactic(auto, using(fv_first::proofs::Turns::entry_turn))]
 pub(crate) fn misspelt_in(user: &IndexMap<String, String>) -> Option<MessagesAt>
     ensures { result ≡ misspelt_in (messages_view user.now) }
 {

@@ -9,10 +9,6 @@ use Rattle.fv_model_types.specs.Types.{DeclaredFields, Declared, nested, is_unkn
 use Rattle.fv_model_types.specs.Whereabouts.{deep_field, large_in, large_type_at, large_at, unknown_reference_at}
 use Rattle.fv_model_types.specs.declared.fault.TypesAt.TheVariants as at
 
--- what is found first from an entry on
-pub entry_turn : {X P : Type 0} (f : ℕ → X → Option P) (i : ℕ) (x : X) (xs : List X) → first_from f i (x ∷ xs) ≡ option_or (f i x) (first_from f (i + 1) xs)
-entry_turn f i x xs = rw add-one refl
-
 pub unknown_told : (ts : Declared) → is_some (unknown_reference_at ts) ≡ has_unknown ts
 unknown_told ts = inner_told at.Field (λ t f. is_unknown ts f.1) (λ t. t.1) ts
 

@@ -44,11 +44,24 @@ impl Types {
     /// The types of a map of type names to maps of field names to type uses, numbered in the map's
     /// order.
     ///
-    /// Refused by `UnknownType` for a reference to a type that isn't declared, at the first field that
-    /// has one, else by `TooLarge` for more than 256 types, else at the first type of more than 256
-    /// fields or with a field that holds more than four containers one in another: at the type for its
-    /// fields, else at its first such field; `Memory` at any place.
-    pub fn build(
+    /// Refused by `UnknownType` for a reference to a type that isn't declared, else by `TooLarge`
+    /// for more than 256 types, a type of more than 256 fields, or a field that holds more than four
+    /// containers one in another; `Memory` at any place.
+    pub fn build(alloc: Global, declared: IndexMap<String, Fields>) -> Result<Types, TypesFault>
+        ensures { MatchResult result (λ ts. (types_fault (declared_view declared) ≡ None)
+            × (types_view ts ≡ declared_view declared))
+            (λ e. e ≢ Memory → types_fault (declared_view declared) ≡ Some e) }
+    {
+        match Types::build_placed(alloc, declared) {
+            Ok(types) => Ok(types),
+            Err(placed) => Err(placed.fault),
+        }
+    }
+
+    /// The same types, or the fault that `build` answers with its place: that of `UnknownType` is the first
+    /// field that refers to no type, that of `TooLarge` the types where there are too many, else the first type
+    /// that passes a limit: itself for its fields, else its first field that nests too deep.
+    pub fn build_placed(
         alloc: Global,
         declared: IndexMap<String, Fields>,
     ) -> Result<Types, PlacedTypesFault>
@@ -159,7 +172,7 @@ fn is_unknown(declared: &IndexMap<String, Fields>, type_use: &TypeUse) -> bool
 }
 
 /// The first of the fields that refers to a type that isn't declared.
-#[tactic(auto, using(crate::proofs::Placed::entry_turn))]
+#[tactic(auto, using(fv_first::proofs::Turns::entry_turn))]
 fn unknown_field(declared: &IndexMap<String, Fields>, fields: &Fields) -> Option<usize>
     ensures { result ≡ unknown_field (declared_view declared.now) (fields_view fields.now) }
 {
@@ -172,7 +185,7 @@ fn unknown_field(declared: &IndexMap<String, Fields>, fields: &Fields) -> Option
 }
 
 /// Where a field refers to a type that isn't declared.
-#[tactic(auto, using(crate::proofs::Placed::entry_turn))]
+#[tactic(auto, using(fv_first::proofs::Turns::entry_turn))]
 fn unknown_reference(declared: &IndexMap<String, Fields>) -> Option<TypesAt>
     ensures { result ≡ unknown_reference_at (declared_view declared.now) }
 {
@@ -185,7 +198,7 @@ fn unknown_reference(declared: &IndexMap<String, Fields>) -> Option<TypesAt>
 }
 
 /// The first of the fields that holds too many containers one in another.
-#[tactic(auto, using(crate::proofs::Placed::entry_turn))]
+#[tactic(auto, using(fv_first::proofs::Turns::entry_turn))]
 fn deep_field(fields: &Fields) -> Option<usize>
     ensures { result ≡ deep_field (fields_view fields.now) }
 {
@@ -210,7 +223,7 @@ fn large_in(number: usize, fields: &Fields) -> Option<TypesAt>
 }
 
 /// Where the first type that is too large is so.
-#[tactic(auto, using(crate::proofs::Placed::entry_turn))]
+#[tactic(auto, using(fv_first::proofs::Turns::entry_turn))]
 fn large_type(declared: &IndexMap<String, Fields>) -> Option<TypesAt>
     ensures exact { result ≡ large_type_at (declared_view declared.now) }
     ensures apart { IfNone result (FieldsApart (declared_view declared.now)) }

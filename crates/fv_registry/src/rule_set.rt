@@ -45,6 +45,12 @@ pub trait RuleSet {
     /// Whether a rule of objects is there.
     fn knows_object(&self, rule: u32) -> bool
         ensures { result ≡ knows_object rule (known self.now) };
+
+    /// The attributes of a rule of objects that name fields, each with the kind that the field has to have for
+    /// the rule to refuse anything; none where the rules don't tell. Warnings of declarations ask it; no judgement does.
+    fn named_fields(&self, _rule: u32) -> &'static [(&'static str, Kind)] {
+        &[]
+    }
 }
 
 impl<M: Meaning> RuleSet for Registry<M> {
@@ -79,6 +85,10 @@ impl<M: Meaning> RuleSet for Registry<M> {
 
     fn knows_object(&self, rule: u32) -> bool {
         self.has_object_rule(rule)
+    }
+
+    fn named_fields(&self, rule: u32) -> &'static [(&'static str, Kind)] {
+        M::named_fields(rule)
     }
 }
 

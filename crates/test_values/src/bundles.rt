@@ -31,7 +31,7 @@ struct Declared;
 impl Rows for Declared {
     fn found(alloc: Global, given: &str) -> Result<String, Fail> {
         let lines = given.replace(alloc, ";", "\n")?;
-        match Types::build(alloc, declared(alloc, lines.as_str())?) {
+        match Types::build_placed(alloc, declared(alloc, lines.as_str())?) {
             Ok(types) => types_shown(alloc, &types),
             Err(PlacedTypesFault { fault, at }) => {
                 let name = fault.name();

@@ -44,7 +44,7 @@ impl Rows for Texts {
         if !check_template(template) {
             return Ok(String::from_str(alloc, "no template")?);
         }
-        match Messages::read(alloc, declared(alloc, messages)?) {
+        match Messages::read_placed(alloc, declared(alloc, messages)?) {
             Ok(messages) => Ok(messages.text(alloc, template, &attributes(alloc, ATTRIBUTES)?)?),
             Err(PlacedMessageFault { fault, at }) => {
                 let name = fault.name();

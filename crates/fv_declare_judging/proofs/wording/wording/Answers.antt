@@ -35,8 +35,8 @@ returns-clause-taken c =
     let none : flawed_template Long (uses_in d.types) d.definitions ≡ None = sym (c.in_default.ensures ∙ ap (λ (us : List Use). flawed_template Long us d.definitions) c.requires) in
     let is = c.flawed_template-misspelt.ensures ∙ ap (λ (us : List Use). flawed_template Misspelt us d.definitions) c.requires in
     let ms : messages_view c.in_ok-user.user ≡ d.messages = c.in_ok-user.ensures ∙ ap (map message_view) c.deref.ensures.value in
-    let found = found_of d (messages_view c.in_ok-user.user) ms c.read.result c.read.ensures.judged c.read.ensures.placed in
-    taken d c.judged_with.result (judged d none c.flawed_template-misspelt.result is c.read.result c.judged_with.result found c.judged_with.ensures)
+    let found = found_of d (messages_view c.in_ok-user.user) ms c.read_placed.result c.read_placed.ensures.judged c.read_placed.ensures.placed in
+    taken d c.judged_with.result (judged d none c.flawed_template-misspelt.result is c.read_placed.result c.judged_with.result found c.judged_with.ensures)
 
 pub returns-clause-refused : goal.returns-clause-refused
 returns-clause-refused c =
@@ -44,8 +44,8 @@ returns-clause-refused c =
     let none : flawed_template Long (uses_in d.types) d.definitions ≡ None = sym (c.in_default.ensures ∙ ap (λ (us : List Use). flawed_template Long us d.definitions) c.requires) in
     let is = c.flawed_template-misspelt.ensures ∙ ap (λ (us : List Use). flawed_template Misspelt us d.definitions) c.requires in
     let ms : messages_view c.in_ok-user.user ≡ d.messages = c.in_ok-user.ensures ∙ ap (map message_view) c.deref.ensures.value in
-    let found = found_of d (messages_view c.in_ok-user.user) ms c.read.result c.read.ensures.judged c.read.ensures.placed in
-    refused d c.judged_with.result (judged d none c.flawed_template-misspelt.result is c.read.result c.judged_with.result found c.judged_with.ensures)
+    let found = found_of d (messages_view c.in_ok-user.user) ms c.read_placed.result c.read_placed.ensures.judged c.read_placed.ensures.placed in
+    refused d c.judged_with.result (judged d none c.flawed_template-misspelt.result is c.read_placed.result c.judged_with.result found c.judged_with.ensures)
 
 pub returns-clause-placed : goal.returns-clause-placed
 returns-clause-placed c =
@@ -53,5 +53,5 @@ returns-clause-placed c =
     let none : flawed_template Long (uses_in d.types) d.definitions ≡ None = sym (c.in_default.ensures ∙ ap (λ (us : List Use). flawed_template Long us d.definitions) c.requires) in
     let is = c.flawed_template-misspelt.ensures ∙ ap (λ (us : List Use). flawed_template Misspelt us d.definitions) c.requires in
     let ms : messages_view c.in_ok-user.user ≡ d.messages = c.in_ok-user.ensures ∙ ap (map message_view) c.deref.ensures.value in
-    let found = found_of d (messages_view c.in_ok-user.user) ms c.read.result c.read.ensures.judged c.read.ensures.placed in
-    placed d c.judged_with.result (judged d none c.flawed_template-misspelt.result is c.read.result c.judged_with.result found c.judged_with.ensures)
+    let found = found_of d (messages_view c.in_ok-user.user) ms c.read_placed.result c.read_placed.ensures.judged c.read_placed.ensures.placed in
+    placed d c.judged_with.result (judged d none c.flawed_template-misspelt.result is c.read_placed.result c.judged_with.result found c.judged_with.ensures)

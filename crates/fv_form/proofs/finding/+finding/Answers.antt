@@ -3,7 +3,7 @@ use Rattle.serde_json.specs.Data.{depth, items_depth, members_depth}
 use Rattle.serde_json.specs.Data as json
 use Rattle.serde_json.specs.Find.{as_object, get_member}
 use Rattle.serde_json.specs.View.{view as json_view, items_view, members_view}
-use Rattle.fv_form.specs.Declarations.{asked}
+use Rattle.fv_form.specs.Asked.{asked}
 use Rattle.fv_form.specs.FormViews.{entry_view}
 use Rattle.fv_form.specs.MisfitViews.{misfit_view}
 use Rattle.fv_form.specs.Misfits.{members, object, first_misfit}

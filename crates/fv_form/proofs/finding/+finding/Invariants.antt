@@ -1,7 +1,7 @@
 use Rattle.std.proofs.Common.{◌+◌, ◌*◌, ◌≤◌, ◌≡◌, map, drop}
 use Rattle.serde_json.specs.Data.{depth, items_depth, members_depth}
 use Rattle.serde_json.specs.View.{view as json_view, items_view, members_view}
-use Rattle.fv_form.specs.Declarations.{asked}
+use Rattle.fv_form.specs.Asked.{asked}
 use Rattle.fv_form.specs.FormViews.{entry_view}
 use Rattle.fv_form.specs.Misfits.{in_items, in_members, in_entry, first_of}
 use Rattle.fv_form.proofs.finding.+finding.Given as goal

@@ -1,0 +1,4 @@
+pub mod Causes
+pub mod Parted
+pub mod Refused
+pub mod Shaped

@@ -1,0 +1,19 @@
+-- The objects that are given, with the names of their types.
+use Rattle.std.proofs.Common.{◌≡◌, ℕ, List, [], ◌∷◌, map, refl, sym, ap, subst, ◌∙◌}
+use Rattle.std.specs.Map.{keys_of}
+use Rattle.serde_json.specs.Data as json
+use Rattle.fv_datum.specs.Ascending.{IsAscending}
+use Rattle.fv_model_types.specs.Names.{ObjectTypes}
+use Rattle.fv_model_fault.specs.Given.{objects_in, type_in, types_in}
+
+types_named : (os : List (List ℕ × json.Data)) → keys_of os ≡ keys_of (map (λ o. (o.0, type_in o.1)) os)
+types_named [] = refl
+types_named (o ∷ os) = ap (λ ns. o.0 ∷ ns) (types_named os)
+
+-- the names of objects ascend, with those of their types beside them too
+pub types_ascend : (os : List (List ℕ × json.Data)) → IsAscending (keys_of os) → IsAscending (keys_of (map (λ o. (o.0, type_in o.1)) os))
+types_ascend os ascending = subst (λ (ns : List (List ℕ)). IsAscending ns) (types_named os) ascending
+
+-- the names of the types of the objects that are given
+pub types_given : (j : json.Data) (os : List (List ℕ × json.Data)) (types : ObjectTypes) → objects_in j ≡ os → types ≡ map (λ o. (o.0, type_in o.1)) os → types_in j ≡ types
+types_given j os types same is = ap (λ (xs : List (List ℕ × json.Data)). map (λ o. (o.0, type_in o.1)) xs) same ∙ sym is
