@@ -83,6 +83,9 @@ pub fn place_in_command(
 
 /// Where a part of a batch names what isn't there, of the records that the parts before it leave: its form, or the
 /// id, where these have no record. None where the part names no such thing, or its form is declared.
+///
+/// It looks at no record: for `Absence::Record` it answers the id of every set and every remove. So that is to be asked
+/// only where the part was refused for it.
 pub fn place_in_part(schema: &Schema, part: &Part, absence: Absence) -> Option<CommandPlace>
     ensures placed { (left : Records) → IsStored left (spec.alone (part_view part.now)) None
         → IfSome result (IsAt schema.now left (spec.alone (part_view part.now)) absence) }

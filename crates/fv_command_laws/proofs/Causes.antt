@@ -18,20 +18,20 @@ use Rattle.fv_validate.specs.Values.{field_use}
 -- ---- the first of several that is told
 
 -- of each of these, what it would say if it were told, those before it not being there
-abbrev EachSays : Type 0 → Answer → List (Option Answer) → Type 0
+abbrev pub EachSays : Type 0 → Answer → List (Option Answer) → Type 0
 EachSays P a [] = Unit {0}
 EachSays P a (o ∷ os) = (o ≡ Some a → P) × (o ≡ None → EachSays P a os)
 
-said : (P : Type 0) (a : Answer) (os : List (Option Answer)) → EachSays P a os → first_of os ≡ Some a → P
+pub said : (P : Type 0) (a : Answer) (os : List (Option Answer)) → EachSays P a os → first_of os ≡ Some a → P
 said P a [] each e = cc
 said P a (Some b ∷ os) each e = each.0 e
 said P a (None ∷ os) each e = said P a os (each.1 refl) e
 
-held : (b : Bool) (w v : Refusal) → when b w ≡ Some (refused v) → (w ≡ v) × (b ≡ true)
+pub held : (b : Bool) (w v : Refusal) → when b w ≡ Some (refused v) → (w ≡ v) × (b ≡ true)
 held true w v e = let same : w ≡ v = cc in (same, refl)
 held false w v e = cc
 
-not_held : (b : Bool) (w : Refusal) → when b w ≡ None → b ≡ false
+pub not_held : (b : Bool) (w : Refusal) → when b w ≡ None → b ≡ false
 not_held true w e = cc
 not_held false w e = refl
 

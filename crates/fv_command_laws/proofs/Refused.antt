@@ -210,11 +210,12 @@ refused_there ds m r w e = go (cause ds m r (refusal_of w) e)
     go (inl h) = lacking ds m r w h
     go (inr h) = let found = part_there ds m h.part h.fault w h.failed h.told in (found.place, subst (λ (q : Request). IsAt ds m q w found.place) (sym h.alone_it_is) found.there)
 
--- a batch that is refused at a part: the part can't be made
-pub batch_cause : (ds : Declarations) (m : Records) (ps : List Part) (n : ℕ) (v : Refusal) → refusal ds m (batch ps) ≡ Some (part_refused n v) → part_fault ds m (batch ps) ≡ Some (part_refused n v)
+-- a batch that is refused at a part: its bundles are of their form, and the part can't be made
+pub batch_cause : (ds : Declarations) (m : Records) (ps : List Part) (n : ℕ) (v : Refusal) → refusal ds m (batch ps) ≡ Some (part_refused n v)
+    → (is_misshapen ds (batch ps) ≡ false) × (part_fault ds m (batch ps) ≡ Some (part_refused n v))
 batch_cause ds m ps n v e = go (is_misshapen ds (batch ps)) (part_fault ds m (batch ps)) e
   where
-    go : (b : Bool) (o : Option Answer) → first_of (when b why.Shape ∷ None ∷ None ∷ o ∷ None ∷ None ∷ None ∷ []) ≡ Some (part_refused n v) → o ≡ Some (part_refused n v)
+    go : (b : Bool) (o : Option Answer) → first_of (when b why.Shape ∷ None ∷ None ∷ o ∷ None ∷ None ∷ None ∷ []) ≡ Some (part_refused n v) → (b ≡ false) × (o ≡ Some (part_refused n v))
     go true o e = cc
-    go false (Some a) e = e
+    go false (Some a) e = (refl, e)
     go false None e = cc

@@ -1,5 +1,5 @@
 -- What a refusal for what isn't there says of a command, and of a part of a batch.
-use Rattle.std.specs.Prelude.{◌≡◌, ℕ, List, take, None, Ok}
+use Rattle.std.specs.Prelude.{None}
 use Rattle.fv_command_fault.specs.Named.{IsStored}
 use Rattle.fv_command_fault.specs.Whereabouts.{IsAt}
 use Rattle.fv_command_fault.specs.declared.place.Absence.{Absence}
@@ -7,7 +7,6 @@ use Rattle.fv_command_fault.specs.declared.place.Absence.TheVariants as absence
 use Rattle.fv_command_fault.specs.declared.place.CommandPlace.{CommandPlace}
 use Rattle.fv_declare_schema.specs.Declarations.{Declarations}
 use Rattle.fv_engine_command.specs.Commands.{Part, Request, alone}
-use Rattle.fv_engine_machine.specs.Refusals.{made}
 use Rattle.fv_engine_reply.specs.declared.answer.Refusal.{Refusal}
 use Rattle.fv_engine_reply.specs.declared.answer.Refusal.TheVariants.{UnknownForm, NoRecord, UnknownGroup, NoSuchField}
 use Rattle.fv_store.specs.Records.{Records}
@@ -28,9 +27,3 @@ pub record IsPart (ds : Declarations) (m : Records) (p : Part) (w : Absence) : T
   pub place : CommandPlace
   pub there : IsAt ds m (alone p) w place
   pub stored : IsStored m (alone p) None
-
--- the part of that number does, of the records that the parts before it leave
-pub record IsStop (ds : Declarations) (m : Records) (ps : List Part) (n : ℕ) (p : Part) (w : Absence) : Type 0 where
-  pub left : Records
-  pub before : made ds (take n ps) m ≡ Ok left
-  pub part : IsPart ds left p w

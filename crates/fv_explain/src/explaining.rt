@@ -2,14 +2,61 @@ ghost use Rattle.std.specs.Prelude.{◌≡◌, None, Ok, Err, IfOk, IfSome};
 ghost use Rattle.fv_declare_judging.specs.Declares.{Declares};
 ghost use Rattle.fv_declare_schema.specs.Declarations.{Declarations};
 
+use crate::constraints::add_constraints;
+use crate::declared::{add_forms, add_groups, limits_line};
 use crate::fault::ExplainFault;
 use crate::lines::{ExplainedLine, Lines};
-use crate::taken::taken_lines;
+use fv_datum::read_json;
 use fv_declare::{DeclFault, read_placed};
+use fv_declare_draft::{Draft, draft_of, uses_in};
+use fv_declare_schema::Schema;
 use fv_explain_faults::locate;
+use fv_explain_places::{Found, Told, Untold, Written, to_use};
+use fv_explain_warnings::warnings;
 use fv_registry::RuleSet;
 use std::alloc::Global;
 use std::io::Write;
+
+/// The places of all uses of constraints in a draft.
+fn places_of(alloc: Global, draft: &Draft) -> Told<Vec<String>> {
+    let uses = uses_in(alloc, &draft.types)?;
+    let mut places = Vec::with_capacity(alloc, uses.len())?;
+    for number in 0..uses.len() {
+        let mut found = Found::new(alloc);
+        to_use(&mut found, &draft.types, &uses, number)?;
+        places.push(found.place)?;
+    }
+    Ok(places)
+}
+
+/// Adds the lines of a draft that is taken, of its warnings, and of the limits that it uses.
+fn add_draft<R: RuleSet>(
+    lines: &mut Lines,
+    rules: &R,
+    schema: &Schema,
+    draft: &Draft,
+    bytes: &[u8],
+) -> Written {
+    let places = places_of(lines.alloc, draft)?;
+    add_constraints(lines, schema, &draft.messages, &places)?;
+    add_groups(lines, schema.groups())?;
+    add_forms(lines, schema)?;
+    for warning in &warnings(lines.alloc, rules, schema, bytes, draft, &places)? {
+        let (place, text) = (warning.place.as_str(), warning.text.as_str());
+        lines.add(&ExplainedLine::Warning { place, text })?;
+    }
+    lines.add(&limits_line(schema))
+}
+
+/// Adds the lines of declarations that are taken as a schema: those of constraints, of groups and of forms, warnings
+/// behind them, and at the end the limits that are used.
+fn add_taken<R: RuleSet>(lines: &mut Lines, rules: &R, schema: &Schema, bytes: &[u8]) -> Written {
+    let value = read_json(lines.alloc, bytes).map_err(|_| Untold::Memory)?;
+    match draft_of(lines.alloc, &value)? {
+        None => Ok(()),
+        Some(draft) => add_draft(lines, rules, schema, &draft, bytes),
+    }
+}
 
 /// Writes lines, each with its end, and flushes.
 fn write_lines<W: Write>(output: &mut W, lines: &[String]) -> Result<(), ExplainFault> {
@@ -34,24 +81,27 @@ pub fn explain<R: RuleSet, W: Write>(
     ensures taken { IfOk result (λ o. o ≡ None → ((s : Declarations) × Declares (R.known rules.now) bytes.now (Ok s))) }
     ensures refused { IfOk result (λ o. IfSome o (λ f. Declares (R.known rules.now) bytes.now (Err f))) }
 {
+    let texts = Vec::new(alloc);
+    let mut lines = Lines {
+        alloc,
+        as_json,
+        texts,
+    };
     match read_placed(alloc, rules, bytes) {
         Ok(schema) => {
-            let lines = taken_lines(alloc, rules, &schema, bytes, as_json)?;
-            write_lines(output, &lines)?;
+            add_taken(&mut lines, rules, &schema, bytes)?;
+            write_lines(output, &lines.texts)?;
             Ok(None)
         }
         Err(placed) if matches!(placed.fault, DeclFault::Memory) => Err(ExplainFault::Memory),
         Err(placed) => {
             let found = locate(alloc, rules, bytes, placed)?;
-            let line = ExplainedLine::Fault {
+            lines.add(&ExplainedLine::Fault {
                 code: placed.fault.code(),
                 name: placed.fault.name(),
                 place: found.place.as_str(),
                 text: found.text.as_str(),
-            };
-            let texts = Vec::new(alloc);
-            let mut lines = Lines { as_json, texts };
-            lines.add(alloc, &line)?;
+            })?;
             write_lines(output, &lines.texts)?;
             Ok(Some(placed.fault))
         }

@@ -1,7 +1,8 @@
 ghost use Rattle.std.specs.Prelude.{◌≡◌};
 ghost use Rattle.fv_explain.specs.FaultNames.{explain_fault_name};
 
-use std::alloc::{AllocError, AllocFailed};
+use fv_explain_places::Untold;
+use std::alloc::AllocError;
 use thiserror::Error;
 
 /// Why an explanation ends early.
@@ -33,8 +34,9 @@ impl From<AllocError> for ExplainFault {
     }
 }
 
-impl<T: Drop> From<AllocFailed<T>> for ExplainFault {
-    fn from(_e: AllocFailed<T>) -> ExplainFault {
+/// Each place of declarations that are taken is there.
+impl From<Untold> for ExplainFault {
+    fn from(_e: Untold) -> ExplainFault {
         ExplainFault::Memory
     }
 }

@@ -3,13 +3,10 @@
 #![tactic(auto)]
 
 mod constraints;
+mod declared;
 mod explaining;
 mod fault;
-mod forms;
-mod groups;
-mod limits;
 mod lines;
-mod taken;
 
 pub use explaining::explain;
 pub use fault::ExplainFault;

@@ -1,10 +1,11 @@
 //! The lines of an explanation, as plain text or as JSON objects.
 use fv_datum::{Attribute, Attrs};
-use fv_explain_places::push_text;
+use fv_explain_places::{Quoted, Untold, Written};
 use serde::{Described, Serialize, Serializer};
-use std::alloc::{AllocError, Global};
+use std::alloc::Global;
+use std::fmt;
 
-/// The attributes in effect.
+/// The attributes in effect; as plain text ` max=3 min=1`.
 #[derive(Clone, Copy)]
 pub(crate) struct Attributes<'a>(pub(crate) &'a Attrs);
 
@@ -26,11 +27,46 @@ impl Serialize for Attributes<'_> {
     }
 }
 
+impl fmt::Display for Attributes<'_> {
+    fn fmt<W: fmt::Write>(&self, f: &mut fmt::Formatter<W>) -> fmt::Result {
+        for (name, value) in self.0.entries().iter() {
+            write!(f, " {name}=")?;
+            match value {
+                Attribute::Integer(number) => write!(f, "{number}")?,
+                Attribute::Text(text) => write!(f, "{}", Quoted(text.as_str()))?,
+                Attribute::Boolean(flag) => write!(f, "{flag}")?,
+                Attribute::Texts(texts) => {
+                    f.write_char('[')?;
+                    f.write_joined(texts.iter().map(|text| Quoted(text.as_str())), ",")?;
+                    f.write_char(']')?;
+                }
+            }
+        }
+        Ok(())
+    }
+}
+
+/// Names with some words between them.
+#[derive(Clone, Copy)]
+struct Joined<'a>(&'a [&'a str], &'a str);
+
+impl fmt::Display for Joined<'_> {
+    fn fmt<W: fmt::Write>(&self, f: &mut fmt::Formatter<W>) -> fmt::Result {
+        f.write_joined(self.0.iter().copied(), self.1)
+    }
+}
+
 /// How much there is of something, and how much may be.
 #[derive(Clone, Copy, Serialize)]
 pub(crate) struct Limit {
     pub(crate) used: usize,
     pub(crate) most: usize,
+}
+
+impl fmt::Display for Limit {
+    fn fmt<W: fmt::Write>(&self, f: &mut fmt::Formatter<W>) -> fmt::Result {
+        write!(f, "{} of {}", self.used, self.most)
+    }
 }
 
 /// A constraint where it is used.
@@ -71,6 +107,15 @@ pub(crate) struct FormLine<'a> {
     pub(crate) plain: Vec<&'a str>,
 }
 
+/// The limits that are used: of fields the most that a type has, of groups with `Default`.
+#[derive(Clone, Copy, Serialize)]
+pub(crate) struct LimitsLine {
+    pub(crate) constraints: Limit,
+    pub(crate) fields: Limit,
+    pub(crate) forms: Limit,
+    pub(crate) groups: Limit,
+}
+
 /// A line.
 #[derive(Drop, Serialize)]
 #[serde(tag = "line", rename_all = "lowercase")]
@@ -99,137 +144,69 @@ pub(crate) enum ExplainedLine<'a> {
         place: &'a str,
         text: &'a str,
     },
-    /// The limits that are used: of fields the most that a type has, of groups with `Default`.
-    Limits {
-        constraints: Limit,
-        fields: Limit,
-        forms: Limit,
-        groups: Limit,
-    },
+    Limits(LimitsLine),
 }
 
-/// Adds the texts of a list as a JSON array.
-fn push_array(out: &mut String, texts: &[String]) -> Result<(), AllocError> {
-    let mut front = '[';
-    for text in texts {
-        out.push(front)?;
-        push_text(out, text.as_str())?;
-        front = ',';
+/// The plain text of a form, but for what only plain references lead to.
+fn write_form<W: fmt::Write>(f: &mut fmt::Formatter<W>, line: &FormLine) -> fmt::Result {
+    let (name, root, groups) = (line.name, line.root, Joined(&line.groups, ", "));
+    let (valid, plain) = (Joined(&line.valid, ", "), Joined(&line.plain, ", "));
+    write!(f, "form {name}: root {root}; groups {groups}")?;
+    write!(f, "; reaches {valid} through valid")?;
+    if line.plain.is_empty() {
+        return Ok(());
     }
-    out.push_str(if texts.is_empty() { "[]" } else { "]" })
+    write!(f, "; may hold {plain} by plain references")
 }
 
-/// Adds attributes, as ` max=3 min=1`.
-fn push_attributes(out: &mut String, attributes: &Attrs) -> Result<(), AllocError> {
-    for (name, value) in attributes.entries().iter() {
-        write!(out, " {name}=")?;
-        match value {
-            Attribute::Integer(number) => write!(out, "{number}")?,
-            Attribute::Text(text) => push_text(out, text.as_str())?,
-            Attribute::Boolean(flag) => write!(out, "{flag}")?,
-            Attribute::Texts(texts) => push_array(out, texts)?,
+/// The plain text of a constraint that another is composed of.
+fn write_part<W: fmt::Write>(f: &mut fmt::Formatter<W>, line: &PartLine) -> fmt::Result {
+    write!(
+        f,
+        "  {} {}{}",
+        line.number, line.constraint, line.attributes
+    )?;
+    match line.reported {
+        None => f.write_str(" asks nothing itself"),
+        Some(other) if other == line.number => {
+            write!(f, " message {}", Quoted(line.message.as_str()))
         }
-    }
-    Ok(())
-}
-
-/// Adds names behind some words.
-fn push_names(
-    out: &mut String,
-    words: &str,
-    names: &[&str],
-    between: &str,
-) -> Result<(), AllocError> {
-    let mut front = words;
-    for name in names {
-        write!(out, "{front}{name}")?;
-        front = between;
-    }
-    Ok(())
-}
-
-/// Adds the message of a constraint.
-fn push_message(out: &mut String, message: &str) -> Result<(), AllocError> {
-    out.push_str(" message ")?;
-    push_text(out, message)
-}
-
-/// Adds a limit behind some words.
-fn push_limit(out: &mut String, words: &str, limit: Limit, what: &str) -> Result<(), AllocError> {
-    let Limit { used, most } = limit;
-    write!(out, "{words} {used} of {most} {what}")
-}
-
-impl UseLine<'_> {
-    fn push(&self, out: &mut String) -> Result<(), AllocError> {
-        let (number, place, constraint) = (self.number, self.place, self.constraint);
-        write!(out, "{number} {place} {constraint}")?;
-        push_attributes(out, self.attributes.0)?;
-        push_names(out, " groups ", &self.groups, ", ")?;
-        push_message(out, self.message.as_str())
+        Some(other) => write!(f, " reported as {other} {}", line.reported_name),
     }
 }
 
-impl PartLine<'_> {
-    fn push(&self, out: &mut String) -> Result<(), AllocError> {
-        let (number, constraint, name) = (self.number, self.constraint, self.reported_name);
-        write!(out, "  {number} {constraint}")?;
-        push_attributes(out, self.attributes.0)?;
-        match self.reported {
-            None => out.push_str(" asks nothing itself"),
-            Some(other) if other == number => push_message(out, self.message.as_str()),
-            Some(other) => write!(out, " reported as {other} {name}"),
-        }
-    }
-}
-
-impl FormLine<'_> {
-    fn push(&self, out: &mut String) -> Result<(), AllocError> {
-        let (name, root) = (self.name, self.root);
-        write!(out, "form {name}: root {root}")?;
-        push_names(out, "; groups ", &self.groups, ", ")?;
-        push_names(out, "; reaches ", &self.valid, ", ")?;
-        out.push_str(" through valid")?;
-        if self.plain.is_empty() {
-            return Ok(());
-        }
-        push_names(out, "; may hold ", &self.plain, ", ")?;
-        out.push_str(" by plain references")
-    }
-}
-
-impl ExplainedLine<'_> {
-    /// Adds the line as plain text.
-    fn push(&self, out: &mut String) -> Result<(), AllocError> {
+impl fmt::Display for ExplainedLine<'_> {
+    fn fmt<W: fmt::Write>(&self, f: &mut fmt::Formatter<W>) -> fmt::Result {
         match self {
-            ExplainedLine::Constraint(line) => line.push(out),
-            ExplainedLine::Part(line) => line.push(out),
+            ExplainedLine::Constraint(line) => {
+                let (groups, message) = (Joined(&line.groups, ", "), line.message.as_str());
+                write!(f, "{} {} {}", line.number, line.place, line.constraint)?;
+                write!(f, "{} groups {groups}", line.attributes)?;
+                write!(f, " message {}", Quoted(message))
+            }
+            ExplainedLine::Part(line) => write_part(f, line),
             ExplainedLine::Group { name, inherits } => {
-                write!(out, "group {name}")?;
-                push_names(out, ": ", inherits, ", ")
+                write!(f, "group {name}: {}", Joined(inherits, ", "))
             }
             ExplainedLine::Sequence { name, sequence } => {
-                write!(out, "group {name}")?;
-                push_names(out, ": first ", sequence, ", then ")
+                write!(f, "group {name}: first {}", Joined(sequence, ", then "))
             }
-            ExplainedLine::Form(line) => line.push(out),
-            ExplainedLine::Warning { place, text } => write!(out, "warning: {place}: {text}"),
+            ExplainedLine::Form(line) => write_form(f, line),
+            ExplainedLine::Warning { place, text } => write!(f, "warning: {place}: {text}"),
             ExplainedLine::Fault {
                 code,
                 name,
                 place,
                 text,
-            } => write!(out, "{place}: {code} {name}: {text}"),
-            ExplainedLine::Limits {
-                constraints,
-                fields,
-                forms,
-                groups,
-            } => {
-                push_limit(out, "limits:", *constraints, "constraints")?;
-                push_limit(out, ",", *fields, "fields of a type")?;
-                push_limit(out, ",", *forms, "forms")?;
-                push_limit(out, ",", *groups, "groups with Default")
+            } => { write!(f, "{place}: {code} {name}: {text}") }
+            ExplainedLine::Limits(line) => {
+                write!(f, "limits: {} constraints", line.constraints)?;
+                write!(f, ", {} fields of a type", line.fields)?;
+                write!(
+                    f,
+                    ", {} forms, {} groups with Default",
+                    line.forms, line.groups
+                )
             }
         }
     }
@@ -238,20 +215,19 @@ impl ExplainedLine<'_> {
 /// Lines as they are written.
 #[derive(Drop)]
 pub(crate) struct Lines {
+    pub(crate) alloc: Global,
     pub(crate) as_json: bool,
     pub(crate) texts: Vec<String>,
 }
 
 impl Lines {
     /// Adds a line as plain text, or as a JSON object.
-    pub(crate) fn add(&mut self, alloc: Global, line: &ExplainedLine) -> Result<(), AllocError> {
-        let mut text = String::new(alloc);
-        if self.as_json {
-            text = serde_json::to_string(alloc, line).map_err(|_| AllocError)?;
+    pub(crate) fn add(&mut self, line: &ExplainedLine) -> Written {
+        let text = if self.as_json {
+            serde_json::to_string(self.alloc, line).map_err(|_| Untold::Memory)?
         } else {
-            line.push(&mut text)?;
-        }
-        self.texts.push(text)?;
-        Ok(())
+            format!(in self.alloc; "{line}")?
+        };
+        Ok(self.texts.push(text)?)
     }
 }

@@ -1,144 +1,107 @@
 //! The faults of groups in words.
-use fv_declare_draft::{Conversion, Draft, cascades_in};
+use fv_declare_draft::{Conversion, cascades_in};
 use fv_declare_groups::{CascadeAt, GroupingAt};
 use fv_declare_judging::DeclFault;
-use fv_explain_places::{
-    Found, Refused, Told, at, cascade_place, inner, item, kind_word, member, path, shown,
-};
-use std::alloc::{AllocError, Global};
+use fv_explain_places::{Found, Named, Refused, Written, at, kind_word, say, to_field, to_steps};
 
 /// A group that isn't declared.
-fn undeclared(alloc: Global, name: &str) -> Result<String, AllocError> {
-    let name = shown(alloc, name)?;
-    format!(in alloc; "group {name} isn't declared")
+fn undeclared(out: &mut Found, name: &str) -> Written {
+    say!(out; "group {} isn't declared", Named(name))
 }
 
-/// One of the names in an array, whose place this is: a sequence where none may stand, else no group.
-fn listed(
-    alloc: Global,
-    fault: DeclFault,
-    (names, place): (&[&str], String),
-    index: usize,
-    rule: &str,
-) -> Told {
+/// One of the names in an array: a sequence where none may stand, else no group.
+fn listed(refused: &Refused, out: &mut Found, names: &[&str], index: usize, rule: &str) -> Written {
     let name = at(names, index)?;
-    let text = match fault {
-        DeclFault::SequenceMisused => format!(in alloc; "{name} is a sequence: {rule}")?,
-        _ => undeclared(alloc, name)?,
-    };
-    let place = item(alloc, place.as_str(), index)?;
-    Ok(Found { place, text })
-}
-
-/// Whether a name is a type's.
-fn is_type(draft: &Draft, name: &str) -> bool {
-    let types = &draft.types;
-    types.binary_search_by(|other| other.name.cmp(name)).is_ok()
-}
-
-/// Whether a name is a group's.
-fn is_group(draft: &Draft, name: &str) -> bool {
-    let groups = &draft.groups;
-    name == "Default"
-        || groups
-            .binary_search_by(|other| other.name.cmp(name))
-            .is_ok()
+    out.item(index)?;
+    match refused.fault {
+        DeclFault::SequenceMisused => say!(out; "{name} is a sequence: {rule}"),
+        _ => undeclared(out, name),
+    }
 }
 
 /// What is wrong with a member of the sequence of a type, whose name is `own`.
-fn wrong_member(
-    refused: &Refused,
-    fault: DeclFault,
-    own: &str,
-    name: &str,
-) -> Result<String, AllocError> {
-    let alloc = refused.alloc;
-    match fault {
-        DeclFault::DefaultInTypeSequence if name == "Default" => format!(in alloc;
+fn wrong_member(refused: &Refused, out: &mut Found, own: &str, name: &str) -> Written {
+    let is_type = refused.draft.types.iter().any(|other| other.name == name);
+    match refused.fault {
+        DeclFault::DefaultInTypeSequence if name == "Default" => say!(out;
             "Default stands in the sequence that replaces it: {own} stands for it there"
         ),
-        DeclFault::DefaultInTypeSequence => format!(in alloc;
+        DeclFault::DefaultInTypeSequence => say!(out;
             "{name} inherits or contains Default, which the sequence replaces"
         ),
-        _ if is_type(refused.draft, name) => format!(in alloc;
+        _ if is_type => say!(out;
             "{name} is another type: only groups and {own} itself stand in its sequence"
         ),
-        _ => undeclared(alloc, name),
+        _ => undeclared(out, name),
     }
 }
 
 /// What is wrong with a conversion.
-fn wrong_conversion(
-    refused: &Refused,
-    fault: DeclFault,
-    conversion: &Conversion,
-) -> Result<String, AllocError> {
-    let (alloc, from) = (refused.alloc, conversion.from);
-    match fault {
-        DeclFault::ConversionMisplaced => format!(in alloc;
+fn wrong_conversion(refused: &Refused, out: &mut Found, conversion: &Conversion) -> Written {
+    let (groups, from) = (&refused.draft.groups, conversion.from);
+    let is_group = from == "Default" || groups.iter().any(|other| other.name == from);
+    match refused.fault {
+        DeclFault::ConversionMisplaced => say!(out;
             "{from} is a sequence: it isn't converted, only converted to"
         ),
-        _ if is_group(refused.draft, from) => undeclared(alloc, conversion.to),
-        _ => undeclared(alloc, from),
+        _ => undeclared(out, if is_group { conversion.to } else { from }),
     }
 }
 
 /// A cascade.
-fn of_cascade(refused: &Refused, fault: DeclFault, number: usize, part: CascadeAt) -> Told {
-    let (alloc, draft) = (refused.alloc, refused.draft);
-    let cascades = cascades_in(alloc, &draft.types)?;
+fn of_cascade(refused: &Refused, out: &mut Found, number: usize, part: CascadeAt) -> Written {
+    let cascades = cascades_in(out.alloc, &refused.draft.types)?;
     let given = at(&cascades, number)?;
-    let place = cascade_place(alloc, &draft.types, given)?;
-    let place = place.as_str();
-    let (place, text) = match part {
+    to_field(out, &refused.draft.types, given.type_index, given.field)?;
+    to_steps(out, &given.placed.steps)?;
+    match part {
         CascadeAt::Valid => {
             let kind = kind_word(given.placed.kind);
-            let text = format!(in alloc; "only references are valid, not {kind}")?;
-            (member(alloc, place, "valid")?, text)
+            say!(out at "valid"; "only references are valid, not {kind}")
         }
         CascadeAt::Convert => {
-            let text = format!(in alloc; "groups are converted only where valid is true")?;
-            (member(alloc, place, "convert")?, text)
+            say!(out at "convert"; "groups are converted only where valid is true")
         }
         CascadeAt::Conversion(number) => {
             let conversion = at(&given.placed.cascade.conversions, number)?;
-            let text = wrong_conversion(refused, fault, conversion)?;
-            (inner(alloc, place, &["convert", conversion.from])?, text)
+            out.path(&["convert", conversion.from])?;
+            wrong_conversion(refused, out, conversion)
         }
-    };
-    Ok(Found { place, text })
+    }
 }
 
 /// A fault of groups.
-pub(crate) fn grouping_at(refused: &Refused, fault: DeclFault, place: GroupingAt) -> Told {
-    let (alloc, draft) = (refused.alloc, refused.draft);
+pub(crate) fn grouping_at(refused: &Refused, out: &mut Found, place: GroupingAt) -> Written {
     match place {
         GroupingAt::Use(number, index) => {
-            let (given, place) = refused.use_at(number)?;
-            let names = (given.groups, member(alloc, place.as_str(), "groups")?);
-            listed(alloc, fault, names, index, "no constraint stands in it")
+            let given = refused.to_use(out, number)?;
+            out.member("groups")?;
+            listed(
+                refused,
+                out,
+                given.groups,
+                index,
+                "no constraint stands in it",
+            )
         }
         GroupingAt::Group(number, index) => {
-            let names = refused.names_at(number)?;
-            listed(alloc, fault, names, index, "no group inherits it")
+            let names = refused.to_names(out, number)?;
+            listed(refused, out, names, index, "no group inherits it")
         }
         GroupingAt::Form(number, index) => {
-            let form = at(&draft.forms, number)?;
-            let place = path(alloc, &["forms", form.name, "groups"])?;
-            listed(alloc, fault, (&form.groups, place), index, "")
+            let form = at(&refused.draft.forms, number)?;
+            out.path(&["forms", form.name, "groups"])?;
+            listed(refused, out, &form.groups, index, "")
         }
         GroupingAt::Member(number, index) => {
-            let (declared, members, place) = refused.members_at(number)?;
-            let text = wrong_member(refused, fault, declared.name, at(members, index)?)?;
-            let place = item(alloc, place.as_str(), index)?;
-            Ok(Found { place, text })
+            let (own, members) = refused.to_members(out, number)?;
+            out.item(index)?;
+            wrong_member(refused, out, own, at(members, index)?)
         }
         GroupingAt::Sequence(number) => {
-            let (declared, _, place) = refused.members_at(number)?;
-            let name = declared.name;
-            let text = format!(in alloc; "the sequence lacks {name}, its own type")?;
-            Ok(Found { place, text })
+            let (own, _) = refused.to_members(out, number)?;
+            say!(out; "the sequence lacks {own}, its own type")
         }
-        GroupingAt::Cascade(number, part) => of_cascade(refused, fault, number, part),
+        GroupingAt::Cascade(number, part) => of_cascade(refused, out, number, part),
     }
 }

@@ -3,11 +3,12 @@
 //! reads it tells.
 #![tactic(auto)]
 
+mod constraints;
 mod grouping;
 mod limits;
 mod locating;
 mod naming;
 mod rings;
-mod wording;
+mod trees;
 
 pub use locating::locate;

@@ -1,67 +1,61 @@
+use crate::constraints::constraint_at;
 use crate::grouping::grouping_at;
-use crate::limits::limit_at;
+use crate::limits::{limit_at, wording_at};
 use crate::naming::name_at;
 use crate::rings::ring_of;
-use crate::wording::wording_at;
 use fv_datum::read_json;
 use fv_declare_draft::{Draft, draft_of, uses_in};
 use fv_declare_judging::{At, DeclFault, PlacedFault};
-use fv_explain_constraints::constraint_at;
-use fv_explain_places::{Found, Refused, Told, Untold, shape};
+use fv_explain_places::{Found, Refused, Untold, Written, say, shape};
 use fv_registry::RuleSet;
 use serde_json::Value;
 use std::alloc::{AllocError, Global};
 use std::str;
 
 /// Where bytes are no JSON, as the library that reads them tells it.
-fn not_json(alloc: Global, bytes: &[u8]) -> Told {
-    let Err(error) = Value::from_slice(alloc, bytes) else {
-        return Err(Untold::Absent);
-    };
+fn not_json(out: &mut Found, bytes: &[u8]) -> Written {
+    let error = Value::from_slice(out.alloc, bytes).err();
+    let error = error.ok_or(Untold::Absent)?;
     if error.is_memory() {
         return Err(Untold::Memory);
     }
     let (line, column) = (error.line(), error.column());
-    let place = format!(in alloc; "line {line}, column {column}")?;
-    let text = if str::from_utf8(bytes).is_err() {
-        "what stands here isn't UTF-8"
+    write!(out.place, "line {line}, column {column}")?;
+    if str::from_utf8(bytes).is_err() {
+        say!(out; "what stands here isn't UTF-8")
     } else if error.is_eof() {
-        "the text ends before its JSON does"
+        say!(out; "the text ends before its JSON does")
     } else {
-        "no JSON goes on with what stands here"
-    };
-    let text = String::from_str(alloc, text)?;
-    Ok(Found { place, text })
+        say!(out; "no JSON goes on with what stands here")
+    }
 }
 
 /// A fault of a draft.
-fn in_draft<R: RuleSet>(alloc: Global, rules: &R, draft: &Draft, placed: PlacedFault) -> Told {
-    let uses = uses_in(alloc, &draft.types)?;
-    let refused = Refused { alloc, draft, uses };
+fn in_draft<R: RuleSet>(out: &mut Found, rules: &R, draft: &Draft, placed: PlacedFault) -> Written {
+    let uses = uses_in(out.alloc, &draft.types)?;
     let fault = placed.fault;
+    let refused = Refused { fault, draft, uses };
     match placed.at {
-        Some(At::Names(place)) => name_at(&refused, place),
-        Some(At::Groups(place)) => grouping_at(&refused, fault, place),
-        Some(At::Constraints(place)) => constraint_at(&refused, rules, fault, place),
-        Some(At::Limit(place)) => limit_at(&refused, place),
-        Some(At::Wording(place)) => wording_at(&refused, place),
-        None => ring_of(&refused, fault),
+        Some(At::Names(place)) => name_at(&refused, out, place),
+        Some(At::Groups(place)) => grouping_at(&refused, out, place),
+        Some(At::Constraints(place)) => constraint_at(&refused, out, rules, place),
+        Some(At::Limit(place)) => limit_at(&refused, out, place),
+        Some(At::Wording(place)) => wording_at(&refused, out, place),
+        None => ring_of(&refused, out),
     }
 }
 
 /// A fault of declarations.
-fn tell<R: RuleSet>(alloc: Global, rules: &R, bytes: &[u8], placed: PlacedFault) -> Told {
+fn tell<R: RuleSet>(out: &mut Found, rules: &R, bytes: &[u8], placed: PlacedFault) -> Written {
     if matches!(placed.fault, DeclFault::NotJson) {
-        return not_json(alloc, bytes);
+        return not_json(out, bytes);
     }
-    let value = read_json(alloc, bytes).map_err(|_| Untold::Memory)?;
+    let value = read_json(out.alloc, bytes).map_err(|_| Untold::Memory)?;
     if matches!(placed.fault, DeclFault::Shape) {
-        return shape(alloc, &value);
+        return shape(out, &value);
     }
-    match draft_of(alloc, &value)? {
-        None => Err(Untold::Absent),
-        Some(draft) => in_draft(alloc, rules, &draft, placed),
-    }
+    let draft = draft_of(out.alloc, &value)?.ok_or(Untold::Absent)?;
+    in_draft(out, rules, &draft, placed)
 }
 
 /// The first fault of declarations, which `read_placed` answers of these bytes with these rules, in words: the
@@ -73,15 +67,17 @@ pub fn locate<R: RuleSet>(
     bytes: &[u8],
     placed: PlacedFault,
 ) -> Result<Found, AllocError> {
-    let whole = String::from_str(alloc, "declarations")?;
-    match tell(alloc, rules, bytes, placed) {
-        Ok(Found { place, text }) if place.is_empty() => Ok(Found { place: whole, text }),
-        Ok(found) => Ok(found),
-        Err(Untold::Memory) => Err(AllocError),
+    let mut found = Found::new(alloc);
+    match tell(&mut found, rules, bytes, placed) {
+        Ok(()) => {}
+        Err(Untold::Memory) => return Err(AllocError),
         Err(Untold::Absent) => {
-            let fault = placed.fault;
-            let text = format!(in alloc; "{fault}")?;
-            Ok(Found { place: whole, text })
+            found = Found::new(alloc);
+            write!(found.text, "{}", placed.fault)?;
         }
     }
+    if found.place.is_empty() {
+        found.place.push_str("declarations")?;
+    }
+    Ok(found)
 }

@@ -2,11 +2,11 @@
 //! constraints that are composed of themselves, and keys whose texts lead back to them.
 use fv_constraint::composition_ring;
 use fv_datum::is_name;
+use fv_declare_draft::Draft;
 use fv_declare_groups::{inheritance_ring, sequence_ring};
 use fv_declare_judging::{DeclFault, user_messages};
-use fv_explain_places::{Found, Refused, Told, Untold, at, entry_at, find_message, path, shown};
+use fv_explain_places::{Found, Named, Refused, Untold, Written, at, entry_at, find_message, say};
 use fv_message::key_ring;
-use std::alloc::{AllocError, Global};
 
 /// The most names of a ring that are shown.
 const MOST_SHOWN: usize = 20;
@@ -15,43 +15,40 @@ const MOST_SHOWN: usize = 20;
 type Member<'a> = (usize, &'a str);
 
 /// Adds a name of a ring: one that is no name, as a message's key, as a JSON string.
-fn push_name(alloc: Global, text: &mut String, name: &str) -> Result<(), AllocError> {
+fn push_name(out: &mut Found, name: &str) -> Written {
     if is_name(name) {
-        return text.push_str(name);
+        out.add(name)
+    } else {
+        out.add(Named(name))
     }
-    text.push_str(shown(alloc, name)?.as_str())
 }
 
-/// A ring from its member of the least number on, as `A -> B -> A`, behind some words; and the name of that member.
-fn chain<'a>(alloc: Global, words: &str, ring: &[Member<'a>]) -> Result<(&'a str, String), Untold> {
+/// Adds, at its member of the least number, a ring in a part of the declarations, as `A -> B -> A`. `leads` says how
+/// each leads to the next, if not by its text.
+fn push_ring(out: &mut Found, part: &str, ring: &[Member], leads: Option<&str>) -> Written {
     let least = ring.iter().map(|(number, _)| *number).min();
-    let at_least = ring.iter().position(|(number, _)| Some(*number) == least);
-    let first = at_least.ok_or(Untold::Absent)?;
-    let mut text = String::from_str(alloc, words)?;
+    let first = ring.iter().position(|(number, _)| Some(*number) == least);
+    let first = first.ok_or(Untold::Absent)?;
+    let (_, name) = *at(ring, first)?;
+    out.path(&[part, name])?;
+    match leads {
+        Some(leads) => say!(out; "{name} {leads} itself: ")?,
+        None => out.add("the text leads back to its key: ")?,
+    }
     let turned = ring.iter().skip(first).chain(ring.iter().take(first));
     for (_, name) in turned.take(MOST_SHOWN) {
-        push_name(alloc, &mut text, name)?;
-        text.push_str(" -> ")?;
+        push_name(out, name)?;
+        out.add(" -> ")?;
     }
     if ring.len() > MOST_SHOWN {
-        text.push_str("… -> ")?;
+        out.add("… -> ")?;
     }
-    let (_, name) = at(ring, first)?;
-    push_name(alloc, &mut text, name)?;
-    Ok((*name, text))
-}
-
-/// A ring of what is declared, each of which leads so to the next.
-fn declared(alloc: Global, part: &str, ring: &[Member], leads: &str) -> Told {
-    let (name, chain) = chain(alloc, "", ring)?;
-    let place = path(alloc, &[part, name])?;
-    let text = format!(in alloc; "{name} {leads} itself: {chain}")?;
-    Ok(Found { place, text })
+    push_name(out, name)
 }
 
 /// A ring of groups by their numbers, of which `Default` is the first.
-fn of_groups(refused: &Refused, ring: Option<Vec<usize>>, leads: &str) -> Told {
-    let mut members = Vec::new(refused.alloc);
+fn of_groups(refused: &Refused, out: &mut Found, ring: Option<Vec<usize>>, leads: &str) -> Written {
+    let mut members = Vec::new(out.alloc);
     for number in &ring.ok_or(Untold::Absent)? {
         let name = match *number {
             0 => "Default",
@@ -59,44 +56,43 @@ fn of_groups(refused: &Refused, ring: Option<Vec<usize>>, leads: &str) -> Told {
         };
         members.push((*number, name))?;
     }
-    declared(refused.alloc, "groups", &members, leads)
+    push_ring(out, "groups", &members, Some(leads))
 }
 
 /// A ring of declared constraints.
-fn of_definitions(refused: &Refused) -> Told {
-    let (alloc, definitions) = (refused.alloc, &refused.draft.definitions);
-    let mut members = Vec::new(alloc);
-    for number in &composition_ring(alloc, definitions)?.ok_or(Untold::Absent)? {
-        members.push((*number, entry_at(definitions, *number)?.0))?;
+fn of_definitions(draft: &Draft, out: &mut Found) -> Written {
+    let mut members = Vec::new(out.alloc);
+    for number in &composition_ring(out.alloc, &draft.definitions)?.ok_or(Untold::Absent)? {
+        members.push((*number, entry_at(&draft.definitions, *number)?.0))?;
     }
-    declared(alloc, "constraints", &members, "is composed of")
+    push_ring(out, "constraints", &members, Some("is composed of"))
 }
 
 /// A ring of keys, from the first on that the draft has a message of.
-fn of_keys(refused: &Refused) -> Told {
-    let (alloc, messages) = (refused.alloc, &refused.draft.messages);
-    let ring = key_ring(alloc, user_messages(alloc, messages)?)?;
+fn of_keys(draft: &Draft, out: &mut Found) -> Written {
+    let messages = &draft.messages;
+    let ring = key_ring(out.alloc, user_messages(out.alloc, messages)?)?;
     let ring = ring.ok_or(Untold::Absent)?;
-    let mut members = Vec::new(alloc);
+    let mut members = Vec::new(out.alloc);
     for key in &ring {
         let number = find_message(messages, key.as_str()).unwrap_or(messages.len());
         members.push((number, key.as_str()))?;
     }
-    let (key, text) = chain(alloc, "the text leads back to its key: ", &members)?;
-    let place = path(alloc, &["messages", key])?;
-    Ok(Found { place, text })
+    push_ring(out, "messages", &members, None)
 }
 
 /// A fault that is a ring.
-pub(crate) fn ring_of(refused: &Refused, fault: DeclFault) -> Told {
-    let (alloc, draft) = (refused.alloc, refused.draft);
-    match fault {
+pub(crate) fn ring_of(refused: &Refused, out: &mut Found) -> Written {
+    let (alloc, draft) = (out.alloc, refused.draft);
+    match refused.fault {
         DeclFault::CyclicInheritance => {
-            of_groups(refused, inheritance_ring(alloc, draft)?, "inherits")
+            of_groups(refused, out, inheritance_ring(alloc, draft)?, "inherits")
         }
-        DeclFault::CyclicSequence => of_groups(refused, sequence_ring(alloc, draft)?, "contains"),
-        DeclFault::CyclicComposition => of_definitions(refused),
-        DeclFault::MessageCycle => of_keys(refused),
+        DeclFault::CyclicSequence => {
+            of_groups(refused, out, sequence_ring(alloc, draft)?, "contains")
+        }
+        DeclFault::CyclicComposition => of_definitions(draft, out),
+        DeclFault::MessageCycle => of_keys(draft, out),
         _ => Err(Untold::Absent),
     }
 }

@@ -1,11 +1,10 @@
 //! Where a command line is refused: one line of plain words for what a reply tells by a code alone.
 #![tactic(auto)]
 
+mod bundles;
 mod commands;
 mod explain;
-mod records;
 mod redeclaring;
-mod refusal;
 mod visits;
 
 pub use explain::{explain_refusal, records_asked};

@@ -1,26 +1,19 @@
-//! Shape in words: where declarations aren't of their form, and what is wrong there.
-use crate::places::{item, member};
-use crate::told::{Told, Untold, found_at};
+//! Shape in words: where declarations, or a command, aren't of their form, and what is wrong there.
+use crate::say;
+use crate::told::{Found, Told, Untold, Written};
 use crate::words::Named;
-use fv_form::{Flaw, FormFault, FormName, Inward, ValueForm, ask, draft_misfit};
+use fv_form::{
+    Entry, Flaw, FormFault, FormName, Inward, ValueForm, ask, command_misfit, draft_misfit,
+};
 use serde_json::Value;
-use std::alloc::{AllocError, Global};
+use std::fmt;
 
-/// The place that steps lead to, the innermost of them the first.
-fn place_of(alloc: Global, steps: &[Inward]) -> Result<String, AllocError> {
-    let mut place = String::new(alloc);
-    for step in steps.iter().rev() {
-        place = match step {
-            Inward::Item(index) => item(alloc, place.as_str(), *index)?,
-            Inward::Member(name) => member(alloc, place.as_str(), name)?,
-        };
-    }
-    Ok(place)
-}
+/// The words that the `do` of a command knows.
+const COMMANDS: &str =
+    "put, set, remove, batch, check, checkfield, checkvalue, get, list and redeclare";
 
 /// The value that steps lead to, the innermost of them the first.
-fn value_at<'a>(value: &'a Value, steps: &[Inward]) -> Result<&'a Value, Untold> {
-    let mut value = value;
+fn value_at<'a>(mut value: &'a Value, steps: &[Inward]) -> Told<&'a Value> {
     for step in steps.iter().rev() {
         let inside = match step {
             Inward::Item(index) => value.get(*index),
@@ -31,61 +24,83 @@ fn value_at<'a>(value: &'a Value, steps: &[Inward]) -> Result<&'a Value, Untold>
     Ok(value)
 }
 
-/// What is wrong at a place.
+/// The names of the members that an object may have, but for the one that names a command.
 #[derive(Clone, Copy)]
-pub(crate) enum Wrong<'a> {
-    /// The object has a member of that name, which has no business there.
-    Stranger(&'a Value, &'a str),
-    /// The object lacks the member of that name.
-    Lacking(&'a Value, &'static str),
-    /// The value isn't of the form.
-    Misfit(&'a Value),
-}
+struct Members(&'static [Entry]);
 
-/// What is wrong at the place of a fault.
-pub(crate) fn wrong_in<'a>(value: &'a Value, fault: &FormFault<'a>) -> Result<Wrong<'a>, Untold> {
-    match (fault.flaw, fault.steps.split_first()) {
-        (Flaw::Stranger, Some((Inward::Member(name), outer))) => {
-            Ok(Wrong::Stranger(value_at(value, outer)?, *name))
-        }
-        (Flaw::Stranger, _) => Err(Untold::Absent),
-        (Flaw::Lacking(name), _) => Ok(Wrong::Lacking(value_at(value, &fault.steps)?, name)),
-        (Flaw::Misfit, _) => Ok(Wrong::Misfit(value_at(value, &fault.steps)?)),
+impl fmt::Display for Members {
+    fn fmt<W: fmt::Write>(&self, f: &mut fmt::Formatter<W>) -> fmt::Result {
+        let names = self.0.iter().map(|entry| entry.name);
+        f.write_joined(names.filter(|name| *name != "do"), ", ")
     }
 }
 
-/// The members that an object of a form may have, but for the one that names a command.
-pub(crate) fn members_of(alloc: Global, form: FormName, object: &Value) -> Result<String, Untold> {
-    let ValueForm::Object(entries) = ask(form, object) else {
-        return Err(Untold::Absent);
+/// The members that an object of a form may have.
+fn members_of(form: FormName, object: &Value) -> Told<Members> {
+    match ask(form, object) {
+        ValueForm::Object(entries) => Ok(Members(entries)),
+        _ => Err(Untold::Absent),
+    }
+}
+
+/// The name of the command or part that an object is, by its `do`; none where that knows no such word.
+fn name_in(form: FormName, object: &Value) -> Option<&str> {
+    let names = match form {
+        FormName::Command => FormName::CommandName,
+        FormName::Part => FormName::PartName,
+        _ => return None,
     };
-    let mut names = Vec::with_capacity(alloc, entries.len())?;
-    for entry in entries {
-        if entry.name != "do" {
-            names.push(entry.name)?;
-        }
+    let told = object.get("do")?;
+    match ask(names, told) {
+        ValueForm::Fits => told.as_str(),
+        _ => None,
     }
-    Ok(names.join(alloc, ", ")?)
+}
+
+/// Adds what an object of a form may have. What is neither a sequence nor a container may yet become one.
+fn known_in(out: &mut Found, form: FormName, object: &Value) -> Written {
+    match (form, members_of(form, object)?, name_in(form, object)) {
+        (_, members, Some(name)) => say!(out; "{name} has {members}"),
+        (FormName::Command, _, None) => {
+            say!(out; "the commands, by their member \"do\", are {COMMANDS}")
+        }
+        (FormName::Part, _, None) => {
+            out.add("the parts, by their member \"do\", are put, set and remove")
+        }
+        (FormName::Bundle, _, _) => out.add("a bundle has root and objects"),
+        (FormName::Object, _, _) => out.add("an object has type and fields"),
+        (FormName::Group, _, _) => out.add("expected inherits, sequence"),
+        (FormName::Held, Members([Entry { name: "ref", .. }]), _) => {
+            out.add("expected ref, list, optional, map")
+        }
+        (_, members, _) => say!(out; "expected {members}"),
+    }
+}
+
+/// Adds that an object of a form lacks a member.
+fn lacking(out: &mut Found, form: FormName, object: &Value, name: &str) -> Written {
+    match (form, name_in(form, object)) {
+        (_, Some(command)) => say!(out; "the member \"{name}\" of {command} is missing"),
+        (FormName::Command | FormName::Part | FormName::Bundle | FormName::Object, None) => {
+            say!(out; "the member \"{name}\" is missing")
+        }
+        _ => say!(out; "missing member \"{name}\""),
+    }
 }
 
 /// What a JSON value is.
 fn sort_of(value: &Value) -> &'static str {
-    if value.is_null() {
-        "null"
-    } else if value.as_bool().is_some() {
-        "a boolean"
-    } else if value.as_str().is_some() {
-        "a text"
-    } else if value.as_array().is_some() {
-        "an array"
-    } else if value.as_object().is_some() {
-        "an object"
-    } else {
-        "a number"
+    match value {
+        Value::Null => "null",
+        Value::Bool(_) => "a boolean",
+        Value::Number(_) => "a number",
+        Value::String(_) => "a text",
+        Value::Array(_) => "an array",
+        Value::Object(_) => "an object",
     }
 }
 
-/// What a form asks of a value.
+/// What a form of declarations asks of a value.
 fn wanted(form: FormName) -> &'static str {
     match form {
         FormName::Text => "a text",
@@ -97,73 +112,115 @@ fn wanted(form: FormName) -> &'static str {
     }
 }
 
-/// What a form asks of a value of the sort that it wants, in full.
-fn wanted_in_full(form: FormName, value: &Value) -> Option<&'static str> {
-    match form {
-        FormName::AttributeKind => {
-            Some("expected \"integer\", \"text\", \"boolean\" or \"texts\"")
+/// What is wrong with a value that isn't of a form, where more is to be said than the sort that is wanted.
+fn wrong_in_full(form: FormName, value: &Value) -> Option<&'static str> {
+    Some(match (form, value) {
+        (FormName::AttributeKind, _) => "expected \"integer\", \"text\", \"boolean\" or \"texts\"",
+        (FormName::Rule, Value::Object(_)) => {
+            "expected {\"field\":N} or {\"object\":N}, N from 0 to 4294967295"
         }
-        FormName::Rule if value.as_object().is_some() => {
-            Some("expected {\"field\":N} or {\"object\":N}, N from 0 to 4294967295")
+        (FormName::Sequence, Value::Array(_)) => "a sequence has at least one member",
+        (FormName::Command | FormName::Part, _) => "a command is an object",
+        (FormName::PartName, Value::String(_)) => "a part is a put, a set or a remove",
+        (FormName::CommandName | FormName::PartName, _) => "not a text",
+        (FormName::Parts, Value::Array(_)) => "a batch has 1 to 64 parts",
+        (FormName::Parts, _) => "not an array",
+        (FormName::AskedGroups, Value::Array(_)) => "more than 32 groups",
+        (FormName::AskedGroups, _) => "not an array of texts",
+        (FormName::Id, _) => "an id is a text of 1 to 64 ASCII letters, digits, _ and -",
+        (FormName::Limit, _) => "not a whole number from 1 to 1000",
+        (FormName::Objects, _) => "not an object; it has each object by its name",
+        (FormName::Bundle | FormName::Object, _) => "not an object",
+        (FormName::Given, _) => "the member \"fields\" is no object",
+        _ => return None,
+    })
+}
+
+/// Adds what is wrong with a value that isn't of a form.
+fn misfit(out: &mut Found, form: FormName, value: &Value) -> Written {
+    match (form, value, wrong_in_full(form, value)) {
+        (FormName::Held, Value::String(word), _) => say!(out;
+            "unknown type {}; expected text, integer, decimal, boolean, date, instant, or an object with ref, list, optional or map",
+            Named(word.as_str())
+        ),
+        (FormName::CommandName, Value::String(word), _) => {
+            say!(out; "no command {}; there are {COMMANDS}", Named(word.as_str()))
         }
-        FormName::Sequence if value.as_array().is_some() => {
-            Some("a sequence has at least one member")
-        }
-        _ => None,
+        (_, _, Some(words)) => out.add(words),
+        _ => say!(out; "expected {}, not {}", wanted(form), sort_of(value)),
     }
 }
 
-/// What is wrong with a value that isn't of a form.
-fn misfit(alloc: Global, form: FormName, value: &Value) -> Result<String, AllocError> {
-    if let Some(text) = wanted_in_full(form, value) {
-        return String::from_str(alloc, text);
-    }
-    match (form, value.as_str()) {
-        (FormName::Held, Some(word)) => {
-            format!(in alloc;
-                "unknown type {}; expected text, integer, decimal, boolean, date, instant, or an object with ref, list, optional or map",
-                Named(word)
-            )
+/// Adds what is wrong in a value by a fault.
+fn flaw(out: &mut Found, value: &Value, fault: &FormFault) -> Written {
+    match (fault.flaw, fault.steps.split_first()) {
+        (Flaw::Stranger, Some((Inward::Member(name), outer))) => {
+            if matches!((fault.form, *name), (FormName::Group, "inherits")) {
+                return out.add("inherits and sequence can't stand together");
+            }
+            say!(out; "unknown member {}; ", Named(name))?;
+            known_in(out, fault.form, value_at(value, outer)?)
         }
-        _ => {
-            let (wanted, sort) = (wanted(form), sort_of(value));
-            format!(in alloc; "expected {wanted}, not {sort}")
+        (Flaw::Stranger, _) => Err(Untold::Absent),
+        (Flaw::Lacking(name), _) => lacking(out, fault.form, value_at(value, &fault.steps)?, name),
+        (Flaw::Misfit, _) => misfit(out, fault.form, value_at(value, &fault.steps)?),
+    }
+}
+
+/// Adds where a value isn't declarations, and what is wrong there. The place is empty where it is the whole.
+pub fn shape(out: &mut Found, value: &Value) -> Written {
+    let fault = draft_misfit(out.alloc, value)?.ok_or(Untold::Absent)?;
+    for step in fault.steps.iter().rev() {
+        match step {
+            Inward::Item(index) => out.item(*index)?,
+            Inward::Member(name) => out.member(name)?,
         }
     }
+    flaw(out, value, &fault)
 }
 
-/// The members that an object of a form may have. What is neither a sequence nor a container may yet become one.
-fn known_in(alloc: Global, form: FormName, object: &Value) -> Result<String, Untold> {
-    let members = members_of(alloc, form, object)?;
-    match (form, members.as_str()) {
-        (FormName::Group, _) => Ok(String::from_str(alloc, "inherits, sequence")?),
-        (FormName::Held, "ref") => Ok(String::from_str(alloc, "ref, list, optional, map")?),
-        _ => Ok(members),
+/// Goes to the place that steps lead to from a command, the innermost of them the first.
+fn to_place(out: &mut Found, steps: &[Inward]) -> Written {
+    let mut depth: usize = 0;
+    for step in steps.iter().rev() {
+        match (*step, depth) {
+            (Inward::Item(index), _) => out.item(index)?,
+            (Inward::Member(name), 1) => out.member(name)?,
+            (Inward::Member(name), 2) => write!(out.place, ", object {}", Named(name))?,
+            (Inward::Member(name), _) => {
+                let colon = if out.place.is_empty() { "" } else { ": " };
+                out.place.push_str(colon)?;
+                out.member(name)?;
+            }
+        }
+        depth = match step {
+            Inward::Item(_) => 0,
+            Inward::Member(_) => depth.saturating_add(1),
+        };
     }
+    Ok(())
 }
 
-/// What is wrong with a member that has no business in an object of a form.
-fn stranger(alloc: Global, form: FormName, object: &Value, name: &str) -> Result<String, Untold> {
-    if matches!((form, name), (FormName::Group, "inherits")) {
-        let text = "inherits and sequence can't stand together";
-        return Ok(String::from_str(alloc, text)?);
+/// Adds where a JSON value isn't a command, its bundles included, and what is wrong there: what a bundle's object has in
+/// another form is told at that object.
+pub fn command_shape(out: &mut Found, command: &Value) -> Written {
+    let fault = command_misfit(out.alloc, command)?.ok_or(Untold::Absent)?;
+    match (fault.form, fault.steps.as_slice()) {
+        (FormName::Given, [_, outer @ ..]) => to_place(out, outer)?,
+        (FormName::Text, [Inward::Member("type"), outer @ ..]) if !outer.is_empty() => {
+            to_place(out, outer)?;
+            return out.add("the member \"type\" is no text");
+        }
+        (form, steps) => {
+            to_place(out, steps)?;
+            match steps {
+                _ if form != FormName::Text => {}
+                [Inward::Member("root"), ..] => {
+                    return out.add("not a text; it is the name of an object");
+                }
+                _ => return out.add("not a text"),
+            }
+        }
     }
-    let known = known_in(alloc, form, object)?;
-    Ok(format!(in alloc; "unknown member {}; expected {known}", Named(name))?)
-}
-
-/// What is wrong where declarations aren't of their form.
-fn words_of(alloc: Global, value: &Value, fault: &FormFault) -> Result<String, Untold> {
-    match wrong_in(value, fault)? {
-        Wrong::Stranger(object, name) => stranger(alloc, fault.form, object, name),
-        Wrong::Lacking(_, name) => Ok(format!(in alloc; "missing member \"{name}\"")?),
-        Wrong::Misfit(value) => Ok(misfit(alloc, fault.form, value)?),
-    }
-}
-
-/// Where a value isn't declarations, and what is wrong there. The place is empty where it is the whole.
-pub fn shape(alloc: Global, value: &Value) -> Told {
-    let fault = draft_misfit(alloc, value)?.ok_or(Untold::Absent)?;
-    let text = words_of(alloc, value, &fault)?;
-    found_at(place_of(alloc, &fault.steps)?, text)
+    flaw(out, command, &fault)
 }

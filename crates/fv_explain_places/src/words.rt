@@ -1,5 +1,7 @@
-//! Values as they are shown in a line.
-use std::alloc::{AllocError, Global};
+//! Values, constraints and kinds as they are shown in a line; keys of messages.
+use fv_builtin::{BuiltinName, builtin_named};
+use fv_datum::{AttributeKind, Kind};
+use fv_declare_draft::MessageDraft;
 use std::fmt;
 
 /// The most characters of a value that are shown.
@@ -31,7 +33,7 @@ fn write_character<W: fmt::Write>(f: &mut fmt::Formatter<W>, character: char) ->
 
 /// A text as a JSON string in which no character ends a line.
 #[derive(Clone, Copy)]
-struct Quoted<'a>(&'a str);
+pub struct Quoted<'a>(pub &'a str);
 
 impl fmt::Display for Quoted<'_> {
     fn fmt<W: fmt::Write>(&self, f: &mut fmt::Formatter<W>) -> fmt::Result {
@@ -43,46 +45,85 @@ impl fmt::Display for Quoted<'_> {
     }
 }
 
-/// The end of the first characters of a text that are shown, if there are more.
-fn cut_at(text: &str) -> Option<usize> {
-    let (at, _) = text.char_indices().nth(MOST_SHOWN)?;
-    Some(at)
-}
-
 /// A text as a JSON string, cut at 60 characters.
 #[derive(Clone, Copy)]
 pub struct Named<'a>(pub &'a str);
 
 impl fmt::Display for Named<'_> {
     fn fmt<W: fmt::Write>(&self, f: &mut fmt::Formatter<W>) -> fmt::Result {
-        match cut_at(self.0) {
+        match self.0.char_indices().nth(MOST_SHOWN) {
             None => write!(f, "{}", Quoted(self.0)),
-            Some(at) => write!(f, "{}…", Quoted(self.0.get(..at).unwrap_or(""))),
+            Some((at, _)) => write!(f, "{}…", Quoted(self.0.get(..at).unwrap_or(""))),
         }
     }
 }
 
-/// Adds a text as a JSON string in which no character ends a line.
-pub fn push_text(out: &mut String, text: &str) -> Result<(), AllocError> {
-    write!(out, "{}", Quoted(text))
+/// A constraint by its name, and the used one that it is composed of where it isn't that itself.
+#[derive(Clone, Copy)]
+pub struct Who<'a> {
+    pub constraint: &'a str,
+    pub used: Option<&'a str>,
 }
 
-/// A text as a JSON string, cut at 60 characters.
-pub fn shown(alloc: Global, text: &str) -> Result<String, AllocError> {
-    format!(in alloc; "{}", Named(text))
-}
-
-/// A constraint by its name, with the one that is used where it is composed of it: the first of its tree is the
-/// used one.
-pub fn who(
-    alloc: Global,
-    used: &str,
-    number: usize,
-    constraint: &str,
-) -> Result<String, AllocError> {
-    if number == 0 {
-        String::from_str(alloc, constraint)
-    } else {
-        format!(in alloc; "{constraint}, of which {used} is composed,")
+impl<'a> Who<'a> {
+    /// The constraint of a number in the tree of a used one, which is the first.
+    pub fn in_tree(used: &'a str, number: usize, constraint: &'a str) -> Who<'a> {
+        let used = if number == 0 { None } else { Some(used) };
+        Who { constraint, used }
     }
+}
+
+impl fmt::Display for Who<'_> {
+    fn fmt<W: fmt::Write>(&self, f: &mut fmt::Formatter<W>) -> fmt::Result {
+        f.write_str(self.constraint)?;
+        match self.used {
+            None => Ok(()),
+            Some(used) => write!(f, ", of which {used} is composed,"),
+        }
+    }
+}
+
+/// All kinds of data, each with the word for it, as it is declared.
+pub static KINDS: [(Kind, &'static str); 10] = [
+    (Kind::Text, "text"),
+    (Kind::Integer, "integer"),
+    (Kind::Decimal, "decimal"),
+    (Kind::Boolean, "boolean"),
+    (Kind::Date, "date"),
+    (Kind::Instant, "instant"),
+    (Kind::Ref, "ref"),
+    (Kind::List, "list"),
+    (Kind::Map, "map"),
+    (Kind::Optional, "optional"),
+];
+
+/// The word for a kind of data, as it is declared.
+pub fn kind_word(kind: Kind) -> &'static str {
+    let found = KINDS.iter().find(|(other, _)| *other == kind);
+    found.map_or("", |(_, word)| *word)
+}
+
+/// The word for a kind of attributes, as it is declared.
+pub fn attribute_word(kind: AttributeKind) -> &'static str {
+    match kind {
+        AttributeKind::Integer => "integer",
+        AttributeKind::Text => "text",
+        AttributeKind::Boolean => "boolean",
+        AttributeKind::Texts => "texts",
+    }
+}
+
+/// The built-in constraint whose message a key is.
+pub fn built_in_key(key: &str) -> Option<BuiltinName> {
+    let name = key
+        .strip_prefix("jakarta.validation.constraints.")?
+        .strip_suffix(".message")?;
+    builtin_named(name)
+}
+
+/// The number of the user's message of a key.
+pub fn find_message(messages: &[MessageDraft], key: &str) -> Option<usize> {
+    messages
+        .binary_search_by(|message| message.key.cmp(key))
+        .ok()
 }

@@ -2,13 +2,8 @@
 //! groups inherit which.
 #![tactic(auto)]
 
-mod empty;
-mod parameters;
-mod patterns;
 mod reach;
-mod rules;
 mod twice;
-mod unreached;
 mod uses;
 mod warning;
 

@@ -1,8 +1,10 @@
 //! The types that others lead to, and the groups that others inherit.
 use fv_declare_schema::Schema;
+use fv_explain_places::{Told, Written};
 use fv_groups::{GroupId, Groups};
 use fv_model_types::{TypeId, TypeUse, Types};
-use std::alloc::{AllocError, Global};
+use indexmap::IndexSet;
+use std::alloc::Global;
 
 /// Types by their numbers, each with those that it leads to.
 pub type Edges = Vec<Vec<usize>>;
@@ -10,25 +12,20 @@ pub type Edges = Vec<Vec<usize>>;
 /// The type that a type use refers to, in whatever containers.
 fn target(types: &Types, type_use: &TypeUse) -> Option<usize> {
     match type_use {
-        TypeUse::Ref(name) => types.find(name.as_str()).map(|found| found.index),
+        TypeUse::Ref(name) => Some(types.find(name.as_str())?.index),
         TypeUse::List(held) | TypeUse::Map(held) | TypeUse::Optional(held) => target(types, held),
         _ => None,
     }
 }
 
 /// No edges, for so many types.
-fn no_edges(alloc: Global, types: &Types) -> Result<Edges, AllocError> {
+fn no_edges(alloc: Global, types: &Types) -> Told<Edges> {
     let none = (0..types.count()).map(|_| Vec::new(alloc));
-    none.collect(alloc)
+    Ok(none.collect(alloc)?)
 }
 
 /// Adds the edge from a type to the one that a field of it refers to.
-fn add_edge(
-    edges: &mut Edges,
-    types: &Types,
-    from: usize,
-    type_use: &TypeUse,
-) -> Result<(), AllocError> {
+fn add_edge(edges: &mut Edges, types: &Types, from: usize, type_use: &TypeUse) -> Written {
     if let (Some(nodes), Some(to)) = (edges.get_mut(from), target(types, type_use)) {
         nodes.push(to)?;
     }
@@ -36,7 +33,7 @@ fn add_edge(
 }
 
 /// The types that each leads to through places whose objects are validated.
-pub fn valid_edges(alloc: Global, schema: &Schema) -> Result<Edges, AllocError> {
+pub fn valid_edges(alloc: Global, schema: &Schema) -> Told<Edges> {
     let types = schema.types();
     let mut edges = no_edges(alloc, types)?;
     for place in schema.valid_places() {
@@ -50,7 +47,7 @@ pub fn valid_edges(alloc: Global, schema: &Schema) -> Result<Edges, AllocError> 
 }
 
 /// The types that each leads to by any reference.
-pub fn all_edges(alloc: Global, types: &Types) -> Result<Edges, AllocError> {
+pub fn all_edges(alloc: Global, types: &Types) -> Told<Edges> {
     let mut edges = no_edges(alloc, types)?;
     for index in 0..types.count() {
         if let Some(fields) = types.fields_at(TypeId { index }) {
@@ -62,35 +59,16 @@ pub fn all_edges(alloc: Global, types: &Types) -> Result<Edges, AllocError> {
     Ok(edges)
 }
 
-/// Adds those of some types that aren't among the found yet.
-fn add_new(
-    found: &mut Vec<usize>,
-    seen: &mut Vec<bool>,
-    nodes: &[usize],
-) -> Result<(), AllocError> {
-    for node in nodes {
-        if let Some(flag) = seen.get_mut(*node) {
-            if !*flag {
-                *flag = true;
-                found.push(*node)?;
-            }
-        }
-    }
-    Ok(())
-}
-
-/// For each type whether one of some leads to it, or is it.
-pub fn reached(alloc: Global, edges: &Edges, from: &[usize]) -> Result<Vec<bool>, AllocError> {
-    let mut seen = vec![in alloc; false; edges.len()]?;
-    let mut found = Vec::new(alloc);
-    add_new(&mut found, &mut seen, from)?;
+/// The types that one of some leads to, and those themselves.
+pub fn reached(alloc: Global, edges: &Edges, from: &[usize]) -> Told<IndexSet<usize>> {
+    let mut found: IndexSet<usize> = from.iter().copied().collect(alloc)?;
     for at in 0..edges.len() {
-        let node = found.get(at).copied();
+        let node = found.get_index(at).copied();
         if let Some(nodes) = node.and_then(|node| edges.get(node)) {
-            add_new(&mut found, &mut seen, nodes)?;
+            found.extend(nodes.iter().copied())?;
         }
     }
-    Ok(seen)
+    Ok(found)
 }
 
 /// Whether a group is another one or inherits it.

@@ -1,8 +1,8 @@
 //! Members that stand twice in a JSON text. A value has the last of each name alone, so the text is read once
 //! more, as a type of its own that sees each member.
-use fv_explain_places::{Found, item, member, shown};
+use fv_explain_places::{Found, Named, Told, Untold, say};
 use serde::{Deserialize, Deserializer, Format, Kind};
-use std::alloc::{AllocError, Global};
+use std::alloc::Global;
 use std::collections::BTreeMap;
 
 /// The most members that are told.
@@ -17,23 +17,25 @@ struct Twice(Vec<Found>);
 
 impl Twice {
     /// Counts a member of the object at a place, of which these names stood before, each so often, and tells one that
-    /// stands there for the second time.
+    /// stands there for the second time. Gives the place of the member.
     fn count(
         &mut self,
         alloc: Global,
         names: &mut BTreeMap<String, usize>,
         name: String,
         place: &str,
-    ) -> Result<(), AllocError> {
+    ) -> Told<String> {
+        let mut found = Found::at(alloc, place)?;
+        found.member(name.as_str())?;
+        let inside = found.place.clone()?;
         let count = names.get(&name).copied().unwrap_or(0).saturating_add(1);
         if count == 2 && self.0.len() < MOST_TOLD {
-            let name = shown(alloc, name.as_str())?;
-            let text = format!(in alloc; "member {name} stands twice: the last one counts")?;
-            let place = String::from_str(alloc, place)?;
-            self.0.push(Found { place, text })?;
+            let told = Named(name.as_str());
+            say!(found; "member {told} stands twice: the last one counts")?;
+            self.0.push(found)?;
         }
         drop(names.insert(name, count)?);
-        Ok(())
+        Ok(inside)
     }
 }
 
@@ -78,7 +80,7 @@ fn look_at_items<F: Format>(
         if !from.next_item()? {
             break;
         }
-        let Ok(inside) = item(alloc, place, index) else {
+        let Ok(inside) = format!(in alloc; "{place}[{index}]") else {
             return Err(from.no_memory());
         };
         look(alloc, from, twice, inside.as_str(), depth)?;
@@ -102,35 +104,20 @@ fn look_at_members<F: Format>(
             break;
         }
         let name = from.string(alloc)?;
-        let Ok(inside) = member(alloc, place, name.as_str()) else {
+        let Ok(inside) = twice.count(alloc, &mut names, name, place) else {
             return Err(from.no_memory());
         };
-        if twice
-            .count(alloc, &mut names, name, inside.as_str())
-            .is_err()
-        {
-            return Err(from.no_memory());
-        }
         look(alloc, from, twice, inside.as_str(), depth)?;
     }
     Ok(())
 }
 
-/// Adds a warning for each member that stands twice in a JSON text, the first hundred of them.
-pub(crate) fn add_twice(
-    alloc: Global,
-    warnings: &mut Vec<Found>,
-    bytes: &[u8],
-) -> Result<(), AllocError> {
+/// A warning for each member that stands twice in a JSON text, the first hundred of them.
+pub(crate) fn members_twice(alloc: Global, bytes: &[u8]) -> Told<Vec<Found>> {
     let read: Result<Twice, serde_json::Error> = serde_json::from_slice(alloc, bytes);
     match read {
-        Ok(Twice(told)) => {
-            for warning in told {
-                warnings.push(warning)?;
-            }
-            Ok(())
-        }
-        Err(error) if error.is_memory() => Err(AllocError),
-        Err(_) => Ok(()),
+        Ok(Twice(told)) => Ok(told),
+        Err(error) if error.is_memory() => Err(Untold::Memory),
+        Err(_) => Ok(Vec::new(alloc)),
     }
 }

@@ -13,9 +13,9 @@ ghost use Rattle.fv_form.specs.Misfits.{here, under, first_misfit, in_items, in_
 use crate::asking::ask;
 use crate::form::{Entry, ValueForm};
 use crate::form_name::FormName;
-use crate::misfit::{Flaw, FormFault, Inward};
+use crate::misfit::{Flaw, FormFault, Inward, Sought};
 use serde_json::{Map, Value};
-use std::alloc::{AllocError, Global};
+use std::alloc::Global;
 
 /// A flaw of the value itself.
 fn here<'a>(alloc: Global, form: FormName, flaw: Flaw) -> FormFault<'a>
@@ -29,10 +29,7 @@ fn here<'a>(alloc: Global, form: FormName, flaw: Flaw) -> FormFault<'a>
 }
 
 /// The same one step further outwards.
-fn under<'a>(
-    step: Inward<'a>,
-    found: Option<FormFault<'a>>,
-) -> Result<Option<FormFault<'a>>, AllocError>
+fn under<'a>(step: Inward<'a>, found: Option<FormFault<'a>>) -> Sought<'a>
     ensures { IfOk result (λ o. option_map misfit_view o
         ≡ option_map (under (step_view step.entry)) (option_map misfit_view found.entry)) }
 {
@@ -71,7 +68,7 @@ fn stranger_in<'a>(
     form: FormName,
     entries: &[Entry],
     members: &'a Map<String, Value>,
-) -> Result<Option<FormFault<'a>>, AllocError>
+) -> Sought<'a>
     ensures { IfOk result (λ o. option_map misfit_view o
         ≡ stranger_in form (map entry_view entries.now) (members_view members.now.entries)) }
 {
@@ -94,7 +91,7 @@ fn in_entry<'a>(
     form: FormName,
     entry: &Entry,
     members: &'a Map<String, Value>,
-) -> Result<Option<FormFault<'a>>, AllocError>
+) -> Sought<'a>
     ensures { IfOk result (λ o. option_map misfit_view o
         ≡ in_entry asked form (entry_view entry.now) (members_view members.now.entries)) }
 {
@@ -115,7 +112,7 @@ fn in_entries<'a>(
     form: FormName,
     entries: &[Entry],
     members: &'a Map<String, Value>,
-) -> Result<Option<FormFault<'a>>, AllocError>
+) -> Sought<'a>
     ensures { IfOk result (λ o. option_map misfit_view o
         ≡ first_of (map (λ e. in_entry asked form e (members_view members.now.entries)) (map entry_view entries.now))) }
 {
@@ -134,7 +131,7 @@ fn in_object<'a>(
     form: FormName,
     entries: &[Entry],
     members: &'a Map<String, Value>,
-) -> Result<Option<FormFault<'a>>, AllocError>
+) -> Sought<'a>
     ensures { IfOk result (λ o. option_map misfit_view o
         ≡ option_or (stranger_in form (map entry_view entries.now) (members_view members.now.entries))
         (first_of (map (λ e. in_entry asked form e (members_view members.now.entries)) (map entry_view entries.now)))) }
@@ -147,11 +144,7 @@ fn in_object<'a>(
 
 /// What is wrong with the first item that is wrong.
 #[cycle(finding)]
-fn in_items<'a>(
-    alloc: Global,
-    form: FormName,
-    items: &'a [Value],
-) -> Result<Option<FormFault<'a>>, AllocError>
+fn in_items<'a>(alloc: Global, form: FormName, items: &'a [Value]) -> Sought<'a>
     ensures { IfOk result (λ o. option_map misfit_view o ≡ in_items asked form 0 (items_view items.now)) }
 {
     for (number, item) in items.iter().enumerate() {
@@ -164,11 +157,7 @@ fn in_items<'a>(
 
 /// What is wrong with the first member that is wrong.
 #[cycle(finding)]
-fn in_members<'a>(
-    alloc: Global,
-    form: FormName,
-    members: &'a Map<String, Value>,
-) -> Result<Option<FormFault<'a>>, AllocError>
+fn in_members<'a>(alloc: Global, form: FormName, members: &'a Map<String, Value>) -> Sought<'a>
     ensures { IfOk result (λ o. option_map misfit_view o ≡ in_members asked form (members_view members.now.entries)) }
 {
     for (name, value) in members.iter() {
@@ -182,11 +171,7 @@ fn in_members<'a>(
 /// The first place where a value isn't of a form: from outside inwards, in an object first a member that
 /// has no business there, then the entries in their order.
 #[cycle(finding)]
-pub fn first_misfit<'a>(
-    alloc: Global,
-    form: FormName,
-    value: &'a Value,
-) -> Result<Option<FormFault<'a>>, AllocError>
+pub fn first_misfit<'a>(alloc: Global, form: FormName, value: &'a Value) -> Sought<'a>
     ensures { IfOk result (λ o. option_map misfit_view o ≡ first_misfit asked form (json_view value.now)) }
 {
     match ask(form, value) {

@@ -9,15 +9,12 @@ ghost use Rattle.fv_form.specs.Misfits.{first_misfit};
 
 use crate::finding::first_misfit;
 use crate::form_name::FormName;
-use crate::misfit::FormFault;
+use crate::misfit::Sought;
 use serde_json::Value;
-use std::alloc::{AllocError, Global};
+use std::alloc::Global;
 
 /// Where a value isn't declarations: none exactly where it is read as a draft.
-pub fn draft_misfit<'a>(
-    alloc: Global,
-    value: &'a Value,
-) -> Result<Option<FormFault<'a>>, AllocError>
+pub fn draft_misfit<'a>(alloc: Global, value: &'a Value) -> Sought<'a>
     ensures placed { IfOk result (λ o. option_map misfit_view o
         ≡ first_misfit asked FormName.Declarations (json_view value.now)) }
     ensures found { IfOk result (λ o. not (is_some o) ≡ is_some (draft_of (json_view value.now))) }
@@ -27,10 +24,7 @@ pub fn draft_misfit<'a>(
 
 /// Where a value isn't a command: none exactly where it is read as one, or as a redeclare, and each
 /// bundle in it is of the form of one.
-pub fn command_misfit<'a>(
-    alloc: Global,
-    value: &'a Value,
-) -> Result<Option<FormFault<'a>>, AllocError>
+pub fn command_misfit<'a>(alloc: Global, value: &'a Value) -> Sought<'a>
     ensures placed { IfOk result (λ o. option_map misfit_view o
         ≡ first_misfit asked FormName.Command (json_view value.now)) }
     ensures found { IfOk result (λ o. not (is_some o) ≡ is_command (json_view value.now)) }

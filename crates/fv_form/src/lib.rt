@@ -17,4 +17,4 @@ pub use finding::first_misfit;
 pub use form::{Entry, ValueForm};
 pub use form_name::FormName;
 pub use judging::{command_misfit, draft_misfit};
-pub use misfit::{Flaw, FormFault, Inward};
+pub use misfit::{Flaw, FormFault, Inward, Sought};

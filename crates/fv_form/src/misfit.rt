@@ -1,4 +1,5 @@
 use crate::form_name::FormName;
+use std::alloc::AllocError;
 
 /// One step inwards.
 #[derive(Clone, Copy, Debug, PartialEq, Eq)]
@@ -29,3 +30,6 @@ pub struct FormFault<'a> {
     /// The form that is asked there, or, of what has no business there, that of the object around it.
     pub form: FormName,
 }
+
+/// The first place where a value isn't of a form, if there is one.
+pub type Sought<'a> = Result<Option<FormFault<'a>>, AllocError>;

@@ -1,6 +1,7 @@
 -- The first element that passes a test.
-use Rattle.std.proofs.Common.{◌≡◌, ◌<◌, ◌+◌, ℕ, zero, suc, length, drop, slice_get, List, [], ◌∷◌, Contains, Bool, true, false, ◌||◌, Option, Some, None, is_some, cond, option_map, refl, sym, ap, ◌∙◌, add-one, arith}
+use Rattle.std.proofs.Common.{◌≡◌, ◌+◌, ℕ, zero, suc, drop, slice_get, List, [], ◌∷◌, Bool, true, false, ◌||◌, if◌then◌else◌, Option, Some, None, is_some, cond, option_map, refl, sym, ap, ◌∙◌, add-one}
 use Rattle.std.specs.List.{list_any, find}
+use Rattle.fv_first.specs.First.{first_from}
 
 found_any : {X : Type 0} (b : Bool) (x : X) (o : Option X) (rest : Bool) → is_some o ≡ rest → is_some (cond b (Some x) o) ≡ (b || rest)
 found_any true x o rest e = refl
@@ -44,18 +45,7 @@ module _ {X : Type 0} where
   pub drop_more : (xs : List X) (i : ℕ) (x : X) (ys : List X) → drop i xs ≡ x ∷ ys → drop (i + 1) xs ≡ ys
   drop_more xs i x ys e = rw add-one (rest_behind xs i x ys e)
 
--- ---- the first element is one of them
-
-here_or_later : {X : Type 0} (b : Bool) (x y : X) (xs : List X) (o : Option X) → (o ≡ Some y → Contains xs y) → cond b (Some x) o ≡ Some y → Contains (x ∷ xs) y
-here_or_later true x y xs o later found = let same : x ≡ y = cc in (0, omega arith, same)
-here_or_later false x y xs o later found =
-    let at : Contains xs y = later found in
-    let within : at.0 < length xs = at.1 in
-    (suc at.0, omega arith, at.2)
-
-pub Contains-find : {X : Type 0} (test : X → Bool) (xs : List X) (y : X) → find test xs ≡ Some y → Contains xs y
-Contains-find test [] y found = cc
-Contains-find test (x ∷ xs) y found = here_or_later (test x) x y xs (find test xs) (Contains-find test xs y) found
+-- ---- as it is seen
 
 pub seen_some : {X Y : Type 0} (view : X → Y) (r : Option X) → is_some (option_map view r) ≡ is_some r
 seen_some view None = refl
@@ -68,3 +58,19 @@ told_of view test xs ys r same found = sym (seen_some view r) ∙ ap is_some fou
 -- the first that is left is found where it passes
 pub find_here : {X : Type 0} (test : X → Bool) (x : X) (xs ys : List X) (o : Option X) → ys ≡ x ∷ xs → test x ≡ true → find test ys ≡ o → o ≡ Some x
 find_here test x xs ys o is passes found = let here : find test (x ∷ xs) ≡ o = ap (find test) (sym is) ∙ found in sym (rw passes at here)
+
+-- ---- the number of the first element that passes
+
+-- it is that of the first that is left, where that passes
+pub where_here : {X : Type 0} (test : X → Bool) (i : ℕ) (x : X) (xs ys : List X) (o : Option ℕ) → ys ≡ x ∷ xs → test x ≡ true
+    → first_from (λ n x. if test x then Some n else None) i ys ≡ o → o ≡ Some i
+where_here test i x xs ys o is passes found =
+    let here : first_from (λ n x. if test x then Some n else None) i (x ∷ xs) ≡ o = ap (first_from (λ n x. if test x then Some n else None) i) (sym is) ∙ found in
+    sym (rw passes at here)
+
+-- and else one of the others
+pub where_past : {X : Type 0} (test : X → Bool) (i : ℕ) (x : X) (xs ys : List X) (o : Option ℕ) → ys ≡ x ∷ xs → test x ≡ false
+    → first_from (λ n x. if test x then Some n else None) i ys ≡ o → first_from (λ n x. if test x then Some n else None) (i + 1) xs ≡ o
+where_past test i x xs ys o is fails found =
+    let here : first_from (λ n x. if test x then Some n else None) i (x ∷ xs) ≡ o = ap (first_from (λ n x. if test x then Some n else None) i) (sym is) ∙ found in
+    rw add-one (rw fails at here)

@@ -26,7 +26,7 @@ chosen : {E : Type 0} (test : E → Bool) (b : Bool) (e f : E) (o : Option E) �
 chosen test true e f o is more found = let same : e ≡ f = cc in rw (← same) is
 chosen test false e f o is more found = more found
 
-holds : {E : Type 0} (test : E → Bool) (cs : List (Bool × E)) (e : E) → AllByRecursion (λ c. test c.1 ≡ c.0) cs → first cs ≡ Some e → test e ≡ true
+pub holds : {E : Type 0} (test : E → Bool) (cs : List (Bool × E)) (e : E) → AllByRecursion (λ c. test c.1 ≡ c.0) cs → first cs ≡ Some e → test e ≡ true
 holds test [] e all is = cc
 holds test (c ∷ cs) e all is = chosen test c.0 c.1 e (first cs) all.0 (holds test cs e all.1) is
 
@@ -73,7 +73,7 @@ module _ (ts : Declared) (asked : Option (List ℕ)) (j : json.Data) (d : Drafte
 
 -- ---- a bundle that is refused
 
-fault_of : {E Y : Type 0} (o : Option E) (y : Y) (e : E) → unless_fault o y ≡ Err e → o ≡ Some e
+pub fault_of : {E Y : Type 0} (o : Option E) (y : Y) (e : E) → unless_fault o y ≡ Err e → o ≡ Some e
 fault_of None y e is = cc
 fault_of (Some f) y e is = ap (λ g. Some g) cc
 

@@ -4,3 +4,4 @@ mod Finds
 mod Firsts
 mod Leads
 mod Seen
+mod Sets

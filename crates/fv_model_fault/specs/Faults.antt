@@ -1,5 +1,5 @@
 -- What it is for a place in a bundle's JSON to have a fault.
-use Rattle.std.specs.Prelude.{◌≡◌, ◌<◌, ◌⊎◌, ℕ, List, length, find, Bool, true, false, not, Option, Some, is_some}
+use Rattle.std.specs.Prelude.{◌≡◌, ◌<◌, ◌≤◌, ◌⊎◌, ℕ, List, length, find, Bool, true, false, not, Option, Some, is_some}
 use Rattle.std.specs.List.{list_any}
 use Rattle.std.specs.Option.{option_map_or}
 use Rattle.serde_json.specs.Data as json
@@ -38,7 +38,7 @@ is_flawed flaw fields g = flaw (at_name g.0 fields) g.1
 abbrev pub has_flawed : Flaw → Declared → List ℕ × json.Data → Bool
 has_flawed flaw ts o = option_map_or (λ fields. list_any (is_flawed flaw fields) (fields_in o.1)) (at_name (type_in o.1) ts) false
 
--- the place is in the first datum of an object that has the flaw: what stands there has it, and nothing further inside
+-- the place is in the first datum of an object that has the flaw: the first and innermost value in it
 pub record IsInObject (flaw : Flaw) (ts : Declared) (o : List ℕ × json.Data) (p : Place) : Type 0 where
   pub fields : DeclaredFields
   pub given : List ℕ × json.Data
@@ -76,6 +76,6 @@ HasFault ts asked j WrongKind p = IsFirstFlaw WrongKind ts j p
 HasFault ts asked j DanglingRef p = IsFirstFlaw DanglingRef ts j p
 HasFault ts asked j RefType p = IsFirstFlaw RefType ts j p
 HasFault ts asked j TooLarge p =  -- B8: the bundle where it has too many objects, else the first datum that is too large
-    ((most_objects < length (objects_in j)) × (p ≡ of_bundle j)) ⊎ IsFirstFlaw TooLarge ts j p
+    ((most_objects < length (objects_in j)) × (p ≡ of_bundle j)) ⊎ ((length (objects_in j) ≤ most_objects) × IsFirstFlaw TooLarge ts j p)
 HasFault ts asked j RootType p = (has_other_root asked j ≡ true) × (p ≡ of_bundle j)  -- B9
 HasFault ts asked j _ p = ⊥

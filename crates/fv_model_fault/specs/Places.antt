@@ -1,8 +1,6 @@
 -- Places in the JSON of a bundle.
-use Rattle.std.specs.Prelude.{◌≡◌, ℕ, List, [], ◌∷◌, Contains, Option, Some, None, slice_get}
+use Rattle.std.specs.Prelude.{◌≡◌, ℕ, List, [], Option, Some, None}
 use Rattle.serde_json.specs.Data as json
-use Rattle.fv_model_types.specs.Flaws.{items_in, members_in}
-use Rattle.fv_model_types.specs.Held.{values}
 use Rattle.fv_model_types.specs.Types.{TypeUse, lists, optionals}
 
 -- one step: to the item of an index, from 0, of an array, or to the value of an object at a key
@@ -36,14 +34,3 @@ abbrev pub item_use : TypeUse → Option TypeUse
 item_use (lists held) = Some held
 item_use (optionals held) = Some held
 item_use _ = None
-
--- a value of a type use stands one step inside another: an item of a list's or an optional's array, or what a map's object has at a key
-abbrev pub IsInside : Inner → TypeUse → json.Data → TypeUse → json.Data → Type 0
-IsInside (item i) u j held k = (item_use u ≡ Some held) × (slice_get (items_in j) i ≡ Some k)
-IsInside (member name) u j held k = (values u ≡ Some held) × Contains (members_in j) (name, k)
-
--- steps lead from a value and its type use to another; none leads on from a value with no type use
-abbrev pub LeadsTo : Option TypeUse → json.Data → List Inner → Option TypeUse → json.Data → Type 0
-LeadsTo u j [] v k = (v ≡ u) × (k ≡ j)
-LeadsTo None j (s ∷ ss) v k = ⊥
-LeadsTo (Some u) j (s ∷ ss) v k = (held : TypeUse) × (value : json.Data) × IsInside s u j held value × LeadsTo (Some held) value ss v k

@@ -8,8 +8,7 @@ use Rattle.fv_model_types.specs.Flaws.{Flaw}
 use Rattle.fv_model_types.specs.Names.{object_types_view}
 use Rattle.fv_model_types.specs.Types.{TypeUse, type_use_view}
 use Rattle.fv_model_types.specs.declared.type_use.TypeUse as code
-use Rattle.fv_model_fault.specs.Places.{IsInside}
-use Rattle.fv_model_fault.specs.Sought.{flaw_of}
+use Rattle.fv_model_fault.specs.Sought.{IsFirstInside, flaw_of}
 use Rattle.fv_model_fault.specs.Views.{inner_view}
 use Rattle.fv_model_fault.specs.declared.place.Inner.{Inner}
 use Rattle.fv_model_fault.specs.declared.search.Search.{Search}
@@ -18,6 +17,6 @@ use Rattle.fv_model_fault.specs.declared.search.Search.{Search}
 abbrev pub sought : Search → Flaw
 sought s = flaw_of s.fault (object_types_view s.type_names.now)
 
--- a value that has the flaw stands one step inside another, with its type use
+-- the first value that has the flaw of those that stand one step inside another, with its type use
 abbrev pub IsNext : Flaw → TypeUse → json.Data → Inner × Bor code.TypeUse × Bor Value → Type 0
-IsNext flaw u j n = IsInside (inner_view n.0) u j (type_use_view n.1.now) (json_view n.2.now) × (flaw (Some (type_use_view n.1.now)) (json_view n.2.now) ≡ true)
+IsNext flaw u j n = IsFirstInside flaw (inner_view n.0) u j (type_use_view n.1.now) (json_view n.2.now) × (flaw (Some (type_use_view n.1.now)) (json_view n.2.now) ≡ true)

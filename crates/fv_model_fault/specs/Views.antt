@@ -8,7 +8,10 @@ use Rattle.fv_model_types.specs.Types.{type_use_view}
 use Rattle.fv_model_fault.specs.Places as spec
 use Rattle.fv_model_fault.specs.declared.place.Inner.{Inner}
 use Rattle.fv_model_fault.specs.declared.place.Inner.TheVariants as code
+use Rattle.fv_model_fault.specs.SetPlaces as set
 use Rattle.fv_model_fault.specs.declared.place.FaultPlace.{FaultPlace}
+use Rattle.fv_model_fault.specs.declared.place.SetPlace.{SetPlace}
+use Rattle.fv_model_fault.specs.declared.place.SetPlace.TheVariants as setting
 
 -- a member: its name with its value
 abbrev pub member_view : Bor (List ℕ) × Bor Value → List ℕ × json.Data
@@ -28,3 +31,9 @@ place_view p = record {
   value = json_view p.value.now;
   type_use = option_map (λ u. type_use_view u.now) p.type_use;
 }
+
+-- a place of a set
+abbrev pub set_place_view : SetPlace → set.SetPlace
+set_place_view setting.Object = set.at_object
+set_place_view setting.Field = set.at_field
+set_place_view (setting.Datum p) = set.in_datum (place_view p)

@@ -1,5 +1,5 @@
-//! Where a bundle, or a datum by itself, has the fault for which it is refused: which object, which of its
-//! fields, and which value in that field's datum.
+//! Where a bundle, a datum that is set in one, or a datum by itself has the fault for which it is refused: which
+//! object, which of its fields, and which value in that field's datum.
 #![tactic(auto)]
 
 mod descent;
@@ -9,6 +9,8 @@ mod objects;
 mod place;
 mod placing;
 mod search;
+mod setting;
 
-pub use place::{FaultPlace, Inner};
+pub use place::{FaultPlace, Inner, SetPlace};
 pub use placing::{place_in_bundle, place_in_value};
+pub use setting::place_in_set;

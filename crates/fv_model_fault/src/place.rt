@@ -24,3 +24,14 @@ pub struct FaultPlace<'t, 'a> {
     /// What should stand there; none where the fault isn't one of a datum, or the field isn't declared.
     pub type_use: Option<&'t TypeUse>,
 }
+
+/// Where a set of a bundle's datum has a fault.
+#[derive(Drop)]
+pub enum SetPlace<'t, 'a> {
+    /// The bundle has no object of the name that the set gives.
+    Object,
+    /// The object's type has no field of the name that the set gives.
+    Field,
+    /// In the datum: this place has no object and no field.
+    Datum(FaultPlace<'t, 'a>),
+}

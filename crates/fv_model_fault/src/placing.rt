@@ -3,7 +3,7 @@ ghost use Rattle.std.specs.Option.{option_map_or};
 ghost use Rattle.serde_json.specs.View.{view as json_view, members_view};
 ghost use Rattle.fv_datum.specs.Lookup.{at_name};
 ghost use Rattle.fv_datum.specs.Members.{pairs};
-ghost use Rattle.fv_model.specs.Reading.{bundle_read};
+ghost use Rattle.fv_model.specs.Reading.{bundle_read, value_read};
 ghost use Rattle.fv_model_types.specs.Flaws.{is_other};
 ghost use Rattle.fv_model_types.specs.Names.{object_types_view};
 ghost use Rattle.fv_model_types.specs.Types.{name_at, type_use_view};
@@ -133,7 +133,8 @@ fn place_among<'t, 'a>(
 }
 
 /// Where the JSON of a bundle has a fault, its root asked to be of a type where one is asked: the first object
-/// in the order of their names, in it the first field that is given, and in its datum the innermost value.
+/// in the order of their names, in it the first field that is given, and in its datum the first and innermost
+/// value.
 ///
 /// There is a place where `read_bundle` refuses the bundle by the fault, but none for `Shape`. Refused where
 /// an allocation is.
@@ -156,11 +157,12 @@ pub fn place_in_bundle<'t, 'a>(
     }
 }
 
-/// Where a datum by itself has a fault, among objects whose types have these names: the innermost value in it.
+/// Where a datum by itself has a fault, among objects whose types have these names: the first and innermost value
+/// in it.
 /// The place has no object and no field.
 ///
-/// There is a place where `read_value` or `set_field` refuses the datum by the fault. For `read_value`, which
-/// looks up no reference, no object is needed. Refused where an allocation is.
+/// There is a place where `read_value` refuses the datum by the fault: it looks up no reference, so no object is
+/// needed. A set's is told by `place_in_set`. Refused where an allocation is.
 pub fn place_in_value<'t, 'a>(
     alloc: Global,
     type_use: &'t TypeUse,
@@ -173,6 +175,7 @@ pub fn place_in_value<'t, 'a>(
     ensures alone { IfOk result (λ r. IfSome r (λ p. IsAlone (place_view p))) }
     ensures found { IfOk result (λ r. is_some r ≡ flaw_of fault (object_types_view type_names.now)
         (Some (type_use_view type_use.now)) (json_view value.now)) }
+    ensures read { IfOk result (λ r. value_read (type_use_view type_use.now) (json_view value.now) ≡ Err fault → IsSome r) }
 {
     let search = Search {
         alloc,

@@ -14,7 +14,7 @@ inward-preserved c =
     let next : IsNext (sought c.args.self.now) (type_use_view l.at.now) (json_view l.inner.now) (c.in-Some.step, c.in-Some.held, c.in-Some.next) = found in
     record {
       led = rw (c.in_ok-push.ensures.items, map-append)
-          (leads_on (Some (type_use_view c.args.type_use.now)) (json_view c.args.value.now) (map inner_view l.steps.items) (type_use_view l.at.now) (json_view l.inner.now) (inner_view c.in-Some.step) (type_use_view c.in-Some.held.now) (json_view c.in-Some.next.now)
+          (leads_on (sought c.args.self.now) (Some (type_use_view c.args.type_use.now)) (json_view c.args.value.now) (map inner_view l.steps.items) (type_use_view l.at.now) (json_view l.inner.now) (inner_view c.in-Some.step) (type_use_view c.in-Some.held.now) (json_view c.in-Some.next.now)
           l.invariant.led next.0);
       flawed = next.1;
     }

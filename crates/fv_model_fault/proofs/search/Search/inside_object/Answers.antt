@@ -5,7 +5,7 @@ use Rattle.fv_datum.specs.Members.{pairs}
 use Rattle.fv_model_types.specs.Flaws.{members_in}
 use Rattle.fv_model_types.specs.Types.{type_use_view}
 use Rattle.fv_model_fault.specs.SearchViews.{sought}
-use Rattle.fv_model_fault.proofs.Finds.{find_here, Contains-find}
+use Rattle.fv_model_fault.proofs.Finds.{find_here}
 use Rattle.fv_model_fault.proofs.search.Search.inside_object.Goals as goal
 
 pub returns-then-branch-clause-found : goal.returns-then-branch-clause-found
@@ -20,4 +20,4 @@ returns-then-branch-clause-found c =
     let flawed : sought c.args.self.now (Some (type_use_view c.args.held.now)) member ≡ true = search rules in
     let first : find test all ≡ Some (name, member) =
     find_here test (name, member) left (pairs (members_view l.name-iterator)) (find test all) steps flawed l.invariant.first in
-    λ u e. ((e, Contains-find test all (name, member) first), flawed)
+    λ u e. ((e, first), flawed)

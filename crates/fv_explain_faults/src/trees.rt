@@ -1,5 +1,5 @@
 //! The faults of constraints in the trees of uses, in words.
-use crate::attributes::refused_at;
+use crate::constraints::refused_at;
 use fv_builtin::takes_kind;
 use fv_constraint::{Composition, Meant, Planned, meant_by, unknown_composing};
 use fv_constraint_tree::Target;
@@ -7,17 +7,19 @@ use fv_datum::{Attribute, Kind};
 use fv_declare_definition::Rule;
 use fv_declare_draft::{Draft, Use};
 use fv_declare_judging::DeclFault;
-use fv_explain_places::{Found, KINDS, Refused, Told, Untold, at, kind_word, shown, who};
+use fv_explain_places::{
+    Found, KINDS, Named, Refused, Told, Untold, Who, Written, at, kind_word, say,
+};
 use fv_graph::Spot;
 use fv_registry::RuleSet;
-use std::alloc::{AllocError, Global};
+use std::alloc::Global;
 
 /// The constraints in the tree of a use, in preorder.
 fn planned<'a>(
     alloc: Global,
     draft: &'a Draft<'a>,
     given: &Use<'a>,
-) -> Result<Vec<Spot<Planned<'a>>>, Untold> {
+) -> Told<Vec<Spot<Planned<'a>>>> {
     if unknown_composing(&draft.definitions).is_some() {
         return Err(Untold::Absent);
     }
@@ -40,74 +42,68 @@ fn takes<R: RuleSet>(rules: &R, meant: Meant, kind: Kind) -> bool {
     }
 }
 
-/// The kinds that a constraint's own test takes, in words.
-fn taken<R: RuleSet>(alloc: Global, rules: &R, meant: Meant) -> Result<String, AllocError> {
-    let mut words = Vec::new(alloc);
-    for kind in KINDS {
+/// Adds the kinds that a constraint's own test takes.
+fn push_taken<R: RuleSet>(out: &mut Found, rules: &R, meant: Meant) -> Written {
+    let mut words = Vec::new(out.alloc);
+    for (kind, word) in KINDS {
         if takes(rules, meant, kind) {
-            words.push(kind_word(kind))?;
+            words.push(word)?;
         }
     }
     match words.split_last() {
-        None => String::from_str(alloc, "no kind of data"),
-        Some((last, [])) => String::from_str(alloc, last),
+        None => say!(out; "no kind of data"),
+        Some((last, [])) => say!(out; "{last}"),
         Some((last, others)) => {
-            let others = others.join(alloc, ", ")?;
-            format!(in alloc; "{others} and {last}")
+            let others = others.join(out.alloc, ", ")?;
+            say!(out; "{others} and {last}")
         }
     }
 }
 
-/// Why a constraint's own test isn't on what stands at a place.
+/// Adds why a constraint's own test isn't on what stands at a place.
 fn misplaced<R: RuleSet>(
-    alloc: Global,
+    out: &mut Found,
     rules: &R,
-    who: &str,
-    meant: Meant,
+    (who, meant): (Who, Meant),
     target: Target,
-) -> Result<String, AllocError> {
+) -> Written {
     match (target, meant) {
-        (Target::Object, _) => { format!(in alloc; "{who} is for fields, not for a whole object") }
+        (Target::Object, _) => say!(out; "{who} is for fields, not for a whole object"),
         (Target::Data(_), Meant::Declared(definition))
             if matches!(definition.rule, Some(Rule::Objects(_))) => {
-            format!(in alloc; "{who} is for whole objects, not for a field")
+            say!(out; "{who} is for whole objects, not for a field")
         }
         (Target::Data(kind), _) => {
-            let (taken, kind) = (taken(alloc, rules, meant)?, kind_word(kind));
-            format!(in alloc; "{who} takes {taken}, not {kind}")
+            say!(out; "{who} takes ")?;
+            push_taken(out, rules, meant)?;
+            say!(out; ", not {}", kind_word(kind))
         }
     }
 }
 
-/// Why a constraint isn't built: its regular expression isn't taken.
-fn unbuilt(alloc: Global, who: &str, planned: &Planned) -> Result<String, Untold> {
+/// Adds why a constraint isn't built: its regular expression isn't taken.
+fn unbuilt(out: &mut Found, who: Who, planned: &Planned) -> Written {
     let Some(Attribute::Text(regexp)) = planned.with.find("regexp") else {
         return Err(Untold::Absent);
     };
-    let regexp = shown(alloc, regexp.as_str())?;
-    let text = format!(in alloc;
-        "regexp {regexp} of {who} is no regular expression that is taken"
-    )?;
-    Ok(text)
+    let regexp = Named(regexp.as_str());
+    say!(out; "regexp {regexp} of {who} is no regular expression that is taken")
 }
 
 /// A constraint in the tree of a use, by both their numbers.
 pub(crate) fn node_at<R: RuleSet>(
     refused: &Refused,
+    out: &mut Found,
     rules: &R,
-    fault: DeclFault,
     (number, node): (usize, usize),
-) -> Told {
-    let alloc = refused.alloc;
-    let (given, place) = refused.use_at(number)?;
-    let spots = planned(alloc, refused.draft, given)?;
+) -> Written {
+    let given = refused.to_use(out, number)?;
+    let spots = planned(out.alloc, refused.draft, given)?;
     let planned = &at(&spots, node)?.value;
-    let who = who(alloc, given.constraint, node, planned.constraint)?;
-    let who = who.as_str();
-    let text = match fault {
-        DeclFault::Attribute => return refused_at(alloc, place, who, (node, planned)),
-        DeclFault::BadPattern => unbuilt(alloc, who, planned)?,
-        _ => misplaced(alloc, rules, who, planned.meant, given.place.judged_at())?,
-    };
-    Ok(Found { place, text })
+    let who = Who::in_tree(given.constraint, node, planned.constraint);
+    match refused.fault {
+        DeclFault::Attribute => refused_at(out, who, planned),
+        DeclFault::BadPattern => unbuilt(out, who, planned),
+        _ => misplaced(out, rules, (who, planned.meant), given.place.judged_at()),
+    }
 }
