@@ -7,7 +7,7 @@ use Rattle.sqlite.specs.Order.{Row}
 use Rattle.sqlite.specs.Command.TheVariants.{Update}
 use Rattle.sqlite.specs.Edit.{Edit, edit_of, without_all, put_all, taken_by}
 use Rattle.sqlite.specs.Rowids.TheVariants.{Given}
-use Rattle.sqlite.specs.Query.{IsAnswer}
+use Rattle.sqlite.specs.Query.{Query, IsAnswer}
 use Rattle.sqlite.specs.Program.{overlay}
 use Rattle.sqlite.specs.Does.{Tally, Does}
 use Rattle.sqlite.specs.Rows.{Written}
@@ -59,10 +59,10 @@ module _ (db : Trees) (m : Place → Option Part) (at : Place) (it : Part) (rows
       let is = s.sound row there in
       part_by_place m at (Text it.kind ∷ Text it.fields ∷ []) row is ∙ false_from_ne_true _ (λ same. some_none is.value (m at) none (ap m (sym ((parts.decides is.key at).0 same)) ∙ is.known))))
 
--- what the UPDATE writes, and how many rows
-module _ (limit : Option ℕ) (db : Trees) (place : Place) (it : Part) (gone : List ℤ) (news : List Row) (quiet : works store_schema Enforced 0 3 (taken_by db (exchange gone news)) news ≡ [])
-    (is : (rows : List Row) → IsAnswer set_query (overlay db []) (part_params place it) rows → edit_by db rows ≡ exchange gone news) where
-  set_exchanged : (w : Written) → Runs (task_of limit kept_object (part_params place it)) (record { lets = []; body = set_query }) (part_params place it) db (Ok w)
+-- what an UPDATE of `object` writes, and how many rows
+module _ (limit : Option ℕ) (db : Trees) (query : Query) (params : Row) (gone : List ℤ) (news : List Row) (quiet : works store_schema Enforced 0 3 (taken_by db (exchange gone news)) news ≡ [])
+    (is : (rows : List Row) → IsAnswer query (overlay db []) params rows → edit_by db rows ≡ exchange gone news) where
+  pub set_exchanged : (w : Written) → Runs (task_of limit kept_object params) (record { lets = []; body = query }) params db (Ok w)
       → (w.trees 0 ≡ db 0) × (w.trees 1 ≡ db 1) × (w.trees 3 ≡ put_all (without_all (db 3) gone) news) × (length w.rows ≡ length news)
   set_exchanged w h =
       let given = went h in
@@ -77,6 +77,32 @@ module _ (limit : Option ℕ) (db : Trees) (place : Place) (it : Part) (gone : L
         ap (λ (x : Written). length x.rows) made ∙ ap (λ (e : Edit). length e.news) edit,
       )
 
+-- what it leaves where it finds no row
+pub none_exchanged : (db : Trees) (w : Written) (d : List Row) (t : Maps) → Spells (at_trees db) d t → w.trees 0 ≡ db 0 → w.trees 1 ≡ db 1 → w.trees 3 ≡ db 3 → Spells (at_trees w.trees) d t
+none_exchanged db w d t spelled zero one three = record {
+  schema = refl;
+  about = zero ∙ spelled.about;
+  heads = subst (λ rs. HasRows head_row IsTextHead rs t.heads) (sym one) spelled.heads;
+  parts = subst (λ rs. HasRows part_row IsTextPart rs t.parts) (sym three) spelled.parts;
+}
+
+-- and where it finds the row of an object
+module _ (db : Trees) (place : Place) (p it : Part) (n : ℤ) (there : Has (db 3) (part_row n place p)) (good : IsTextPart place it) (w : Written) (d : List Row) (t : Maps) (spelled : Spells (at_trees db) d t)
+    (zero : w.trees 0 ≡ db 0) (one : w.trees 1 ≡ db 1) (three : w.trees 3 ≡ put_all (without_all (db 3) (n ∷ [])) (part_row n place it ∷ [])) where
+  pub part_exchanged : Spells (at_trees w.trees) d (added place it t)
+  part_exchanged = record {
+    schema = refl;
+    about = zero ∙ spelled.about;
+    heads = subst (λ rs. HasRows head_row IsTextHead rs t.heads) (sym one) spelled.heads;
+    parts = subst (λ rs. HasRows part_row IsTextPart rs (added place it t).parts) (sym three) (spells_replaced part_row IsTextPart same_place parts (db 3) t.parts spelled.parts n place p it there good);
+  }
+
+  pub room_exchanged : (k : ℕ) → HasRooms k (at_trees db) → HasRooms k (at_trees w.trees)
+  room_exchanged k room = (
+    subst (HasRoom k) (sym one) room.0,
+    room_kept (db 3) (w.trees 3) (n ∷ []) (part_row n place it ∷ []) (λ r put_in. elim put_in [ inl same ↦ (part_row n place p, there, ap rowid same) | inr never ↦ absurd never ]) three k room.1,
+  )
+
 module _ (limit : Option ℕ) (db : Trees) (place : Place) (it : Part) (d : List Row) (t : Maps) (spelled : Spells (at_trees db) d t) (good : IsTextPart place it) where
   pub set_either : (w : Written) → Runs (task_of limit kept_object (part_params place it)) (record { lets = []; body = set_query }) (part_params place it) db (Ok w)
       → ((LacksPart place t × (length w.rows ≡ 0) × Spells (at_trees w.trees) d t) ⊎ (HasPart place t × (length w.rows ≡ 1) × Spells (at_trees w.trees) d (added place it t)))
@@ -87,39 +113,16 @@ module _ (limit : Option ℕ) (db : Trees) (place : Place) (it : Part) (d : List
           → ((LacksPart place t × (length w.rows ≡ 0) × Spells (at_trees w.trees) d t) ⊎ (HasPart place t × (length w.rows ≡ 1) × Spells (at_trees w.trees) d (added place it t)))
           × ((n : ℕ) → HasRooms n (at_trees db) → HasRooms n (at_trees w.trees))
       go None none =
-          let wrote = set_exchanged limit db place it [] [] no_parts (λ rows a. edits_none db t.parts place it rows spelled.parts a none) w h in (
-            inl (
-              none,
-              wrote.3,
-              record {
-                schema = refl;
-                about = wrote.0 ∙ spelled.about;
-                heads = subst (λ rs. HasRows head_row IsTextHead rs t.heads) (sym wrote.1) spelled.heads;
-                parts = subst (λ rs. HasRows part_row IsTextPart rs t.parts) (sym wrote.2) spelled.parts;
-              },
-            ),
-            same_rooms (at_trees db) (at_trees w.trees) wrote.1 wrote.2,
-          )
+          let wrote = set_exchanged limit db set_query (part_params place it) [] [] no_parts (λ rows a. edits_none db t.parts place it rows spelled.parts a none) w h in
+          (inl (none, wrote.3, none_exchanged db w d t spelled wrote.0 wrote.1 wrote.2), same_rooms (at_trees db) (at_trees w.trees) wrote.1 wrote.2)
       go (Some p) some =
           let there = spelled.parts.complete place p some in
           let n = there.0 in
           let row = part_row n place it in
-          let wrote = set_exchanged limit db place it (n ∷ []) (row ∷ []) (works_put_one 3 (taken_by db (exchange (n ∷ []) (row ∷ []))) (row ∷ []) row refl)
+          let wrote = set_exchanged limit db set_query (part_params place it) (n ∷ []) (row ∷ []) (works_put_one 3 (taken_by db (exchange (n ∷ []) (row ∷ []))) (row ∷ []) row refl)
           (λ rows a. edits_one db t.parts place it rows spelled.parts a n p there.1) w h in (
-            inr (
-              (p, some),
-              wrote.3,
-              record {
-                schema = refl;
-                about = wrote.0 ∙ spelled.about;
-                heads = subst (λ rs. HasRows head_row IsTextHead rs t.heads) (sym wrote.1) spelled.heads;
-                parts = subst (λ rs. HasRows part_row IsTextPart rs (added place it t).parts) (sym wrote.2) (spells_replaced part_row IsTextPart same_place parts (db 3) t.parts spelled.parts n place p it there.1 good);
-              },
-            ),
-            λ k room. (
-              subst (HasRoom k) (sym wrote.1) room.0,
-              room_kept (db 3) (w.trees 3) (n ∷ []) (row ∷ []) (λ r put_in. elim put_in [ inl same ↦ (part_row n place p, there.1, ap rowid same) | inr never ↦ absurd never ]) wrote.2 k room.1,
-            ),
+            inr ((p, some), wrote.3, part_exchanged db place p it n there.1 good w d t spelled wrote.0 wrote.1 wrote.2),
+            room_exchanged db place p it n there.1 good w d t spelled wrote.0 wrote.1 wrote.2,
           )
 
 pub part_updates : (old new : State) (place : Place) (it : Part) (count : ℕ) → IsTextPart place it → Executes set_text (part_params place it) old new (Ok count) → UpdatesPart place it count old.now new.now

@@ -30,6 +30,12 @@ pub mod Drops
 pub mod InsideQueries
 pub mod Parts
 pub mod Heads
+pub mod RowUpdates
+pub mod RunTexts
+pub mod Runs
+pub mod RunCauses
+pub mod NewObjects
+pub mod Named
 pub mod Replaces
 pub mod Redeclares
 pub mod RedeclareCauses

@@ -3,16 +3,15 @@ use Rattle.std.proofs.Common.{◌≡◌, ◌⊎◌, ◌++◌, ◌&&◌, ◌||◌
 use Rattle.std.specs.Cmp.Lexicographic.{slice_cmp}
 use Rattle.std.proofs.lemmas.Bool.{cases_Bool, false_from_ne_true}
 use Rattle.std.proofs.lemmas.Cmp.{nat_list_cmp_total, tied_itself}
-use Rattle.std.proofs.lemmas.List.{map-append}
 use Rattle.std.proofs.lemmas.Slice.Eq.{bytes_eq-Decides}
 use Rattle.sqlite.specs.Effect.{Database}
 use Rattle.sqlite_rules.specs.Lists.{Has}
 use Rattle.fv_tables.specs.declared.entry.ObjectRow.{ObjectRow}
 use Rattle.fv_tables.specs.Stands.{Head, Part, Place, Maps, Entry, Entries, Spells, IsOwned, same_place, put, added, removed, part_at, head_of, part_of, tables_of, with_entry, without_entry}
-use Rattle.fv_tables.specs.Changes.{Things, AreApart, has_name, all_added, written, IsFree, IsReady, with_object, changed, with_part_of, object_view, objects_view}
+use Rattle.fv_tables.specs.Changes.{Things, AreApart, has_name, all_added, written, IsReady, with_object, changed, with_part_of, objects_view}
 use Rattle.fv_tables.specs.Causes.{HasRooms}
 use Rattle.fv_tables.proofs.Rooms.{fewer}
-use Rattle.fv_tables.specs.Steps.{Always, Makes, Turns, LacksPart, UpdatesPart}
+use Rattle.fv_tables.specs.Steps.{Always, Makes, Turns, UpdatesPart}
 
 pub same_id : (id : List ℕ) → bytes_eq id id ≡ true
 same_id id = (bytes_eq-Decides id id).1 refl
@@ -36,13 +35,13 @@ pub other_name : (id name other : List ℕ) → bytes_eq name other ≡ false �
 other_name id name other apart = rw apart (and_false (bytes_eq id id))
 
 -- an object with another name than all that are added is still not there
-unseen : (id : List ℕ) (os : Things) (name : List ℕ) (t : Maps) → ((o : List ℕ × Part) → Has os o → bytes_eq name o.0 ≡ false) → t.parts (id, name) ≡ None → (all_added id os t).parts (id, name) ≡ None
+pub unseen : (id : List ℕ) (os : Things) (name : List ℕ) (t : Maps) → ((o : List ℕ × Part) → Has os o → bytes_eq name o.0 ≡ false) → t.parts (id, name) ≡ None → (all_added id os t).parts (id, name) ≡ None
 unseen id [] name t apart none = none
 unseen id (o ∷ os) name t apart none = unseen id os name (added (id, o.0) o.1 t) (λ x h. apart x (inr h)) (rw (other_name id name o.0 (apart o (inl refl))) none)
 
 -- ---- names apart
 
-neither : (a b : Bool) → (a || b) ≡ false → (a ≡ false) × (b ≡ false)
+pub neither : (a b : Bool) → (a || b) ≡ false → (a ≡ false) × (b ≡ false)
 neither true b is = absurd cc
 neither false b is = (refl, is)
 
@@ -82,24 +81,6 @@ all_taken_in (suc n) (x ∷ xs) long = ap (λ l. x ∷ l) (all_taken_in n xs (om
 -- rooms of one step after another
 pub both_rooms : (i j k : ℕ) (x y z : Database) → i + j ≡ k → ((n : ℕ) → HasRooms (n + i) x → HasRooms n y) → ((n : ℕ) → HasRooms (n + j) y → HasRooms n z) → (n : ℕ) → HasRooms (n + k) x → HasRooms n z
 both_rooms i j k x y z is one two n room = two n (one (n + j) (fewer (n + j + i) (n + k) (x.trees 1) (omega (arith, is)) room.0, fewer (n + j + i) (n + k) (x.trees 3) (omega (arith, is)) room.1))
-
--- the next object isn't there
-pub lacks_next : (id : List ℕ) (all : List ObjectRow) (i : ℕ) (o : ObjectRow) → take (i + 1) all ≡ take i all ++ o ∷ [] → (t : Maps) → IsFree id (objects_view all) t → LacksPart (id, string_bytes o.name) (all_added id (objects_view (take i all)) t)
-lacks_next id all i o more t free =
-    let before = objects_view (take i all) in
-    let pushed : objects_view (take (i + 1) all) ≡ before ++ object_view o ∷ [] = ap objects_view more ∙ map-append object_view (take i all) (o ∷ []) in
-    let apart : AreApart (before ++ object_view o ∷ []) = subst AreApart pushed (apart_taken (i + 1) all free.0) in
-    unseen id before (string_bytes o.name) t (last_apart before (object_view o) apart) (free.1 (string_bytes o.name))
-
--- one object more
-pub one_object : (id : List ℕ) (all : List ObjectRow) (i : ℕ) (o : ObjectRow) → take (i + 1) all ≡ take i all ++ o ∷ [] → (x y z : Database) → Makes i (IsFree id (objects_view all)) (all_added id (objects_view (take i all))) x y
-    → Makes 1 (LacksPart (id, string_bytes o.name)) (added (id, string_bytes o.name) (object_view o).1) y z → Makes (i + 1) (IsFree id (objects_view all)) (all_added id (objects_view (take (i + 1) all))) x z
-one_object id all i o more x y z p q d t spelled free =
-    let before = objects_view (take i all) in
-    let pushed : objects_view (take (i + 1) all) ≡ before ++ object_view o ∷ [] = ap objects_view more ∙ map-append object_view (take i all) (o ∷ []) in
-    let one = p d t spelled free in
-    let two = q d (all_added id before t) one.0 (lacks_next id all i o more t free) in
-    (subst (Spells z d) (sym (ap (λ os. all_added id os t) pushed ∙ all_added-push id before (object_view o) t)) two.0, both_rooms i 1 (i + 1) x y z refl one.1 two.1)
 
 -- ---- what the tables keep of records
 

@@ -1,5 +1,5 @@
 -- The objects of a record that is there are replaced: what the statements make of the tables, one after another.
-use Rattle.std.proofs.Common.{◌≡◌, ◌≢◌, ◌⊎◌, ◌++◌, ◌&&◌, ◌||◌, ◌+◌, ◌<◌, ◌≤◌, length, arith, zero, suc, take, ℕ, inl, inr, Bool, true, false, cond, bytes_eq, List, [], ◌∷◌, Option, Some, None, IsSome, Ok, Err, Result, OnOk, IfErr, IsTrue, refl, sym, ap, subst, ◌∙◌, string_bytes, drop, get_or}
+use Rattle.std.proofs.Common.{◌≡◌, ◌≢◌, ◌⊎◌, ◌++◌, ◌&&◌, ◌||◌, ◌+◌, ◌<◌, length, arith, zero, suc, take, ℕ, ℤ, inl, inr, Bool, true, false, cond, bytes_eq, List, [], ◌∷◌, Option, Some, None, IsSome, Ok, Err, Result, OnOk, IfErr, IsTrue, refl, sym, ap, subst, ◌∙◌, string_bytes, get_or}
 use Rattle.std.proofs.lemmas.Bool.{cases_Bool}
 use Rattle.std.proofs.lemmas.List.{map-append}
 use Rattle.std.proofs.lemmas.Slice.Eq.{bytes_eq-Decides}
@@ -10,18 +10,19 @@ use Rattle.sqlite.specs.State.{State, HasCleanDisk}
 use Rattle.sqlite_rules.specs.Lists.{Has}
 use Rattle.sqlite_rules.proofs.ListLemmas.{has_right}
 use Rattle.sqlite_rules.proofs.ProbeLemmas.{mapped_has}
+use Rattle.fv_tables.specs.declared.entry.FoundRow.{FoundRow}
 use Rattle.fv_tables.specs.declared.entry.ObjectRow.{ObjectRow}
 use Rattle.fv_tables.specs.Stands.{Head, Part, Place, Maps, Spells, Frame, IsOwned, same_place, put, added, dropped, removed, without_parts}
-use Rattle.fv_tables.specs.Changes.{Things, AreApart, names_of, same_object, has_object, all_added, others_dropped, has_name, replaced, dropped_unless_kept, written, object_view, objects_view, IsFree, IsNew}
+use Rattle.fv_tables.specs.Changes.{Things, AreApart, names_of, same_object, has_object, all_added, others_dropped, has_name, replaced, dropped_unless_kept, written, found_objects, object_view, objects_view, IsFree, IsNew}
 use Rattle.fv_tables.specs.Causes.{HasRooms, IsExcused, IsShortHead, IsShortPart, AreShort}
-use Rattle.fv_tables.specs.Steps.{Advances, Anyhow, Makes, Lacks, LacksPart, ArePartsOf, IsThere, AreThere, UpdatesPart}
+use Rattle.fv_tables.specs.Steps.{Advances, Anyhow, Makes, Lacks, LacksPart, ArePartsOf, IsThere, AreThere, UpdatesPart, UpdatesRow}
 use Rattle.fv_tables.proofs.Removes.{zero_is_not_one}
 use Rattle.fv_tables.proofs.Objects.{other_name, last_apart, apart_taken, all_added-push, both_rooms, both, heads_added}
 use Rattle.fv_tables.proofs.Layouts.{parts}
 use Rattle.fv_tables.proofs.Composed.{fewer_rooms, owned_all, short_taken, short_last}
 use Rattle.fv_tables.proofs.Drops.{owned_dropped}
 use Rattle.fv_tables.proofs.Writes.{owned_put}
-use Rattle.fv_tables.proofs.Steps.{led, frame_then, failed_then}
+use Rattle.fv_tables.proofs.Steps.{led, led_on_ok, frame_then, failed_then}
 
 -- ---- one object: the UPDATE, and where it counts 0 the INSERT
 
@@ -44,6 +45,39 @@ part_in_place old new at p count some updated = record {
         λ n room. it.1 n (fewer_rooms n (n + 1) old.now (omega arith) room),
       );
 }
+
+-- the UPDATE by the rowid, and where it counts 0 both of these
+pub row_missed : (n : ℤ) (at : Place) (p : Part) (x y z : Database) → UpdatesRow n at p 0 x y → Makes 1 Anyhow (added at p) y z → Makes 1 Anyhow (added at p) x z
+row_missed n at p x y z u q d t spelled _ =
+    let it = u d t spelled in
+    elim it.0 [
+      | inl lacks ↦ let made = q d t lacks.2 tt in (made.0, λ k room. made.1 k (it.1 (k + 1) room))
+      | inr some ↦ absurd (zero_is_not_one some.1)
+    ]
+
+pub row_in_place : (old new : State) (n : ℤ) (at : Place) (p : Part) (count : ℕ) → count ≢ 0 → Advances old new (UpdatesRow n at p count) → Advances old new (Makes 1 Anyhow (added at p))
+row_in_place old new n at p count some updated = record {
+  was_open = updated.was_open;
+  mode = updated.mode;
+  committed = updated.committed;
+  change = λ d t spelled _.
+      let it = updated.change d t spelled in (
+        elim it.0 [ inl none ↦ absurd (some none.1) | inr made ↦ made.2 ],
+        λ k room. it.1 k (fewer_rooms k (k + 1) old.now (omega arith) room),
+      );
+}
+
+-- the UPDATE by the rowid changed no row and what followed was refused
+pub row_missed_cause : (a b c : State) (n : ℤ) (at : Place) (p : Part) → HasCleanDisk c → Frame a b → Frame b c → Advances a b (UpdatesRow n at p 0) → (r : Result ℕ Error)
+    → IfErr r (λ e. (d : List Row) (t : Maps) → Spells b.now d t → IsOwned t → IsSome (t.heads at.0) → HasRooms 1 b.now → IsShortPart at p → IsExcused b c e)
+    → IfErr r (λ e. (d : List Row) (t : Maps) → Spells a.now d t → IsOwned t → IsSome (t.heads at.0) → HasRooms 1 a.now → IsShortPart at p → IsExcused a c e)
+row_missed_cause a b c n at p clean before after updated (Ok count) h = tt
+row_missed_cause a b c n at p clean before after updated (Err e) h = λ d t spelled owned has room short refused.
+    let it = updated.change d t spelled in
+    elim it.0 [
+      | inl none ↦ failed_then a b c (after.clean clean) before after.counts (h d t none.2 owned has (it.1 1 room) short refused)
+      | inr some ↦ absurd (zero_is_not_one some.1)
+    ]
 
 -- the UPDATE changed no row and the INSERT was refused
 pub part_new_cause : (a b c : State) (at : Place) (p : Part) → HasCleanDisk c → Frame a b → Frame b c → Advances a b (UpdatesPart at p 0) → (r : Result ℕ Error)
@@ -90,25 +124,27 @@ part_more id there all i o more x y z p q d t spelled are =
     let two = q d (all_added id before t) one.0 (there_next id there all i o more t are) in
     (subst (Spells z d) (sym (ap (λ os. all_added id os t) pushed ∙ all_added-push id before (object_view o) t)) two.0, both_rooms i 1 (i + 1) x y z refl one.1 two.1)
 
-part_same : (at : Place) (p : Part) (t : Maps) → t.parts at ≡ Some p → added at p t ≡ t
-part_same at p t has = both (added at p t) t refl (λ other. go other (cases_Bool (same_place other at)))
-  where
-    go : (other : Place) → (same_place other at ≡ true) ⊎ (same_place other at ≡ false) → (added at p t).parts other ≡ t.parts other
-    go other (inl same) = rw same (sym (ap t.parts ((parts.decides other at).0 same) ∙ has))
-    go other (inr apart) = rw apart refl
-
--- an object that is the same stays
-pub part_stays : (s : State) (id : List ℕ) (there : Things) (o : List ℕ × Part) → has_object o there ≡ true → IsTrue s.in_transaction → Advances s s (Makes 1 (IsThere id there o) (added (id, o.0) o.1))
-part_stays s id there o has inside = record {
-  was_open = λ live. live;
-  mode = inside;
-  committed = refl;
-  change = λ d t spelled is. (subst (Spells s.now d) (sym (part_same (id, o.0) o.1 t (is has))) spelled, λ n room. fewer_rooms n (n + 1) s.now (omega arith) room);
-}
-
--- and another is written
+-- an object is written, whatever was known
 pub part_written : (a b : State) (at : Place) (p : Part) (Applies : Maps → Type 0) → Advances a b (Makes 1 Anyhow (added at p)) → Advances a b (Makes 1 Applies (added at p))
 part_written a b at p Applies = led a b (λ x y made d t spelled _. made d t spelled tt)
+
+-- the same as a row that was found is the same as one of the rows
+same_among : (there : List FoundRow) (r : FoundRow) → Has there r → (o : List ℕ × Part) → has_object o (object_view r.object ∷ []) ≡ true → has_object o (found_objects there) ≡ true
+same_among [] r h o is = absurd h
+same_among (x ∷ there) r (inl same) o is = go (same_object (object_view x.object) o) (subst (λ (e : FoundRow). has_object o (object_view e.object ∷ []) ≡ true) same is)
+  where
+    go : (b : Bool) → (b || false) ≡ true → (b || has_object o (found_objects there)) ≡ true
+    go true is = refl
+    go false is = absurd cc
+same_among (x ∷ there) r (inr later) o is = rw (same_among there r later o is) (go (same_object (object_view x.object) o))
+  where
+    go : (b : Bool) → (b || true) ≡ true
+    go true = refl
+    go false = refl
+
+pub part_over : {X : Type 0} (a b : State) (id : List ℕ) (there : List FoundRow) (r : FoundRow) → Has there r → (o : List ℕ × Part) (answer : Result X Error)
+    → OnOk answer (Advances a b (Makes 1 (IsThere id (object_view r.object ∷ []) o) (added (id, o.0) o.1))) → OnOk answer (Advances a b (Makes 1 (IsThere id (found_objects there) o) (added (id, o.0) o.1)))
+part_over a b id there r among o answer = led_on_ok a b answer (λ x y made d t spelled is. made d t spelled (λ same. is (same_among there r among o same)))
 
 -- no change yet
 pub begun : (s : State) (change : Maps → Maps) → ((t : Maps) → change t ≡ t) → IsTrue s.in_transaction → Advances s s (Makes 0 Anyhow change)
@@ -148,16 +184,16 @@ others_dropped-push id os [] name t = refl
 others_dropped-push id os (n ∷ names) name t = others_dropped-push id os names name (dropped_unless_kept id os n t)
 
 -- a name more
-pub dropped_more : (id : List ℕ) (os : Things) (there : List ObjectRow) (i : ℕ) (o : ObjectRow) → take (i + 1) there ≡ take i there ++ o ∷ [] → (x y z : Database)
-    → Makes 0 Anyhow (others_dropped id os (names_of (objects_view (take i there)))) x y → Makes 0 Anyhow (dropped_unless_kept id os (object_view o).0) y z → Makes 0 Anyhow (others_dropped id os (names_of (objects_view (take (i + 1) there)))) x z
-dropped_more id os there i o more x y z p q d t spelled _ =
-    let before = objects_view (take i there) in
+pub dropped_more : (id : List ℕ) (os : Things) (there : List FoundRow) (i : ℕ) (r : FoundRow) → take (i + 1) there ≡ take i there ++ r ∷ [] → (x y z : Database)
+    → Makes 0 Anyhow (others_dropped id os (names_of (found_objects (take i there)))) x y → Makes 0 Anyhow (dropped_unless_kept id os (object_view r.object).0) y z → Makes 0 Anyhow (others_dropped id os (names_of (found_objects (take (i + 1) there)))) x z
+dropped_more id os there i r more x y z p q d t spelled _ =
+    let before = found_objects (take i there) in
     let names = names_of before in
-    let pushed : names_of (objects_view (take (i + 1) there)) ≡ names ++ (object_view o).0 ∷ [] =
-    ap (λ l. names_of (objects_view l)) more ∙ ap names_of (map-append object_view (take i there) (o ∷ [])) ∙ map-append (λ (e : List ℕ × Part). e.0) before (object_view o ∷ []) in
+    let pushed : names_of (found_objects (take (i + 1) there)) ≡ names ++ (object_view r.object).0 ∷ [] =
+    ap (λ l. names_of (found_objects l)) more ∙ ap names_of (map-append (λ (e : FoundRow). object_view e.object) (take i there) (r ∷ [])) ∙ map-append (λ (e : List ℕ × Part). e.0) before (object_view r.object ∷ []) in
     let one = p d t spelled tt in
     let two = q d (others_dropped id os names t) one.0 tt in
-    (subst (Spells z d) (sym (ap (λ ns. others_dropped id os ns t) pushed ∙ others_dropped-push id os names (object_view o).0 t)) two.0, both_rooms 0 0 0 x y z refl one.1 two.1)
+    (subst (Spells z d) (sym (ap (λ ns. others_dropped id os ns t) pushed ∙ others_dropped-push id os names (object_view r.object).0 t)) two.0, both_rooms 0 0 0 x y z refl one.1 two.1)
 
 owned_unless_kept : (id : List ℕ) (os : Things) (name : List ℕ) (t : Maps) → IsOwned t → IsOwned (dropped_unless_kept id os name t)
 owned_unless_kept id os name t owned = go (has_name name os)
@@ -386,30 +422,3 @@ new_rest_cause a b c id h os k clean before after p (Err e) cause = λ d t spell
     let headed : IsSome ((put id h t).heads id) = rw itself refl in
     failed_then a b c (after.clean clean) before after.counts
     (cause d (put id h t) one.0 (owned_put id h t new.0.1) (new.0.0, free_of id t new.0.1 new.1) headed (one.1 k (fewer_rooms (k + 1) (1 + k) a.now (omega arith) room)) short refused)
-
--- ---- whether a name is among those of objects
-
-pub name_at : (name : List ℕ) (os : List ObjectRow) (i : ℕ) (o : ObjectRow) → i < length os → o ≡ get_or os i o → has_name name (objects_view (drop i os)) ≡ (bytes_eq (string_bytes o.name) name || has_name name (objects_view (drop (suc i) os)))
-name_at name [] i o below is = absurd (omega arith)
-name_at name (x ∷ os) zero o below is = ap (λ (e : ObjectRow). bytes_eq (string_bytes e.name) name || has_name name (objects_view os)) (sym is)
-name_at name (x ∷ os) (suc i) o below is = name_at name os i o (omega arith) is
-
-pub none_left : (name : List ℕ) (os : List ObjectRow) (i : ℕ) → length os ≤ i → has_name name (objects_view (drop i os)) ≡ false
-none_left name [] zero long = refl
-none_left name [] (suc i) long = refl
-none_left name (x ∷ os) zero long = absurd (omega (arith, long))
-none_left name (x ∷ os) (suc i) long = none_left name os i (omega (arith, long))
-
--- ---- whether the same object is among these
-
-pub object_at : (o : List ℕ × Part) (os : List ObjectRow) (i : ℕ) (x : ObjectRow) → i < length os → x ≡ get_or os i x
-    → has_object o (objects_view (drop i os)) ≡ (same_object (object_view x) o || has_object o (objects_view (drop (suc i) os)))
-object_at o [] i x below is = absurd (omega arith)
-object_at o (y ∷ os) zero x below is = ap (λ (e : ObjectRow). same_object (object_view e) o || has_object o (objects_view os)) (sym is)
-object_at o (y ∷ os) (suc i) x below is = object_at o os i x (omega arith) is
-
-pub no_object_left : (o : List ℕ × Part) (os : List ObjectRow) (i : ℕ) → length os ≤ i → has_object o (objects_view (drop i os)) ≡ false
-no_object_left o [] zero long = refl
-no_object_left o [] (suc i) long = refl
-no_object_left o (x ∷ os) zero long = absurd (omega (arith, long))
-no_object_left o (x ∷ os) (suc i) long = no_object_left o os i (omega (arith, long))

@@ -20,7 +20,7 @@ use Rattle.sqlite_rules.proofs.TableLemmas.{put_all_has, put_all_keeps, put_all_
 use Rattle.sqlite_trees.proofs.TreeLemmas.{IsTable-put_row}
 use Rattle.fv_tables.specs.Rows.{IsRowOf, HasRows}
 
-equal_ints : (i n : ℤ) → is_eq (int_cmp n i) ≡ true → i ≡ n
+pub equal_ints : (i n : ℤ) → is_eq (int_cmp n i) ≡ true → i ≡ n
 equal_ints i n h = grind (arith, ints, nat_tests)
 
 pub same_int : (n : ℤ) → is_eq (int_cmp n n) ≡ true

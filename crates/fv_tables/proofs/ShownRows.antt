@@ -2,7 +2,6 @@
 use Rattle.std.proofs.Common.{◌≡◌, ◌<◌, ℕ, zero, suc, List, [], ◌∷◌, length, get_or, map, refl, sym, ap, ap₂, ◌∙◌, arith}
 use Rattle.std.specs.List.{AllByRecursion}
 use Rattle.sqlite.specs.Order.{Row}
-use Rattle.fv_tables.specs.Stored.{front}
 
 module _ {T : Type 0} (shown : T → Row) where
   -- a row of those shows an element, of which is known what is known of all
@@ -27,7 +26,7 @@ module _ {T : Type 0} (shown : T → Row) where
       let tail : map shown xs ≡ map (λ v. shown (view v)) read = cc in
       ap₂ (λ (y : T) ys. y ∷ ys) (sym (undoes (view v)) ∙ sym (ap back head) ∙ undoes x) (same_shown back undoes view xs read tail)
 
-  -- rows of three columns
-  pub fronts : ((x : T) → front (shown x) ≡ shown x) → (xs : List T) → map front (map shown xs) ≡ map shown xs
-  fronts three [] = refl
-  fronts three (x ∷ xs) = ap₂ (λ (r : Row) rs. r ∷ rs) (three x) (fronts three xs)
+  -- rows that have no more columns than these
+  pub fronts : (columns : Row → Row) → ((x : T) → columns (shown x) ≡ shown x) → (xs : List T) → map columns (map shown xs) ≡ map shown xs
+  fronts columns whole [] = refl
+  fronts columns whole (x ∷ xs) = ap₂ (λ (r : Row) rs. r ∷ rs) (whole x) (fronts columns whole xs)

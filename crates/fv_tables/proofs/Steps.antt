@@ -82,6 +82,12 @@ module _ {S : Type 0} (g : Ghosts S) (old new : Held S) (sql : List ℕ) (params
 
 -- ---- one step after another
 
+pub frame_same : (s : State) → Frame s s
+frame_same s = record { clean = λ clean. clean; was_open = λ _ live. live; counts = omega arith; closes = λ _ live. inl live }
+
+pub keeps_same : (s : State) → KeepsCommit s s
+keeps_same s = record { was_open = λ live. live; committed = λ _. refl }
+
 more_then : (a b c : ℕ) → MoreFaults a b → b ≤ c → MoreFaults a c
 more_then a b c more up = omega arith
 

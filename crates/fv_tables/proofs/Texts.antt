@@ -142,6 +142,31 @@ pub set_whole : IsWhole set_text 4 (understood store_schema set_text)
 unfolding understood everything
 set_whole = (lit≤ tt, refl)
 
+-- the rowid is ?1, and the first two columns beside it are ?2 and ?3
+abbrev pub by_row : List Term
+by_row = op2 (Compare Eq Binary) (col 1 0) (col 0 0) ∷ op2 (Compare Eq Binary) (col 1 1) (col 0 1) ∷ op2 (Compare Eq Binary) (col 1 2) (col 0 2) ∷ []
+
+abbrev pub row_terms : List Term
+row_terms = col 1 0 ∷ col 1 0 ∷ col 1 1 ∷ col 1 2 ∷ col 0 3 ∷ col 0 4 ∷ []
+
+abbrev pub row_text : List ℕ
+row_text = codes "UPDATE object SET kind = ?4, fields = ?5 WHERE rowid = ?1 AND rec = ?2 AND name = ?3"
+
+abbrev pub row_query : Query
+row_query = one_table 3 by_row row_terms
+
+pub row_is : command_of (understood store_schema row_text) ≡ Update 2 (record { lets = []; body = row_query })
+unfolding understood everything
+row_is = refl
+
+pub row_plain : IsPlain (understood store_schema row_text)
+unfolding understood everything
+row_plain = (refl, refl)
+
+pub row_whole : IsWhole row_text 5 (understood store_schema row_text)
+unfolding understood everything
+row_whole = (lit≤ tt, refl)
+
 abbrev pub drop_text : List ℕ
 drop_text = codes "DELETE FROM object WHERE rec = ?1 AND name = ?2"
 
@@ -210,12 +235,19 @@ unfolding everything
 parts_unlisted = refl
 
 abbrev pub objects_text : List ℕ
-objects_text = codes "SELECT name, kind, fields FROM object WHERE rec = ?1"
+objects_text = codes "SELECT name, kind, fields, rowid FROM object WHERE rec = ?1 ORDER BY name"
+
+-- the columns that it shows
+abbrev pub objects_terms : List Term
+objects_terms = col 1 2 ∷ col 1 3 ∷ col 1 4 ∷ col 1 0 ∷ []
 
 abbrev pub objects_query : Query
-objects_query = one_table 3 by_first (col 1 2 ∷ col 1 3 ∷ col 1 4 ∷ [])
+objects_query = over_table 3 by_first objects_terms by_name (lit (Int (negsuc 0)))
 
-pub objects_is : command_of (understood store_schema objects_text) ≡ Select (record { lets = []; body = objects_query }) (codes "name" ∷ codes "kind" ∷ codes "fields" ∷ [])
+abbrev pub objects_names : List (List ℕ)
+objects_names = codes "name" ∷ codes "kind" ∷ codes "fields" ∷ codes "rowid" ∷ []
+
+pub objects_is : command_of (understood store_schema objects_text) ≡ Select (record { lets = []; body = objects_query }) objects_names
 unfolding understood everything
 objects_is = refl
 

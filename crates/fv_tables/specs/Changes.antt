@@ -3,7 +3,8 @@ use Rattle.std.specs.Prelude.{◌≡◌, ◌&&◌, ◌||◌, ℕ, Bool, false, L
 use Rattle.std.specs.Cmp.Lexicographic.{slice_cmp}
 use Rattle.std.specs.List.Sorted.{IsStrictlySortedBy}
 use Rattle.std.specs.Ordering.{nat_cmp}
-use Rattle.fv_tables.specs.Stands.{Head, Part, Maps, Entry, Entries, IsOwned, without_parts, put, added, dropped, removed}
+use Rattle.fv_tables.specs.Stands.{Head, Part, Maps, Entry, Entries, NumberedThing, IsOwned, without_parts, put, added, dropped, removed}
+use Rattle.fv_tables.specs.declared.entry.FoundRow.{FoundRow}
 use Rattle.fv_tables.specs.declared.entry.ObjectRow.{ObjectRow}
 
 -- an object with its name
@@ -102,6 +103,14 @@ object_view o = (string_bytes o.name, record { kind = string_bytes o.kind; field
 -- objects with their names
 abbrev pub objects_view : List ObjectRow → Things
 objects_view os = map object_view os
+
+-- an object with the rowid under which it was found
+abbrev pub found_view : FoundRow → NumberedThing
+found_view r = (r.rowid, object_view r.object)
+
+-- the objects that were found
+abbrev pub found_objects : List FoundRow → Things
+found_objects rows = map (λ r. object_view r.object) rows
 
 -- the objects of each record are named
 abbrev pub AllNamed : Entries → Type 0

@@ -4,6 +4,7 @@ pub mod Rows
 pub mod Stands
 pub mod Steps
 pub mod Changes
+pub mod Inserting
 pub mod Stored
 pub mod Causes
 pub mod Lists

@@ -183,6 +183,14 @@ shown_head h = Words h.form ∷ Words h.root ∷ []
 abbrev pub shown_part : List ℕ × Part → Row
 shown_part o = Words o.0 ∷ Words o.1.kind ∷ Words o.1.fields ∷ []
 
+-- an object with the rowid of its row
+abbrev pub NumberedThing : Type 0
+NumberedThing = ℤ × (List ℕ × Part)
+
+-- what a query shows of both
+abbrev pub shown_row : NumberedThing → Row
+shown_row r = Words r.1.0 ∷ Words r.1.1.kind ∷ Words r.1.1.fields ∷ Int r.0 ∷ []
+
 -- a record's form and its root's name are text
 abbrev pub IsTextOfHead : Head → Type 0
 IsTextOfHead h = IsUtf8 h.form × IsUtf8 h.root
@@ -190,6 +198,10 @@ IsTextOfHead h = IsUtf8 h.form × IsUtf8 h.root
 -- an object's name, its type's name and its fields are text
 abbrev pub IsTextObject : List ℕ × Part → Type 0
 IsTextObject o = IsUtf8 o.0 × IsUtf8 o.1.kind × IsUtf8 o.1.fields
+
+-- the same of an object with a rowid
+abbrev pub IsTextRow : NumberedThing → Type 0
+IsTextRow r = IsTextObject r.1
 
 -- no row where there is no record, and else a first row that shows its head
 abbrev pub ShowsHead : List Row → Option Head → Type 0

@@ -1,5 +1,5 @@
 -- What statements do to a database inside a transaction: to the records that the tables stand for, and to the maps that they spell.
-use Rattle.std.specs.Prelude.{◌≡◌, ◌⊎◌, ◌+◌, IsTrue, IsSome, map, ℕ, true, List, Some, None}
+use Rattle.std.specs.Prelude.{◌≡◌, ◌⊎◌, ◌+◌, IsTrue, IsSome, map, ℕ, ℤ, true, List, Some, None}
 use Rattle.std.specs.List.{AllByRecursion}
 use Rattle.sqlite.specs.Order.{Row}
 use Rattle.sqlite.specs.Effect.{Database}
@@ -9,7 +9,7 @@ use Rattle.sqlite_trees.specs.declared.store.Store.{Ghosts}
 use Rattle.fv_tables.specs.Causes.{HasRooms}
 use Rattle.sqlite_rules.specs.Lists.{Has}
 use Rattle.fv_tables.specs.Changes.{Thing, Things, AreApart, has_object}
-use Rattle.fv_tables.specs.Stands.{Maps, Head, Place, Part, Entries, Spells, Stands, put, added, shown_part, IsTextObject}
+use Rattle.fv_tables.specs.Stands.{Maps, Head, Place, Part, Entries, NumberedThing, Spells, Stands, put, added, part_row, shown_row, IsTextRow}
 
 -- inside a transaction: where the disk is clean behind a step, this holds of what the connection stands for before and behind it
 abbrev pub Inside : {S : Type 0} → Ghosts S → Held S → Held S → (State → State → Type 0) → Type 0
@@ -70,13 +70,30 @@ UpdatesPart at p count old new =
     → ((LacksPart at t × (count ≡ 0) × Spells new d t) ⊎ (HasPart at t × (count ≡ 1) × Spells new d (added at p t)))
     × ((n : ℕ) → HasRooms n old → HasRooms n new)
 
+-- no row of `object` has this rowid and is of the object there
+abbrev pub LacksRow : ℤ → Place → Database → Type 0
+LacksRow n at db = (p : Part) → Has (db.trees 3) (part_row n at p) → ⊥
+
+-- the same of the row of `object` under this rowid: where the object there has another rowid or none, nothing changes
+abbrev pub UpdatesRow : ℤ → Place → Part → ℕ → Database → Database → Type 0
+UpdatesRow n at p count old new =
+    (d : List Row) (t : Maps) → Spells old d t
+    → ((LacksRow n at old × (count ≡ 0) × Spells new d t) ⊎ (HasPart at t × (count ≡ 1) × Spells new d (added at p t)))
+    × ((k : ℕ) → HasRooms k old → HasRooms k new)
+
 -- these are the objects of the record
 abbrev pub ArePartsOf : List ℕ → Things → Maps → Type 0
 ArePartsOf id os t = ((o : Thing) → Has os o → t.parts (id, o.0) ≡ Some o.1) × ((name : List ℕ) (p : Part) → t.parts (id, name) ≡ Some p → Has os (name, p))
 
--- the rows show them, in some order, and they are text
-abbrev pub ShowsParts : List ℕ → List Row → Maps → Type 0
-ShowsParts id rows t = (os : Things) × (rows ≡ map shown_part os) × AllByRecursion IsTextObject os × ArePartsOf id os t
+-- each of these is a row of the record's objects
+abbrev pub AreRowsOf : List ℕ → List NumberedThing → Database → Type 0
+AreRowsOf id rs db = (r : ℤ × (List ℕ × Part)) → Has rs r → Has (db.trees 3) (part_row r.0 (id, r.1.0) r.1.1)
+
+-- the rows show them with their rowids, in some order, and they are text
+abbrev pub ShowsParts : List ℕ → List Row → Database → Maps → Type 0
+ShowsParts id rows db t =
+    (rs : List NumberedThing) × (rows ≡ map shown_row rs) × AllByRecursion IsTextRow rs
+    × AreRowsOf id rs db × ArePartsOf id (map (λ (r : ℤ × (List ℕ × Part)). r.1) rs) t
 
 -- if the object is the same as one of these, the record has it
 abbrev pub IsThere : List ℕ → Things → Thing → Maps → Type 0

@@ -17,3 +17,7 @@ rows_view s = record { form = string_bytes s.form; root = string_bytes s.root; o
 -- the first three columns
 abbrev pub front : Row → Row
 front row = column row 0 ∷ column row 1 ∷ column row 2 ∷ []
+
+-- the first four
+abbrev pub front_four : Row → Row
+front_four row = column row 0 ∷ column row 1 ∷ column row 2 ∷ column row 3 ∷ []

@@ -1,10 +1,11 @@
 //! What the rows of a record keep, as it is written and handed out.
-ghost use Rattle.std.specs.Prelude.{◌≡◌, IfErr, IfOk, map, ◌++◌, ◌∷◌, [], OnOk};
+ghost use Rattle.std.specs.Prelude.{◌≡◌, IfErr, IfOk, map, ◌++◌, ◌∷◌, [], List, OnOk};
 ghost use Rattle.std.specs.List.{AllByRecursion};
+ghost use Rattle.sqlite.specs.Order.{Row as Values};
 ghost use Rattle.fv_tables.specs.Causes.{IsRefusal};
-ghost use Rattle.fv_tables.specs.Changes.{Thing, Things, object_view, objects_view};
-ghost use Rattle.fv_tables.specs.Stands.{Head, shown_head, shown_part, IsTextOfHead, IsTextObject};
-ghost use Rattle.fv_tables.specs.Stored.{head_view, front};
+ghost use Rattle.fv_tables.specs.Changes.{Thing, Things, found_view, object_view, objects_view};
+ghost use Rattle.fv_tables.specs.Stands.{Head, NumberedThing, shown_head, shown_part, shown_row, IsTextOfHead, IsTextObject, IsTextRow};
+ghost use Rattle.fv_tables.specs.Stored.{head_view, front, front_four};
 
 use sqlite::{Error, Row};
 use std::alloc::{AllocError, Global};
@@ -15,6 +16,13 @@ pub struct ObjectRow {
     pub name: String,
     pub kind: String,
     pub fields: String,
+}
+
+/// The row of an object as it was found, with its rowid.
+#[derive(Debug, Drop)]
+pub(crate) struct FoundRow {
+    pub(crate) object: ObjectRow,
+    pub(crate) rowid: i64,
 }
 
 /// What a row of `record` shows.
@@ -42,15 +50,26 @@ pub(crate) fn read_head(row: &Row) -> Result<HeadRow, Error>
     Ok(HeadRow { form, root })
 }
 
-/// Reads the row that shows an object.
+/// Reads the row that shows an object, whatever it shows behind.
 fn read_object(row: &Row) -> Result<ObjectRow, Error>
     ensures shown { IfOk result (λ o. front row.now ≡ shown_part (object_view o)) }
-    ensures cause { IfErr result (λ e. (o : Thing) → row.now ≡ shown_part o → IsTextObject o → ¬ IsRefusal e) }
+    ensures cause { IfErr result (λ e. (o : Thing) (behind : Values) → row.now ≡ shown_part o ++ behind → IsTextObject o
+        → ¬ IsRefusal e) }
 {
     let name = row.get(0)?;
     let kind = row.get(1)?;
     let fields = row.get(2)?;
     Ok(ObjectRow { name, kind, fields })
+}
+
+/// Reads the row that shows an object and its rowid.
+fn read_found(row: &Row) -> Result<FoundRow, Error>
+    ensures shown { IfOk result (λ r. front_four row.now ≡ shown_row (found_view r)) }
+    ensures cause { IfErr result (λ e. (r : NumberedThing) → row.now ≡ shown_row r → IsTextRow r → ¬ IsRefusal e) }
+{
+    let object = read_object(row)?;
+    let rowid = row.get(3)?;
+    Ok(FoundRow { object, rowid })
 }
 
 /// The objects with one more, at the end.
@@ -73,4 +92,18 @@ pub(crate) fn objects_in(alloc: Global, rows: &[Row]) -> Result<Vec<ObjectRow>, 
         add(&mut objects, object)?;
     }
     Ok(objects)
+}
+
+/// The objects that rows show, with their rowids.
+pub(crate) fn found_in(alloc: Global, rows: &[Row]) -> Result<Vec<FoundRow>, Error>
+    ensures shown { IfOk result (λ v. (rs : List NumberedThing) → rows.now ≡ map shown_row rs → map found_view v.items ≡ rs) }
+    ensures cause { IfErr result (λ e. (rs : List NumberedThing) → rows.now ≡ map shown_row rs → AllByRecursion IsTextRow rs
+        → ¬ IsRefusal e) }
+{
+    let mut found = Vec::with_capacity(alloc, rows.len())?;
+    for row in rows {
+        let one = read_found(row)?;
+        found.push(one)?;
+    }
+    Ok(found)
 }

@@ -7,6 +7,7 @@ mod creating;
 mod entries;
 mod entry;
 mod finding;
+mod inserting;
 mod listing;
 mod migrating;
 mod rows;

@@ -1,17 +1,19 @@
 //! The statements on the rows of the two tables.
-ghost use Rattle.std.specs.Prelude.{◌≡◌, ◌+◌, length, option_map, IfErr, IfOk, IsSome, None, OnOk, Some};
+ghost use Rattle.std.specs.Prelude.{◌≡◌, ◌+◌, ◌∷◌, [], false, length, map, option_map, string_bytes, IfErr, IfOk, IsSome, MatchOption, None, OnOk, Some};
 ghost use Rattle.sqlite.specs.State.{KeepsCommit};
 ghost use Rattle.sqlite.specs.Held.{state};
-ghost use Rattle.fv_tables.specs.Changes.{all_added, others_dropped, has_name as has, has_object as has_this, names_of, replaced, same_object, dropped_unless_kept, written};
-ghost use Rattle.fv_tables.specs.Changes.{object_view, objects_view, AreApart, IsFree, IsNew, IsReady};
+ghost use Rattle.sqlite_rules.specs.Lists.{Has};
+ghost use Rattle.fv_tables.specs.Changes.{all_added, others_dropped, has_name as has, names_of, replaced, same_object, dropped_unless_kept, written};
+ghost use Rattle.fv_tables.specs.Changes.{found_objects, found_view, object_view, objects_view, AreApart, IsNew, IsReady};
 ghost use Rattle.fv_tables.specs.Causes.{AreShort, HasRooms, IsExcused, IsShortHead, IsShortPart};
 ghost use Rattle.fv_tables.specs.Stands.{Frame, ShowsHead, Spells, IsOwned, removed, put, added, dropped};
-ghost use Rattle.fv_tables.specs.Steps.{Advances, Anyhow, ArePartsOf, AreThere, HasHead, Inside, IsThere, Makes, Lacks, LacksPart, ShowsParts};
-ghost use Rattle.fv_tables.specs.Steps.{UpdatesHead, UpdatesPart};
+ghost use Rattle.fv_tables.specs.Steps.{Advances, Anyhow, ArePartsOf, AreRowsOf, AreThere, HasHead, Inside, IsThere, Makes, Lacks, LacksPart, ShowsParts};
+ghost use Rattle.fv_tables.specs.Steps.{UpdatesHead, UpdatesPart, UpdatesRow};
 ghost use Rattle.fv_tables.specs.Stored.{head_view};
 
-use crate::entry::{HeadRow, ObjectRow, objects_in, read_head};
+use crate::entry::{FoundRow, HeadRow, ObjectRow, found_in, read_head};
 use crate::finding::FIND_RECORD;
+use crate::inserting::{INSERT_OBJECT, insert_objects};
 use sqlite::{Alter, Error, Row, Transaction, params};
 
 const DELETE_RECORD: &str = "DELETE FROM record WHERE id = ?1";
@@ -20,13 +22,15 @@ const UPDATE_RECORD: &str = "UPDATE record SET form = ?2, root = ?3 WHERE id = ?
 
 const INSERT_RECORD: &str = "INSERT INTO record (id, form, root) VALUES (?1, ?2, ?3)";
 
-const INSERT_OBJECT: &str = "INSERT INTO object (rec, name, kind, fields) VALUES (?1, ?2, ?3, ?4)";
-
 const UPDATE_OBJECT: &str = "UPDATE object SET kind = ?3, fields = ?4 WHERE rec = ?1 AND name = ?2";
+
+const UPDATE_ROW: &str =
+    "UPDATE object SET kind = ?4, fields = ?5 WHERE rowid = ?1 AND rec = ?2 AND name = ?3";
 
 const DELETE_OBJECT: &str = "DELETE FROM object WHERE rec = ?1 AND name = ?2";
 
-const FIND_PARTS: &str = "SELECT name, kind, fields FROM object WHERE rec = ?1";
+const FIND_PARTS: &str =
+    "SELECT name, kind, fields, rowid FROM object WHERE rec = ?1 ORDER BY name";
 
 /// Takes the record of the id out, if there is one; the key's cascade takes its objects out.
 pub(crate) fn delete_record<S: Alter>(tx: &mut Transaction<'_, S>, id: &str) -> Result<usize, Error>
@@ -127,6 +131,29 @@ pub(crate) fn update_object<S: Alter>(
     tx.execute(UPDATE_OBJECT, params![id, name, kind, fields])
 }
 
+/// Writes the row of an object anew, if it is under the rowid of the row that was found, and counts the rows that it changed: 1, or else 0.
+fn update_row<S: Alter>(
+    tx: &mut Transaction<'_, S>,
+    id: &str,
+    row: &FoundRow,
+    object: &ObjectRow,
+) -> Result<usize, Error>
+    ensures same_reference { tx.new.conn.ghost_name ≡ tx.old.conn.ghost_name }
+    ensures frame { Frame (state S.Store tx.old.conn.now) (state S.Store tx.new.conn.now) }
+    ensures limit { tx.new.conn.now.step_limit ≡ tx.old.conn.now.step_limit }
+    ensures kept { Inside S.Store tx.old.conn.now tx.new.conn.now KeepsCommit }
+    ensures done { Inside S.Store tx.old.conn.now tx.new.conn.now (λ old new. IfOk result (λ count. Advances old new
+        (UpdatesRow row.now.rowid (id.now, (object_view object.now).0) (object_view object.now).1 count))) }
+    ensures cause { Inside S.Store tx.old.conn.now tx.new.conn.now (λ old new. tx.old.conn.now.step_limit ≡ None
+        → IfErr result (λ e. (d : _) (t : _) → Spells old.now d t → IsOwned t → HasRooms 0 old.now
+        → IsShortPart (id.now, (object_view object.now).0) (object_view object.now).1 → IsExcused old new e)) }
+{
+    tx.execute(
+        UPDATE_ROW,
+        params![&row.rowid, id, &object.name, &object.kind, &object.fields],
+    )
+}
+
 /// Takes the row of an object out, if there is one.
 fn delete_object<S: Alter>(
     tx: &mut Transaction<'_, S>,
@@ -144,7 +171,7 @@ fn delete_object<S: Alter>(
     tx.execute(DELETE_OBJECT, params![id, name])
 }
 
-/// The rows that show the objects of a record.
+/// The rows that show the objects of a record, with their rowids.
 fn find_part_rows<S: Alter>(tx: &mut Transaction<'_, S>, id: &str) -> Result<Vec<Row>, Error>
     ensures same_reference { tx.new.conn.ghost_name ≡ tx.old.conn.ghost_name }
     ensures frame { Frame (state S.Store tx.old.conn.now) (state S.Store tx.new.conn.now) }
@@ -152,27 +179,27 @@ fn find_part_rows<S: Alter>(tx: &mut Transaction<'_, S>, id: &str) -> Result<Vec
     ensures kept { Inside S.Store tx.old.conn.now tx.new.conn.now KeepsCommit }
     ensures done { Inside S.Store tx.old.conn.now tx.new.conn.now (λ old new. OnOk result (Advances old new (λ was is. is ≡ was))) }
     ensures shown { Inside S.Store tx.old.conn.now tx.new.conn.now (λ old new. IfOk result (λ rows. (d : _) (t : _)
-        → Spells old.now d t → ShowsParts id.now rows.items t)) }
+        → Spells old.now d t → ShowsParts id.now rows.items old.now t)) }
     ensures cause { Inside S.Store tx.old.conn.now tx.new.conn.now (λ old new. tx.old.conn.now.step_limit ≡ None
         → IfErr result (λ e. (d : _) (t : _) → Spells old.now d t → IsExcused old new e)) }
 {
     tx.query_all(FIND_PARTS, params![id])
 }
 
-/// The objects of a record, in any order.
-fn find_parts<S: Alter>(tx: &mut Transaction<'_, S>, id: &str) -> Result<Vec<ObjectRow>, Error>
+/// The objects of a record with the rowids of their rows. The query has them ascend by their names, on which no clause rests.
+fn find_parts<S: Alter>(tx: &mut Transaction<'_, S>, id: &str) -> Result<Vec<FoundRow>, Error>
     ensures same_reference { tx.new.conn.ghost_name ≡ tx.old.conn.ghost_name }
     ensures frame { Frame (state S.Store tx.old.conn.now) (state S.Store tx.new.conn.now) }
     ensures limit { tx.new.conn.now.step_limit ≡ tx.old.conn.now.step_limit }
     ensures kept { Inside S.Store tx.old.conn.now tx.new.conn.now KeepsCommit }
     ensures done { Inside S.Store tx.old.conn.now tx.new.conn.now (λ old new. OnOk result (Advances old new (λ was is. is ≡ was))) }
     ensures found { Inside S.Store tx.old.conn.now tx.new.conn.now (λ old new. IfOk result (λ v. (d : _) (t : _)
-        → Spells old.now d t → ArePartsOf id.now (objects_view v.items) t)) }
+        → Spells old.now d t → AreRowsOf id.now (map found_view v.items) old.now × ArePartsOf id.now (found_objects v.items) t)) }
     ensures cause { Inside S.Store tx.old.conn.now tx.new.conn.now (λ old new. tx.old.conn.now.step_limit ≡ None
         → IfErr result (λ e. (d : _) (t : _) → Spells old.now d t → IsExcused old new e)) }
 {
     let rows = find_part_rows(tx, id)?;
-    objects_in(*rows.allocator(), &rows)
+    found_in(*rows.allocator(), &rows)
 }
 
 /// Writes the row of an object of a record that is there, in place of that of its name, if there is one.
@@ -218,22 +245,32 @@ fn is_same(one: &ObjectRow, other: &ObjectRow) -> bool
         && one.fields.as_str() == other.fields.as_str()
 }
 
-/// Whether the same object is among these.
-fn has_object(objects: &[ObjectRow], object: &ObjectRow) -> bool
-    ensures { result ≡ has_this (object_view object.now) (objects_view objects.now) }
+/// The row of the object of the name, if it is among these. Where they ascend by their names, it is soon found.
+fn row_named<'a>(rows: &'a [FoundRow], name: &str) -> Option<&'a FoundRow>
+    ensures { MatchOption result (has name.now (found_objects rows.now) ≡ false)
+        (λ row. Has rows.now row.now × (string_bytes row.now.object.name ≡ name.now)) }
 {
-    for other in objects {
-        if is_same(other, object) {
-            return true;
+    if let Ok(at) = rows.binary_search_by(|row| row.object.name.as_str().cmp(name)) {
+        return Some(&rows[at]);
+    }
+    for row in rows {
+        if row.object.name.as_str() == name {
+            return Some(row);
         }
     }
-    false
+    None
 }
 
-/// Whether an object of the name is among these.
+/// Whether an object of the name is among these. Where they ascend by their names, it is soon found.
 fn has_name(objects: &[ObjectRow], name: &str) -> bool
     ensures { result ≡ has name.now (objects_view objects.now) }
 {
+    if objects
+        .binary_search_by(|object| object.name.as_str().cmp(name))
+        .is_ok()
+    {
+        return true;
+    }
     for object in objects {
         if object.name.as_str() == name {
             return true;
@@ -242,11 +279,34 @@ fn has_name(objects: &[ObjectRow], name: &str) -> bool
     false
 }
 
-/// Writes the row of an object of a record that is there, unless the same is among those that the record has.
+/// Writes the row of an object of a record that is there, by the rowid under which it was found. Where it isn't there any more, as `put_object` does.
+fn put_over<S: Alter>(
+    tx: &mut Transaction<'_, S>,
+    id: &str,
+    row: &FoundRow,
+    object: &ObjectRow,
+) -> Result<usize, Error>
+    ensures same_reference { tx.new.conn.ghost_name ≡ tx.old.conn.ghost_name }
+    ensures frame { Frame (state S.Store tx.old.conn.now) (state S.Store tx.new.conn.now) }
+    ensures limit { tx.new.conn.now.step_limit ≡ tx.old.conn.now.step_limit }
+    ensures kept { Inside S.Store tx.old.conn.now tx.new.conn.now KeepsCommit }
+    ensures done { Inside S.Store tx.old.conn.now tx.new.conn.now (λ old new. OnOk result (Advances old new
+        (Makes 1 Anyhow (added (id.now, (object_view object.now).0) (object_view object.now).1)))) }
+    ensures cause { Inside S.Store tx.old.conn.now tx.new.conn.now (λ old new. tx.old.conn.now.step_limit ≡ None
+        → IfErr result (λ e. (d : _) (t : _) → Spells old.now d t → IsOwned t → IsSome (t.heads id.now)
+        → HasRooms 1 old.now → IsShortPart (id.now, (object_view object.now).0) (object_view object.now).1 → IsExcused old new e)) }
+{
+    match update_row(tx, id, row, object)? {
+        0 => put_object(tx, id, object),
+        changed => Ok(changed),
+    }
+}
+
+/// Writes the row of an object of a record that is there over the row that was found, unless that has the same.
 fn put_changed<S: Alter>(
     tx: &mut Transaction<'_, S>,
     id: &str,
-    there: &[ObjectRow],
+    row: &FoundRow,
     object: &ObjectRow,
 ) -> Result<(), Error>
     ensures same_reference { tx.new.conn.ghost_name ≡ tx.old.conn.ghost_name }
@@ -254,24 +314,51 @@ fn put_changed<S: Alter>(
     ensures limit { tx.new.conn.now.step_limit ≡ tx.old.conn.now.step_limit }
     ensures kept { Inside S.Store tx.old.conn.now tx.new.conn.now KeepsCommit }
     ensures done { Inside S.Store tx.old.conn.now tx.new.conn.now (λ old new. OnOk result (Advances old new
-        (Makes 1 (IsThere id.now (objects_view there.now) (object_view object.now))
+        (Makes 1 (IsThere id.now (object_view row.now.object ∷ []) (object_view object.now))
         (added (id.now, (object_view object.now).0) (object_view object.now).1)))) }
     ensures cause { Inside S.Store tx.old.conn.now tx.new.conn.now (λ old new. tx.old.conn.now.step_limit ≡ None
         → IfErr result (λ e. (d : _) (t : _) → Spells old.now d t → IsOwned t → IsSome (t.heads id.now)
         → HasRooms 1 old.now → IsShortPart (id.now, (object_view object.now).0) (object_view object.now).1 → IsExcused old new e)) }
 {
-    if has_object(there, object) {
+    if is_same(&row.object, object) {
         return Ok(());
     }
-    put_object(tx, id, object)?;
+    put_over(tx, id, row, object)?;
     Ok(())
+}
+
+/// Writes the row of an object of a record that is there, unless the same is among those that the record has.
+fn put_among<S: Alter>(
+    tx: &mut Transaction<'_, S>,
+    id: &str,
+    there: &[FoundRow],
+    object: &ObjectRow,
+) -> Result<(), Error>
+    ensures same_reference { tx.new.conn.ghost_name ≡ tx.old.conn.ghost_name }
+    ensures frame { Frame (state S.Store tx.old.conn.now) (state S.Store tx.new.conn.now) }
+    ensures limit { tx.new.conn.now.step_limit ≡ tx.old.conn.now.step_limit }
+    ensures kept { Inside S.Store tx.old.conn.now tx.new.conn.now KeepsCommit }
+    ensures done { Inside S.Store tx.old.conn.now tx.new.conn.now (λ old new. OnOk result (Advances old new
+        (Makes 1 (IsThere id.now (found_objects there.now) (object_view object.now))
+        (added (id.now, (object_view object.now).0) (object_view object.now).1)))) }
+    ensures cause { Inside S.Store tx.old.conn.now tx.new.conn.now (λ old new. tx.old.conn.now.step_limit ≡ None
+        → IfErr result (λ e. (d : _) (t : _) → Spells old.now d t → IsOwned t → IsSome (t.heads id.now)
+        → HasRooms 1 old.now → IsShortPart (id.now, (object_view object.now).0) (object_view object.now).1 → IsExcused old new e)) }
+{
+    match row_named(there, object.name.as_str()) {
+        Some(row) => put_changed(tx, id, row, object),
+        None => {
+            put_object(tx, id, object)?;
+            Ok(())
+        }
+    }
 }
 
 /// Writes the rows of these objects of a record that is there, but for those that are the same.
 fn put_objects<S: Alter>(
     tx: &mut Transaction<'_, S>,
     id: &str,
-    there: &[ObjectRow],
+    there: &[FoundRow],
     objects: &[ObjectRow],
 ) -> Result<(), Error>
     ensures same_reference { tx.new.conn.ghost_name ≡ tx.old.conn.ghost_name }
@@ -279,15 +366,15 @@ fn put_objects<S: Alter>(
     ensures limit { tx.new.conn.now.step_limit ≡ tx.old.conn.now.step_limit }
     ensures kept { Inside S.Store tx.old.conn.now tx.new.conn.now KeepsCommit }
     ensures done { Inside S.Store tx.old.conn.now tx.new.conn.now (λ old new. OnOk result (Advances old new
-        (Makes (length objects.now) (AreThere id.now (objects_view there.now) (objects_view objects.now))
+        (Makes (length objects.now) (AreThere id.now (found_objects there.now) (objects_view objects.now))
         (all_added id.now (objects_view objects.now))))) }
     ensures cause { Inside S.Store tx.old.conn.now tx.new.conn.now (λ old new. tx.old.conn.now.step_limit ≡ None
-        → IfErr result (λ e. (d : _) (t : _) → Spells old.now d t → AreThere id.now (objects_view there.now) (objects_view objects.now) t
+        → IfErr result (λ e. (d : _) (t : _) → Spells old.now d t → AreThere id.now (found_objects there.now) (objects_view objects.now) t
         → IsOwned t → IsSome (t.heads id.now)
         → HasRooms (length objects.now) old.now → AreShort id.now (objects_view objects.now) → IsExcused old new e)) }
 {
     'objects: for object in objects {
-        put_changed(tx, id, there, object)?;
+        put_among(tx, id, there, object)?;
     }
     Ok(())
 }
@@ -318,7 +405,7 @@ fn drop_unless_kept<S: Alter>(
 fn drop_others<S: Alter>(
     tx: &mut Transaction<'_, S>,
     id: &str,
-    there: &[ObjectRow],
+    there: &[FoundRow],
     objects: &[ObjectRow],
 ) -> Result<(), Error>
     ensures same_reference { tx.new.conn.ghost_name ≡ tx.old.conn.ghost_name }
@@ -326,12 +413,12 @@ fn drop_others<S: Alter>(
     ensures limit { tx.new.conn.now.step_limit ≡ tx.old.conn.now.step_limit }
     ensures kept { Inside S.Store tx.old.conn.now tx.new.conn.now KeepsCommit }
     ensures done { Inside S.Store tx.old.conn.now tx.new.conn.now (λ old new. OnOk result (Advances old new
-        (Makes 0 Anyhow (others_dropped id.now (objects_view objects.now) (names_of (objects_view there.now)))))) }
+        (Makes 0 Anyhow (others_dropped id.now (objects_view objects.now) (names_of (found_objects there.now)))))) }
     ensures cause { Inside S.Store tx.old.conn.now tx.new.conn.now (λ old new. tx.old.conn.now.step_limit ≡ None
         → IfErr result (λ e. (d : _) (t : _) → Spells old.now d t → IsOwned t → IsExcused old new e)) }
 {
-    'there: for object in there {
-        drop_unless_kept(tx, id, object, objects)?;
+    'there: for row in there {
+        drop_unless_kept(tx, id, &row.object, objects)?;
     }
     Ok(())
 }
@@ -355,36 +442,6 @@ fn replace_objects<S: Alter>(
     let there = find_parts(tx, id)?;
     drop_others(tx, id, &there, objects)?;
     put_objects(tx, id, &there, objects)
-}
-
-/// Writes the rows of the objects of a record that has none.
-fn insert_objects<S: Alter>(
-    tx: &mut Transaction<'_, S>,
-    id: &str,
-    objects: &[ObjectRow],
-) -> Result<(), Error>
-    ensures same_reference { tx.new.conn.ghost_name ≡ tx.old.conn.ghost_name }
-    ensures frame { Frame (state S.Store tx.old.conn.now) (state S.Store tx.new.conn.now) }
-    ensures limit { tx.new.conn.now.step_limit ≡ tx.old.conn.now.step_limit }
-    ensures kept { Inside S.Store tx.old.conn.now tx.new.conn.now KeepsCommit }
-    ensures done { Inside S.Store tx.old.conn.now tx.new.conn.now (λ old new. OnOk result (Advances old new
-        (Makes (length objects.now) (IsFree id.now (objects_view objects.now))
-        (all_added id.now (objects_view objects.now))))) }
-    ensures cause { Inside S.Store tx.old.conn.now tx.new.conn.now (λ old new. tx.old.conn.now.step_limit ≡ None
-        → IfErr result (λ e. (d : _) (t : _) → Spells old.now d t → IsOwned t → IsFree id.now (objects_view objects.now) t
-        → IsSome (t.heads id.now) → HasRooms (length objects.now) old.now → AreShort id.now (objects_view objects.now)
-        → IsExcused old new e)) }
-{
-    'objects: for object in objects {
-        insert_object(
-            tx,
-            id,
-            object.name.as_str(),
-            object.kind.as_str(),
-            object.fields.as_str(),
-        )?;
-    }
-    Ok(())
 }
 
 /// Writes a record whose id has none.

@@ -11,7 +11,7 @@ pub returns-clause-shown : goal.returns-clause-shown
 returns-clause-shown c os shows =
     let rows = c.args.rows.now in
     let all : take c.loop-row.row-index rows ≡ rows = take_all c.loop-row.row-index rows c.loop-row-test.false in
-    same_shown shown_old entry_in (λ e. refl) old_view os c.loop-row.olds.items (sym (fronts shown_old (λ e. refl) os) ∙ ap (map front) (sym shows) ∙ ap (map front) (sym all) ∙ c.loop-row.invariant)
+    same_shown shown_old entry_in (λ e. refl) old_view os c.loop-row.olds.items (sym (fronts shown_old front (λ e. refl) os) ∙ ap (map front) (sym shows) ∙ ap (map front) (sym all) ∙ c.loop-row.invariant)
 
 pub returns-in_err-old-clause-cause : goal.returns-in_err-old-clause-cause
 returns-in_err-old-clause-cause c =

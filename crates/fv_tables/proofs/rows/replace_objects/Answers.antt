@@ -1,6 +1,6 @@
 use Rattle.std.proofs.Common.{length, ◌∙◌}
 use Rattle.sqlite.specs.Held.{state}
-use Rattle.fv_tables.specs.Changes.{objects_view}
+use Rattle.fv_tables.specs.Changes.{found_objects, objects_view}
 use Rattle.fv_tables.proofs.Replaces.{replace_step, others_cause, rest_put_cause}
 use Rattle.fv_tables.proofs.Refusals.{handed_on}
 use Rattle.fv_tables.proofs.rows.replace_objects.Goals as goal
@@ -12,7 +12,7 @@ returns-clause-done g c clean inside =
     let read = c.in_ok-there.ensures.done clean2 inside in
     let left = rw c.deref.ensures.value at (c.in_ok-drop_others.ensures.done clean3 read.mode) in
     replace_step (state g.S.Store c.args.tx.now.conn.now) (state g.S.Store c.find_parts.new.tx.conn.now) (state g.S.Store c.drop_others.new.tx.conn.now) (state g.S.Store c.put_objects.new.tx.conn.now) c.args.id.now
-    (objects_view c.args.objects.now) (objects_view c.in_ok-there.there.items) (length c.args.objects.now) c.put_objects.result (c.in_ok-there.ensures.found clean2 inside) read left
+    (objects_view c.args.objects.now) (found_objects c.in_ok-there.there.items) (length c.args.objects.now) c.put_objects.result (λ d t spelled. (c.in_ok-there.ensures.found clean2 inside d t spelled).1) read left
     (rw c.deref-2.ensures.value at (c.put_objects.ensures.done clean left.mode))
 
 pub returns-in_err-there-clause-cause : goal.returns-in_err-there-clause-cause
@@ -34,5 +34,5 @@ returns-clause-cause g c clean inside none =
     let read = c.in_ok-there.ensures.done clean2 inside in
     let left = rw c.deref.ensures.value at (c.in_ok-drop_others.ensures.done clean3 read.mode) in
     rest_put_cause (state g.S.Store c.args.tx.now.conn.now) (state g.S.Store c.find_parts.new.tx.conn.now) (state g.S.Store c.drop_others.new.tx.conn.now) (state g.S.Store c.put_objects.new.tx.conn.now) c.args.id.now
-    (objects_view c.args.objects.now) (objects_view c.in_ok-there.there.items) (length c.args.objects.now) clean c.find_parts.ensures.frame c.drop_others.ensures.frame c.put_objects.ensures.frame (c.in_ok-there.ensures.found clean2 inside) read left
+    (objects_view c.args.objects.now) (found_objects c.in_ok-there.there.items) (length c.args.objects.now) clean c.find_parts.ensures.frame c.drop_others.ensures.frame c.put_objects.ensures.frame (λ d t spelled. (c.in_ok-there.ensures.found clean2 inside d t spelled).1) read left
     c.put_objects.result (rw c.deref-2.ensures.value at (c.put_objects.ensures.cause clean left.mode (c.drop_others.ensures.limit ∙ c.find_parts.ensures.limit ∙ none)))

@@ -1,0 +1,173 @@
+-- The objects of a new record, run by run.
+use Rattle.std.proofs.Common.{◌≡◌, ◌≢◌, ◌++◌, ◌+◌, ◌<◌, ◌≤◌, ◌==◌, inl, inr, ℕ, true, false, length, length-append, take, drop, bytes_eq, List, [], ◌∷◌, Option, None, IsSome, IsTrue, IsUtf8, Result, OnOk, IfErr, refl, sym, ap, subst, subst₂, ◌∙◌, arith}
+use Rattle.std.proofs.lemmas.List.{append-nil, length-map, map-append, take-append-drop}
+use Rattle.std.proofs.lemmas.Bool.Decides.{nat_tests}
+use Rattle.std.proofs.lemmas.Str.{IsUtf8-string_bytes}
+use Rattle.sqlite.specs.declared.types.Value.TheVariants.{Text}
+use Rattle.sqlite.specs.Order.{Row}
+use Rattle.sqlite.specs.Effect.{Database}
+use Rattle.sqlite.specs.declared.error.Error.{Error}
+use Rattle.sqlite.specs.State.{State, HasCleanDisk, ExecutesInside}
+use Rattle.sqlite_rules.specs.Lists.{Has}
+use Rattle.sqlite_rules.proofs.ListLemmas.{has_left}
+use Rattle.fv_tables.specs.declared.entry.ObjectRow.{ObjectRow}
+use Rattle.fv_tables.specs.Stands.{Head, Part, Maps, Spells, Frame, IsOwned, added}
+use Rattle.fv_tables.specs.Changes.{Things, AreApart, has_name, all_added, object_view, objects_view, IsFree}
+use Rattle.fv_tables.specs.Causes.{HasRooms, IsExcused, AreShort}
+use Rattle.fv_tables.specs.Inserting.{AreNew, IsRun, insert_of, object_values, row_values}
+use Rattle.fv_tables.specs.Steps.{Advances, Makes}
+use Rattle.fv_tables.proofs.Objects.{neither, unseen, heads_added, both_rooms}
+use Rattle.fv_tables.proofs.Runs.{AreTexts, others_apart, run_step}
+use Rattle.fv_tables.proofs.RunCauses.{run_refused}
+use Rattle.fv_tables.proofs.Composed.{fewer_rooms, owned_all}
+use Rattle.fv_tables.proofs.Steps.{failed_then}
+
+-- ---- of two lists
+
+none_behind : (name : List ℕ) (xs ys : Things) → has_name name (xs ++ ys) ≡ false → has_name name ys ≡ false
+none_behind name [] ys none = none
+none_behind name (x ∷ xs) ys none = none_behind name xs ys (neither (bytes_eq x.0 name) (has_name name (xs ++ ys)) none).1
+
+none_before : (name : List ℕ) (xs ys : Things) → has_name name (xs ++ ys) ≡ false → has_name name xs ≡ false
+none_before name [] ys none = refl
+none_before name (x ∷ xs) ys none = let it = neither (bytes_eq x.0 name) (has_name name (xs ++ ys)) none in rw it.0 (none_before name xs ys it.1)
+
+apart_behind : (xs ys : Things) → AreApart (xs ++ ys) → AreApart ys
+apart_behind [] ys apart = apart
+apart_behind (x ∷ xs) ys apart = apart_behind xs ys apart.1
+
+apart_before : (xs ys : Things) → AreApart (xs ++ ys) → AreApart xs
+apart_before [] ys apart = tt
+apart_before (x ∷ xs) ys apart = (none_before x.0 xs ys apart.0, apart_before xs ys apart.1)
+
+apart_across : (xs ys : Things) → AreApart (xs ++ ys) → (a : List ℕ × Part) → Has xs a → (b : List ℕ × Part) → Has ys b → bytes_eq b.0 a.0 ≡ false
+apart_across [] ys apart a h b among = absurd h
+apart_across (x ∷ xs) ys apart a (inl is) b among = subst (λ (e : List ℕ × Part). bytes_eq b.0 e.0 ≡ false) (sym is) (others_apart x.0 ys (none_behind x.0 xs ys apart.0) b among)
+apart_across (x ∷ xs) ys apart a (inr later) b among = apart_across xs ys apart.1 a later b among
+
+short_behind : (id : List ℕ) (xs ys : Things) → AreShort id (xs ++ ys) → AreShort id ys
+short_behind id [] ys short = short
+short_behind id (x ∷ xs) ys short = short_behind id xs ys short.1
+
+short_before : (id : List ℕ) (xs ys : Things) → AreShort id (xs ++ ys) → AreShort id xs
+short_before id [] ys short = tt
+short_before id (x ∷ xs) ys short = (short.0, short_before id xs ys short.1)
+
+all_added-append : (id : List ℕ) (xs ys : Things) (t : Maps) → all_added id (xs ++ ys) t ≡ all_added id ys (all_added id xs t)
+all_added-append id [] ys t = refl
+all_added-append id (x ∷ xs) ys t = all_added-append id xs ys (added (id, x.0) x.1 t)
+
+-- ---- a run more
+
+-- a run is new once those before it are there
+run_new : (id : List ℕ) (done run behind : Things) (t : Maps) → AreApart (done ++ (run ++ behind)) → ((name : List ℕ) → t.parts (id, name) ≡ None) → AreNew id run (all_added id done t)
+run_new id done run behind t apart none = (
+  apart_before run behind (apart_behind done (run ++ behind) apart),
+  λ o h. unseen id done o.0 t (λ x among. apart_across done (run ++ behind) apart x among o (has_left run behind o h)) (none o.0),
+)
+
+view_split : (done run behind : List ObjectRow) → objects_view (done ++ (run ++ behind)) ≡ objects_view done ++ (objects_view run ++ objects_view behind)
+view_split done run behind = map-append object_view done (run ++ behind) ∙ ap (λ l. objects_view done ++ l) (map-append object_view run behind)
+
+module _ (id : List ℕ) (all done run behind : List ObjectRow) (split : done ++ (run ++ behind) ≡ all) where
+  whole : objects_view all ≡ objects_view done ++ (objects_view run ++ objects_view behind)
+  whole = sym (ap objects_view split) ∙ view_split done run behind
+
+  pub run_more : (x y z : Database) → Makes (length done) (IsFree id (objects_view all)) (all_added id (objects_view done)) x y
+      → Makes (length run) (AreNew id (objects_view run)) (all_added id (objects_view run)) y z → Makes (length (done ++ run)) (IsFree id (objects_view all)) (all_added id (objects_view (done ++ run))) x z
+  run_more x y z p q d t spelled free =
+      let one = p d t spelled free in
+      let two = q d (all_added id (objects_view done) t) one.0 (run_new id (objects_view done) (objects_view run) (objects_view behind) t (subst AreApart whole free.0) free.1) in
+      let is : all_added id (objects_view (done ++ run)) t ≡ all_added id (objects_view run) (all_added id (objects_view done) t) =
+      ap (λ os. all_added id os t) (map-append object_view done run) ∙ all_added-append id (objects_view done) (objects_view run) t in
+      (subst (Spells z d) (sym is) two.0, both_rooms (length done) (length run) (length (done ++ run)) x y z (sym (length-append done run)) one.1 two.1)
+
+  -- those before it were put, and the run was refused
+  pub run_more_cause : (a b c : State) → HasCleanDisk c → Frame a b → Frame b c → Advances a b (Makes (length done) (IsFree id (objects_view all)) (all_added id (objects_view done))) → (e : Error)
+      → ((d : List Row) (t : Maps) → Spells b.now d t → IsOwned t → AreNew id (objects_view run) t → IsSome (t.heads id) → HasRooms (length run) b.now → AreShort id (objects_view run) → IsExcused b c e)
+      → (d : List Row) (t : Maps) → Spells a.now d t → IsOwned t → IsFree id (objects_view all) t → IsSome (t.heads id) → HasRooms (length all) a.now → AreShort id (objects_view all) → IsExcused a c e
+  run_more_cause a b c clean before after made e h d t spelled own free has room short refused =
+      let os = objects_view done in
+      let it = made.change d t spelled free in
+      let headed : IsSome ((all_added id os t).heads id) = subst IsSome (sym (ap (λ (f : List ℕ → Option Head). f id) (heads_added id os t))) has in
+      let count : length run + length done ≤ length all = omega (arith, ap length split, length-append done (run ++ behind), length-append run behind) in
+      let shorts = subst (AreShort id) whole short in
+      failed_then a b c (after.clean clean) before after.counts
+      (h d (all_added id os t) it.0 (owned_all id os t own has) (run_new id os (objects_view run) (objects_view behind) t (subst AreApart whole free.0) free.1) headed
+      (it.1 (length run) (fewer_rooms (length run + length done) (length all) a.now count room)) (short_before id (objects_view run) (objects_view behind) (short_behind id os (objects_view run ++ objects_view behind) shorts)) refused)
+
+-- what is left begins with a run
+pub run_split : {X : Type 0} (all done rest run behind : List X) (n : ℕ) → run ≡ take n rest → behind ≡ drop n rest → done ++ rest ≡ all → done ++ (run ++ behind) ≡ all
+run_split all done rest run behind n front back is = rw (front, back, take-append-drop n rest) is
+
+-- nothing is left
+zero_is : (n : ℕ) → (n == 0) ≡ true → n ≡ 0
+zero_is n h = grind (arith, nat_tests)
+
+pub all_put : {X : Type 0} (all done rest : List X) → done ++ rest ≡ all → (length rest == 0) ≡ true → done ≡ all
+all_put all done [] is none = sym (append-nil done) ∙ is
+all_put all done (x ∷ rest) is none = absurd (omega (arith, zero_is (length (x ∷ rest)) none))
+
+-- no object yet
+pub none_yet : (s : State) (id : List ℕ) (os : Things) → IsTrue s.in_transaction → Advances s s (Makes 0 (IsFree id os) (all_added id []))
+none_yet s id os inside = record {
+  was_open = λ live. live;
+  mode = inside;
+  committed = refl;
+  change = λ d t spelled free. (spelled, λ n room. fewer_rooms n (n + 0) s.now (omega arith) room);
+}
+
+-- ---- a run, as the code has it
+
+-- what is put is text
+texts_of : (id : List ℕ) → IsUtf8 id → (os : List ObjectRow) → AreTexts id (objects_view os)
+texts_of id good [] = tt
+texts_of id good (o ∷ os) = ((good, IsUtf8-string_bytes o.name, IsUtf8-string_bytes o.kind, IsUtf8-string_bytes o.fields), texts_of id good os)
+
+module _ (old new : State) (id : List ℕ) (good : IsUtf8 id) (os : List ObjectRow) (run : IsRun (length os)) (text : List ℕ) (is : text ≡ insert_of (length os)) (params : Row) (given : params ≡ row_values id (objects_view os))
+    (r : Result ℕ Error) (ran : ExecutesInside 0 text params old new r) where
+  abbrev things : Things
+  things = objects_view os
+
+  count : length things ≡ length os
+  count = length-map os object_view
+
+  ran_so : ExecutesInside 0 (insert_of (length things)) (row_values id things) old new r
+  ran_so = subst₂ (λ (x : List ℕ) (y : Row). ExecutesInside 0 x y old new r) (is ∙ ap insert_of (sym count)) given ran
+
+  pub objects_step : OnOk r (Advances old new (Makes (length os) (AreNew id things) (all_added id things)))
+  objects_step = subst (λ k. OnOk r (Advances old new (Makes k (AreNew id things) (all_added id things)))) count (run_step old new id things (subst IsRun (sym count) run) (texts_of id good os) r ran_so)
+
+  pub objects_refused : old.step_limit ≡ None
+      → IfErr r (λ e. (d : List Row) (t : Maps) → Spells old.now d t → IsOwned t → AreNew id things t → IsSome (t.heads id) → HasRooms (length os) old.now → AreShort id things → IsExcused old new e)
+  objects_refused none =
+      subst (λ k. IfErr r (λ e. (d : List Row) (t : Maps) → Spells old.now d t → IsOwned t → AreNew id things t → IsSome (t.heads id) → HasRooms k old.now → AreShort id things → IsExcused old new e)) count
+      (run_refused old new none id things (subst IsRun (sym count) run) (texts_of id good os) r ran_so)
+
+-- ---- its parameters
+
+object_values-append : (xs ys : Things) → object_values (xs ++ ys) ≡ object_values xs ++ object_values ys
+object_values-append [] ys = refl
+object_values-append (x ∷ xs) ys = ap (λ (l : Row). Text x.0 ∷ Text x.1.kind ∷ Text x.1.fields ∷ l) (object_values-append xs ys)
+
+-- an object more
+pub values_more : (id : List ℕ) (os : List ObjectRow) (i : ℕ) (o : ObjectRow) → take (i + 1) os ≡ take i os ++ o ∷ []
+    → row_values id (objects_view (take (i + 1) os)) ≡ row_values id (objects_view (take i os)) ++ object_values (object_view o ∷ [])
+values_more id os i o more =
+    ap (λ (l : Row). Text id ∷ l) (ap (λ l. object_values (objects_view l)) more ∙ ap object_values (map-append object_view (take i os) (o ∷ [])) ∙ object_values-append (objects_view (take i os)) (object_view o ∷ []))
+
+-- the length of a run is above 0
+pub run_some : (n : ℕ) → IsRun n → 0 < n
+run_some n (inl is) = omega (arith, is)
+run_some n (inr (inl is)) = omega (arith, is)
+run_some n (inr (inr (inl is))) = omega (arith, is)
+run_some n (inr (inr (inr (inl is)))) = omega (arith, is)
+run_some n (inr (inr (inr (inr is)))) = omega (arith, is)
+
+-- and it is 1 unless it is one of the others
+pub run_of_one : (n : ℕ) → IsRun n → n ≢ 16 → n ≢ 8 → n ≢ 4 → n ≢ 2 → n ≡ 1
+run_of_one n (inl is) a b c d = is
+run_of_one n (inr (inl is)) a b c d = absurd (d is)
+run_of_one n (inr (inr (inl is))) a b c d = absurd (c is)
+run_of_one n (inr (inr (inr (inl is)))) a b c d = absurd (b is)
+run_of_one n (inr (inr (inr (inr is)))) a b c d = absurd (a is)
