@@ -2,9 +2,7 @@ ghost use Rattle.std.specs.Prelude.{◌≡◌, None, Ok, Err, IfOk, IfSome};
 ghost use Rattle.fv_declare_judging.specs.Declares.{Declares};
 ghost use Rattle.fv_declare_schema.specs.Declarations.{Declarations};
 
-use crate::constraints::add_constraints;
-use crate::declared::{add_forms, add_groups, limits_line};
-use crate::fault::ExplainFault;
+use crate::declared::{add_constraints, add_forms, add_groups, limits_line};
 use crate::lines::{ExplainedLine, Lines};
 use fv_datum::read_json;
 use fv_declare::{DeclFault, read_placed};
@@ -16,6 +14,25 @@ use fv_explain_warnings::warnings;
 use fv_registry::RuleSet;
 use std::alloc::Global;
 use std::io::Write;
+use thiserror::Error;
+
+/// Why an explanation ends early.
+#[derive(Clone, Copy, Debug, PartialEq, Eq, Error)]
+pub enum ExplainFault {
+    /// A write or a flush failed.
+    #[error("a write failed")]
+    Write,
+    /// An allocation was refused.
+    #[error("out of memory")]
+    Memory,
+}
+
+/// Each place of declarations that are taken is there.
+impl From<Untold> for ExplainFault {
+    fn from(_e: Untold) -> ExplainFault {
+        ExplainFault::Memory
+    }
+}
 
 /// The places of all uses of constraints in a draft.
 fn places_of(alloc: Global, draft: &Draft) -> Told<Vec<String>> {
@@ -52,10 +69,8 @@ fn add_draft<R: RuleSet>(
 /// behind them, and at the end the limits that are used.
 fn add_taken<R: RuleSet>(lines: &mut Lines, rules: &R, schema: &Schema, bytes: &[u8]) -> Written {
     let value = read_json(lines.alloc, bytes).map_err(|_| Untold::Memory)?;
-    match draft_of(lines.alloc, &value)? {
-        None => Ok(()),
-        Some(draft) => add_draft(lines, rules, schema, &draft, bytes),
-    }
+    let draft = draft_of(lines.alloc, &value)?.ok_or(Untold::Absent)?;
+    add_draft(lines, rules, schema, &draft, bytes)
 }
 
 /// Writes lines, each with its end, and flushes.
@@ -66,7 +81,7 @@ fn write_lines<W: Write>(output: &mut W, lines: &[String]) -> Result<(), Explain
     output.flush().map_err(|_| ExplainFault::Write)
 }
 
-/// Writes what declarations declare with some rules, a line each, plain or as a JSON object, and warnings
+/// Writes what declarations declare with some rules, a line each, plain or with `json` as a JSON object, and warnings
 /// behind it; or, where they are refused, one line: the place of the first fault, and what is wrong there.
 /// Answers that fault, which is the one of `read_schema`.
 ///
@@ -75,18 +90,14 @@ pub fn explain<R: RuleSet, W: Write>(
     alloc: Global,
     rules: &R,
     bytes: &[u8],
-    as_json: bool,
+    json: bool,
     output: &mut W,
 ) -> Result<Option<DeclFault>, ExplainFault>
     ensures taken { IfOk result (λ o. o ≡ None → ((s : Declarations) × Declares (R.known rules.now) bytes.now (Ok s))) }
     ensures refused { IfOk result (λ o. IfSome o (λ f. Declares (R.known rules.now) bytes.now (Err f))) }
 {
     let texts = Vec::new(alloc);
-    let mut lines = Lines {
-        alloc,
-        as_json,
-        texts,
-    };
+    let mut lines = Lines { alloc, json, texts };
     match read_placed(alloc, rules, bytes) {
         Ok(schema) => {
             add_taken(&mut lines, rules, &schema, bytes)?;

@@ -2,11 +2,8 @@
 //! they may not mean; or where they are refused, and why.
 #![tactic(auto)]
 
-mod constraints;
 mod declared;
 mod explaining;
-mod fault;
 mod lines;
 
-pub use explaining::explain;
-pub use fault::ExplainFault;
+pub use explaining::{ExplainFault, explain};

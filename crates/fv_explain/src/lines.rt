@@ -161,16 +161,11 @@ fn write_form<W: fmt::Write>(f: &mut fmt::Formatter<W>, line: &FormLine) -> fmt:
 
 /// The plain text of a constraint that another is composed of.
 fn write_part<W: fmt::Write>(f: &mut fmt::Formatter<W>, line: &PartLine) -> fmt::Result {
-    write!(
-        f,
-        "  {} {}{}",
-        line.number, line.constraint, line.attributes
-    )?;
+    let (number, message) = (line.number, Quoted(line.message.as_str()));
+    write!(f, "  {number} {}{}", line.constraint, line.attributes)?;
     match line.reported {
         None => f.write_str(" asks nothing itself"),
-        Some(other) if other == line.number => {
-            write!(f, " message {}", Quoted(line.message.as_str()))
-        }
+        Some(other) if other == number => write!(f, " message {message}"),
         Some(other) => write!(f, " reported as {other} {}", line.reported_name),
     }
 }
@@ -179,10 +174,9 @@ impl fmt::Display for ExplainedLine<'_> {
     fn fmt<W: fmt::Write>(&self, f: &mut fmt::Formatter<W>) -> fmt::Result {
         match self {
             ExplainedLine::Constraint(line) => {
-                let (groups, message) = (Joined(&line.groups, ", "), line.message.as_str());
+                let (groups, message) = (Joined(&line.groups, ", "), Quoted(line.message.as_str()));
                 write!(f, "{} {} {}", line.number, line.place, line.constraint)?;
-                write!(f, "{} groups {groups}", line.attributes)?;
-                write!(f, " message {}", Quoted(message))
+                write!(f, "{} groups {groups} message {message}", line.attributes)
             }
             ExplainedLine::Part(line) => write_part(f, line),
             ExplainedLine::Group { name, inherits } => {
@@ -202,11 +196,8 @@ impl fmt::Display for ExplainedLine<'_> {
             ExplainedLine::Limits(line) => {
                 write!(f, "limits: {} constraints", line.constraints)?;
                 write!(f, ", {} fields of a type", line.fields)?;
-                write!(
-                    f,
-                    ", {} forms, {} groups with Default",
-                    line.forms, line.groups
-                )
+                write!(f, ", {} forms", line.forms)?;
+                write!(f, ", {} groups with Default", line.groups)
             }
         }
     }
@@ -216,14 +207,14 @@ impl fmt::Display for ExplainedLine<'_> {
 #[derive(Drop)]
 pub(crate) struct Lines {
     pub(crate) alloc: Global,
-    pub(crate) as_json: bool,
+    pub(crate) json: bool,
     pub(crate) texts: Vec<String>,
 }
 
 impl Lines {
     /// Adds a line as plain text, or as a JSON object.
     pub(crate) fn add(&mut self, line: &ExplainedLine) -> Written {
-        let text = if self.as_json {
+        let text = if self.json {
             serde_json::to_string(self.alloc, line).map_err(|_| Untold::Memory)?
         } else {
             format!(in self.alloc; "{line}")?

@@ -3,10 +3,9 @@ use crate::trees::node_at;
 use fv_builtin::{kind_of_attribute, required_attributes};
 use fv_constraint::{ConstraintAt, Meant, Planned, foreign_given, meant_by};
 use fv_datum::{Attribute, AttributeKind, Attrs};
-use fv_declare_definition::Rule;
+use fv_declare_definition::{Composing, Rule};
 use fv_explain_places::{
-    ComposingPart, Found, Named, Refused, Told, Untold, Who, Written, at, attribute_word, entry_at,
-    say,
+    Found, Named, Refused, Told, Untold, Who, Written, at, attribute_word, entry_at, say,
 };
 use fv_registry::RuleSet;
 
@@ -66,11 +65,8 @@ fn refused(out: &mut Found, who: Who, with: &Attrs) -> Written {
             _ => {}
         }
     }
-    match (
-        integer_at(with, "min"),
-        integer_at(with, "max"),
-        with.find("value"),
-    ) {
+    let (min, max) = (integer_at(with, "min"), integer_at(with, "max"));
+    match (min, max, with.find("value")) {
         (Some(min), Some(max), _) => say!(out; "max {max} of {who} is below min {min}"),
         (_, _, Some(Attribute::Text(value))) => {
             let value = Named(value.as_str());
@@ -80,28 +76,22 @@ fn refused(out: &mut Found, who: Who, with: &Attrs) -> Written {
     }
 }
 
-/// Goes to the attributes that a constraint in the tree of a use gets: those of the used one stand in the use.
-fn to_given(out: &mut Found, who: Who) -> Written {
-    if who.used.is_some() {
-        Ok(())
-    } else {
-        out.member("with")
-    }
-}
-
-/// Adds, at a use, why a constraint in its tree refuses the attributes that it gets.
+/// Adds, at a use, why a constraint in its tree refuses the attributes that it gets: those of the used one stand in
+/// the use.
 pub(crate) fn refused_at(out: &mut Found, who: Who, planned: &Planned) -> Written {
-    if let Some(number) = foreign_given(planned.meant, &planned.with) {
-        let (name, value) = entry_at(planned.with.entries(), number)?;
-        to_given(out, who)?;
-        out.member(name)?;
-        return foreign(out, (who, planned.meant), name, value.kind());
-    }
-    if let Some(name) = lacking_of(planned) {
+    let stranger = foreign_given(planned.meant, &planned.with);
+    if let (None, Some(name)) = (stranger, lacking_of(planned)) {
         return say!(out; "attribute \"{name}\" of {who} is missing");
     }
-    to_given(out, who)?;
-    refused(out, who, &planned.with)
+    if who.used.is_none() {
+        out.member("with")?;
+    }
+    let Some(number) = stranger else {
+        return refused(out, who, &planned.with);
+    };
+    let (name, value) = entry_at(planned.with.entries(), number)?;
+    out.member(name)?;
+    foreign(out, (who, planned.meant), name, value.kind())
 }
 
 /// A constraint that is neither built in nor declared.
@@ -131,38 +121,44 @@ fn default_at(refused: &Refused, out: &mut Found, number: usize, index: usize) -
     )
 }
 
-/// A composing constraint, and what its name stands for.
-fn meant_in<'a>(refused: &Refused<'a>, part: ComposingPart<'a>) -> Told<(Who<'a>, Meant<'a>)> {
-    let constraint = part.composing.constraint.as_str();
+/// Who a composing constraint is, and what its name stands for.
+fn meant_in<'a>(refused: &Refused<'a>, part: &'a Composing) -> Told<(Who<'a>, Meant<'a>)> {
+    let constraint = part.constraint.as_str();
     let meant = meant_by(&refused.draft.definitions, constraint).ok_or(Untold::Absent)?;
     let used = None;
     Ok((Who { constraint, used }, meant))
 }
 
 /// An attribute that a composing constraint is given.
-fn given_at(refused: &Refused, out: &mut Found, part: ComposingPart, given: usize) -> Written {
-    let (name, value) = entry_at(part.composing.with.entries(), given)?;
+fn given_at(refused: &Refused, out: &mut Found, part: &Composing, given: usize) -> Written {
+    let (name, value) = entry_at(part.with.entries(), given)?;
     out.path(&["with", name])?;
     foreign(out, meant_in(refused, part)?, name, value.kind())
 }
 
-/// An attribute of a composing constraint that is overridden by an outer one.
-fn overridden_at(refused: &Refused, out: &mut Found, part: ComposingPart, index: usize) -> Written {
-    let (name, outer) = entry_at(&part.composing.overrides, index)?;
+/// An attribute of a composing constraint that is overridden by an outer one, of the declared constraint of a number.
+fn overridden_at(
+    refused: &Refused,
+    out: &mut Found,
+    (number, part): (usize, &Composing),
+    overridden: usize,
+) -> Written {
+    let (owner, definition) = entry_at(&refused.draft.definitions, number)?;
+    let (name, outer) = entry_at(&part.overrides, overridden)?;
     let (who, meant) = meant_in(refused, part)?;
     out.path(&["override", name])?;
-    if part.composing.with.find(name).is_some() {
+    if part.with.find(name).is_some() {
         return say!(out; "attribute {} of {who} stands in with too", Named(name));
     }
-    match part.definition.attributes.get(outer.as_str()) {
+    match definition.attributes.get(outer.as_str()) {
         Some(attribute) => foreign(out, (who, meant), name, attribute.kind),
-        None => say!(out; "{} has no attribute {}", part.owner, Named(outer.as_str())),
+        None => say!(out; "{owner} has no attribute {}", Named(outer.as_str())),
     }
 }
 
 /// An attribute of a composing constraint that is neither given nor overridden: of a built-in one by its number among
 /// those that are required.
-fn lacking_at(refused: &Refused, out: &mut Found, part: ComposingPart, lacking: usize) -> Written {
+fn lacking_at(refused: &Refused, out: &mut Found, part: &Composing, lacking: usize) -> Written {
     let (who, meant) = meant_in(refused, part)?;
     let name = match meant {
         Meant::BuiltIn(which) => *at(required_attributes(which), lacking)?,
@@ -183,7 +179,7 @@ pub(crate) fn constraint_at<R: RuleSet>(
         ConstraintAt::Default(number, index) => default_at(refused, out, number, index),
         ConstraintAt::Composing(number, index) => {
             let part = refused.to_part(out, number, index)?;
-            unknown_constraint(out, part.composing.constraint.as_str())
+            unknown_constraint(out, part.constraint.as_str())
         }
         ConstraintAt::Given(number, index, given) => {
             let part = refused.to_part(out, number, index)?;
@@ -191,7 +187,7 @@ pub(crate) fn constraint_at<R: RuleSet>(
         }
         ConstraintAt::Overridden(number, index, overridden) => {
             let part = refused.to_part(out, number, index)?;
-            overridden_at(refused, out, part, overridden)
+            overridden_at(refused, out, (number, part), overridden)
         }
         ConstraintAt::Lacking(number, index, lacking) => {
             let part = refused.to_part(out, number, index)?;

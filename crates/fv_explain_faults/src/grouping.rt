@@ -1,13 +1,9 @@
 //! The faults of groups in words.
+use crate::naming::undeclared;
 use fv_declare_draft::{Conversion, cascades_in};
 use fv_declare_groups::{CascadeAt, GroupingAt};
 use fv_declare_judging::DeclFault;
-use fv_explain_places::{Found, Named, Refused, Written, at, kind_word, say, to_field, to_steps};
-
-/// A group that isn't declared.
-fn undeclared(out: &mut Found, name: &str) -> Written {
-    say!(out; "group {} isn't declared", Named(name))
-}
+use fv_explain_places::{Found, Refused, Written, at, kind_word, say, to_field, to_steps};
 
 /// One of the names in an array: a sequence where none may stand, else no group.
 fn listed(refused: &Refused, out: &mut Found, names: &[&str], index: usize, rule: &str) -> Written {
@@ -15,7 +11,7 @@ fn listed(refused: &Refused, out: &mut Found, names: &[&str], index: usize, rule
     out.item(index)?;
     match refused.fault {
         DeclFault::SequenceMisused => say!(out; "{name} is a sequence: {rule}"),
-        _ => undeclared(out, name),
+        _ => undeclared(out, "group", name),
     }
 }
 
@@ -32,7 +28,7 @@ fn wrong_member(refused: &Refused, out: &mut Found, own: &str, name: &str) -> Wr
         _ if is_type => say!(out;
             "{name} is another type: only groups and {own} itself stand in its sequence"
         ),
-        _ => undeclared(out, name),
+        _ => undeclared(out, "group", name),
     }
 }
 
@@ -44,7 +40,7 @@ fn wrong_conversion(refused: &Refused, out: &mut Found, conversion: &Conversion)
         DeclFault::ConversionMisplaced => say!(out;
             "{from} is a sequence: it isn't converted, only converted to"
         ),
-        _ => undeclared(out, if is_group { conversion.to } else { from }),
+        _ => undeclared(out, "group", if is_group { conversion.to } else { from }),
     }
 }
 
@@ -74,15 +70,9 @@ fn of_cascade(refused: &Refused, out: &mut Found, number: usize, part: CascadeAt
 pub(crate) fn grouping_at(refused: &Refused, out: &mut Found, place: GroupingAt) -> Written {
     match place {
         GroupingAt::Use(number, index) => {
-            let given = refused.to_use(out, number)?;
+            let names = refused.to_use(out, number)?.groups;
             out.member("groups")?;
-            listed(
-                refused,
-                out,
-                given.groups,
-                index,
-                "no constraint stands in it",
-            )
+            listed(refused, out, names, index, "no constraint stands in it")
         }
         GroupingAt::Group(number, index) => {
             let names = refused.to_names(out, number)?;

@@ -26,7 +26,7 @@ fn to_template<'a>(refused: &Refused<'a>, out: &mut Found, place: WordingAt) -> 
         WordingAt::Composing(number, index) => {
             let part = refused.to_part(out, number, index)?;
             out.member("message")?;
-            &part.composing.message
+            &part.message
         }
         WordingAt::Messages(MessagesAt::Text(number)) => {
             let message = at(&draft.messages, number)?;
@@ -82,11 +82,8 @@ fn types_limit(draft: &Draft, out: &mut Found, place: TypesAt) -> Written {
 
 /// What the text of a key becomes, by the key's number among all: one of the user's, or of a built-in message.
 fn full_text(draft: &Draft, out: &mut Found, number: usize) -> Written {
-    let key = key_name(
-        out.alloc,
-        user_messages(out.alloc, &draft.messages)?,
-        number,
-    )?;
+    let user = user_messages(out.alloc, &draft.messages)?;
+    let key = key_name(out.alloc, user, number)?;
     out.member("messages")?;
     if find_message(&draft.messages, key.as_str()).is_some() {
         out.member(key.as_str())?;

@@ -6,10 +6,10 @@ use crate::rings::ring_of;
 use fv_datum::read_json;
 use fv_declare_draft::{Draft, draft_of, uses_in};
 use fv_declare_judging::{At, DeclFault, PlacedFault};
-use fv_explain_places::{Found, Refused, Untold, Written, say, shape};
+use fv_explain_places::{Found, Refused, Told, Untold, Written, say, shape};
 use fv_registry::RuleSet;
 use serde_json::Value;
-use std::alloc::{AllocError, Global};
+use std::alloc::Global;
 use std::str;
 
 /// Where bytes are no JSON, as the library that reads them tells it.
@@ -60,21 +60,20 @@ fn tell<R: RuleSet>(out: &mut Found, rules: &R, bytes: &[u8], placed: PlacedFaul
 
 /// The first fault of declarations, which `read_placed` answers of these bytes with these rules, in words: the
 /// place of a member by the members on the way to it, that of `NotJson` by line and column, and what is wrong
-/// there; `declarations` are the whole.
+/// there; `declarations` are the whole. Untold for want of memory alone.
 pub fn locate<R: RuleSet>(
     alloc: Global,
     rules: &R,
     bytes: &[u8],
     placed: PlacedFault,
-) -> Result<Found, AllocError> {
+) -> Told<Found> {
     let mut found = Found::new(alloc);
     match tell(&mut found, rules, bytes, placed) {
-        Ok(()) => {}
-        Err(Untold::Memory) => return Err(AllocError),
         Err(Untold::Absent) => {
             found = Found::new(alloc);
             write!(found.text, "{}", placed.fault)?;
         }
+        told => told?,
     }
     if found.place.is_empty() {
         found.place.push_str("declarations")?;

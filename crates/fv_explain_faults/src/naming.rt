@@ -7,9 +7,9 @@ use fv_explain_places::{
 };
 use fv_model_types::{TypeUse, TypesAt};
 
-/// A type that isn't declared.
-fn unknown_type(out: &mut Found, name: &str) -> Written {
-    say!(out; "type {} isn't declared", Named(name))
+/// A type or a group that isn't declared.
+pub(crate) fn undeclared(out: &mut Found, sort: &str, name: &str) -> Written {
+    say!(out; "{sort} {} isn't declared", Named(name))
 }
 
 /// The reference in what a field holds: a container has one place inside it.
@@ -17,7 +17,7 @@ fn reference_in(out: &mut Found, held: &TypeUse) -> Written {
     let (step, inside) = match held {
         TypeUse::Ref(name) => {
             out.member("ref")?;
-            return unknown_type(out, name.as_str());
+            return undeclared(out, "type", name.as_str());
         }
         TypeUse::List(held) => ("list", held),
         TypeUse::Optional(held) => ("optional", held),
@@ -76,7 +76,7 @@ pub(crate) fn name_at(refused: &Refused, out: &mut Found, place: NamesAt) -> Wri
         NamesAt::Root(number) => {
             let form = at(&draft.forms, number)?;
             out.path(&["forms", form.name, "root"])?;
-            unknown_type(out, form.root)
+            undeclared(out, "type", form.root)
         }
         NamesAt::Reference(TypesAt::Field(number, field)) => {
             let field = to_field(out, &draft.types, number, field)?;

@@ -11,9 +11,6 @@ use fv_message::key_ring;
 /// The most names of a ring that are shown.
 const MOST_SHOWN: usize = 20;
 
-/// What is in a ring, by its number and its name.
-type Member<'a> = (usize, &'a str);
-
 /// Adds a name of a ring: one that is no name, as a message's key, as a JSON string.
 fn push_name(out: &mut Found, name: &str) -> Written {
     if is_name(name) {
@@ -23,9 +20,9 @@ fn push_name(out: &mut Found, name: &str) -> Written {
     }
 }
 
-/// Adds, at its member of the least number, a ring in a part of the declarations, as `A -> B -> A`. `leads` says how
-/// each leads to the next, if not by its text.
-fn push_ring(out: &mut Found, part: &str, ring: &[Member], leads: Option<&str>) -> Written {
+/// Adds, at its member of the least number, a ring in a part of the declarations, as `A -> B -> A`, of numbers with
+/// names. `leads` says how each leads to the next, if not by its text.
+fn push_ring(out: &mut Found, part: &str, ring: &[(usize, &str)], leads: Option<&str>) -> Written {
     let least = ring.iter().map(|(number, _)| *number).min();
     let first = ring.iter().position(|(number, _)| Some(*number) == least);
     let first = first.ok_or(Untold::Absent)?;

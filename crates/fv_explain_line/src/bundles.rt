@@ -57,8 +57,9 @@ fn push_wanted(out: &mut Found, type_use: &TypeUse) -> Written {
     })
 }
 
-/// Adds the value at a place, and what it should be. `own` is the type of the object that it names.
+/// Goes on to the value at a place, and adds it and what it should be. `own` is the type of the object that it names.
 fn push_datum(out: &mut Found, at: &FaultPlace, own: &str, fault: BundleFault) -> Written {
+    to_steps(out, &at.steps)?;
     push_value(out, at.value)?;
     match (fault, at.type_use) {
         (BundleFault::WrongKind, Some(type_use)) => {
@@ -89,7 +90,6 @@ pub(crate) fn set_words(
         SetPlace::Field => no_field(out, bundle, object, field),
         SetPlace::Datum(place) => {
             to_field(&mut out.found, "object", object, field)?;
-            to_steps(&mut out.found, &place.steps)?;
             let named = bundle.object(place.value.as_str().unwrap_or(""));
             let own = named.map_or("", |object| object.type_name());
             push_datum(&mut out.found, &place, own, fault)
@@ -104,15 +104,12 @@ pub(crate) fn value_words(
     value: &Value,
     fault: BundleFault,
 ) -> Written {
-    let fields = out.schema.types().fields(type_name);
-    let type_use = fields
-        .and_then(|fields| fields.get(field))
-        .ok_or(Untold::Absent)?;
+    let fields = out.schema.types().fields(type_name).ok_or(Untold::Absent)?;
+    let type_use = fields.get(field).ok_or(Untold::Absent)?;
     let none = IndexMap::new(out.found.alloc);
     let place = place_in_value(out.found.alloc, type_use, &none, value, fault)?;
     let place = place.ok_or(Untold::Absent)?;
     to_field(&mut out.found, "type", type_name, field)?;
-    to_steps(&mut out.found, &place.steps)?;
     push_datum(&mut out.found, &place, "", fault)
 }
 
@@ -121,16 +118,13 @@ fn type_in<'a>(bundle: &'a Value, object: &str) -> Option<&'a str> {
     text_at(object_at(bundle, "objects")?.get(object)?, "type")
 }
 
-/// Goes to the object, the field, and the steps into its datum; nowhere for the bundle as a whole.
+/// Goes to the object and to the field; nowhere for the bundle as a whole.
 fn to_place(out: &mut Found, place: &FaultPlace) -> Written {
-    let Some(object) = place.object else {
-        return Ok(());
-    };
-    write!(out.place, "object {}", Named(object))?;
-    if let Some(field) = place.field {
-        write!(out.place, ", field {}", Named(field))?;
+    match (place.object, place.field) {
+        (Some(object), Some(field)) => to_field(out, "object", object, field),
+        (Some(object), None) => Ok(write!(out.place, "object {}", Named(object))?),
+        _ => Ok(()),
     }
-    to_steps(out, &place.steps)
 }
 
 /// Adds that the root names no object, and those that there are.
@@ -155,7 +149,7 @@ fn whole_words(
         ),
         (BundleFault::RootMissing, _) => no_root(&mut out.found, bundle, root),
         (BundleFault::UnknownType, _) => unknown_type(out, own),
-        (BundleFault::UnknownField, _) => { unknown_field(out, own, place.field.unwrap_or("")) }
+        (BundleFault::UnknownField, _) => unknown_field(out, own, place.field.unwrap_or("")),
         (BundleFault::RootType, Some(asked)) => {
             let (root, asked) = (Named(root), out.schema.types().name(asked));
             say!(out.found; "the root {root} is of the type {own} and should be of the type {asked}")

@@ -41,8 +41,7 @@ pub(crate) fn list<'a, I: Iterator<Item = &'a str> + Drop>(out: &mut Found, name
 
 /// Goes to a field of an object or of a type.
 pub(crate) fn to_field(out: &mut Found, sort: &str, name: &str, field: &str) -> Written {
-    write!(out.place, "{sort} {}", Named(name))?;
-    Ok(write!(out.place, ", field {}", Named(field))?)
+    Ok(write!(out.place, "{sort} {}, field {}", Named(name), Named(field))?)
 }
 
 /// Adds that a form isn't declared, and those that are.
@@ -146,12 +145,6 @@ pub(crate) fn data_words(
     if let Some(type_name) = text_at(command, "type") {
         return value_words(out, (type_name, field), value, fault);
     }
-    let bundle = stored.ok_or(Untold::Absent)?;
-    set_words(
-        out,
-        bundle,
-        (text_in(command, "object")?, field),
-        value,
-        fault,
-    )
+    let (bundle, object) = (stored.ok_or(Untold::Absent)?, text_in(command, "object")?);
+    set_words(out, bundle, (object, field), value, fault)
 }

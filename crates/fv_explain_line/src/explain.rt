@@ -1,17 +1,82 @@
-//! A refusal in words.
-use crate::commands::{Words, absence_words, data_words};
-use crate::redeclaring::{ErrorReply, bundle_fault, redeclare_words, refusal_of};
-use crate::visits::{ids_of, json_of, left_by, record_at, stored_for, visits_words};
-use fv_command_fault::{Absence, place_in_command, place_in_part};
-use fv_datum::text_at;
+//! A refusal in words; a redeclare's for its text, or for a stored record: C9, C13 and C14.
+use crate::bundles::put_words;
+use crate::commands::{Words, unknown_form};
+use crate::records::{command_words, ids_of};
+use fv_datum::{JsonFault, read_json, text_at};
+use fv_declare::{DeclFault, read_placed};
 use fv_declare_schema::Schema;
-use fv_engine_command::{Command, command_of, redeclare_of};
-use fv_engine_pending::Pending;
+use fv_engine_command::redeclare_of;
+use fv_explain_faults::locate;
 use fv_explain_places::{Found, Told, Untold, Written, command_shape, say};
+use fv_model::BundleFault;
 use fv_registry::RuleSet;
 use serde_json::Value;
 use std::alloc::Global;
-use std::str;
+use std::{fmt, str};
+
+/// The parts of a reply that refuses: its code and name, the fault of a bundle or of declarations, the part of a
+/// batch, and the id of a record that doesn't fit declarations.
+#[derive(Clone, Copy)]
+pub(crate) struct ErrorReply<'a> {
+    pub(crate) code: &'a str,
+    pub(crate) name: &'a str,
+    pub(crate) fault: Option<&'a str>,
+    pub(crate) part: Option<usize>,
+    pub(crate) id: Option<&'a str>,
+}
+
+/// The refusal that a reply is, if it is one.
+fn refusal_of(reply: &Value) -> Option<ErrorReply<'_>> {
+    let part = reply.get("part").and_then(Value::as_u64);
+    Some(ErrorReply {
+        code: reply.get("error")?.as_str()?,
+        name: reply.get("name")?.as_str()?,
+        fault: reply.get("fault").and_then(Value::as_str),
+        part: part.map(|number| number as usize),
+        id: reply.get("id").and_then(Value::as_str),
+    })
+}
+
+/// The code and the name, and behind them the fault and the part, if there are any.
+impl fmt::Display for ErrorReply<'_> {
+    fn fmt<W: fmt::Write>(&self, f: &mut fmt::Formatter<W>) -> fmt::Result {
+        write!(f, "{} {}", self.code, self.name)?;
+        if let Some(fault) = self.fault {
+            write!(f, " {fault}")?;
+        }
+        match self.part {
+            None => Ok(()),
+            Some(part) => write!(f, ", parts[{part}]"),
+        }
+    }
+}
+
+/// The fault of a bundle of that code.
+pub(crate) fn bundle_fault(code: &str) -> Option<BundleFault> {
+    match code {
+        "B0" => Some(BundleFault::Shape),
+        "B1" => Some(BundleFault::BadName),
+        "B2" => Some(BundleFault::RootMissing),
+        "B3" => Some(BundleFault::UnknownType),
+        "B4" => Some(BundleFault::UnknownField),
+        "B5" => Some(BundleFault::WrongKind),
+        "B6" => Some(BundleFault::DanglingRef),
+        "B7" => Some(BundleFault::RefType),
+        "B8" => Some(BundleFault::TooLarge),
+        "B9" => Some(BundleFault::RootType),
+        "B10" => Some(BundleFault::NoObject),
+        _ => None,
+    }
+}
+
+/// The JSON value that bytes are.
+pub(crate) fn json_of(alloc: Global, bytes: &[u8]) -> Told<Value> {
+    match read_json(alloc, bytes) {
+        Ok(value) => Ok(value),
+        Err(JsonFault::NotJson) => Err(Untold::Absent),
+        Err(JsonFault::Memory) => Err(Untold::Memory),
+    }
+}
 
 /// Adds what is wrong with bytes that are no JSON, as the library that reads them tells it: C2.
 fn not_json_words(out: &mut Found, line: &[u8]) -> Written {
@@ -32,46 +97,46 @@ fn not_json_words(out: &mut Found, line: &[u8]) -> Written {
     }
 }
 
-/// Adds why a command was refused: C4 to C9. `gets` are the replies to gets of the records that it names. Of a batch
-/// the part of the refusal's number is told, on the records as the parts before it leave them.
-fn command_words(out: &mut Words, refusal: ErrorReply, line: &Value, gets: &[String]) -> Written {
-    let command = command_of(out.found.alloc, line)?.ok_or(Untold::Absent)?;
-    let stored = stored_for(out, line, gets)?;
-    match (&command, refusal.part) {
-        _ if refusal.code == "C9" => visits_words(out, &command, stored),
-        (Command::Batch { parts }, Some(number)) => {
-            let told = line.get("parts").and_then(|parts| parts.get(number));
-            let told = told.ok_or(Untold::Absent)?;
-            let part = parts.get(number).ok_or(Untold::Absent)?;
-            let before = parts.get(..number).ok_or(Untold::Absent)?;
-            let records = left_by(out, before, stored)?;
-            alone_words(out, refusal, (&Command::Alone(*part), told), &records)
-        }
-        _ => alone_words(out, refusal, (&command, line), &stored),
+/// Adds what of a stored record doesn't fit other declarations. `record` is a get's reply.
+fn unfit_words(schema: &Schema, out: &mut Found, refusal: ErrorReply, record: &Value) -> Written {
+    let form = text_at(record, "form").ok_or(Untold::Absent)?;
+    let found = Found::new(out.alloc);
+    let mut unfit = Words { schema, found };
+    match (refusal.fault.and_then(bundle_fault), record.get("bundle")) {
+        (Some(fault), Some(bundle)) => put_words(&mut unfit, (form, bundle), fault)?,
+        _ => unknown_form(&mut unfit, form)?,
     }
+    write!(out.place, "record \"{}\"", refusal.id.unwrap_or(""))?;
+    say!(out; "{}", unfit.found)
 }
 
-/// Adds why a command that isn't a batch, or a part of one, was refused, by what was read and by its JSON: C4 to C8.
-fn alone_words<'a>(
-    out: &mut Words,
+/// Adds why a redeclare was refused: C9, C13 and C14. `records` has the reply to a get of the record that doesn't fit
+/// its text.
+fn redeclare_words<R: RuleSet>(
+    out: &mut Found,
+    rules: &R,
+    text: &str,
     refusal: ErrorReply,
-    (command, told): (&Command<'a>, &'a Value),
-    records: &Pending<'a>,
+    records: &[String],
 ) -> Written {
-    let bundle = record_at(records, text_at(told, "id")).map(|record| &record.bundle);
-    let absence = match (refusal.code, refusal.fault.and_then(bundle_fault)) {
-        ("C4", _) => Absence::Form,
-        ("C5", Some(fault)) => return data_words(out, told, bundle, fault),
-        ("C6", _) => Absence::Record,
-        ("C7", _) => Absence::Group,
-        ("C8", _) => Absence::Field,
-        _ => return Err(Untold::Absent),
-    };
-    let place = match (command, refusal.part) {
-        (Command::Alone(part), Some(_)) => place_in_part(out.schema, part, absence),
-        _ => place_in_command(out.schema, bundle, command, absence),
-    };
-    absence_words(out, told, bundle, place.ok_or(Untold::Absent)?)
+    if refusal.code == "C9" {
+        return say!(out at "text"; "a stored record has more than 4096 visits by these declarations");
+    }
+    if !matches!(refusal.code, "C13" | "C14") {
+        return Err(Untold::Absent);
+    }
+    match read_placed(out.alloc, rules, text.as_bytes()) {
+        Ok(schema) => {
+            let record = records.first().ok_or(Untold::Absent)?;
+            let record = json_of(out.alloc, record.as_bytes())?;
+            unfit_words(&schema, out, refusal, &record)
+        }
+        Err(placed) if matches!(placed.fault, DeclFault::Memory) => Err(Untold::Memory),
+        Err(placed) => {
+            let found = locate(out.alloc, rules, text.as_bytes(), placed)?;
+            say!(out at "text"; "{found}")
+        }
+    }
 }
 
 /// The ids of the records that gets have to show before `explain_refusal` can tell where a line is wrong; none

@@ -4,8 +4,7 @@
 mod bundles;
 mod commands;
 mod explain;
-mod redeclaring;
-mod visits;
+mod records;
 
 pub use explain::{explain_refusal, records_asked};
 pub use fv_explain_places::Untold;

@@ -1,6 +1,6 @@
 //! What stands in a draft that is refused, by numbers, and where: each call that goes there gives it.
 use crate::told::{Found, Told, Untold, Written};
-use fv_declare_definition::{Composing, Definition};
+use fv_declare_definition::Composing;
 use fv_declare_draft::{Draft, FieldDraft, GroupDraft, GroupForm, TypeDraft, Use};
 use fv_declare_judging::DeclFault;
 use fv_declare_schema::Place;
@@ -47,10 +47,7 @@ pub fn to_steps(out: &mut Found, steps: &[Step]) -> Written {
 /// Goes to the array that a use stands in.
 fn to_array(out: &mut Found, types: &[TypeDraft], given: &Use) -> Written {
     match &given.place {
-        Place::Whole => {
-            let declared = at(types, given.type_index)?;
-            out.path(&["types", declared.name, "constraints"])
-        }
+        Place::Whole => out.path(&["types", at(types, given.type_index)?.name, "constraints"]),
         Place::Field(field, steps, _) => {
             to_field(out, types, given.type_index, *field)?;
             to_steps(out, steps)?;
@@ -78,14 +75,6 @@ pub fn to_use<'u, 'a>(
     Ok(given)
 }
 
-/// A constraint that a declared one, which has a name, is composed of.
-#[derive(Clone, Copy)]
-pub struct ComposingPart<'a> {
-    pub owner: &'a str,
-    pub definition: &'a Definition,
-    pub composing: &'a Composing,
-}
-
 /// A draft that is refused for a fault, with all uses of constraints in it.
 #[derive(Drop)]
 pub struct Refused<'a> {
@@ -101,16 +90,11 @@ impl<'a> Refused<'a> {
     }
 
     /// Goes to one of the constraints that the declared one of a number is composed of.
-    pub fn to_part(&self, out: &mut Found, number: usize, index: usize) -> Told<ComposingPart<'a>> {
+    pub fn to_part(&self, out: &mut Found, number: usize, index: usize) -> Told<&'a Composing> {
         let (owner, definition) = entry_at(&self.draft.definitions, number)?;
-        let composing = at(&definition.composing, index)?;
         out.path(&["constraints", owner, "compose"])?;
         out.item(index)?;
-        Ok(ComposingPart {
-            owner,
-            definition,
-            composing,
-        })
+        at(&definition.composing, index)
     }
 
     /// The declared group of a number among all groups, of which `Default` is the first.

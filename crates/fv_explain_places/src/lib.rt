@@ -4,12 +4,12 @@
 
 mod drafts;
 mod misfits;
-mod reporting;
 mod told;
 mod words;
 
-pub use drafts::{ComposingPart, Refused, at, entry_at, to_field, to_steps, to_use};
+pub use drafts::{Refused, at, entry_at, to_field, to_steps, to_use};
 pub use misfits::{command_shape, shape};
-pub use reporting::{ReportedNode, reported};
 pub use told::{Found, Told, Untold, Written};
-pub use words::{KINDS, Named, Quoted, Who, attribute_word, built_in_key, find_message, kind_word};
+pub use words::{
+    KINDS, Named, Quoted, Who, attribute_word, built_in_key, find_message, kind_word, reported,
+};

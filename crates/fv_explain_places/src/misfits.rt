@@ -2,11 +2,8 @@
 use crate::say;
 use crate::told::{Found, Told, Untold, Written};
 use crate::words::Named;
-use fv_form::{
-    Entry, Flaw, FormFault, FormName, Inward, ValueForm, ask, command_misfit, draft_misfit,
-};
+use fv_form::{Flaw, FormFault, FormName, Inward, ValueForm, ask, command_misfit, draft_misfit};
 use serde_json::Value;
-use std::fmt;
 
 /// The words that the `do` of a command knows.
 const COMMANDS: &str =
@@ -22,25 +19,6 @@ fn value_at<'a>(mut value: &'a Value, steps: &[Inward]) -> Told<&'a Value> {
         value = inside.ok_or(Untold::Absent)?;
     }
     Ok(value)
-}
-
-/// The names of the members that an object may have, but for the one that names a command.
-#[derive(Clone, Copy)]
-struct Members(&'static [Entry]);
-
-impl fmt::Display for Members {
-    fn fmt<W: fmt::Write>(&self, f: &mut fmt::Formatter<W>) -> fmt::Result {
-        let names = self.0.iter().map(|entry| entry.name);
-        f.write_joined(names.filter(|name| *name != "do"), ", ")
-    }
-}
-
-/// The members that an object of a form may have.
-fn members_of(form: FormName, object: &Value) -> Told<Members> {
-    match ask(form, object) {
-        ValueForm::Object(entries) => Ok(Members(entries)),
-        _ => Err(Untold::Absent),
-    }
 }
 
 /// The name of the command or part that an object is, by its `do`; none where that knows no such word.
@@ -59,21 +37,27 @@ fn name_in(form: FormName, object: &Value) -> Option<&str> {
 
 /// Adds what an object of a form may have. What is neither a sequence nor a container may yet become one.
 fn known_in(out: &mut Found, form: FormName, object: &Value) -> Written {
-    match (form, members_of(form, object)?, name_in(form, object)) {
-        (_, members, Some(name)) => say!(out; "{name} has {members}"),
-        (FormName::Command, _, None) => {
+    let ValueForm::Object(entries) = ask(form, object) else {
+        return Err(Untold::Absent);
+    };
+    let names = entries.iter().map(|entry| entry.name);
+    let names: Vec<&str> = names.filter(|name| *name != "do").collect(out.alloc)?;
+    let members = names.join(out.alloc, ", ")?;
+    match (form, name_in(form, object)) {
+        (_, Some(name)) => say!(out; "{name} has {members}"),
+        (FormName::Command, _) => {
             say!(out; "the commands, by their member \"do\", are {COMMANDS}")
         }
-        (FormName::Part, _, None) => {
+        (FormName::Part, _) => {
             out.add("the parts, by their member \"do\", are put, set and remove")
         }
-        (FormName::Bundle, _, _) => out.add("a bundle has root and objects"),
-        (FormName::Object, _, _) => out.add("an object has type and fields"),
-        (FormName::Group, _, _) => out.add("expected inherits, sequence"),
-        (FormName::Held, Members([Entry { name: "ref", .. }]), _) => {
+        (FormName::Bundle, _) => out.add("a bundle has root and objects"),
+        (FormName::Object, _) => out.add("an object has type and fields"),
+        (FormName::Group, _) => out.add("expected inherits, sequence"),
+        (FormName::Held, _) if members.as_str() == "ref" => {
             out.add("expected ref, list, optional, map")
         }
-        (_, members, _) => say!(out; "expected {members}"),
+        _ => say!(out; "expected {members}"),
     }
 }
 
@@ -185,11 +169,10 @@ fn to_place(out: &mut Found, steps: &[Inward]) -> Written {
     for step in steps.iter().rev() {
         match (*step, depth) {
             (Inward::Item(index), _) => out.item(index)?,
-            (Inward::Member(name), 1) => out.member(name)?,
             (Inward::Member(name), 2) => write!(out.place, ", object {}", Named(name))?,
             (Inward::Member(name), _) => {
-                let colon = if out.place.is_empty() { "" } else { ": " };
-                out.place.push_str(colon)?;
+                let begins = depth == 1 || out.place.is_empty();
+                out.place.push_str(if begins { "" } else { ": " })?;
                 out.member(name)?;
             }
         }
@@ -205,22 +188,21 @@ fn to_place(out: &mut Found, steps: &[Inward]) -> Written {
 /// another form is told at that object.
 pub fn command_shape(out: &mut Found, command: &Value) -> Written {
     let fault = command_misfit(out.alloc, command)?.ok_or(Untold::Absent)?;
-    match (fault.form, fault.steps.as_slice()) {
-        (FormName::Given, [_, outer @ ..]) => to_place(out, outer)?,
+    let steps = fault.steps.as_slice();
+    let (place, words) = match (fault.form, steps) {
+        (FormName::Given, [_, outer @ ..]) => (outer, None),
         (FormName::Text, [Inward::Member("type"), outer @ ..]) if !outer.is_empty() => {
-            to_place(out, outer)?;
-            return out.add("the member \"type\" is no text");
+            (outer, Some("the member \"type\" is no text"))
         }
-        (form, steps) => {
-            to_place(out, steps)?;
-            match steps {
-                _ if form != FormName::Text => {}
-                [Inward::Member("root"), ..] => {
-                    return out.add("not a text; it is the name of an object");
-                }
-                _ => return out.add("not a text"),
-            }
+        (FormName::Text, [Inward::Member("root"), ..]) => {
+            (steps, Some("not a text; it is the name of an object"))
         }
+        (FormName::Text, _) => (steps, Some("not a text")),
+        _ => (steps, None),
+    };
+    to_place(out, place)?;
+    match words {
+        Some(words) => out.add(words),
+        None => flaw(out, command, &fault),
     }
-    flaw(out, command, &fault)
 }

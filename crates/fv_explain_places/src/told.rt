@@ -47,13 +47,6 @@ impl Found {
         Found { alloc, place, text }
     }
 
-    /// A place, and no words yet.
-    pub fn at(alloc: Global, place: &str) -> Result<Found, AllocError> {
-        let mut found = Found::new(alloc);
-        found.place.push_str(place)?;
-        Ok(found)
-    }
-
     /// Adds words on what is wrong.
     pub fn add<D: fmt::Display + Drop>(&mut self, words: D) -> Written {
         Ok(self.text.write(words)?)

@@ -1,7 +1,10 @@
-//! Values, constraints and kinds as they are shown in a line; keys of messages.
+//! Values, constraints and kinds as they are shown in a line; as which constraint each is reported; keys of messages.
+use crate::told::{Told, Untold};
 use fv_builtin::{BuiltinName, builtin_named};
+use fv_constraint_tree::{Node, Occurrence, Test};
 use fv_datum::{AttributeKind, Kind};
 use fv_declare_draft::MessageDraft;
+use std::alloc::Global;
 use std::fmt;
 
 /// The most characters of a value that are shown.
@@ -81,6 +84,28 @@ impl fmt::Display for Who<'_> {
             Some(used) => write!(f, ", of which {used} is composed,"),
         }
     }
+}
+
+/// The constraints in the tree of a use, in preorder, each with the number of the one that is reported where it
+/// refuses: of the outermost around it that reports as one, else its own; none where it asks nothing itself.
+pub fn reported(alloc: Global, occurrence: &Occurrence) -> Told<Vec<(&Node, Option<usize>)>> {
+    let mut reported = Vec::with_capacity(alloc, occurrence.size())?;
+    let mut single: usize = 0;
+    let mut silent: usize = 0;
+    for number in 0..occurrence.size() {
+        let node = occurrence.node(number).ok_or(Untold::Absent)?;
+        if number >= silent && node.single {
+            single = number;
+            silent = number.saturating_add(node.below).saturating_add(1);
+        }
+        let by = match node.test {
+            Test::Nothing if !node.single => None,
+            _ if number < silent => Some(single),
+            _ => Some(number),
+        };
+        reported.push((node, by))?;
+    }
+    Ok(reported)
 }
 
 /// All kinds of data, each with the word for it, as it is declared.

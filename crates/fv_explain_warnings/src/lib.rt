@@ -1,5 +1,5 @@
-//! Warnings of declarations that are taken, and may not mean what they say; which types lead to which, and which
-//! groups inherit which.
+//! Warnings of declarations that are taken, and may not mean what they say; the types that others lead to, and the
+//! groups that others inherit.
 #![tactic(auto)]
 
 mod reach;
@@ -7,5 +7,5 @@ mod twice;
 mod uses;
 mod warning;
 
-pub use reach::{Edges, all_edges, inherits, reached, valid_edges};
+pub use reach::{inherits, reached, validated};
 pub use warning::warnings;

@@ -25,7 +25,8 @@ impl Twice {
         name: String,
         place: &str,
     ) -> Told<String> {
-        let mut found = Found::at(alloc, place)?;
+        let mut found = Found::new(alloc);
+        found.place.push_str(place)?;
         found.member(name.as_str())?;
         let inside = found.place.clone()?;
         let count = names.get(&name).copied().unwrap_or(0).saturating_add(1);

@@ -7,7 +7,7 @@ use fv_datum::{Attribute, Attrs, Kind};
 use fv_declare_draft::MessageDraft;
 use fv_declare_schema::{Placed, Schema};
 use fv_explain_places::{
-    Named, ReportedNode, Told, Who, Written, built_in_key, find_message, kind_word, reported, say,
+    Named, Told, Who, Written, built_in_key, find_message, kind_word, reported, say,
 };
 use fv_model_types::{TypeId, Types, use_in};
 use fv_registry::RuleSet;
@@ -111,9 +111,8 @@ fn wrong_field(
         return say!(out; "{who} has no text {attribute} to name a field: it never refuses anything");
     };
     let (name, told) = (name.as_str(), Named(name.as_str()));
-    let field = types
-        .fields_at(owner)
-        .and_then(|fields| use_in(fields, name));
+    let fields = types.fields_at(owner);
+    let field = fields.and_then(|fields| use_in(fields, name));
     match field.map(|field| field.kind()) {
         Some(found) if found == kind => Ok(()),
         Some(found) => {
@@ -211,8 +210,8 @@ fn add_use<R: RuleSet>(
     placed: &Placed,
 ) -> Written {
     let all = reported(out.alloc, placed.occurrence())?;
-    let used = all.first().map_or("", |first| first.node.constraint());
-    for (number, ReportedNode { node, by }) in all.iter().enumerate() {
+    let used = all.first().map_or("", |(node, _)| node.constraint());
+    for (number, (node, by)) in all.iter().enumerate() {
         let told = (Who::in_tree(used, number, node.constraint()), *node);
         add_rule_warnings(out, rules, (types, placed.type_id()), told)?;
         add_pattern(out, told)?;

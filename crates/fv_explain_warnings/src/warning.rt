@@ -1,11 +1,11 @@
 //! Warnings as they are found; groups in which no constraint stands, messages that none shows, and types whose constraints
 //! no form judges.
-use crate::reach::{inherits, reached, valid_edges};
+use crate::reach::{inherits, validated};
 use crate::twice::members_twice;
 use crate::uses::add_uses;
 use fv_declare_draft::{Draft, MessageDraft};
 use fv_declare_schema::Schema;
-use fv_explain_places::{Found, Told, Written, built_in_key};
+use fv_explain_places::{Found, Told, Written, built_in_key, say};
 use fv_groups::{GroupId, Groups};
 use fv_model_types::TypeId;
 use fv_registry::RuleSet;
@@ -15,11 +15,9 @@ use std::fmt::Display;
 
 /// The groups in which a constraint stands.
 fn used_groups(alloc: Global, schema: &Schema) -> Told<IndexSet<usize>> {
-    let mut used = IndexSet::new(alloc);
+    let mut used: IndexSet<usize> = IndexSet::new(alloc);
     for placed in schema.occurrences() {
-        for group in placed.groups() {
-            used.insert(group.index)?;
-        }
+        used.extend(placed.groups().iter().map(|group| group.index))?;
     }
     Ok(used)
 }
@@ -38,9 +36,8 @@ fn add_empty(out: &mut Warned, schema: &Schema) -> Written {
         let group = GroupId { index };
         let mut ranks = groups.ranks(group).iter();
         if !ranks.any(|rank| is_used(groups, &used, *rank)) {
-            out.look_at("groups", groups.name(group))?;
-            out.add(
-                "no constraint stands in this group or in what it stands for, so that a check of it finds nothing: right where nothing is to be asked",
+            say!(out at "groups", groups.name(group);
+                "no constraint stands in this group or in what it stands for, so that a check of it finds nothing: right where nothing is to be asked"
             )?;
         }
     }
@@ -51,8 +48,7 @@ fn add_empty(out: &mut Warned, schema: &Schema) -> Written {
 fn add_unused(out: &mut Warned, messages: &[MessageDraft]) -> Written {
     for (number, message) in messages.iter().enumerate() {
         if !out.shown.contains(&number) && built_in_key(message.key).is_none() {
-            out.look_at("messages", message.key)?;
-            out.add("no constraint that is used shows this message")?;
+            say!(out at "messages", message.key; "no constraint that is used shows this message")?;
         }
     }
     Ok(())
@@ -65,13 +61,12 @@ fn add_unreached(out: &mut Warned, schema: &Schema) -> Written {
     }
     let roots = schema.forms().values().map(|form| form.root.index);
     let roots: Vec<usize> = roots.collect(out.alloc)?;
-    let judged = reached(out.alloc, &valid_edges(out.alloc, schema)?, &roots)?;
+    let judged = validated(out.alloc, schema, &roots)?;
     for index in 0..schema.types().count() {
         let mut uses = schema.occurrences().iter();
         if !judged.contains(&index) && uses.any(|placed| placed.type_id().index == index) {
-            out.look_at("types", schema.types().name(TypeId { index }))?;
-            out.add(
-                "no form reaches this type through valid, so that its constraints are asked by checkfield and checkvalue alone",
+            say!(out at "types", schema.types().name(TypeId { index });
+                "no form reaches this type through valid, so that its constraints are asked by checkfield and checkvalue alone"
             )?;
         }
     }
@@ -91,15 +86,16 @@ pub(crate) struct Warned {
 impl Warned {
     /// Adds a warning.
     pub(crate) fn add<D: Display + Drop>(&mut self, words: D) -> Written {
-        let mut found = Found::at(self.alloc, self.place.as_str())?;
+        let mut found = Found::new(self.alloc);
+        found.place.push_str(self.place.as_str())?;
         found.add(words)?;
         Ok(self.all.push(found)?)
     }
 
-    /// Looks at a member of a part of the declarations.
-    pub(crate) fn look_at(&mut self, part: &str, name: &str) -> Written {
-        let mut found = Found::at(self.alloc, part)?;
-        found.member(name)?;
+    /// Looks at a member of a member and so on.
+    fn path(&mut self, names: &[&str]) -> Written {
+        let mut found = Found::new(self.alloc);
+        found.path(names)?;
         self.place = found.place;
         Ok(())
     }

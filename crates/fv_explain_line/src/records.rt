@@ -1,9 +1,10 @@
-//! The records that a command names, as they are stored and as its parts leave them; which has too many visits, and
-//! with which group: C9.
-use crate::commands::Words;
+//! Why a command was refused, over the records that it names, as they are stored and as its parts leave them: C4 to C9.
+use crate::commands::{Words, absence_words, data_words};
+use crate::explain::{ErrorReply, bundle_fault, json_of};
 use fv_bundle::Bundle;
-use fv_datum::{JsonFault, read_json, text_at};
-use fv_engine_command::{Command, Part};
+use fv_command_fault::{Absence, place_in_command, place_in_part};
+use fv_datum::text_at;
+use fv_engine_command::{Command, Part, command_of};
 use fv_engine_pending::{PartFault, Pending, apply_all, read_parts};
 use fv_explain_places::{Found, Told, Untold, Written, say};
 use fv_model::{BundleFault, read_bundle};
@@ -30,15 +31,6 @@ pub(crate) fn ids_of(alloc: Global, command: &Value) -> Result<Vec<&str>, AllocE
     }
 }
 
-/// The JSON value that bytes are.
-pub(crate) fn json_of(alloc: Global, bytes: &[u8]) -> Told<Value> {
-    match read_json(alloc, bytes) {
-        Ok(value) => Ok(value),
-        Err(JsonFault::NotJson) => Err(Untold::Absent),
-        Err(JsonFault::Memory) => Err(Untold::Memory),
-    }
-}
-
 /// The record that the reply to a get shows; none where it shows none.
 fn shown_by(out: &Words, reply: &str) -> Told<Option<Stored>> {
     let alloc = out.found.alloc;
@@ -55,11 +47,7 @@ fn shown_by(out: &Words, reply: &str) -> Told<Option<Stored>> {
 }
 
 /// The records that a command names as they are stored, by the replies to gets of them.
-pub(crate) fn stored_for<'a>(
-    out: &Words,
-    command: &'a Value,
-    gets: &[String],
-) -> Told<Pending<'a>> {
+fn stored_for<'a>(out: &Words, command: &'a Value, gets: &[String]) -> Told<Pending<'a>> {
     let mut stored = Pending::new(out.found.alloc);
     for (id, reply) in ids_of(out.found.alloc, command)?.iter().zip(gets.iter()) {
         stored.leave(*id, shown_by(out, reply.as_str())?)?;
@@ -68,11 +56,7 @@ pub(crate) fn stored_for<'a>(
 }
 
 /// What parts leave on records.
-pub(crate) fn left_by<'a>(
-    out: &Words,
-    parts: &[Part<'a>],
-    mut records: Pending<'a>,
-) -> Told<Pending<'a>> {
+fn left_by<'a>(out: &Words, parts: &[Part<'a>], mut records: Pending<'a>) -> Told<Pending<'a>> {
     let (alloc, schema) = (out.found.alloc, out.schema);
     let steps = read_parts(alloc, schema, parts)?.ok_or(Untold::Absent)?;
     match apply_all(&mut records, alloc, schema.types(), steps) {
@@ -83,10 +67,7 @@ pub(crate) fn left_by<'a>(
 }
 
 /// The record at an id, where there are both.
-pub(crate) fn record_at<'p, 'a>(
-    records: &'p Pending<'a>,
-    id: Option<&'a str>,
-) -> Option<&'p Stored> {
+fn record_at<'p, 'a>(records: &'p Pending<'a>, id: Option<&'a str>) -> Option<&'p Stored> {
     records.records().get(&id?)?.as_ref()
 }
 
@@ -162,11 +143,7 @@ fn left_words<'a>(
 }
 
 /// Adds which record has too many visits, and with which group; of a check of one field that it asks for too many.
-pub(crate) fn visits_words<'a>(
-    out: &mut Words,
-    command: &Command<'a>,
-    stored: Pending<'a>,
-) -> Written {
+fn visits_words<'a>(out: &mut Words, command: &Command<'a>, stored: Pending<'a>) -> Written {
     match command {
         Command::Alone(part) => left_words(out, command, &[*part], stored),
         Command::Batch { parts } => left_words(out, command, parts, stored),
@@ -180,5 +157,52 @@ pub(crate) fn visits_words<'a>(
             out.found.add("more than 4096 visits, one for each plain group of a sequence")
         }
         Command::Get { .. } | Command::List { .. } => Err(Untold::Absent),
+    }
+}
+
+/// Adds why a command that isn't a batch, or a part of one, was refused, by what was read and by its JSON: C4 to C8.
+fn alone_words<'a>(
+    out: &mut Words,
+    refusal: ErrorReply,
+    (command, told): (&Command<'a>, &'a Value),
+    records: &Pending<'a>,
+) -> Written {
+    let bundle = record_at(records, text_at(told, "id")).map(|record| &record.bundle);
+    let absence = match (refusal.code, refusal.fault.and_then(bundle_fault)) {
+        ("C4", _) => Absence::Form,
+        ("C5", Some(fault)) => return data_words(out, told, bundle, fault),
+        ("C6", _) => Absence::Record,
+        ("C7", _) => Absence::Group,
+        ("C8", _) => Absence::Field,
+        _ => return Err(Untold::Absent),
+    };
+    let place = match (command, refusal.part) {
+        (Command::Alone(part), Some(_)) => place_in_part(out.schema, part, absence),
+        _ => place_in_command(out.schema, bundle, command, absence),
+    };
+    absence_words(out, told, bundle, place.ok_or(Untold::Absent)?)
+}
+
+/// Adds why a command was refused: C4 to C9. `gets` are the replies to gets of the records that it names. Of a batch
+/// the part of the refusal's number is told, on the records as the parts before it leave them.
+pub(crate) fn command_words(
+    out: &mut Words,
+    refusal: ErrorReply,
+    line: &Value,
+    gets: &[String],
+) -> Written {
+    let command = command_of(out.found.alloc, line)?.ok_or(Untold::Absent)?;
+    let stored = stored_for(out, line, gets)?;
+    match (&command, refusal.part) {
+        _ if refusal.code == "C9" => visits_words(out, &command, stored),
+        (Command::Batch { parts }, Some(number)) => {
+            let told = line.get("parts").and_then(|parts| parts.get(number));
+            let told = told.ok_or(Untold::Absent)?;
+            let part = parts.get(number).ok_or(Untold::Absent)?;
+            let before = parts.get(..number).ok_or(Untold::Absent)?;
+            let records = left_by(out, before, stored)?;
+            alone_words(out, refusal, (&Command::Alone(*part), told), &records)
+        }
+        _ => alone_words(out, refusal, (&command, line), &stored),
     }
 }
