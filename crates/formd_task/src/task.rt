@@ -4,6 +4,9 @@ use fv_datum::moment_ok;
 use fv_engine_lines::FixedClock;
 use std::alloc::Global;
 
+/// The version of the program, that of the files that it writes, and the kit that proved and built it.
+pub const VERSION: &str = "0.9.0, files of version 2, rattle-kit-13f";
+
 /// What the words ask.
 #[derive(Drop)]
 pub enum Task<'a> {
@@ -18,6 +21,10 @@ pub enum Task<'a> {
     Serve(Service<'a>),
     /// Serve declarations over a database in memory, and tell in words why lines are refused.
     Rehearse(Service<'a>),
+    /// Judge lines by declarations, without any record.
+    Judge(Service<'a>),
+    /// Say which version this is.
+    Version,
 }
 
 /// What is served.
@@ -25,7 +32,7 @@ pub enum Task<'a> {
 pub struct Service<'a> {
     /// The path of the file with the declarations.
     pub declarations: &'a str,
-    /// The path of the database; empty for one in memory.
+    /// The path of the database; empty for one in memory, and for none.
     pub database: &'a str,
     /// The clock that stands at the moment that was given, if one was.
     pub clock: Option<FixedClock>,
@@ -75,30 +82,45 @@ fn now_argument<'a>(alloc: Global) -> Arg<'a> {
         )
 }
 
-/// `rehearse --declarations FILE [--now SECONDS]`.
-fn rehearse_command<'a>(alloc: Global) -> Result<Command<'a>, Error> {
-    let declarations = Arg::new(alloc, "declarations")
+/// `--declarations FILE`.
+fn declarations_argument<'a>(alloc: Global, help: &'a str) -> Arg<'a> {
+    Arg::new(alloc, "declarations")
         .long("declarations")
         .value_name("FILE")
         .required(true)
-        .help("The declarations");
+        .help(help)
+}
+
+/// `judge --declarations FILE [--now SECONDS]`.
+fn judge_command<'a>(alloc: Global) -> Result<Command<'a>, Error> {
+    Ok(
+        Command::new(alloc, "judge")
+            .about(
+                "Answers command lines as where there is no record, under declarations. Keeps nothing.",
+            )
+            .arg(declarations_argument(alloc, "The declarations"))?
+            .arg(now_argument(alloc))?,
+    )
+}
+
+/// `rehearse --declarations FILE [--now SECONDS]`.
+fn rehearse_command<'a>(alloc: Global) -> Result<Command<'a>, Error> {
     Ok(
         Command::new(alloc, "rehearse")
             .about(
                 "Answers command lines over a database in memory, and says on standard error where a line is wrong. Keeps nothing.",
             )
-            .arg(declarations)?
+            .arg(declarations_argument(alloc, "The declarations"))?
             .arg(now_argument(alloc))?,
     )
 }
 
 /// `serve --declarations FILE --database FILE [--now SECONDS]`.
 fn serve_command<'a>(alloc: Global) -> Result<Command<'a>, Error> {
-    let declarations = Arg::new(alloc, "declarations")
-        .long("declarations")
-        .value_name("FILE")
-        .required(true)
-        .help("The declarations for a database that is empty; any other keeps its own");
+    let declarations = declarations_argument(
+        alloc,
+        "The declarations for a database that is empty; any other keeps its own",
+    );
     let database = Arg::new(alloc, "database")
         .long("database")
         .value_name("FILE")
@@ -113,6 +135,11 @@ fn serve_command<'a>(alloc: Global) -> Result<Command<'a>, Error> {
     )
 }
 
+/// `version`.
+fn version_command<'a>(alloc: Global) -> Command<'a> {
+    Command::new(alloc, "version").about("Prints which version this is.")
+}
+
 /// The words that the program knows.
 fn command<'a>(alloc: Global) -> Result<Command<'a>, Error> {
     Ok(
@@ -120,10 +147,13 @@ fn command<'a>(alloc: Global) -> Result<Command<'a>, Error> {
             .about("Judges and stores the records of a form: command lines in, replies out.")
             .bin_name("formd")?
             .no_binary_name(true)
+            .version(VERSION)
             .subcommand(serve_command(alloc)?)?
+            .subcommand(judge_command(alloc)?)?
             .subcommand(declarations_command(alloc)?)?
             .subcommand(explain_command(alloc)?)?
-            .subcommand(rehearse_command(alloc)?)?,
+            .subcommand(rehearse_command(alloc)?)?
+            .subcommand(version_command(alloc))?,
     )
 }
 
@@ -139,7 +169,7 @@ fn clock_at(alloc: Global, seconds: i64, command: Command<'_>) -> Result<FixedCl
     Err(command.error(ErrorKind::ValueValidation, text.as_str())?)
 }
 
-/// What `serve` or `rehearse` asks.
+/// What `serve`, `judge` or `rehearse` asks.
 fn service_of<'a>(
     alloc: Global,
     given: &ArgMatches<'a>,
@@ -157,7 +187,7 @@ fn service_of<'a>(
 }
 
 /// What the words ask, without the program's name. Refused by their text for the user, also where
-/// they call for help, or for want of memory.
+/// they call for help or for the version, or for want of memory.
 pub fn task_of<'a>(alloc: Global, words: &'a [String]) -> Result<Task<'a>, Error> {
     let matches = command(alloc)?.try_get_matches_from(words)?;
     match matches.subcommand() {
@@ -165,6 +195,11 @@ pub fn task_of<'a>(alloc: Global, words: &'a [String]) -> Result<Task<'a>, Error
             alloc,
             given,
             serve_command(alloc)?.bin_name("formd serve")?,
+        )?)),
+        Some(("judge", given)) => Ok(Task::Judge(service_of(
+            alloc,
+            given,
+            judge_command(alloc)?.bin_name("formd judge")?,
         )?)),
         Some(("rehearse", given)) => Ok(Task::Rehearse(service_of(
             alloc,
@@ -175,6 +210,7 @@ pub fn task_of<'a>(alloc: Global, words: &'a [String]) -> Result<Task<'a>, Error
             given.get_str("file").unwrap_or(""),
             given.get_flag("json"),
         )),
+        Some(("version", _)) => Ok(Task::Version),
         Some((_, given)) => Ok(Task::Declarations(given.get_str("file").unwrap_or(""))),
         None => Ok(Task::Demonstration),
     }

@@ -6,6 +6,7 @@ mod demonstration;
 mod explaining;
 mod failure;
 mod given;
+mod judging;
 mod rehearsing;
 mod running;
 mod serving;

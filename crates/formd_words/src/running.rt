@@ -2,11 +2,12 @@ use crate::declarations::check_declarations;
 use crate::demonstration::serve_demonstration;
 use crate::explaining::explain_file;
 use crate::failure::Failure;
+use crate::judging::judge_file;
 use crate::rehearsing::rehearse_file;
 use crate::serving::serve_files;
 use clap::Error;
 use clap::error::ErrorKind;
-use formd_task::{Task, task_of};
+use formd_task::{Task, VERSION, task_of};
 use fv_engine::Clock;
 use fv_registry::RuleSet;
 use std::io::{Read, Write};
@@ -18,6 +19,14 @@ fn report_words<E: Write>(refused: &Error, error: &mut E) -> u8 {
     }
     let _ = write!(error, "{refused}");
     2
+}
+
+/// Writes the line that tells the version, and flushes.
+fn say_version<W: Write>(output: &mut W) -> Result<(), Failure> {
+    if writeln!(output, "formd {VERSION}").is_err() || output.flush().is_err() {
+        return Err(Failure::Write);
+    }
+    Ok(())
 }
 
 /// Does what is asked.
@@ -41,7 +50,9 @@ fn run_task<R: RuleSet + Drop, I: Read, W: Write, E: Write, C: Clock>(
         Task::Rehearse(service) => {
             rehearse_file(rt, service, registry, reader, output, error, clock)
         }
+        Task::Judge(service) => judge_file(rt, service, registry, reader, output, clock),
         Task::Serve(service) => serve_files(rt, service, registry, reader, output, clock),
+        Task::Version => say_version(output),
     }
 }
 
@@ -50,9 +61,10 @@ fn run_task<R: RuleSet + Drop, I: Read, W: Write, E: Write, C: Clock>(
 /// `declarations F` prints `ok` where the declarations of the file F are taken;
 /// `serve --declarations F --database G [--now N]` serves the database at the path G, at the moment N
 /// or at those of the clock, under its own declarations; under those of the file F where it is empty;
+/// `judge --declarations F [--now N]` answers lines as where there is no record, and keeps nothing;
 /// `explain F [--json]` writes what the declarations of the file F declare, or where their first fault
 /// is; `rehearse --declarations F [--now N]` serves a database in memory, and tells on the error writer
-/// where lines are wrong.
+/// where lines are wrong; `version` prints which version this is.
 ///
 /// Gives the exit status: 0 done; 2 the words weren't understood, or call for help, with a text on
 /// the error writer; 3 where the declarations are refused and 4 for any other failure, with a line
@@ -70,7 +82,12 @@ pub fn run_words<R: RuleSet + Drop, I: Read, W: Write, E: Write, C: Clock>(
 {
     let task = match task_of(rt.alloc(), words) {
         Ok(task) => task,
-        Err(refused) => return report_words(&refused, error),
+        Err(refused) => {
+            if refused.kind() != ErrorKind::DisplayVersion {
+                return report_words(&refused, error);
+            }
+            Task::Version
+        }
     };
     match run_task(rt, task, registry, reader, output, error, clock) {
         Ok(()) => 0,

@@ -169,7 +169,7 @@ part_other (part.Bundle fault) = tt
 part_other part.NoRecord = tt
 part_other part.Memory = tt
 
-told_other : (what : Done) (n : ℕ) (f : PartFault) → IsOther (told_part what n (part_refusal f))
+pub told_other : (what : Done) (n : ℕ) (f : PartFault) → IsOther (told_part what n (part_refusal f))
 told_other what.Put n f = part_other f
 told_other what.Set n f = part_other f
 told_other what.Remove n f = part_other f

@@ -2,7 +2,9 @@ pub mod Becoming
 pub mod Changes
 pub mod Going
 pub mod Groups
+pub mod Makes
 pub mod OneField
+pub mod Recordless
 pub mod Redeclared
 pub mod Rooms
 pub mod Serving

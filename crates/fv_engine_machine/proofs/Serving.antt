@@ -4,6 +4,8 @@ use Rattle.std.specs.Option.{option_map_or, unwrap_or}
 use Rattle.serde_json.specs.Data as json
 use Rattle.fv_datum.specs.Parsing.{json_of}
 use Rattle.fv_engine_command.specs.Commands.{Asked, redeclare, of_records, Request, too_long, shape, command_of, redeclare_of, asks, asks_json}
+use Rattle.fv_declare_schema.specs.Declarations.{Declarations}
+use Rattle.fv_engine_machine.specs.Judges.{AnswersBare, Judges, RepliesBare, bare}
 use Rattle.fv_engine_machine.specs.Redeclaring.{RedeclareStep, Refits, JudgesAll, Reign}
 use Rattle.fv_engine_machine.specs.Refusals.{is_too_long}
 use Rattle.fv_engine_machine.specs.Services.{Attends, Replies, Responds, Service, reign_of, text_after}
@@ -121,3 +123,15 @@ long_responds means line moment text long is x = (
 pub short_responds : (means : Meanings) (line : List ℕ) (moment : ℤ) (text : List ℕ) → length line ≤ 1048576 → (x y : Service Records) → Replies means moment (asks_json (json_of line)) x text y
     → Responds means x line moment text y
 short_responds means line moment text short x y told = (told.0, told.1, subst (λ (a : Asked). Attends means moment a x told.0 y) (sym (asks_short line short)) told.2)
+
+-- the same where there is no record and no store
+module _ (known : Known) (means : Meanings) (ds : Declarations) (line : List ℕ) (moment : ℤ) (text : List ℕ) where
+  pub long_judged : 1048576 < length line → text ≡ answer_text (refused LineTooLong) → Judges known means ds line moment text
+  long_judged long is = (
+    refused LineTooLong,
+    is,
+    subst (λ (a : Asked). AnswersBare known means ds moment a (refused LineTooLong)) (sym (asks_long line long)) (λ e. cc, (bare ds, (inl (inl (refl, refl)), refl))),
+  )
+
+  pub short_judged : length line ≤ 1048576 → RepliesBare known means ds moment (asks_json (json_of line)) text → Judges known means ds line moment text
+  short_judged short told = (told.0, told.1, subst (λ (a : Asked). AnswersBare known means ds moment a told.0) (sym (asks_short line short)) told.2)

@@ -1,4 +1,5 @@
 pub mod Causes
+pub mod Judges
 pub mod Keeping
 pub mod Machines
 pub mod Redeclaring

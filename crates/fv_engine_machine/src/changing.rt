@@ -51,7 +51,7 @@ fn told_part<'a>(done: Done, part: usize, why: Refusal) -> Answer<'a>
 }
 
 /// The refusal of a part, or of all for want of memory.
-fn unmade<'a>(done: Done, part: usize, fault: PartFault) -> Answer<'a>
+pub(crate) fn unmade<'a>(done: Done, part: usize, fault: PartFault) -> Answer<'a>
     ensures memory { fault ≡ PartFault.Memory → answer_view result ≡ refused Refusal.Memory }
     ensures other { fault ≢ PartFault.Memory → answer_view result ≡ told_part done part (part_refusal fault) }
 {

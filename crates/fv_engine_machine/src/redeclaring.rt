@@ -42,7 +42,7 @@ pub fn read_rulebook<R: RuleSet + Drop>(
 }
 
 /// The answer to declarations that aren't taken.
-fn misdeclared<'a>(fault: DeclFault) -> Answer<'a>
+pub(crate) fn misdeclared<'a>(fault: DeclFault) -> Answer<'a>
     ensures memory { fault ≡ DeclFault.Memory → answer_view result ≡ refused Refusal.Memory }
     ensures other { fault ≢ DeclFault.Memory → answer_view result ≡ misdeclared fault }
 {

@@ -20,7 +20,7 @@ use Rattle.fv_engine_pending.specs.Touched.{leaves_record}
 use Rattle.fv_engine_pending.specs.Ways.{Way, overlay, standing_at, IsOn, left_at, without_id}
 use Rattle.fv_engine_pending.specs.declared.fault.PartFault.{PartFault}
 use Rattle.fv_engine_pending.specs.declared.fault.PartFault.TheVariants.{UnknownForm, NoRecord}
-use Rattle.fv_store.specs.Records.{Kept, Records, Roots, without_record}
+use Rattle.fv_store.specs.Records.{Kept, Records, Roots, no_records, without_record}
 use Rattle.fv_model_types.specs.Types.{Declared}
 
 some_of : {X : Type 0} (o : Option X) → is_some o ≡ true → (x : X) × (o ≡ Some x)
@@ -179,3 +179,27 @@ module _ (types : Declared) (forms : Roots) (n : ℕ) (parts : List Part) (way :
   pub unmade : (e : ℕ × PartFault) (m : Records) → Agrees way m → AllByRecursion (Covers way) parts → steps_made types n (map (staged types forms) parts) way ≡ Err e → parts_made types forms n parts m ≡ Err e
   unmade e m agrees covers is =
       ap (parts_made types forms n parts) (sym (over_agreeing way m agrees)) ∙ parts_seen types forms m n parts way covers ∙ ap (result_map_both (λ w. overlay w m) (λ f. f)) is
+
+-- ---- where there are no records
+
+module _ (types : Declared) (forms : Roots) where
+  -- there what stands on the way are the records, also at an id that isn't on it
+  bare_part : (p : Part) (w : Way) → part_made types forms p (overlay w no_records) ≡ seen types forms no_records (step_made types (staged types forms p) w)
+  bare_part (put id form j) w = put_seen types forms no_records id form w (is_some (at_name form forms)) (bundle_under types forms form j)
+  bare_part (set id object field j) w = set_seen types forms no_records id object field j w (standing_at id w)
+  bare_part (remove id) w = remove_seen types forms no_records id w (standing_at id w)
+
+  bare_next : (n : ℕ) (ps : List Part) (r : Result Way PartFault)
+      → ((new : Way) → parts_made types forms (n + 1) ps (overlay new no_records) ≡ seen types forms no_records (steps_made types (n + 1) (map (staged types forms) ps) new))
+      → and_then (parts_made types forms (n + 1) ps) (numbered n (seen types forms no_records r)) ≡ seen types forms no_records (and_then (steps_made types (n + 1) (map (staged types forms) ps)) (numbered n r))
+  bare_next n ps (Ok new) ih = ih new
+  bare_next n ps (Err fault) ih = refl
+
+  bare_parts : (n : ℕ) (parts : List Part) (w : Way) → parts_made types forms n parts (overlay w no_records) ≡ seen types forms no_records (steps_made types n (map (staged types forms) parts) w)
+  bare_parts n [] w = refl
+  bare_parts n (p ∷ ps) w =
+      ap (λ r. and_then (parts_made types forms (n + 1) ps) (numbered n r)) (bare_part p w) ∙ bare_next n ps (step_made types (staged types forms p) w) (bare_parts (n + 1) ps)
+
+  -- what parts make of no records is what they make of nothing on the way
+  pub bare_made : (n : ℕ) (parts : List Part) → parts_made types forms n parts no_records ≡ result_map_both (λ w. overlay w no_records) (λ e. e) (steps_made types n (map (staged types forms) parts) [])
+  bare_made n parts = bare_parts n parts []

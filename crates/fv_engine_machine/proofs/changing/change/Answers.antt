@@ -8,12 +8,10 @@ use Rattle.fv_engine_machine.specs.Keeping.{Unchanged, ChangesSo, FitsWhereHeld,
 use Rattle.fv_engine_machine.specs.Machines.{contents, with_map, over, room_in}
 use Rattle.fv_engine_machine.proofs.Becoming.{rests, unmoved, unchanged, stays_itself, fails_so}
 use Rattle.fv_engine_machine.proofs.Changes.{is_part_memory, change_memory, change_misshapen, change_unfound, change_unmade, change_settled, few_taken, one_set}
+use Rattle.fv_engine_machine.proofs.Makes.{agreeing_fit, counted, made, standing_touched, touched_stands, unmade}
 use Rattle.fv_engine_pending.specs.Fits.{AreTyped, Keeps}
 use Rattle.fv_engine_pending.specs.Steps.{staged, step_view, steps_made}
 use Rattle.fv_engine_pending.specs.Ways.{pending_view}
-use Rattle.fv_engine_pending.proofs.Fitting.{agreeing_fit}
-use Rattle.fv_engine_pending.proofs.Made.{made, unmade}
-use Rattle.fv_engine_pending.proofs.Touching.{touched_stands, standing_touched, counted}
 use Rattle.fv_engine_reply.specs.Answers.{Answer}
 use Rattle.fv_engine_reply.specs.AnswerView.{answer_view}
 use Rattle.fv_store.specs.Records.{Records}

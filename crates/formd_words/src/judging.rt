@@ -1,0 +1,32 @@
+//! Judging: lines answered without records.
+use crate::failure::Failure;
+use formd_task::{Service, read_file};
+use fv_engine::{Clock, LineJudge};
+use fv_engine_lines::answer_lines;
+use fv_registry::RuleSet;
+use std::io::{Read, Write};
+
+/// Answers lines under the declarations of a file, until the reader's end, each as a service that has
+/// no record would. Nothing is kept.
+///
+/// Refused as declarations not readable, then by their fault, then as not read or not written; for want
+/// of memory at any place.
+pub(crate) fn judge_file<R: RuleSet + Drop, I: Read, W: Write, C: Clock>(
+    rt: &HostRuntime,
+    service: Service<'_>,
+    registry: R,
+    reader: &mut I,
+    output: &mut W,
+    clock: &mut C,
+) -> Result<(), Failure>
+    requires { R.means registry }
+{
+    let alloc = rt.alloc();
+    let declarations = read_file(alloc, rt, service.declarations)?;
+    let mut judge = LineJudge::new(alloc, registry, &declarations)?;
+    let answered = match service.clock {
+        None => answer_lines(alloc, &mut judge, reader, output, clock),
+        Some(mut fixed) => answer_lines(alloc, &mut judge, reader, output, &mut fixed),
+    };
+    answered.map_err(Failure::from)
+}

@@ -1,0 +1,169 @@
+#!/usr/bin/env python3
+"""Compares `formd judge` with a service that has no record, line by line, and looks at its peak memory and at four of them beside one.
+
+    tests/judge.py                  with the program that `make` leaves
+    tests/judge.py PROGRAM          with another build of formd
+    tests/judge.py PROGRAM short    each 40th line, a fifth as many lines for the peak, and no seconds
+
+The lines are those of tests/data/rows that go to a service: puts, batches, checks of values and others, each with the declarations and the moment of its table. All lines of a
+table go to one judge; each that is compared goes to `formd serve` over a file that isn't there before. A million lines have to be answered at the peak memory of ten thousand,
+and on four processors four judges, who take the lines in turn, have to answer 3.4 times as many a second as one.
+"""
+
+import os
+import subprocess
+import sys
+import tempfile
+import time
+from concurrent.futures import ThreadPoolExecutor
+from pathlib import Path
+
+ROOT = Path(__file__).resolve().parent.parent
+sys.path.append(str(ROOT / "bench"))
+
+import rows
+from shapes import SHAPES, compact
+
+PROGRAM, SHORT = rows.PROGRAM, "short" in sys.argv[2:]
+EACH = 40 if SHORT else 1
+MANY = 200_000 if SHORT else 1_000_000
+FEW = 10_000
+# of the smaller peak
+ALLOWED = 1.02
+LEAST_GAIN = 3.4
+ROOM = "/dev/shm" if os.path.isdir("/dev/shm") else None
+failed = count = 0
+
+
+def look(name, found, wanted):
+    global failed, count
+    count += 1
+    if found != wanted:
+        failed += 1
+        print(f"{name:.300}:\n  wanted {wanted!r:.1000}\n  found  {found!r:.1000}")
+
+
+def asked():
+    """What the tables of rows ask of services: declarations, lines, a moment."""
+    found = []
+
+    class Listening(rows.Service):
+        def ask(self, lines, now=0):
+            found.append((self.declarations.read_bytes(), [line.encode() for line in lines], now))
+            return ["{}"] * len(lines)
+
+    rows.Service = Listening
+    for file in sorted(rows.DATA.glob("*.rows")):
+        for table in rows.tables(file):
+            if file.name != "wrong.rows" and table.kind in ("bundles", "judged", "lines", "values"):
+                with tempfile.TemporaryDirectory(dir=ROOM) as folder:
+                    list(rows.KINDS[table.kind](table, folder))
+    return found
+
+
+def answered(words, lines):
+    ran = subprocess.run([PROGRAM, *words], input=b"".join(line + b"\n" for line in lines), capture_output=True, timeout=300)
+    return (ran.returncode, ran.stderr, ran.stdout.split(b"\n"))
+
+
+def compared(declarations, lines, now, chosen):
+    """What a judge answers to chosen lines among all of these, and what a service without a record answers to each by itself."""
+    with tempfile.TemporaryDirectory(dir=ROOM) as folder:
+        file, base = Path(folder) / "declarations.json", Path(folder) / "records.db"
+        file.write_bytes(declarations)
+        status, error, replies = answered(["judge", "--declarations", file, f"--now={now}"], lines)
+        if (status, error, len(replies)) != (0, b"", len(lines) + 1):
+            return [(lines[0], (status, error, len(replies)), (0, b"", len(lines) + 1))]
+        found = []
+        for at in chosen:
+            for left in Path(folder).glob("records.db*"):
+                left.unlink()
+            wanted = answered(["serve", "--declarations", file, "--database", base, f"--now={now}"], [lines[at]])
+            found.append((lines[at], (0, b"", [replies[at], b""]), wanted))
+        return found
+
+
+def compare_all():
+    """Each line that the rows ask, in all `EACH`th."""
+    number, work = 0, []
+    for declarations, lines, now in asked():
+        chosen = [at for at in range(len(lines)) if (number + at) % EACH == 0]
+        number += len(lines)
+        if chosen:
+            work.append((declarations, lines, now, chosen))
+    with ThreadPoolExecutor(os.cpu_count()) as pool:
+        for found in pool.map(lambda task: compared(*task), work):
+            for line, told, wanted in found:
+                look(line.decode(errors="replace"), told, wanted)
+    print(f"{number} lines to judges, {count} compared with a service that has no record")
+
+
+def puts(shape, number):
+    """Lines that put bundles of a shape, each tenth of them refused for its form's name."""
+    _, form, bundle, _ = SHAPES[shape]
+    for at in range(number):
+        yield compact({"do": "put", "id": f"r{at}", "form": form if at % 10 else "nobody", "bundle": bundle(at)}).encode() + b"\n"
+
+
+def peak(declarations, number):
+    """The peak memory of a judge of so many lines, in KiB."""
+    words = [PROGRAM, "judge", "--declarations", declarations, "--now=0"]
+    with subprocess.Popen(words, stdin=subprocess.PIPE, stdout=subprocess.DEVNULL) as run:
+        for line in puts("demonstration", number):
+            run.stdin.write(line)
+        run.stdin.close()
+        _, status, used = os.wait4(run.pid, 0)
+        run.returncode = os.waitstatus_to_exitcode(status)
+    look(f"a judge of {number} lines", run.returncode, 0)
+    return used.ru_maxrss
+
+
+def look_at_peaks(folder):
+    declarations = folder / "declarations.json"
+    declarations.write_text(compact(SHAPES["demonstration"].declarations))
+    few, many = peak(declarations, FEW), peak(declarations, MANY)
+    look(f"peak memory: {few} KiB of {FEW} lines, {many} KiB of {MANY}", many <= few * ALLOWED, True)
+    print(f"peak memory: {few} KiB of {FEW:,} lines, {many} KiB of {MANY:,}")
+
+
+def seconds(declarations, parts):
+    """The seconds until as many judges as there are parts have answered all lines of theirs."""
+    begun = time.monotonic()
+    runs = []
+    for part in parts:
+        with open(part, "rb") as lines:
+            runs.append(subprocess.Popen([PROGRAM, "judge", "--declarations", declarations, "--now=0"], stdin=lines, stdout=subprocess.DEVNULL))
+    for run in runs:
+        look("a judge", run.wait(), 0)
+    return time.monotonic() - begun
+
+
+def look_at_four(folder):
+    """The order's lines by one judge, and by four who take them in turn."""
+    declarations, all_of_them = folder / "declarations.json", folder / "lines"
+    declarations.write_text(compact(SHAPES["order"].declarations))
+    lines = list(puts("order", 60_000))
+    all_of_them.write_bytes(b"".join(lines))
+    quarters = [folder / f"lines{at}" for at in range(4)]
+    for at, quarter in enumerate(quarters):
+        quarter.write_bytes(b"".join(lines[at::4]))
+    gains = sorted(seconds(declarations, [all_of_them]) / seconds(declarations, quarters) for _ in range(5))
+    print(f"four judges answer {gains[2]:.2f} times as many lines a second as one (five runs: {gains[0]:.2f} to {gains[4]:.2f}; {os.cpu_count()} processors)")
+    if os.cpu_count() >= 4:
+        look("four judges beside one", gains[2] >= LEAST_GAIN, True)
+
+
+def main():
+    if not PROGRAM.is_file():
+        raise SystemExit(f"{PROGRAM} isn't there: make it by `make`")
+    compare_all()
+    with tempfile.TemporaryDirectory(dir=ROOM) as folder:
+        look_at_peaks(Path(folder))
+        if not SHORT:
+            look_at_four(Path(folder))
+    print(f"{count} looks, {failed} wrong")
+    return 1 if failed or not count else 0
+
+
+if __name__ == "__main__":
+    sys.exit(main())
