@@ -1,6 +1,6 @@
 #!/usr/bin/env python3
 """Refuses each of formd's requests for memory in turn: those of each command, taken and refused, of its start, and of an opening that migrates;
-and those of single calls of the libraries.
+and those of openings whose database is opened again by the same process.
 
     tests/refused_allocations.py                       the programs that `make` and `rt run` in crates/refused_calls leave
     tests/refused_allocations.py PROGRAM               another build of formd
@@ -18,8 +18,8 @@ A run whose start has one request refused serves its lines, or ends with status 
 run, undisturbed, answers as ever. The same over a file of version 1: behind each run it is of version 1 or of
 version 2, with the same records, and a run that isn't disturbed finds them.
 
-A call by itself answers what it does undisturbed, or that memory was refused; then the same call again, with nothing refused, answers as ever,
-and what stands in its database is what was there before the first, or what it makes.
+An opening by itself answers what it does undisturbed, or that memory was refused; then the same opening of the database that came back, with nothing refused, answers as ever,
+and so does one by declarations that are taken.
 """
 
 import itertools
@@ -476,22 +476,30 @@ def runs(page, words, lines, before=lambda: None):
             break
 
 
-def starts(folder, page):
-    """Declarations that are read, an empty file that is made a database, and one that is opened, each with a request refused."""
-    given, none, kept, file = folder / "d.json", folder / "none.json", folder / "kept.db", folder / "g2.db"
-    given.write_text(declarations())
-    none.write_text(NO_DECLARATIONS)
+def read(page, file, wanted):
+    """Declarations that are read, with each request refused: the run ends as it does undisturbed, or for want of memory."""
     early = last = bad = 0
-    for number, run in runs(page, ["declarations", given], b""):
+    for number, run in runs(page, ["declarations", file], b""):
         if (run.returncode, run.stdout, run.stderr) == (4, b"", b"formd: memory\n"):
             early += 1
-        elif (run.returncode, run.stdout, run.stderr) != (0, b"ok\n", b""):
+        elif (run.returncode, run.stdout, run.stderr) != wanted:
             bad += 1
             tell(f"declarations, request {number}: {run}")
         last += 1
     if last == 1:
         tell("declarations: no request was refused")
-    print(f"declarations, read: {last - 1} requests for memory, each refused in its turn, {early} ended with status 4; {bad} lost")
+    print(f"declarations of {file.name}, read: {last - 1} requests for memory, each refused in its turn, {early} ended with status 4; {bad} lost")
+
+
+def starts(folder, page):
+    """Declarations that are read, an empty file that is made a database, and one that is opened, each with a request refused."""
+    given, none, kept, file = folder / "d.json", folder / "none.json", folder / "kept.db", folder / "g2.db"
+    given.write_text(declarations())
+    none.write_text(NO_DECLARATIONS)
+    read(page, given, (0, b"ok\n", b""))
+    ring = folder / "ring.json"
+    ring.write_text(json.dumps({**json.loads(declarations()), "messages": {"p": "{q}", "q": "{p}"}}))
+    read(page, ring, (3, b"", b"formd: declarations refused: F20 MessageCycle\n"))
     model = Model(json.loads(declarations()), {})
     made = [compact(line) for line in FIRST]
     filled = "".join(compact(model.answer(line)) + "\n" for line in made)
@@ -531,6 +539,27 @@ def starts(folder, page):
 
     over("an empty file, opened", given, [compact({"do": "list", "form": "item"})], [compact({"ids": [], "ok": "list"})], False)
     over("a file with records, opened", none, lines, shown, True)
+
+
+def rehearsed(folder, page):
+    """A redeclare of declarations with a fault, rehearsed with each request refused: want of memory is told by no words, the fault by the words of its place, if there is memory for them."""
+    (folder / "d.json").write_text(declarations())
+    line = compact(redeclare(json.dumps({"types": {}, "forms": {"f": {"root": "T"}}}))).encode() + b"\n"
+    fault = b'{"error":"C13","fault":"F4","name":"Declarations"}\n'
+    words = b'line 1: C13 Declarations F4: text: forms.f.root: type "T" isn\'t declared\n'
+    last = wants = told = bad = 0
+    for number, run in runs(page, ["rehearse", "--declarations", folder / "d.json", "--now", "0"], line):
+        found = (run.returncode, run.stdout, run.stderr)
+        wants += run.stdout == compact(MEMORY).encode() + b"\n"
+        told += run.stderr == words
+        may_be = [(0, fault, words), (0, fault, b""), (0, compact(MEMORY).encode() + b"\n", b""), (4, b"", b"formd: memory\n")]
+        if found not in may_be:
+            bad += 1
+            tell(f"a rehearsal, request {number}: {run}")
+        last += 1
+    if not told or not wants:
+        tell(f"a rehearsal: {told} told in words, {wants} refused for want of memory")
+    print(f"a redeclare rehearsed: {last - 1} requests for memory, each refused in its turn, {wants} replies C12 without a word, {told} told in words; {bad} lost")
 
 
 # A file of version 1
@@ -616,7 +645,7 @@ def migration(folder, page):
           f"version 1 behind {versions[1]}, version 2 behind {versions[2] - 1}, and each opened to the same records")
 
 
-# Calls by themselves
+# Openings by themselves
 
 def shown(model):
     """A get of each record, a list, and a checkvalue of a field that only some declarations have, on one line."""
@@ -624,52 +653,26 @@ def shown(model):
     return " ".join(compact(model.answer(compact(line))) for line in questions)
 
 
-def calls():
-    """What each call by itself answers: the lines that tell it, the first of them told again when the call is made again, and those that tell instead that memory was refused."""
+def openings():
+    """What each opening answers by itself: what tells it, also when it is made again, what an opening behind both tells, and what tells instead that memory was refused."""
     stored = Model(json.loads(declarations()), {})
     stored.answer(compact(FIRST[0]))
     stored.answer(compact(put("r3", "a", **FIRST[1]["bundle"]["objects"])))
-    new = put("r2", "a", a=item(count=2, name="ab", next="b"), b=item(name="z"))
-    made = Model(stored.declared, stored.records)
-    made.answer(compact(new))
-    changed = Model(made.declared, made.records)
-    changed.records = {**changed.records, "r3": ("item", {"root": "a", "objects": {**FIRST[1]["bundle"]["objects"], "c": item(name="z")}})}
-    del changed.records["r1"]
-    anew = Model(stored.declared, stored.records)
-    redeclared = compact(anew.answer(compact(redeclare(declarations(4, more=True)))))
-    long = compact(stored.answer(compact(put("r2", "a", a=item(count=2, name="abcd")))))
-    empty, before, behind = shown(Model(stored.declared, {})), shown(stored), shown(made)
-    ok, memory = compact({"ok": "put"}), compact(MEMORY)
-    stands = [f"stands {before}"]
+    empty, before = (f"opened {shown(model)}" for model in (Model(stored.declared, {}), stored))
     # (the tables that a refused opening leaves)
-    second, first = "about object record", "about record"
-    r3 = compact(without_nulls(stored.records["r3"][1]))
-    return {
-        "read_schema": (f"read; next.tag: {TAG}; tag: {TAG}", [], ["Memory"]),
-        "read_schema refused": ("MessageCycle", [], ["Memory"]),
-        "walk": ("walked; next.tag 3; tag 3", [], ["Memory"]),
-        "walk refused": ("UnknownGroup", [], ["Memory"]),
-        "Store::open empty": (f"opened {empty}", [], ["Memory"]),
-        "Store::open": (f"opened {before}", [], [f"Memory {second}"]),
-        "Store::open migrating": (f"opened {before}", [], [f"Memory {first}"]),
-        "Store::open refused": (f"OtherVersion {first}", [], [f"Memory {first}"]),
-        "commit": (f"committed {shown(changed)}", [], [f"Memory {before}"]),
-        "get": (f"item {r3}", stands, ["Memory"]),
-        "get nothing": ("none", stands, ["Memory"]),
-        "list": ("listed r1 r3", stands, ["Memory"]),
-        "Engine::open empty": (f"opened {empty}", [f"stands {empty}"], ["Memory"]),
-        "Engine::open": (f"opened {before}", stands, [f"Memory {second}"]),
-        "Engine::open migrating": (f"opened {before}", stands, [f"Memory {first}", f"Memory {second}"]),
-        "Engine::open refused": (f"Declarations {second}", stands, [f"Memory {second}"]),
-        "run": (f"{ok} {behind}", [], [f"{memory} {before}"]),
-        "run refused": (f"{long} {before}", [], [f"{memory} {before}"]),
-        "run redeclare": (f"{redeclared} {shown(anew)}", [], [f"{memory} {before}"]),
-        "serve": (f"{ok} {behind}", [], [f"Memory {before}", f"{memory} {before}"]),
-    }
+    first, second = "about record", "about object record"
+    return [
+        ("an empty database", empty, empty, ["Memory"]),
+        ("one with records", before, before, [f"Memory {second}"]),
+        ("one of version 1", before, before, [f"Memory {first}", f"Memory {second}"]),
+        ("one of version 3", f"Store {first}", f"Store {first}", [f"Memory {first}"]),
+        ("one with records, for declarations that are refused", f"Declarations {second}", before, [f"Memory {second}"]),
+        ("one of version 1, for declarations that are refused", f"Declarations {first}", before, [f"Memory {first}"]),
+    ]
 
 
 class Calls:
-    """A run of the program of the calls."""
+    """A run of the program of the openings."""
 
     def __init__(self, page):
         self.page = page
@@ -685,7 +688,7 @@ class Calls:
         return [self.run.stdout.readline().decode().rstrip("\n") for _ in range(count)]
 
     def make(self, name, count, refused):
-        """The lines that tell the answers, where one request of the call is refused, and whether one was."""
+        """The lines that tell the answers, where one request of the opening is refused, and whether one was."""
         if self.say(name, 1) != ["ready"]:
             sys.exit(f"{name}, request {refused}: not ready")
         self.page.refuse(refused)
@@ -702,13 +705,13 @@ class Calls:
 
 
 def by_themselves(page):
-    """Each call with each of its requests refused in turn."""
+    """Each opening with each of its requests refused in turn."""
     program = Calls(page)
-    for name, (wanted, stands, memory) in calls().items():
+    for which, (name, wanted, behind, memory) in enumerate(openings()):
         refused, wants, before = 0, 0, lost
         for number in numbers():
-            (first, *rest), was = program.make(name, 2 + len(stands), number)
-            if rest != [wanted, *stands] or first not in ([wanted, *memory] if was else [wanted]):
+            (first, *rest), was = program.make(str(which), 3, number)
+            if rest != [wanted, behind] or first not in ([wanted, *memory] if was else [wanted]):
                 tell(f"{name}, request {number}: {first:.300} and then {rest!r:.600}, not {wanted:.300}")
             wants += first in memory
             if not was:
@@ -716,7 +719,7 @@ def by_themselves(page):
             refused += 1
         if not refused:
             tell(f"{name}: none of its requests was refused")
-        print(f"{name}, by itself: {refused} requests for memory, each refused in its turn, {wants} of them answered so; {lost - before} lost", flush=True)
+        print(f"{name}, opened by itself: {refused} requests for memory, each refused in its turn, {wants} of them answered so; {lost - before} lost", flush=True)
     program.end()
 
 
@@ -731,6 +734,7 @@ def main():
         by_themselves(page)
         commands(folder, page)
         starts(folder, page)
+        rehearsed(folder, page)
         migration(folder, page)
     print(f"requests for memory refused: {lost} lost")
     return 1 if lost else 0

@@ -1,8 +1,9 @@
 /* Preloaded into a program, fails its calls of one file from one of them on. The file that STOP_PAGE
  * names holds four numbers of eight bytes: which file (0 the database, 1 its log, 2 standard input,
- * 3 standard output); the first call that fails, where 0 fails none; how many bytes a read or a write
- * of the last two takes at most, where 0 sets no limit; and how many calls there were. The first write
- * that fails has written half of its bytes where the first call is given as a number below 0. */
+ * 3 standard output, 4 one whose name ends in .json); the first call that fails, where 0 fails none; how
+ * many bytes a read or a write of the streams takes at most, where 0 sets no limit and -1 lets a write take
+ * nothing, and of a .json file the error by which a call fails; and how many calls there were. The first
+ * write that fails has written half of its bytes where the first call is given as a number below 0. */
 #define _GNU_SOURCE
 #include <errno.h>
 #include <fcntl.h>
@@ -34,16 +35,10 @@ __attribute__((constructor)) static void begin(void)
     page = there;
 }
 
-static int is_log(const char *path)
+static int ends(const char *path, const char *end)
 {
-    size_t length = strlen(path);
-    return length > 4 && strcmp(path + length - 4, "-wal") == 0;
-}
-
-static int is_database(const char *path)
-{
-    size_t length = strlen(path);
-    return length > 3 && strcmp(path + length - 3, ".db") == 0;
+    size_t length = strlen(path), tail = strlen(end);
+    return length > tail && strcmp(path + length - tail, end) == 0;
 }
 
 /* Whether a call of a file fails; 2 for the first that does where half of its bytes are written. */
@@ -56,7 +51,7 @@ static int stops(int file)
     first = page[1] < 0 ? -page[1] : page[1];
     if (first == 0 || number < first)
         return 0;
-    errno = EIO;
+    errno = file == 4 ? (int) page[2] : EIO;
     return page[1] < 0 && number == first ? 2 : 1;
 }
 
@@ -67,13 +62,13 @@ static int file_of(int fd)
 
 static size_t width(int fd, size_t count)
 {
-    return page && page[2] > 0 && file_of(fd) == page[0] && page[0] >= 2 && (long long) count > page[2] ? (size_t) page[2] : count;
+    return page && page[2] > 0 && file_of(fd) == page[0] && (page[0] == 2 || page[0] == 3) && (long long) count > page[2] ? (size_t) page[2] : count;
 }
 
 int open(const char *path, int flags, ...)
 {
     va_list given;
-    int file = is_log(path) ? 1 : is_database(path) ? 0 : -1, fd, mode;
+    int file = ends(path, "-wal") ? 1 : ends(path, ".db") ? 0 : ends(path, ".json") ? 4 : -1, fd, mode;
     va_start(given, flags);
     mode = flags & (O_CREAT | O_TMPFILE) ? va_arg(given, int) : 0;
     va_end(given);
@@ -99,7 +94,10 @@ ssize_t read(int fd, void *bytes, size_t count)
 
 ssize_t write(int fd, const void *bytes, size_t count)
 {
-    return stops(file_of(fd)) ? -1 : syscall(SYS_write, fd, bytes, width(fd, count));
+    int how = stops(file_of(fd));
+    if (page && page[2] == -1 && file_of(fd) == 3 && page[0] == 3)
+        return 0;
+    return how ? -1 : syscall(SYS_write, fd, bytes, width(fd, count));
 }
 
 ssize_t pread(int fd, void *bytes, size_t count, off_t at)

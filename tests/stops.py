@@ -11,11 +11,15 @@ batch of a put and a remove, a remove, a redeclare, and an opening that migrates
 C12, or the opening is refused with status 4; then a run that isn't disturbed finds the records and declarations from before the
 command or from behind it, and from behind it where it was taken.
 
-Standard input and output take 37 bytes a call and fail at each call in turn, over a list of all commands: what is written
-is the replies to the whole lines that were read, or the front of the replies that was taken; and the records are those behind the
-commands answered, or behind one more.
+Standard input and output take 37 bytes a call and fail at each call in turn, over a list of all commands, and one byte or seven over a put and two gets, the last without its
+end: what is written is the replies to the whole lines that were read, or the front of the replies that was taken; and the records are those behind the
+commands answered, or behind one more. A write that takes nothing is a failed one. Lines at the limit, beyond it, of no JSON and without an end, by one byte a read and by as many as are
+asked for, are answered as ever, by more than 2^22 reads too.
+
+The file of the declarations fails at each call, by an error of the disk, as a folder, and for want of memory.
 """
 
+import errno
 import itertools
 import json
 import mmap
@@ -32,7 +36,7 @@ sys.dont_write_bytecode = True
 from refused_allocations import FIRST, FIRST_BUNDLES, IDS, LINES, NO_DECLARATIONS, PROGRAM, Model, compact, declarations, first_file, redeclare, served, version_of
 
 HERE = Path(__file__).resolve().parent
-DATABASE, LOG, INPUT, OUTPUT = range(4)
+DATABASE, LOG, INPUT, OUTPUT, DECLARATIONS = range(5)
 FILES = itertools.cycle([(LOG,), (DATABASE,)] if "short" in sys.argv[2:] else [(DATABASE, LOG)])
 NAMES = ("the database file", "the log", "standard input", "standard output")
 REFUSALS = ('{"error":"C11","name":"Store"}', '{"error":"C12","name":"Memory"}')
@@ -152,47 +156,103 @@ def disks(folder, page):
     disk(folder, page, "an opening that migrates", "first", None, old, old, True)
 
 
-def streams(folder, page):
-    """All commands, taken and refused, by streams of 37 bytes a call."""
-    (folder / "d.json").write_text(declarations())
+def stream(folder, page, name, lines, which, width, is_ended=True):
+    """Lines by a stream of so many bytes a call, which fails at each call in turn."""
+    error = b"formd: read\n" if which == INPUT else b"formd: write\n"
     words = served(folder / "d.json", folder / "g.db")
-    lines = [compact(line) for line in FIRST] + [compact(line) for _, _, line in LINES]
     models, replies = [Model(json.loads(declarations()), {})], []
     for line in lines:
         model = Model(models[-1].declared, models[-1].records)
         replies.append(compact(model.answer(line)) + "\n")
         models.append(model)
     text, wanted = "".join(line + "\n" for line in lines).encode(), "".join(replies).encode()
+    text = text if is_ended else text[:-1]
     ends = [len("".join(line + "\n" for line in lines[:count]).encode()) for count in range(len(lines) + 1)]
-    for which, width, error in (INPUT, 37, b"formd: read\n"), (OUTPUT, 37, b"formd: write\n"):
-        number, bad = 0, lost
+    number, bad = 0, lost
+    while True:
+        number += 1
+        replaced(folder, None)
+        run, calls = page.run(words, text, which, number, width)
+        if calls < number:
+            if (run.returncode, run.stdout, run.stderr) != (0, wanted, b""):
+                tell(f"{NAMES[which]}, undisturbed: {run}")
+            break
+        at = f"{NAMES[which]} of {width} bytes a call stopped at call {number}"
+        if (run.returncode, run.stderr) != (4, error):
+            tell(f"{at}: status {run.returncode}, {run.stderr!r:.200}")
+        if which == INPUT:
+            whole = max(count for count, end in enumerate(ends) if end <= min((number - 1) * width, len(text)))
+            if run.stdout != "".join(replies[:whole]).encode():
+                tell(f"{at}: {whole} lines read, and {run.stdout!r:.300}")
+            may_be = models[whole : whole + 1]
+        else:
+            if not wanted.startswith(run.stdout):
+                tell(f"{at}: {run.stdout!r:.300} is no front of the replies")
+            answered = run.stdout.count(b"\n")
+            may_be = models[answered : answered + 2]
+        held = found(words)
+        if held not in [shown(model) for model in may_be]:
+            tell(f"{at}: {held}")
+    if number == 1:
+        tell(f"{NAMES[which]} is never stopped")
+    print(f"{name}: {NAMES[which]} of {width} bytes a call stopped at each of {number - 1} calls; {lost - bad} lost", flush=True)
+
+
+def streams(folder, page):
+    """All commands, taken and refused, and a few lines by narrower streams; and writes that take nothing."""
+    (folder / "d.json").write_text(declarations())
+    lines = [compact(line) for line in FIRST] + [compact(line) for _, _, line in LINES]
+    few = [compact(FIRST[0]), QUESTIONS[0], QUESTIONS[0]]
+    for which in INPUT, OUTPUT:
+        stream(folder, page, f"{len(lines)} lines of all commands", lines, which, 37)
+        for width in 1, 7:
+            stream(folder, page, "a put and two gets", few, which, width, False)
+    replaced(folder, None)
+    run, _ = page.run(served(folder / "d.json", folder / "g.db"), few[0].encode() + b"\n", OUTPUT, 0, -1)
+    if (run.returncode, run.stdout, run.stderr) != (4, b"", b"formd: write\n"):
+        tell(f"writes that take nothing: {run}")
+
+
+def odd_lines(folder, page):
+    """Lines at the limit and beyond it, of no JSON and without an end, by narrow reads and by wide ones."""
+    put, get = compact(FIRST[0]).encode(), QUESTIONS[0].encode()
+    too_long, no_json = b'{"error":"C1","name":"LineTooLong"}\n', b'{"error":"C2","name":"NotJson"}\n'
+    model = Model(json.loads(declarations()), {})
+    none = compact(model.answer(QUESTIONS[0])).encode() + b"\n"
+    taken = compact(model.answer(put.decode())).encode() + b"\n"
+    there = compact(model.answer(QUESTIONS[0])).encode() + b"\n"
+    at_limit = put + b" " * (1_048_576 - len(put))
+    for name, text, wanted in (
+        ("a line at the limit, one beyond it, no UTF-8 and no bytes", b"\n".join([at_limit, at_limit + b" ", b"\xff", b"", get]), taken + too_long + no_json + no_json + there),
+        ("three mebibytes without an end", b"x" * 3_145_728, too_long),
+        ("more than 2^22 reads", b"x" * 4_194_304 + b"\n" + get, too_long + none),
+    ):
+        for width in 1, 4_096, 0:
+            replaced(folder, None)
+            run, calls = page.run(served(folder / "d.json", folder / "g.db"), text, INPUT, 0, width)
+            if (run.returncode, run.stdout, run.stderr) != (0, wanted, b""):
+                tell(f"{name}, {width} bytes a read: status {run.returncode}, {run.stdout!r:.300}, {run.stderr!r:.200}")
+            print(f"{name}, {width or 'any number of'} bytes a read: {calls} reads", flush=True)
+
+
+def unread(folder, page):
+    """The file of the declarations fails at each call, in three ways."""
+    (folder / "d.json").write_text(declarations())
+    for error, wanted in (errno.EIO, b"formd: cannot read declarations\n"), (errno.EISDIR, b"formd: cannot read declarations\n"), (errno.ENOMEM, b"formd: memory\n"):
+        number = 0
         while True:
             number += 1
             replaced(folder, None)
-            run, calls = page.run(words, text, which, number, width)
+            run, calls = page.run(served(folder / "d.json", folder / "g.db"), b"", DECLARATIONS, number, error)
             if calls < number:
-                if (run.returncode, run.stdout, run.stderr) != (0, wanted, b""):
-                    tell(f"{NAMES[which]}, undisturbed: {run}")
                 break
-            at = f"{NAMES[which]} stopped at call {number}"
-            if (run.returncode, run.stderr) != (4, error):
-                tell(f"{at}: status {run.returncode}, {run.stderr!r:.200}")
-            if which == INPUT:
-                whole = max(count for count, end in enumerate(ends) if end <= (number - 1) * width)
-                if run.stdout != "".join(replies[:whole]).encode():
-                    tell(f"{at}: {whole} lines read, and {run.stdout!r:.300}")
-                may_be = models[whole : whole + 1]
-            else:
-                if not wanted.startswith(run.stdout):
-                    tell(f"{at}: {run.stdout!r:.300} is no front of the replies")
-                answered = run.stdout.count(b"\n")
-                may_be = models[answered : answered + 2]
-            held = found(words)
-            if held not in [shown(model) for model in may_be]:
-                tell(f"{at}: {held}")
+            if (run.returncode, run.stdout, run.stderr) not in ((4, b"", wanted), (0, b"", b"")):
+                tell(f"declarations stopped at call {number} by {errno.errorcode[error]}: {run}")
+            if number == 1 and run.returncode == 0:
+                tell(f"declarations that can't be opened by {errno.errorcode[error]} are read")
         if number == 1:
-            tell(f"{NAMES[which]} is never stopped")
-        print(f"{len(lines)} lines of all commands: {NAMES[which]} stopped at each of {number - 1} calls; {lost - bad} lost", flush=True)
+            tell("the file of the declarations is never stopped")
+        print(f"the file of the declarations stopped at each of {number - 1} calls by {errno.errorcode[error]}", flush=True)
 
 
 def main():
@@ -204,6 +264,8 @@ def main():
         page = Page(folder)
         disks(folder, page)
         streams(folder, page)
+        odd_lines(folder, page)
+        unread(folder, page)
     print(f"files and streams stopped: {lost} lost")
     return 1 if lost else 0
 

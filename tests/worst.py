@@ -6,7 +6,7 @@
     tests/worst.py PROGRAM WORD ..   only the inputs whose names have one of these words
 
 Each run may take up two gigabytes of memory and thirty seconds of a processor. An input is answered as the specification
-says, in at most ten seconds and two gigabytes; but those that are marked here and named in docs/FORMATS.md ("What the worst
+says, in at most ten seconds and two gigabytes; but those that are marked here and named in bench/README.md ("What the worst
 inputs cost") need more, and so are answered C12 (or status 4, `formd: memory`), after which the next line is answered as
 ever, or are ended by the limit of seconds. Prints a table.
 """
@@ -316,7 +316,7 @@ def main():
             if wrong:
                 failed += 1
                 print(f"{what}: {wrong}", flush=True)
-    print(f"{looked} inputs, {over} of them past {SECONDS} s or {GIGABYTES} GB as docs/FORMATS.md says; {failed} others are, or are answered otherwise")
+    print(f"{looked} inputs, {over} of them past {SECONDS} s or {GIGABYTES} GB as bench/README.md says; {failed} others are, or are answered otherwise")
     return 1 if failed else 0
 
 

@@ -1,4 +1,4 @@
-//! The data of the calls.
+//! The data of the openings.
 
 /// The demonstration's declarations with a message of parameters, groups, a sequence and a reference.
 pub(crate) const DECLARATIONS: &str =
@@ -8,30 +8,10 @@ pub(crate) const DECLARATIONS: &str =
 pub(crate) const REFUSED_DECLARATIONS: &str =
     r#"{"types":{"Item":{"fields":{"name":{"type":"text","constraints":[{"constraint":"NotNull"},{"constraint":"Size","with":{"min":1,"max":3}}]}}}},"forms":{"item":{"root":"Item"}},"messages":{"p":"{q}","q":"{p}"}}"#;
 
-/// A bundle of which in `Tags` the tags of two objects fail, and in `Default` nothing.
-pub(crate) const BUNDLE: &str =
-    r#"{"root":"a","objects":{"a":{"type":"Item","fields":{"name":"x","next":"b"}},"b":{"type":"Item","fields":{"count":7,"name":"é","next":"c"}},"c":{"type":"Item","fields":{"name":"c","next":"a","tag":"t"}}}}"#;
-
 /// Puts of the records: `r1` of one object, and `r3` of that bundle.
 pub(crate) const PUTS: &str =
     r#"{"do":"put","id":"r1","form":"item","bundle":{"root":"a","objects":{"a":{"type":"Item","fields":{"count":1,"name":"abc"}}}}}
 {"do":"put","id":"r3","form":"item","bundle":{"root":"a","objects":{"a":{"type":"Item","fields":{"name":"x","next":"b"}},"b":{"type":"Item","fields":{"count":7,"name":"é","next":"c"}},"c":{"type":"Item","fields":{"name":"c","next":"a","tag":"t"}}}}}"#;
-
-/// A record that isn't there yet.
-pub(crate) const NEW: &str =
-    r#"{"root":"a","objects":{"a":{"type":"Item","fields":{"count":2,"name":"ab","next":"b"}},"b":{"type":"Item","fields":{"name":"z"}}}}"#;
-
-/// The put of that record.
-pub(crate) const PUT: &str =
-    r#"{"do":"put","id":"r2","form":"item","bundle":{"root":"a","objects":{"a":{"type":"Item","fields":{"count":2,"name":"ab","next":"b"}},"b":{"type":"Item","fields":{"name":"z"}}}}}"#;
-
-/// The put of a record whose name is too long.
-pub(crate) const REFUSED_PUT: &str =
-    r#"{"do":"put","id":"r2","form":"item","bundle":{"root":"a","objects":{"a":{"type":"Item","fields":{"count":2,"name":"abcd"}}}}}"#;
-
-/// The declarations with a name of at most four characters, and a field `more`.
-pub(crate) const REDECLARE: &str =
-    r#"{"do":"redeclare","text":"{\"types\": {\"Item\": {\"fields\": {\"name\": {\"type\": \"text\", \"constraints\": [{\"constraint\": \"NotNull\"}, {\"constraint\": \"Size\", \"with\": {\"min\": 1, \"max\": 4}}]}, \"next\": {\"type\": {\"ref\": \"Item\"}, \"valid\": true}, \"tag\": {\"type\": \"text\", \"constraints\": [{\"constraint\": \"Tagged\", \"with\": {\"note\": \"{jakarta.validation.constraints.Null.message}\"}, \"groups\": [\"Tags\"]}]}, \"count\": {\"type\": \"integer\", \"constraints\": [{\"constraint\": \"Min\", \"with\": {\"value\": 1}}]}, \"more\": {\"type\": \"text\"}}}}, \"forms\": {\"item\": {\"root\": \"Item\"}}, \"groups\": {\"Tags\": {}, \"Both\": {\"sequence\": [\"Default\", \"Tags\"]}}, \"constraints\": {\"Tagged\": {\"attributes\": {\"note\": {\"kind\": \"text\"}}, \"compose\": [{\"constraint\": \"NotNull\"}], \"single\": true, \"message\": \"{app.tag}\"}}, \"messages\": {\"app.tag\": \"\\\\{{note}\\\\} {nobody} {jakarta.validation.constraints.NotNull.message}\"}}"}"#;
 
 /// Asks for each record and the ids of all, and for the field `more`.
 pub(crate) const QUESTIONS: &str = r#"{"do":"get","id":"r1"}

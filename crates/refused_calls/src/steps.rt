@@ -3,36 +3,26 @@
 use anyhow::Error;
 use std::io::{Read, Write};
 
-/// As many bytes as a line may have.
-pub(crate) const WIDTH: usize = 32;
-
-/// The next line of standard input without its end, or its front; empty at the end of the input.
-pub(crate) fn line<'a>(rt: &HostRuntime, buffer: &'a mut [u8; WIDTH]) -> Result<&'a [u8], Error> {
+/// The first byte of the next line of standard input, which has one at most; none at the end.
+pub(crate) fn number(rt: &HostRuntime) -> Result<Option<u8>, Error> {
     let mut input = rt.stdin();
-    for at in 0..WIDTH {
+    let mut line = [0; 2];
+    for at in 0..2 {
         let mut byte = [0];
-        if input.read(&mut byte)? == 0 || byte[0] == b'\n' {
-            return Ok(&buffer[..at]);
+        if input.read(&mut byte)? == 0 {
+            return Ok(None);
         }
-        buffer[at] = byte[0];
+        line[at] = byte[0];
+        if byte[0] == b'\n' {
+            break;
+        }
     }
-    Ok(buffer)
+    Ok(Some(line[0]))
 }
 
 /// Writes a word, and waits for a line.
-fn step(rt: &HostRuntime, word: &[u8]) -> Result<(), Error> {
+pub(crate) fn step(rt: &HostRuntime, word: &[u8]) -> Result<(), Error> {
     rt.stdout().write_all(word)?;
-    let mut buffer = [0; WIDTH];
-    line(rt, &mut buffer)?;
+    number(rt)?;
     Ok(())
-}
-
-/// The data are there, and the call is made next.
-pub(crate) fn ready(rt: &HostRuntime) -> Result<(), Error> {
-    step(rt, b"ready\n")
-}
-
-/// The call is made, and what it answered is told next.
-pub(crate) fn made(rt: &HostRuntime) -> Result<(), Error> {
-    step(rt, b"made\n")
 }

@@ -1,25 +1,27 @@
-//! Engines without rules, and what they answer.
-use fv_engine::Engine;
-use sqlite::{Alter, Connection, MemStore};
+//! Engines without rules over files, and what they answer.
+use fv_engine::{Engine, OpenFault};
+use sqlite::{Connection, FileStore};
+use sqlite_disk::{Fuse, Memory};
 use std::alloc::{AllocError, Global};
-use std::test::Fail;
 use test_commands::NoRules;
 
-pub(crate) type Service<S> = Engine<NoRules, S>;
+pub(crate) type Database = Connection<FileStore<Fuse<Memory>>>;
 
-/// An engine of these declarations over an empty database in memory.
-pub(crate) fn opened(alloc: Global, declarations: &str) -> Result<Service<MemStore>, Fail> {
-    let connection = Connection::open_in_memory(alloc)?;
-    match Engine::open(alloc, NoRules, declarations.as_bytes(), connection) {
-        Ok(engine) => Ok(engine),
-        Err((fault, _)) => Err(Fail::from(fault)),
-    }
+pub(crate) type Service = Engine<NoRules, FileStore<Fuse<Memory>>>;
+
+/// An engine of these declarations over a database, or why none is opened, and the database.
+pub(crate) fn opened_over(
+    alloc: Global,
+    declarations: &str,
+    connection: Database,
+) -> Result<Service, (OpenFault, Database)> {
+    Engine::open(alloc, NoRules, declarations.as_bytes(), connection)
 }
 
 /// The replies to lines at the moment 0, each with its end.
-pub(crate) fn replies<S: Alter>(
+pub(crate) fn replies(
     alloc: Global,
-    engine: &mut Service<S>,
+    engine: &mut Service,
     lines: &str,
 ) -> Result<String, AllocError> {
     let mut text = String::new(alloc);

@@ -1,52 +1,25 @@
-//! Readers, writers and a clock of the tests' own.
-use fv_datum::moment_ok;
-use fv_engine::Clock;
+//! Readers and writers of one byte a call, which fail at a call of theirs.
 use std::io;
 use std::io::{Error, ErrorKind, Read, Write};
 
 /// More calls than a run makes.
 pub(crate) const NEVER: usize = 1000000000;
 
-/// Listed moments, and 0 behind them.
-#[derive(Drop)]
-pub(crate) struct ListedClock<'a> {
-    pub(crate) moments: &'a [i64],
-    pub(crate) calls: usize,
-}
-
-impl Clock for ListedClock<'_> {
-    ghost ticks = { λ _ _ _. Unit {0} };
-
-    fn now(&mut self) -> i64 {
-        let call = self.calls;
-        self.calls = call.saturating_add(1);
-        if call < self.moments.len() {
-            let moment = self.moments[call];
-            if moment_ok(moment) {
-                return moment;
-            }
-        }
-        0
-    }
-}
-
-/// Gives so many bytes a call, and fails at the call of a number, counted from 0.
+/// Gives one byte a call, and fails at the call of a number, counted from 0.
 #[derive(Drop)]
 pub(crate) struct Reader<'a> {
     pub(crate) bytes: &'a [u8],
-    pub(crate) width: usize,
     pub(crate) calls: usize,
     pub(crate) fails_at: usize,
-    pub(crate) fails_by: ErrorKind,
 }
 
 impl Read for Reader<'_> {
     fn read(&mut self, buf: &mut [u8]) -> io::Result<usize> {
         if self.calls >= self.fails_at {
-            return Err(Error::from(self.fails_by));
+            return Err(Error::from(ErrorKind::Other));
         }
         self.calls += 1;
-        let count = self.width.min(buf.len()).min(self.bytes.len());
+        let count = buf.len().min(self.bytes.len()).min(1);
         let (given, left) = self.bytes.split_at(count);
         buf[..count].copy_from_slice(given);
         self.bytes = left;
@@ -54,12 +27,10 @@ impl Read for Reader<'_> {
     }
 }
 
-/// Takes so many bytes a call, and fails at the call of a number, counted from 0; a flush is a call
-/// too.
+/// Takes one byte a call, and fails at the call of a number, counted from 0; a flush is a call too.
 #[derive(Drop)]
 pub(crate) struct Writer {
     pub(crate) taken: Vec<u8>,
-    pub(crate) width: usize,
     pub(crate) calls: usize,
     pub(crate) fails_at: usize,
 }
@@ -77,7 +48,7 @@ impl Writer {
 impl Write for Writer {
     fn write(&mut self, buf: &[u8]) -> io::Result<usize> {
         self.call()?;
-        let count = self.width.min(buf.len());
+        let count = buf.len().min(1);
         if self.taken.extend_from_slice(&buf[..count]).is_err() {
             return Err(Error::from(ErrorKind::OutOfMemory));
         }

@@ -7,22 +7,14 @@
 #[cfg(test)]
 mod builtins;
 #[cfg(test)]
-mod bundles;
-#[cfg(test)]
-mod data;
-#[cfg(test)]
-mod faults;
-#[cfg(test)]
 mod given;
 #[cfg(test)]
 mod groups;
-#[cfg(test)]
-mod messages;
 #[cfg(test)]
 mod paths;
 #[cfg(test)]
 mod places;
 #[cfg(test)]
-mod reports;
-#[cfg(test)]
 mod rules;
+#[cfg(test)]
+mod trees;

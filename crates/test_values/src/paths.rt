@@ -1,6 +1,6 @@
 //! Texts, and the paths that they are.
 use crate::given::{Rows, check_rows};
-use fv_path::{Path, read};
+use fv_path::read;
 use std::alloc::Global;
 use std::test::Fail;
 
@@ -20,22 +20,6 @@ a[4294967296] => none
 a[0][1] => none
 "#;
 
-/// The nodes of a path, each popped, and pushed onto what is left of it again.
-fn rebuilt(alloc: Global, mut path: Path) -> Result<Path, Fail> {
-    let mut nodes = Vec::new(alloc);
-    for _ in 0..path.nodes().len() {
-        nodes.push(path.pop().ok_or("a node")?)?;
-    }
-    nodes.reverse();
-    for node in nodes {
-        if !path.can_push(&node) {
-            return Err("a node that may follow".into());
-        }
-        path.push(node)?;
-    }
-    Ok(path)
-}
-
 struct Paths;
 
 impl Rows for Paths {
@@ -43,7 +27,6 @@ impl Rows for Paths {
         let Some(path) = read(alloc, given)? else {
             return Ok(String::from_str(alloc, "none")?);
         };
-        let path = rebuilt(alloc, path)?;
         if path.write(alloc)?.as_str() != given {
             return Err("the text that was read".into());
         }

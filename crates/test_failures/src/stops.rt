@@ -1,8 +1,7 @@
 //! Runs over files of which one fails from one of its calls on: how each ends, and what then stands there.
-use crate::engines::{Service, opened_over, replies};
-use crate::files::{Side, are_whole, closed, connected, fused, mended, options};
-use sqlite::{Alter, Connection, FileStore, Files};
-use sqlite_disk::{Crash, Disk, Fuse, Memory};
+use crate::engines::{Database, Service, opened_over, replies};
+use crate::files::{Disks, NEVER, Side, are_whole, closed, connected, copied};
+use sqlite_disk::Crash;
 use std::alloc::Global;
 use std::process::Abort;
 use std::test::Fail;
@@ -30,10 +29,10 @@ fn is_failure(reply: &str) -> bool {
 
 /// Whether the reply to a line is the one that is wanted. Any other tells that the store or the memory has
 /// failed.
-fn is_answered<S: Alter>(
+fn is_answered(
     rt: &impl Abort,
     alloc: Global,
-    engine: &mut Service<S>,
+    engine: &mut Service,
     (line, wanted): (&str, &str),
 ) -> Result<bool, Fail> {
     let reply = replies(alloc, engine, line)?;
@@ -45,10 +44,10 @@ fn is_answered<S: Alter>(
 }
 
 /// How many of the commands are answered, up to the first that meets a failure.
-fn answered<S: Alter>(
+fn answered(
     rt: &impl Abort,
     alloc: Global,
-    engine: &mut Service<S>,
+    engine: &mut Service,
     script: &Script,
 ) -> Result<usize, Fail> {
     for (number, command) in script.commands.iter().enumerate() {
@@ -60,12 +59,12 @@ fn answered<S: Alter>(
 }
 
 /// Runs the commands over a database: how it ends, and the files.
-fn ran_over<D: Disk + Drop>(
+fn ran_over(
     rt: &impl Abort,
     alloc: Global,
-    connection: Connection<FileStore<D>>,
+    connection: Database,
     script: &Script,
-) -> Result<(End, Files<D>), Fail> {
+) -> Result<(End, Disks), Fail> {
     match opened_over(alloc, script.declarations, connection) {
         Ok(mut engine) => {
             let count = answered(rt, alloc, &mut engine, script)?;
@@ -80,24 +79,29 @@ fn ran_over<D: Disk + Drop>(
 }
 
 /// The same over files.
-pub(crate) fn ran<D: Disk + Drop>(
+pub(crate) fn ran(
     rt: &impl Abort,
     alloc: Global,
-    files: Files<D>,
+    files: Disks,
     script: &Script,
-) -> Result<(End, Files<D>), Fail> {
-    if !files.may_be_used() {
-        return Ok((End::Unopened, files));
-    }
-    match Connection::open_files(alloc, files, options()) {
+) -> Result<(End, Disks), Fail> {
+    match connected(alloc, files) {
         Ok(connection) => ran_over(rt, alloc, connection, script),
-        Err((_, left)) => Ok((End::Unopened, left.into_files())),
+        Err(files) => Ok((End::Unopened, files)),
     }
 }
 
-/// What the questions show over files that don't fail.
-fn shown_over(alloc: Global, declarations: &str, files: Files<Memory>) -> Result<String, Fail> {
-    match opened_over(alloc, declarations, connected(alloc, files)?) {
+/// The files as they are on the disk, without a failure to come.
+pub(crate) fn mended(alloc: Global, files: &Disks) -> Result<Database, Fail> {
+    match connected(alloc, copied(alloc, files, (Side::Log, NEVER))?) {
+        Ok(connection) => Ok(connection),
+        Err(_) => Err(Fail::new("files that can't be used")),
+    }
+}
+
+/// What the questions show over a database.
+fn shown_over(alloc: Global, declarations: &str, connection: Database) -> Result<String, Fail> {
+    match opened_over(alloc, declarations, connection) {
         Ok(mut engine) => Ok(replies(alloc, &mut engine, QUESTIONS)?),
         Err((fault, _)) => Err(Fail::from(fault)),
     }
@@ -126,7 +130,7 @@ pub(crate) fn are_answered(script: &Script, end: End) -> bool {
 /// has failed.
 pub(crate) struct Stopped {
     pub(crate) end: End,
-    pub(crate) files: Files<Fuse<Memory>>,
+    pub(crate) files: Disks,
     pub(crate) is_whole: bool,
 }
 
@@ -136,10 +140,10 @@ pub(crate) fn run_stopped(
     rt: &impl Abort,
     alloc: Global,
     script: &Script,
-    files: &Files<Memory>,
+    files: &Disks,
     stop: (Side, u64),
 ) -> Result<Stopped, Fail> {
-    let (end, mut files) = ran(rt, alloc, fused(alloc, files, stop)?, script)?;
+    let (end, mut files) = ran(rt, alloc, copied(alloc, files, stop)?, script)?;
     let is_whole = are_whole(&mut files);
     assert!(rt; !is_whole || are_answered(script, end), "{stop:?}");
     Ok(Stopped {
@@ -154,7 +158,7 @@ pub(crate) fn check_left(
     rt: &impl Abort,
     alloc: Global,
     script: &Script,
-    files: &Files<Fuse<Memory>>,
+    files: &Disks,
     (end, stop): (End, (Side, u64)),
 ) -> Result<(), Fail> {
     let text = shown_over(alloc, script.declarations, mended(alloc, files)?)?;
@@ -168,7 +172,7 @@ fn looked_at(
     rt: &impl Abort,
     alloc: Global,
     script: &Script,
-    files: &Files<Memory>,
+    files: &Disks,
     stop: (Side, u64),
 ) -> Result<(End, bool), Fail> {
     let Stopped {
@@ -197,7 +201,7 @@ pub(crate) fn check_stops(
     rt: &impl Abort,
     alloc: Global,
     script: &Script,
-    files: &Files<Memory>,
+    files: &Disks,
     side: Side,
 ) -> Result<bool, Fail> {
     let mut is_met = false;

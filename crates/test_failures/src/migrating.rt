@@ -1,9 +1,10 @@
 //! A disk that fails from one of its calls on, under an opening that migrates a database of version 1: what
 //! stands on the disk is of version 1 or of version 2, whole, with the same records.
-use crate::files::{Side, closed, connected, empty, mended};
-use crate::stops::{End, MOST, Stopped, check_left, run_stopped};
-use sqlite::{Alter, Connection, Files, Row};
-use sqlite_disk::{Crash, Fuse, Memory};
+use crate::engines::Database;
+use crate::files::{Disks, Side, closed, empty};
+use crate::stops::{End, MOST, Stopped, check_left, mended, run_stopped};
+use sqlite::Row;
+use sqlite_disk::Crash;
 use std::alloc::Global;
 use std::process::Abort;
 use std::test::Fail;
@@ -84,11 +85,7 @@ fn add_row(text: &mut String, row: &Row) -> Result<(), Fail> {
 }
 
 /// The texts that a query shows, each with an end of line.
-fn shown<S: Alter>(
-    alloc: Global,
-    connection: &mut Connection<S>,
-    query: &str,
-) -> Result<String, Fail> {
+fn shown(alloc: Global, connection: &mut Database, query: &str) -> Result<String, Fail> {
     let rows = connection.query_all(query, &[])?;
     let mut text = String::new(alloc);
     for row in &rows {
@@ -98,10 +95,10 @@ fn shown<S: Alter>(
 }
 
 /// A query shows these texts.
-fn check_shown<S: Alter>(
+fn check_shown(
     rt: &impl Abort,
     alloc: Global,
-    connection: &mut Connection<S>,
+    connection: &mut Database,
     (query, wanted): (&str, &str),
 ) -> Result<(), Fail> {
     let text = shown(alloc, connection, query)?;
@@ -111,16 +108,12 @@ fn check_shown<S: Alter>(
 
 /// A database is of version 1 or of version 2, with the declarations and all records. Tells whether it is of
 /// version 2.
-fn check_whole<S: Alter>(
-    rt: &impl Abort,
-    alloc: Global,
-    connection: &mut Connection<S>,
-) -> Result<bool, Fail> {
+fn check_whole(rt: &impl Abort, alloc: Global, connection: &mut Database) -> Result<bool, Fail> {
     let about = shown(alloc, connection, ABOUT)?;
     let (version, declarations) = about.split_once(' ').ok_or("a version")?;
     assert_eq!(rt; declarations.trim_end(), DECLARATIONS);
     let is_migrated = version == "2";
-    assert!(rt; is_migrated || version == "1", "{version}");
+    assert!(rt; is_migrated || version == "1");
     let held = if is_migrated { SECOND_HELD } else { FIRST_HELD };
     check_shown(rt, alloc, connection, (TABLES, held.tables))?;
     check_shown(rt, alloc, connection, (held.query, held.records))?;
@@ -128,8 +121,8 @@ fn check_whole<S: Alter>(
 }
 
 /// A log and a database file of version 1.
-fn of_version_1(alloc: Global) -> Result<Files<Memory>, Fail> {
-    let mut connection = connected(alloc, empty(alloc))?;
+fn of_version_1(alloc: Global) -> Result<Disks, Fail> {
+    let mut connection = mended(alloc, &empty(alloc))?;
     connection.execute_batch(FIRST)?;
     Ok(closed(connection))
 }
@@ -139,10 +132,10 @@ fn of_version_1(alloc: Global) -> Result<Files<Memory>, Fail> {
 fn check_migrated(
     rt: &impl Abort,
     alloc: Global,
-    files: &Files<Fuse<Memory>>,
+    files: &Disks,
     (end, stop): (End, (Side, u64)),
 ) -> Result<bool, Fail> {
-    let mut connection = connected(alloc, mended(alloc, files)?)?;
+    let mut connection = mended(alloc, files)?;
     let is_migrated = check_whole(rt, alloc, &mut connection)?;
     assert!(rt; is_migrated || !matches!(end, End::Answered(_)), "{stop:?}");
     check_left(rt, alloc, &GET, files, (end, stop))?;
@@ -155,7 +148,7 @@ fn check_migrated(
 fn looked_at(
     rt: &impl Abort,
     alloc: Global,
-    files: &Files<Memory>,
+    files: &Disks,
     stop: (Side, u64),
 ) -> Result<(bool, bool), Fail> {
     let Stopped {
@@ -188,14 +181,9 @@ fn check_openings(rt: &impl Abort, alloc: Global, side: Side) -> Result<(bool, b
 
 /// A migration is one transaction in the log: before its end version 1 stands, and behind it version 2.
 #[test]
-fn a_log_fails_at_each_call_under_a_migration(rt: HostRuntime) -> Result<(), Fail> {
+fn a_disk_fails_at_each_call_under_a_migration(rt: HostRuntime) -> Result<(), Fail> {
     let stood = check_openings(&rt, rt.alloc(), Side::Log)?;
     assert_eq!(rt; stood, (true, true));
-    Ok(())
-}
-
-#[test]
-fn a_database_file_fails_at_each_call_under_a_migration(rt: HostRuntime) -> Result<(), Fail> {
     check_openings(&rt, rt.alloc(), Side::Database)?;
     Ok(())
 }
