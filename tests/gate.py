@@ -24,7 +24,7 @@ from typing import NamedTuple
 HERE = Path(__file__).resolve().parent
 ROOT = HERE.parent
 FORMD, CALLS = (ROOT / "crates" / name / "out" / name for name in ("formd", "refused_calls"))
-MODULES = ("flask",)
+MODULES = ("flask", "jsonschema")
 SECONDS = 480
 # of memory for each processor
 GIGABYTES = 5
@@ -53,14 +53,20 @@ SCRIPTS = [
     Script("stops", ("short",), ("gcc",)),
     Script("refused_allocations", (CALLS, 40), ("gcc",)),
     Script("migration", (5000, 8)),
+    Script("judge", ("short",)),
     Script("kills", (1, 20)),
+    Script("clients", ("short",), ("node",)),
+    Script("schema", ("short",), ("jsonschema",)),
     Script("manual", (), ("bash", "jq", "sqlite3")),
+    Script("writes", (), ("gcc",)),
+    Script("clocks", (), ("gcc",)),
     Script("pages"),
     Script("statuses"),
     Script("matchers"),
     Script("examples", ("flask",), ("flask", "sqlite3")),
     Script("examples", ("node",), ("node", "sqlite3")),
     Script("words"),
+    Script("dist"),
     Script("differences"),
     Script("mistakes"),
     Script("readme", (), ("bash", "jq")),

@@ -9,9 +9,9 @@ import sys
 from pathlib import Path
 
 ROOT = Path(__file__).resolve().parent.parent
-DOCUMENTS = ["README.md", "CONTRIBUTING.md", "bench/README.md", *(str(path.relative_to(ROOT)) for path in sorted((ROOT / "docs").rglob("*.md")))]
+DOCUMENTS = ["README.md", "CONTRIBUTING.md", "bench/README.md", "clients/README.md", *(str(path.relative_to(ROOT)) for path in sorted((ROOT / "docs").rglob("*.md")))]
 LINK = re.compile(r"\]\(([^)#\s]+)(?:#[^)\s]*)?\)")
-PATH = re.compile(r"`((?:bench|crates|docs|examples|tests|\.ci)/[\w./-]+)`")
+PATH = re.compile(r"`((?:bench|clients|crates|docs|examples|tests|\.ci)/[\w./-]+)`")
 # made by a build, so not in a checkout
 MADE = re.compile(r"/out/|/target/")
 
