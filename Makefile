@@ -1,5 +1,5 @@
 # Everything is done by the toolchain's command rt (see README.md).
-.PHONY: all demo try test rows planted served hostile
+.PHONY: all demo try test rows planted served hostile dist
 
 # Proves formd and the crates that it stands on, runs it, and leaves it as crates/formd/out/formd.
 all:
@@ -28,8 +28,8 @@ planted:
 	tests/planted.sh $(NAME)
 
 # Runs the program that `make` leaves, longer than `make test` does: rows, its words, the manual's examples, files that it can't serve, pages of ids,
-# hostile patterns, a hundred kills, files of version 1 and kills while one is migrated, the forms of examples/, the rental application, what differs
-# from Bean Validation.
+# hostile patterns, a hundred kills, files of version 1 and kills while one is migrated, the clients while their processes are killed, the forms of examples/,
+# the rental application, what differs from Bean Validation, the schema of declarations (needs jsonschema).
 served: rows
 	tests/readme.py
 	tests/manual.py
@@ -39,15 +39,25 @@ served: rows
 	tests/statuses.py
 	tests/pages.py
 	tests/matchers.py
+	tests/writes.py
+	tests/clocks.py
 	tests/kills.py
 	tests/migration.py
+	tests/clients.py
 	tests/examples.py
 	tests/rental.py
 	tests/differences.py
+	tests/judge.py
+	tests/schema.py
 
-# Treats formd as an enemy or a bad machine would: each request for memory refused, also of single calls of the libraries, files and streams
+# Treats formd as an enemy or a bad machine would: each request for memory refused, also of openings by themselves, files and streams
 # stopped at each call, files that can't be served, kills, bytes that aren't what was written, the worst inputs within the limits. Prints its
 # figures at the end. Makes formd and refused_calls first, with their proofs where these aren't kept; needs gcc and Python.
 hostile: all
 	cd crates/refused_calls && rt run < stdin > /dev/null
 	tests/hostile.py
+
+# Packs the proved program with a manual page, a unit for systemd, clients, examples and checksums into one archive, and looks at it in an empty root.
+dist: all
+	tests/dist.py
+	dist/archive.py
