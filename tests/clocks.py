@@ -36,9 +36,9 @@ def look(name, found, wanted):
 
 
 class Service:
-    """A run of the program under declarations, by a clock of our own."""
+    """A run of the program under declarations, by a clock of our own: one that serves, or one that judges."""
 
-    def __init__(self, folder, library, declarations):
+    def __init__(self, folder, library, declarations, word="serve"):
         page, file = folder / "page", folder / "d.json"
         page.write_bytes(bytes(24))
         file.write_text(json.dumps(declarations))
@@ -47,7 +47,7 @@ class Service:
         environment = {**os.environ, "LD_PRELOAD": str(library), "CLOCK_PAGE": str(page)}
         for left in folder.glob("c.db*"):
             left.unlink()
-        words = [PROGRAM, "serve", "--declarations", file, "--database", folder / "c.db"]
+        words = [PROGRAM, word, "--declarations", file, *(["--database", folder / "c.db"] if word == "serve" else [])]
         self.run = subprocess.Popen(words, stdin=subprocess.PIPE, stdout=subprocess.PIPE, env=environment)
 
     def ask(self, says, line):
@@ -71,13 +71,13 @@ def holds(service, says, constraint, moment):
     return reply.get("violations") == []
 
 
-def moments(folder, library):
+def moments(folder, library, word):
     """What the clock says, and the moment that counts: its own, its last, or the last of all."""
-    service = Service(folder, library, PAST)
+    service = Service(folder, library, PAST, word)
     for says, counts in (
         (FAILS, 0), (1, 1), (FAILS, 1), (LAST, LAST), (LAST + 1, LAST), (2, 2), (2**62, LAST), (FAILS, LAST), (7, 7), (-1, 7), (-(2**40), 7), (DAY, DAY),
     ):
-        look(f"a clock that says {says}, judged at {counts}", [holds(service, says, constraint, counts) for constraint in ("PastOrPresent", "Past")], [True, False])
+        look(f"{word}: a clock that says {says}, judged at {counts}", [holds(service, says, constraint, counts) for constraint in ("PastOrPresent", "Past")], [True, False])
     service.end()
 
 
@@ -118,7 +118,8 @@ def main():
     with tempfile.TemporaryDirectory(dir="/dev/shm" if os.access("/dev/shm", os.W_OK) else None) as name:
         folder, library = Path(name), Path(name) / "clock.so"
         subprocess.run(["gcc", "-O1", "-shared", "-fPIC", "-o", library, HERE / "clock.c"], check=True)
-        moments(folder, library)
+        for word in "serve", "judge":
+            moments(folder, library, word)
         events(folder, library)
     print(f"{count} looks, {failed} wrong")
     return 1 if failed or not count else 0

@@ -6,14 +6,18 @@
     tests/judge.py PROGRAM short    each 40th line, a fifth as many lines for the peak, and no seconds
 
 The lines are those of tests/data/rows that go to a service: puts, batches, checks of values and others, each with the declarations and the moment of its table. All lines of a
-table go to one judge; each that is compared goes to `formd serve` over a file that isn't there before. A million lines have to be answered at the peak memory of ten thousand,
+table go to one judge; each that is compared goes to `formd serve` over a file that isn't there before. A million lines have to be answered at the peak memory of ten thousand, but for a mebibyte,
 and on four processors four judges, who take the lines in turn, have to answer 3.4 times as many a second as one.
 """
 
+import itertools
+import json
 import os
+import re
 import subprocess
 import sys
 import tempfile
+import threading
 import time
 from concurrent.futures import ThreadPoolExecutor
 from pathlib import Path
@@ -26,10 +30,12 @@ from shapes import SHAPES, compact
 
 PROGRAM, SHORT = rows.PROGRAM, "short" in sys.argv[2:]
 EACH = 40 if SHORT else 1
+COMMANDS = {"put", "set", "remove", "batch", "get", "list", "check", "checkfield", "checkvalue", "redeclare"}
+LEAST = 100 if SHORT else 4000
 MANY = 200_000 if SHORT else 1_000_000
 FEW = 10_000
-# of the smaller peak
-ALLOWED = 1.02
+# KiB: the system counts pages for each processor by itself, so runs of the same lines differ by some hundred; the least that a line could leave, 16 bytes, is three times as much in the end
+ALLOWED = 1024
 LEAST_GAIN = 3.4
 ROOM = "/dev/shm" if os.path.isdir("/dev/shm") else None
 failed = count = 0
@@ -83,11 +89,24 @@ def compared(declarations, lines, now, chosen):
         return found
 
 
+def command_of(line):
+    """The command that a line asks for, if it is one."""
+    try:
+        asked_for = json.loads(line)["do"]
+    except (ValueError, KeyError, TypeError):
+        return None
+    return asked_for if isinstance(asked_for, str) else None
+
+
 def compare_all():
-    """Each line that the rows ask, in all `EACH`th."""
-    number, work = 0, []
+    """Each line that the rows ask, or each `EACH`th, and the first line of each command."""
+    number, work, commands = 0, [], set()
     for declarations, lines, now in asked():
-        chosen = [at for at in range(len(lines)) if (number + at) % EACH == 0]
+        chosen = []
+        for at, line in enumerate(lines):
+            if (number + at) % EACH == 0 or command_of(line) not in commands:
+                chosen.append(at)
+                commands.add(command_of(line))
         number += len(lines)
         if chosen:
             work.append((declarations, lines, now, chosen))
@@ -96,6 +115,8 @@ def compare_all():
             for line, told, wanted in found:
                 look(line.decode(errors="replace"), told, wanted)
     print(f"{number} lines to judges, {count} compared with a service that has no record")
+    look("commands without a line", COMMANDS - commands, set())
+    look(f"{count} lines compared, of at least {LEAST}", count >= LEAST, True)
 
 
 def puts(shape, number):
@@ -106,23 +127,30 @@ def puts(shape, number):
 
 
 def peak(declarations, number):
-    """The peak memory of a judge of so many lines, in KiB."""
+    """The peak memory of a judge that has answered so many lines, in KiB, as the system tells it of the process alone."""
     words = [PROGRAM, "judge", "--declarations", declarations, "--now=0"]
-    with subprocess.Popen(words, stdin=subprocess.PIPE, stdout=subprocess.DEVNULL) as run:
-        for line in puts("demonstration", number):
-            run.stdin.write(line)
+    with subprocess.Popen(words, stdin=subprocess.PIPE, stdout=subprocess.PIPE) as run:
+
+        def give():
+            for line in puts("demonstration", number):
+                run.stdin.write(line)
+            run.stdin.flush()
+
+        giver = threading.Thread(target=give)
+        giver.start()
+        taken = sum(reply == b'{"ok":"put"}\n' for reply in itertools.islice(run.stdout, number))
+        giver.join()
+        used = re.search(r"VmHWM:\s*(\d+) kB", Path(f"/proc/{run.pid}/status").read_text())
         run.stdin.close()
-        _, status, used = os.wait4(run.pid, 0)
-        run.returncode = os.waitstatus_to_exitcode(status)
-    look(f"a judge of {number} lines", run.returncode, 0)
-    return used.ru_maxrss
+        look(f"a judge of {number} lines", (taken, run.stdout.read(), run.wait()), (number - number // 10, b"", 0))
+    return int(used[1])
 
 
 def look_at_peaks(folder):
     declarations = folder / "declarations.json"
     declarations.write_text(compact(SHAPES["demonstration"].declarations))
     few, many = peak(declarations, FEW), peak(declarations, MANY)
-    look(f"peak memory: {few} KiB of {FEW} lines, {many} KiB of {MANY}", many <= few * ALLOWED, True)
+    look(f"peak memory: {few} KiB of {FEW} lines, {many} KiB of {MANY}", many - few <= ALLOWED, True)
     print(f"peak memory: {few} KiB of {FEW:,} lines, {many} KiB of {MANY:,}")
 
 

@@ -491,6 +491,16 @@ def read(page, file, wanted):
     print(f"declarations of {file.name}, read: {last - 1} requests for memory, each refused in its turn, {early} ended with status 4; {bad} lost")
 
 
+def found_in(run, wanted):
+    """Whether a run ended for want of memory before its first line, how many of its replies are C12, and whether all others, but for one, are as wanted."""
+    if (run.returncode, run.stdout, run.stderr) == (4, b"", b"formd: memory\n"):
+        return True, 0, True
+    replies = run.stdout.decode().splitlines()
+    wants = replies.count(compact(MEMORY))
+    right = (run.returncode, run.stderr, len(replies)) == (0, b"", len(wanted)) and wants < 2 and all(reply in (it, compact(MEMORY)) for reply, it in zip(replies, wanted))
+    return False, wants, right
+
+
 def starts(folder, page):
     """Declarations that are read, an empty file that is made a database, and one that is opened, each with a request refused."""
     given, none, kept, file = folder / "d.json", folder / "none.json", folder / "kept.db", folder / "g2.db"
@@ -521,14 +531,11 @@ def starts(folder, page):
         early = shown = last = bad = 0
         for number, run in runs(page, words, text, before):
             last += 1
-            replies = run.stdout.decode().splitlines()
-            wants = replies.count(compact(MEMORY))
-            if (run.returncode, run.stdout, run.stderr) == (4, b"", b"formd: memory\n"):
-                early += 1
-            elif run.returncode != 0 or run.stderr or wants > 1 or len(replies) != len(wanted) or any(it not in (right, compact(MEMORY)) for it, right in zip(replies, wanted)):
+            never, wants, right = found_in(run, wanted)
+            early, shown = early + never, shown + wants
+            if not right:
                 bad += 1
                 tell(f"{name}, request {number}: {run}")
-            shown += wants
             again = subprocess.run([PROGRAM, *words], input=text, capture_output=True, timeout=60)
             if (again.returncode, again.stderr, again.stdout.decode().splitlines()) != (0, b"", wanted):
                 bad += 1
@@ -539,6 +546,27 @@ def starts(folder, page):
 
     over("an empty file, opened", given, [compact({"do": "list", "form": "item"})], [compact({"ids": [], "ok": "list"})], False)
     over("a file with records, opened", none, lines, shown, True)
+
+
+def judged(folder, page):
+    """A line of each command, and lines that are none, judged without a record, with each request refused: one line is C12, or the judge never begins; then undisturbed."""
+    (folder / "d.json").write_text(declarations())
+    texts = [line if isinstance(line, str) else compact(line) for line in {name: line for name, _, line in reversed(LINES)}.values()] + [text for *_, text in ODD]
+    wanted = [compact(Model(json.loads(declarations()), {}).answer(text)) for text in texts]
+    words, lines = ["judge", "--declarations", folder / "d.json", "--now", "0"], "".join(text + "\n" for text in texts).encode()
+    early = shown = last = bad = 0
+    for number, run in runs(page, words, lines):
+        last += 1
+        never, wants, right = found_in(run, wanted)
+        early, shown = early + never, shown + wants
+        if not right:
+            bad += 1
+            tell(f"a judge, request {number}: {run}")
+    again = subprocess.run([PROGRAM, *words], input=lines, capture_output=True, timeout=60)
+    if found_in(again, wanted) != (False, 0, True) or not early or not shown:
+        bad += 1
+        tell(f"a judge: {early} ended with status 4, {shown} had one reply C12; undisturbed: {again}")
+    print(f"{len(texts)} lines judged: {last - 1} requests for memory, each refused in its turn, {early} ended with status 4, {shown} had one reply C12; {bad} lost")
 
 
 def rehearsed(folder, page):
@@ -734,6 +762,7 @@ def main():
         by_themselves(page)
         commands(folder, page)
         starts(folder, page)
+        judged(folder, page)
         rehearsed(folder, page)
         migration(folder, page)
     print(f"requests for memory refused: {lost} lost")

@@ -312,12 +312,17 @@ def declared(folder):
 
 def pipes(folder):
     (folder / "p.json").write_text(DECLARATIONS)
-    words = [PROGRAM, "serve", "--declarations", folder / "p.json", "--database", folder / "p.db"]
-    with subprocess.Popen(words, stdin=subprocess.PIPE, stdout=subprocess.PIPE, stderr=subprocess.PIPE, text=True, restore_signals=False) as program:
-        program.stdout.close()
-        program.stdin.write(put(1) + "\n")
-        program.stdin.close()
-        look("nobody reads", (program.stderr.read(), program.wait()), ("formd: write\n", 4))
+    for word, rest in ("serve", ["--database", folder / "p.db"]), ("judge", []):
+        words = [PROGRAM, word, "--declarations", folder / "p.json", *rest]
+        with subprocess.Popen(words, stdin=subprocess.PIPE, stdout=subprocess.PIPE, stderr=subprocess.PIPE, text=True, restore_signals=False) as program:
+            program.stdout.close()
+            program.stdin.write(put(1) + "\n")
+            program.stdin.close()
+            look(f"nobody reads what {word} writes", (program.stderr.read(), program.wait()), ("formd: write\n", 4))
+        # a folder can be opened, and not read
+        unread = os.open(folder, os.O_RDONLY)
+        ended(f"{word}: input that isn't read", subprocess.run(words, stdin=unread, capture_output=True, text=True), 4, "formd: read\n")
+        os.close(unread)
 
 
 def full(folder):
