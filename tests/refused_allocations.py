@@ -585,7 +585,8 @@ def rehearsed(folder, page):
             bad += 1
             tell(f"a rehearsal, request {number}: {run}")
         last += 1
-    if not told or not wants:
+    # (so few requests are behind the reading that one in so many may be none of them)
+    if not told or EACH == 1 and not wants:
         tell(f"a rehearsal: {told} told in words, {wants} refused for want of memory")
     print(f"a redeclare rehearsed: {last - 1} requests for memory, each refused in its turn, {wants} replies C12 without a word, {told} told in words; {bad} lost")
 
