@@ -2,7 +2,7 @@
 
 Demonstration: one object (129 bytes a line). Order: an order that names ten lines, which aren't validated (1.7 KB). Patterns: an order whose ten lines are
 validated, its number and their articles under patterns: eleven short texts (1.4 KB). Graph: twelve objects that refer to one another in a circle, each
-validated (0.9 KB).
+validated (0.9 KB). Survey: a person and 24 answers, all validated and each question's number under a pattern (3.8 KB).
 """
 
 import json
@@ -87,6 +87,27 @@ GRAPH = {
     },
     "forms": {"graph": {"root": "Part"}},
 }
+SURVEY = {
+    "types": {
+        "Survey": {
+            "fields": {
+                "filled": field("date", NOT_NULL),
+                "person": field({"ref": "Person"}, NOT_NULL, valid=True),
+                "subject": field("text", NOT_BLANK, size(max=80)),
+                **{f"answer{at:02}": field({"ref": "Answer"}, valid=True) for at in range(24)},
+            }
+        },
+        "Person": {"fields": {"age": field("integer", AT_LEAST_ONE), "name": field("text", NOT_BLANK, size(max=80))}},
+        "Answer": {
+            "fields": {
+                "question": field("text", NOT_NULL, pattern("Q[0-9]{2}")),
+                "score": field("integer", NOT_NULL, AT_LEAST_ONE),
+                "text": field("text", NOT_BLANK, size(max=200)),
+            }
+        },
+    },
+    "forms": {"survey": {"root": "Survey"}},
+}
 
 
 def item(number):
@@ -120,11 +141,21 @@ def graph(number):
     return {"root": "p00", "objects": objects}
 
 
+def survey(number):
+    fields = {"filled": "2024-02-29", "person": "person", "subject": "How was the workshop?", **{f"answer{at:02}": f"answer{at:02}" for at in range(24)}}
+    objects = {"person": {"type": "Person", "fields": {"age": number % 89 + 1, "name": "Ada Lovelace"}}, "survey": {"type": "Survey", "fields": fields}}
+    for at in range(24):
+        text = f"Reply {(number + at) % 9973}: the room was warm, the talks were good"
+        objects[f"answer{at:02}"] = {"type": "Answer", "fields": {"question": f"Q{at:02}", "score": (number + at) % 5 + 1, "text": text}}
+    return {"root": "survey", "objects": objects}
+
+
 SHAPES = {
     "demonstration": Shape(DEMONSTRATION, "item", item, ("a", "count", lambda number: number % 89 + 1)),
     "order": Shape(ORDER, "order", order, ("order", "customer", lambda number: f"Ada {number % 997}")),
     "patterns": Shape(PATTERNS, "order", patterned, ("order", "customer", lambda number: f"Ada {number % 997}")),
     "graph": Shape(GRAPH, "graph", graph, ("p07", "weight", lambda number: number % 89 + 1)),
+    "survey": Shape(SURVEY, "survey", survey, ("person", "age", lambda number: number % 97 + 1)),
 }
 
 
@@ -140,7 +171,13 @@ def reached(bundle, valid):
             left += [found["fields"][name] for name in valid.get(found["type"], ()) if found["fields"].get(name) is not None]
 
 
-VALID = {"demonstration": {}, "order": {}, "patterns": {"Order": [f"line{at}" for at in range(10)]}, "graph": {"Part": ["next"]}}
+VALID = {
+    "demonstration": {},
+    "order": {},
+    "patterns": {"Order": [f"line{at}" for at in range(10)]},
+    "graph": {"Part": ["next"]},
+    "survey": {"Survey": ["person", *(f"answer{at:02}" for at in range(24))]},
+}
 
 
 def units(text):
@@ -175,7 +212,7 @@ def order_by_hand(is_number):
 
 def by_hand(shape):
     """For each type, whether an object's fields hold."""
-    number, article = re.compile(r"[0-9]{8}"), re.compile(r"[A-Z]{3}-[0-9]{4}")
+    number, article, question = re.compile(r"[0-9]{8}"), re.compile(r"[A-Z]{3}-[0-9]{4}"), re.compile(r"Q[0-9]{2}")
     return {
         "demonstration": {"Item": lambda fields: is_count(fields.get("count")) and is_text(fields.get("name"), 1, 3)},
         "order": {"Order": order_by_hand(lambda text: is_text(text, 8, 8))},
@@ -190,6 +227,16 @@ def by_hand(shape):
             ),
         },
         "graph": {"Part": lambda fields: is_text(fields.get("code"), 1, 12) and is_count(fields.get("weight"))},
+        "survey": {
+            "Survey": lambda fields: fields.get("filled") is not None and fields.get("person") is not None and is_filled(fields.get("subject"), 80),
+            "Person": lambda fields: is_count(fields.get("age")) and is_filled(fields.get("name"), 80),
+            "Answer": lambda fields: (
+                fields.get("question") is not None
+                and question.fullmatch(fields["question"])
+                and is_at_least(fields.get("score"), 1)
+                and is_filled(fields.get("text"), 200)
+            ),
+        },
     }[shape]
 
 
@@ -202,6 +249,7 @@ def by_pydantic(shape):
     from pydantic import ConfigDict, Field, ValidationError, create_model
 
     filled = Annotated[str, Field(pattern=r"\S")]
+    short = Annotated[str, Field(pattern=r"\S", max_length=80)]
     count = (Optional[Annotated[int, Field(ge=1)]], None)
     amount = Annotated[Decimal, Field(ge=0)]
     name = (Optional[str], None)
@@ -231,6 +279,11 @@ def by_pydantic(shape):
             "Line": model("Line", article=Annotated[str, Field(pattern=r"^[A-Z]{3}-[0-9]{4}$")], name=filled, price=amount, quantity=count),
         },
         "graph": lambda: {"Part": model("Part", code=Annotated[str, Field(min_length=1, max_length=12)], next=name, weight=count)},
+        "survey": lambda: {
+            "Survey": model("Survey", filled=date, person=str, subject=short, **{f"answer{at:02}": name for at in range(24)}),
+            "Person": model("Person", age=count, name=short),
+            "Answer": model("Answer", question=Annotated[str, Field(pattern=r"^Q[0-9]{2}$")], score=Annotated[int, Field(ge=1)], text=Annotated[str, Field(pattern=r"\S", max_length=200)]),
+        },
     }[shape]()
 
 
