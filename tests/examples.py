@@ -67,7 +67,13 @@ class Site:
     """A server at work."""
 
     def __init__(self, name, process, port):
-        self.name, self.process, self.port = name, process, port
+        self.name, self.process, self.port, self.is_ended = name, process, port, False
+
+    def end(self):
+        """Tells the server to end, once: a second signal may meet it when it has no more to do, and handles none."""
+        if not self.is_ended:
+            self.process.send_signal(signal.SIGTERM)
+        self.is_ended = True
 
     def ask(self, path="/", form=None, headers={}, follow=True):
         """The status and the text, behind a redirect those of where it leads."""
@@ -113,7 +119,7 @@ def served(name, program, folder, **environment):
             raise SystemExit(f"{name}: the server doesn't come up")
         yield site
     finally:
-        process.send_signal(signal.SIGTERM)
+        site.end()
         site.want("its status behind SIGTERM", process.wait(timeout=30), 0)
 
 
@@ -187,7 +193,7 @@ def held(name, stub, folder):
         sender.start()
         while not os.path.exists(f"{hold}.put"):
             time.sleep(0.01)
-        site.process.send_signal(signal.SIGTERM)
+        site.end()
         time.sleep(0.7)  # by then both have closed the port
         try:
             site.ask()
