@@ -27,7 +27,7 @@ rows:
 planted:
 	tests/planted.sh $(NAME)
 
-# Runs the program that `make` leaves, longer than `make test` does: rows, its words, the manual's examples, files that it can't serve, pages of ids, exports,
+# Runs the program that `make` leaves, longer than `make test` does: rows, its words, the manual's examples, files that it can't serve, pages of ids,
 # hostile patterns, a hundred kills, files of version 1 and kills while one is migrated, the clients while their processes are killed, the forms of examples/,
 # the rental application, what differs from Bean Validation, an intake over PostgreSQL (left out where it or psycopg isn't there), the schema of declarations
 # (needs jsonschema).
@@ -39,7 +39,6 @@ served: rows
 	tests/words.py
 	tests/statuses.py
 	tests/pages.py
-	tests/export.py
 	tests/matchers.py
 	tests/writes.py
 	tests/clocks.py

@@ -14,10 +14,9 @@ pub enum Task<'a> {
     Demonstration,
     /// Say whether the declarations of the file at this path are taken.
     Declarations(&'a str),
-    /// Say what declarations declare, or where they are wrong.
-    Explain(Explain<'a>),
-    /// Write the declarations in force and the records of the database at this path, as command lines.
-    Export(&'a str),
+    /// Say what the declarations of the file at this path declare, or where they are wrong; as JSON
+    /// where that is asked.
+    Explain(&'a str, bool),
     /// Serve declarations over a database.
     Serve(Service<'a>),
     /// Serve declarations over a database in memory, and tell in words why lines are refused.
@@ -26,39 +25,6 @@ pub enum Task<'a> {
     Judge(Service<'a>),
     /// Say which version this is.
     Version,
-}
-
-/// Where declarations are.
-#[derive(Clone, Copy)]
-pub enum Source<'a> {
-    /// In the file at this path.
-    File(&'a str),
-    /// In force in the database at this path.
-    Database(&'a str),
-}
-
-/// In which form it is explained what declarations declare.
-#[derive(Clone, Copy)]
-pub enum Telling<'a> {
-    /// In words, a line each.
-    Words,
-    /// As JSON, an object a line.
-    Json,
-    /// As the text of the declarations.
-    Text,
-    /// As the JSON Schema of a bundle of the form of this name.
-    Schema(&'a str),
-    /// By what differs from other declarations, in words.
-    Over(Source<'a>),
-    /// The same as JSON, an object a line.
-    JsonOver(Source<'a>),
-}
-
-/// What is explained.
-#[derive(Clone, Copy)]
-pub struct Explain<'a> {
-    pub declarations: Source<'a>,
-    pub telling: Telling<'a>,
 }
 
 /// What is served.
@@ -85,74 +51,23 @@ fn declarations_command<'a>(alloc: Global) -> Result<Command<'a>, Error> {
     )
 }
 
-/// `--NAME FILE`, for the path of a database.
-fn database_argument<'a>(alloc: Global, name: &'a str, help: &'a str) -> Arg<'a> {
-    Arg::new(alloc, name)
-        .long(name)
-        .value_name("FILE")
-        .help(help)
-}
-
-/// `explain FILE|--database FILE [--json] [--text|--schema FORM|--over FILE|--over-database FILE]`.
+/// `explain FILE [--json]`.
 fn explain_command<'a>(alloc: Global) -> Result<Command<'a>, Error> {
     let file = Arg::new(alloc, "file")
         .value_name("FILE")
-        .required_unless_present("database")?
+        .required(true)
         .help("The file with the declarations");
-    let database = database_argument(
-        alloc,
-        "database",
-        "The declarations in force in this database",
-    )
-    .conflicts_with("file")?;
     let json = Arg::new(alloc, "json")
         .long("json")
         .action(ArgAction::SetTrue)
         .help("One JSON object a line");
-    let text = Arg::new(alloc, "text")
-        .long("text")
-        .action(ArgAction::SetTrue)
-        .conflicts_with("json")?
-        .help("The text of the declarations alone");
-    let schema = Arg::new(alloc, "schema")
-        .long("schema")
-        .value_name("FORM")
-        .conflicts_with_all(&["json", "text"])?
-        .help("A JSON Schema of the form's bundles, for browsers and generators");
-    let over = Arg::new(alloc, "over")
-        .long("over")
-        .value_name("FILE")
-        .conflicts_with_all(&["text", "schema"])?
-        .help("What differs from the declarations of this file");
-    let over_database = database_argument(
-        alloc,
-        "over-database",
-        "What differs from the declarations in force in this database",
-    )
-    .conflicts_with_all(&["text", "schema", "over"])?;
     Ok(
         Command::new(alloc, "explain")
             .about(
                 "Writes what declarations declare, with warnings, or where their first fault is.",
             )
             .arg(file)?
-            .arg(database)?
-            .arg(json)?
-            .arg(text)?
-            .arg(schema)?
-            .arg(over)?
-            .arg(over_database)?,
-    )
-}
-
-/// `export --database FILE`.
-fn export_command<'a>(alloc: Global) -> Result<Command<'a>, Error> {
-    Ok(
-        Command::new(alloc, "export")
-            .about(
-                "Writes the declarations in force and all records of a database, as command lines.",
-            )
-            .arg(database_argument(alloc, "database", "The database").required(true))?,
+            .arg(json)?,
     )
 }
 
@@ -238,7 +153,6 @@ fn command<'a>(alloc: Global) -> Result<Command<'a>, Error> {
             .subcommand(declarations_command(alloc)?)?
             .subcommand(explain_command(alloc)?)?
             .subcommand(rehearse_command(alloc)?)?
-            .subcommand(export_command(alloc)?)?
             .subcommand(version_command(alloc))?,
     )
 }
@@ -272,51 +186,6 @@ fn service_of<'a>(
     })
 }
 
-/// The declarations over which others are explained, where some are given.
-fn over_of<'a>(given: &ArgMatches<'a>) -> Option<Source<'a>> {
-    match given.get_str("over") {
-        Some(path) => Some(Source::File(path)),
-        None => match given.get_str("over-database") {
-            Some(path) => Some(Source::Database(path)),
-            None => None,
-        },
-    }
-}
-
-/// In which form it is explained.
-fn telling_of<'a>(given: &ArgMatches<'a>) -> Telling<'a> {
-    let as_json = given.get_flag("json");
-    if let Some(source) = over_of(given) {
-        return if as_json {
-            Telling::JsonOver(source)
-        } else {
-            Telling::Over(source)
-        };
-    }
-    if as_json {
-        return Telling::Json;
-    }
-    if given.get_flag("text") {
-        return Telling::Text;
-    }
-    match given.get_str("schema") {
-        Some(form) => Telling::Schema(form),
-        None => Telling::Words,
-    }
-}
-
-/// What `explain` asks.
-fn explain_of<'a>(given: &ArgMatches<'a>) -> Explain<'a> {
-    let declarations = match given.get_str("database") {
-        Some(path) => Source::Database(path),
-        None => Source::File(given.get_str("file").unwrap_or("")),
-    };
-    Explain {
-        declarations,
-        telling: telling_of(given),
-    }
-}
-
 /// What the words ask, without the program's name. Refused by their text for the user, also where
 /// they call for help or for the version, or for want of memory.
 pub fn task_of<'a>(alloc: Global, words: &'a [String]) -> Result<Task<'a>, Error> {
@@ -337,8 +206,10 @@ pub fn task_of<'a>(alloc: Global, words: &'a [String]) -> Result<Task<'a>, Error
             given,
             rehearse_command(alloc)?.bin_name("formd rehearse")?,
         )?)),
-        Some(("explain", given)) => Ok(Task::Explain(explain_of(given))),
-        Some(("export", given)) => Ok(Task::Export(given.get_str("database").unwrap_or(""))),
+        Some(("explain", given)) => Ok(Task::Explain(
+            given.get_str("file").unwrap_or(""),
+            given.get_flag("json"),
+        )),
         Some(("version", _)) => Ok(Task::Version),
         Some((_, given)) => Ok(Task::Declarations(given.get_str("file").unwrap_or(""))),
         None => Ok(Task::Demonstration),

@@ -67,7 +67,7 @@ impl OpenFault {
 pub struct Engine<R: RuleSet, S: Alter> {
     rules: SharedRules<R>,
     book: Rulebook<SharedRules<R>>,
-    pub(crate) store: Store<S>,
+    store: Store<S>,
 }
 
 impl<R: RuleSet + Drop, S: Alter + Drop> Drop for Engine<R, S> {
