@@ -57,7 +57,6 @@ SCRIPTS = [
     Script("kills", (1, 20)),
     Script("clients", ("short",), ("node",)),
     Script("schema", ("short",), ("jsonschema",)),
-    Script("schemas", ("short",), ("jsonschema",)),
     Script("manual", (), ("bash", "jq", "sqlite3")),
     Script("writes", (), ("gcc",)),
     Script("clocks", (), ("gcc",)),
