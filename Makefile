@@ -35,7 +35,6 @@ served: rows
 	tests/readme.py
 	tests/manual.py
 	tests/rehearsal.py
-	tests/over.py
 	tests/mistakes.py
 	tests/words.py
 	tests/statuses.py

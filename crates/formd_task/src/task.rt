@@ -14,8 +14,9 @@ pub enum Task<'a> {
     Demonstration,
     /// Say whether the declarations of the file at this path are taken.
     Declarations(&'a str),
-    /// Say what the declarations of the file at this path declare, or where they are wrong.
-    Explain(&'a str, Telling<'a>),
+    /// Say what the declarations of the file at this path declare, or where they are wrong; as JSON
+    /// where that is asked.
+    Explain(&'a str, bool),
     /// Serve declarations over a database.
     Serve(Service<'a>),
     /// Serve declarations over a database in memory, and tell in words why lines are refused.
@@ -24,17 +25,6 @@ pub enum Task<'a> {
     Judge(Service<'a>),
     /// Say which version this is.
     Version,
-}
-
-/// In which form it is told what declarations declare.
-#[derive(Clone, Copy)]
-pub enum Telling<'a> {
-    /// In words, a line each.
-    Words,
-    /// As JSON, an object a line.
-    Json,
-    /// By what differs from the declarations of the file at this path; as JSON where that is asked.
-    Over(&'a str, bool),
 }
 
 /// What is served.
@@ -61,7 +51,7 @@ fn declarations_command<'a>(alloc: Global) -> Result<Command<'a>, Error> {
     )
 }
 
-/// `explain FILE [--json] [--over FILE]`.
+/// `explain FILE [--json]`.
 fn explain_command<'a>(alloc: Global) -> Result<Command<'a>, Error> {
     let file = Arg::new(alloc, "file")
         .value_name("FILE")
@@ -71,17 +61,13 @@ fn explain_command<'a>(alloc: Global) -> Result<Command<'a>, Error> {
         .long("json")
         .action(ArgAction::SetTrue)
         .help("One JSON object a line");
-    let over = Arg::new(alloc, "over").long("over").value_name("FILE").help(
-        "What they add, change and remove over the declarations of this file",
-    );
     Ok(
         Command::new(alloc, "explain")
             .about(
                 "Writes what declarations declare, with warnings, or where their first fault is.",
             )
             .arg(file)?
-            .arg(json)?
-            .arg(over)?,
+            .arg(json)?,
     )
 }
 
@@ -200,19 +186,6 @@ fn service_of<'a>(
     })
 }
 
-/// In which form it is told.
-fn telling_of<'a>(given: &ArgMatches<'a>) -> Telling<'a> {
-    let as_json = given.get_flag("json");
-    if let Some(path) = given.get_str("over") {
-        return Telling::Over(path, as_json);
-    }
-    if as_json {
-        Telling::Json
-    } else {
-        Telling::Words
-    }
-}
-
 /// What the words ask, without the program's name. Refused by their text for the user, also where
 /// they call for help or for the version, or for want of memory.
 pub fn task_of<'a>(alloc: Global, words: &'a [String]) -> Result<Task<'a>, Error> {
@@ -235,7 +208,7 @@ pub fn task_of<'a>(alloc: Global, words: &'a [String]) -> Result<Task<'a>, Error
         )?)),
         Some(("explain", given)) => Ok(Task::Explain(
             given.get_str("file").unwrap_or(""),
-            telling_of(given),
+            given.get_flag("json"),
         )),
         Some(("version", _)) => Ok(Task::Version),
         Some((_, given)) => Ok(Task::Declarations(given.get_str("file").unwrap_or(""))),

@@ -1,7 +1,6 @@
 //! The words of formd: what they do, statuses, the texts on standard error.
 #![tactic(auto)]
 
-mod comparing;
 mod declarations;
 mod demonstration;
 mod explaining;

@@ -44,7 +44,9 @@ fn run_task<R: RuleSet + Drop, I: Read, W: Write, E: Write, C: Clock>(
     match task {
         Task::Demonstration => serve_demonstration(rt.alloc(), registry, reader, output),
         Task::Declarations(path) => check_declarations(rt.alloc(), rt, path, &registry, output),
-        Task::Explain(path, telling) => explain_file(rt, path, telling, &registry, output),
+        Task::Explain(path, as_json) => {
+            explain_file(rt.alloc(), rt, path, as_json, &registry, output)
+        }
         Task::Rehearse(service) => {
             rehearse_file(rt, service, registry, reader, output, error, clock)
         }
@@ -61,7 +63,7 @@ fn run_task<R: RuleSet + Drop, I: Read, W: Write, E: Write, C: Clock>(
 /// or at those of the clock, under its own declarations; under those of the file F where it is empty;
 /// `judge --declarations F [--now N]` answers lines as where there is no record, and keeps nothing;
 /// `explain F [--json]` writes what the declarations of the file F declare, or where their first fault
-/// is, `--over O` what they add, change and remove over those of the file O; `rehearse --declarations F [--now N]` serves a database in memory, and tells on the error writer
+/// is; `rehearse --declarations F [--now N]` serves a database in memory, and tells on the error writer
 /// where lines are wrong; `version` prints which version this is.
 ///
 /// Gives the exit status: 0 done; 2 the words weren't understood, or call for help, with a text on
