@@ -1,33 +1,22 @@
 -- What is asked of the service, and its reply.
-use Rattle.std.proofs.Common.{◌≡◌, ◌≢◌, ◌≤◌, ◌<◌, ℕ, ℤ, IsTrue, length, option_map, if◌then◌else◌, List, Bool, false, Option, None, Some, inl, inr, refl, sym, ap, subst, ◌∙◌, arith}
+use Rattle.std.proofs.Common.{◌≡◌, ◌≢◌, ◌≤◌, ◌<◌, ℕ, ℤ, length, if◌then◌else◌, List, Bool, false, Option, None, Some, inl, inr, refl, sym, ap, subst, ◌∙◌, arith}
 use Rattle.std.specs.Option.{option_map_or, unwrap_or}
 use Rattle.serde_json.specs.Data as json
 use Rattle.fv_datum.specs.Parsing.{json_of}
-use Rattle.fv_engine_command.specs.Commands.{Asked, redeclare, of_records, Request, get, too_long, shape, command_of, redeclare_of, asks, asks_json}
+use Rattle.fv_engine_command.specs.Commands.{Asked, redeclare, of_records, Request, too_long, shape, command_of, redeclare_of, asks, asks_json}
 use Rattle.fv_declare_schema.specs.Declarations.{Declarations}
 use Rattle.fv_engine_machine.specs.Judges.{AnswersBare, Judges, RepliesBare, bare}
 use Rattle.fv_engine_machine.specs.Redeclaring.{RedeclareStep, Refits, JudgesAll, Reign}
 use Rattle.fv_engine_machine.specs.Refusals.{is_too_long}
 use Rattle.fv_engine_machine.specs.Services.{Attends, Replies, Responds, Service, reign_of, text_after}
-use Rattle.sqlite.specs.State.{State}
-use Rattle.serde_json.specs.Written.{compact_text}
-use Rattle.fv_bundle.specs.Bundles.{Bundled}
-use Rattle.fv_engine_command.specs.CommandView.{command_view}
-use Rattle.fv_engine_command.specs.declared.command.Command.{Command}
-use Rattle.fv_engine_machine.specs.Causes.{Handles, Told}
-use Rattle.fv_engine_machine.specs.Keeping.{Unchanged}
-use Rattle.fv_engine_machine.specs.Machines.{Becomes, Machine}
-use Rattle.fv_engine_machine.proofs.Becoming as machine
-use Rattle.fv_engine_machine.proofs.Becoming.{above, got_some, out_of_memory, refused_at_once, short_command, stays_itself, told_memory, within}
+use Rattle.fv_engine_machine.proofs.Becoming.{above, out_of_memory, refused_at_once, short_command, stays_itself, told_memory, within}
 use Rattle.fv_engine_reply.specs.Answers.{Answer, done, shown, violated, checked, field_checked, value_checked, ids, refused, part_refused, redeclared, misdeclared, unfit}
 use Rattle.fv_engine_reply.specs.Texts.{answer_text, TakesMemory, Tells}
 use Rattle.fv_engine_reply.specs.declared.answer.Refusal.TheVariants.{LineTooLong, Memory}
+use Rattle.fv_declare_schema.specs.Declarations.{Declarations}
 use Rattle.fv_registry.specs.Meanings.{Meanings}
 use Rattle.fv_registry.specs.Rules.{Known}
-use Rattle.fv_model.specs.Writing.{bundle_json}
-use Rattle.fv_store.specs.Records.{Kept, Records}
-use Rattle.fv_store.specs.Stored.{text_of}
-use Rattle.fv_store.specs.Texts.{bundle_text}
+use Rattle.fv_store.specs.Records.{Records}
 
 -- ---- where declarations aren't changed, all stays
 
@@ -111,47 +100,6 @@ short_asked j = short_by (redeclare_of j) (unwrap_or (command_of j) shape) (shor
 pub short_asks : (o : Option json.Data) → IsShort (asks_json o)
 short_asks None = refl
 short_asks (Some j) = short_asked j
-
--- ---- requests
-
-module _ (means : Meanings) (now : ℤ) where
-  -- a text that tells the answer of a request, also where memory was refused for it
-  pub told_request : (r : Request) → is_too_long r ≡ false → (x y : Machine Records) (answer : Answer) (text : List ℕ) → Tells text answer → Handles means now r x answer y → Told means now r x text y
-  told_request r short x y answer text (inl is) handles = (answer, is, handles)
-  told_request r short x y answer text (inr made) handles = (refused Memory, made.1, told_memory means now r short x y answer made.0 handles)
-
-module _ {H : Type 0} (held : H → State) (old new : Machine H) (means : Meanings) (now : ℤ) where
-  -- the reply to a command by its answer
-  pub asked_by : (answer : Answer) (c d : Command) → c ≡ d → is_too_long (command_view d) ≡ false → (text : List ℕ) → Tells text answer
-      → Becomes held old new (λ x y. Handles means now (command_view d) x answer y) → Becomes held old new (λ x y. Told means now (command_view c) x text y)
-  asked_by answer c d is short text tells becoming =
-      subst (λ (e : Command). Becomes held old new (λ x y. Told means now (command_view e) x text y)) (sym is)
-      (machine.weaker held old new _ _ (λ x y handles. told_request means now (command_view d) short x y answer text tells handles) becoming)
-
-  -- a command that is there is what is asked
-  pub told_of : (text : List ℕ) (o : Option Request) (r : Request) → Some r ≡ o → Becomes held old new (λ x y. Told means now r x text y) → Becomes held old new (λ x y. Told means now (unwrap_or o shape) x text y)
-  told_of text o r is becoming = subst (λ (p : Option Request). Becomes held old new (λ x y. Told means now (unwrap_or p shape) x text y)) is becoming
-
--- ---- gets
-
-pub no_text : (o : Option Kept) → None ≡ option_map text_of o → o ≡ None
-no_text None is = refl
-no_text (Some k) is = cc
-
-some_text : (t : List ℕ × List ℕ) (o : Option Kept) → Some t ≡ option_map text_of o → (k : Kept) × (o ≡ Some k) × (t ≡ text_of k)
-some_text t None is = cc
-some_text t (Some k) is = (k, refl, cc)
-
-module _ (means : Meanings) (now : ℤ) (id : List ℕ) (x y : Machine Records) (stay : Unchanged x y) where
-  -- the record is shown by the text that is written of it
-  pub got_text : IsTrue x.is_open → (t : List ℕ × List ℕ) (text : List ℕ) → Some t ≡ option_map text_of (x.records id) → ((b : Bundled) → t.1 ≡ compact_text (bundle_json b) → Tells text (shown id t.0 b))
-      → Told means now (get id) x text y
-  unfolding bundle_text
-  got_text live t text found tells =
-      let k = some_text t (x.records id) found in
-      let form : t.0 ≡ k.0.form = ap (λ p. p.0) k.2 in
-      let told : Tells text (shown id k.0.form k.0.bundle) = subst (λ (f : List ℕ). Tells text (shown id f k.0.bundle)) form (tells k.0.bundle (ap (λ p. p.1) k.2)) in
-      told_request means now (get id) refl x y (shown id k.0.form k.0.bundle) text told (got_some means now id x y stay live k.0 k.1)
 
 -- ---- lines
 

@@ -54,10 +54,6 @@ pub record Causes (means : Meanings) (now : ℤ) (r : Request) (answer : Answer)
 abbrev pub Handles : Meanings → ℤ → Request → Machine Records → Answer → Machine Records → Type 0
 Handles means now r old answer new = Step means old.declared old.records r now answer new.records × Causes means now r answer old new
 
--- the same, told by the text of its answer
-abbrev pub Told : Meanings → ℤ → Request → Machine Records → List ℕ → Machine Records → Type 0
-Told means now r old text new = (answer : Answer) × (text ≡ answer_text answer) × Handles means now r old answer new
-
--- that of what a line asks for
+-- that of what a line asks for, told by the text of its answer
 abbrev pub Caused : Meanings → Machine Records → List ℕ → ℤ → List ℕ → Machine Records → Type 0
-Caused means old line moment text new = Told means moment (asked line) old text new
+Caused means old line moment text new = (answer : Answer) × (text ≡ answer_text answer) × Handles means moment (asked line) old answer new

@@ -4,13 +4,13 @@ ghost use Rattle.fv_datum.specs.Moments.{IsMoment};
 ghost use Rattle.fv_datum.specs.Parsing.{json_of};
 ghost use Rattle.fv_declare_schema.specs.Declarations.{Declarations};
 ghost use Rattle.fv_engine_machine.specs.Machines.{over, Becomes};
-ghost use Rattle.fv_engine_machine.specs.Services.{GoesOn, Replies, serving};
-ghost use Rattle.fv_engine_command.specs.CommandView.{command_view, part_view};
+ghost use Rattle.fv_engine_machine.specs.Services.{Attends, GoesOn, Replies, serving};
+ghost use Rattle.fv_engine_command.specs.CommandView.{part_view};
 ghost use Rattle.fv_engine_command.specs.Commands.{alone, asks_json, batch, get, command_of, shape};
-ghost use Rattle.fv_engine_machine.specs.Causes.{Handles, Told};
+ghost use Rattle.fv_engine_machine.specs.Causes.{Handles};
 ghost use Rattle.fv_registry.specs.Meanings.{Meanings};
 ghost use Rattle.fv_engine_reply.specs.AnswerView.{answer_view};
-ghost use Rattle.fv_engine_reply.specs.Texts.{Tells};
+ghost use Rattle.fv_model_types.specs.TypesView.{types_view};
 ghost use Rattle.serde_json.specs.View.{view as json_view};
 ghost use Rattle.fv_store.specs.Stock.{stock_state as state};
 
@@ -25,6 +25,7 @@ use fv_datum::{JsonFault, read_json};
 use fv_engine_command::{Command, Part, command_of, redeclare_of};
 use fv_engine_reply::{Answer, Done, Refusal, Reply};
 use fv_local::Rulebook;
+use fv_model_types::Types;
 use fv_registry::RuleSet;
 use fv_store::Store;
 use serde_json::Value;
@@ -38,7 +39,7 @@ fn alone<'a, R: RuleSet, S: Alter>(
     book: &Rulebook<R>,
     part: Part<'a>,
     now: i64,
-) -> Answer
+) -> Answer<'a>
     requires { IsMoment now }
     ensures text { store.new.text ≡ store.old.text }
     ensures becomes { Becomes (state S.Store) (over (state S.Store) book.now store.old)
@@ -56,7 +57,7 @@ fn batch<'a, R: RuleSet, S: Alter>(
     book: &Rulebook<R>,
     parts: &[Part<'a>],
     now: i64,
-) -> Answer
+) -> Answer<'a>
     requires { IsMoment now }
     ensures text { store.new.text ≡ store.old.text }
     ensures becomes { Becomes (state S.Store) (over (state S.Store) book.now store.old)
@@ -66,94 +67,92 @@ fn batch<'a, R: RuleSet, S: Alter>(
     change(store, alloc, book, parts, Done::Batch, now)
 }
 
-/// Shows a record, as it is written.
-fn get<S: Alter>(store: &mut Store<S>, alloc: Global, id: &str) -> Reply
+/// Shows a record.
+fn get<'a, S: Alter>(store: &mut Store<S>, alloc: Global, types: &Types, id: &'a str) -> Answer<'a>
     ensures text { store.new.text ≡ store.old.text }
-    ensures becomes { (ds : Declarations) (means : Meanings) (now : ℤ)
+    ensures becomes { (ds : Declarations) (means : Meanings) (now : ℤ) → ds.types ≡ types_view types.now
         → Becomes (state S.Store) (over (state S.Store) ds store.old) (over (state S.Store) ds store.new)
-        (λ x y. Told means now (get id.now) x result y) }
+        (λ x y. Handles means now (get id.now) x (answer_view result) y) }
 {
-    match store.written(alloc, id) {
-        Ok(None) => Reply::refused(alloc, Refusal::NoRecord),
-        Ok(Some(record)) => {
-            Reply::shown(alloc, id, record.form.as_str(), record.bundle.as_str())
-        }
-        Err(fault) => Reply::refused(alloc, undone(fault)),
-    }
-}
-
-/// The reply that tells an answer.
-fn told(alloc: Global, answer: Answer) -> Reply
-    ensures { Tells result (answer_view answer) }
-{
-    Reply::of(alloc, &answer)
-}
-
-/// The reply to a command.
-fn reply_by<R: RuleSet, S: Alter>(
-    store: &mut Store<S>,
-    alloc: Global,
-    book: &Rulebook<R>,
-    command: Command<'_>,
-    now: i64,
-) -> Reply
-    requires { IsMoment now }
-    ensures text { store.new.text ≡ store.old.text }
-    ensures becomes { Becomes (state S.Store) (over (state S.Store) book.now store.old)
-        (over (state S.Store) book.now store.new)
-        (λ x y. Told R.meaning now (command_view command.entry) x result y) }
-{
-    match command {
-        Command::Alone(part) => told(alloc, alone(store, alloc, book, part, now)),
-        Command::Batch { parts } => told(alloc, batch(store, alloc, book, &parts, now)),
-        Command::Get { id } => get(store, alloc, id),
-        Command::Check { id, groups } => told(alloc, check(store, alloc, book, id, &groups, now)),
-        Command::CheckField {
+    match store.get(alloc, types, id) {
+        Ok(None) => Answer::Refused(Refusal::NoRecord),
+        Ok(Some(stored)) => Answer::Shown {
             id,
-            object,
-            field,
-            groups,
-        } => told(
-            alloc,
-            check_field(store, alloc, book, id, object, field, &groups, now),
-        ),
-        Command::CheckValue {
-            type_name,
-            field,
-            value,
-            groups,
-        } => told(
-            alloc,
-            check_value(alloc, book, type_name, field, value, &groups, now),
-        ),
-        Command::List { form, after, limit } => {
-            told(alloc, list(store, alloc, book.schema(), form, after, limit))
-        }
+            form: stored.form,
+            bundle: stored.bundle,
+        },
+        Err(fault) => Answer::Refused(undone(fault)),
     }
 }
 
-/// The reply to a line's JSON that asks for no redeclare.
-fn reply_without_redeclare<R: RuleSet, S: Alter>(
+/// The answer to a line's JSON.
+fn answer<'a, R: RuleSet, S: Alter>(
     store: &mut Store<S>,
     alloc: Global,
     book: &Rulebook<R>,
-    value: &Value,
+    value: &'a Value,
     now: i64,
-) -> Reply
+) -> Answer<'a>
     requires { IsMoment now }
     ensures text { store.new.text ≡ store.old.text }
     ensures becomes { Becomes (state S.Store) (over (state S.Store) book.now store.old)
         (over (state S.Store) book.now store.new)
-        (λ x y. Told R.meaning now (unwrap_or (command_of (json_view value.now)) shape) x result y) }
+        (λ x y. Handles R.meaning now (unwrap_or (command_of (json_view value.now)) shape) x (answer_view result) y) }
 {
     match command_of(alloc, value) {
-        Err(_) => Reply::refused(alloc, Refusal::Memory),
-        Ok(None) => Reply::refused(alloc, Refusal::Shape),
-        Ok(Some(command)) => reply_by(store, alloc, book, command, now),
+        Err(_) => Answer::Refused(Refusal::Memory),
+        Ok(None) => Answer::Refused(Refusal::Shape),
+        Ok(Some(Command::Alone(part))) => alone(store, alloc, book, part, now),
+        Ok(Some(Command::Batch { parts })) => batch(store, alloc, book, &parts, now),
+        Ok(Some(Command::Get { id })) => get(store, alloc, book.schema().types(), id),
+        Ok(Some(Command::Check { id, groups })) => check(store, alloc, book, id, &groups, now),
+        Ok(
+            Some(
+                Command::CheckField {
+                    id,
+                    object,
+                    field,
+                    groups,
+                },
+            ),
+        ) => check_field(store, alloc, book, id, object, field, &groups, now),
+        Ok(
+            Some(
+                Command::CheckValue {
+                    type_name,
+                    field,
+                    value,
+                    groups,
+                },
+            ),
+        ) => check_value(alloc, book, type_name, field, value, &groups, now),
+        Ok(Some(Command::List { form, after, limit })) => {
+            list(store, alloc, book.schema(), form, after, limit)
+        }
     }
 }
 
-/// The reply to a line's JSON, a redeclare among what it may ask for.
+/// The answer to a line's JSON, a redeclare among what it may ask for.
+fn attend<'a, R: RuleSet + Drop, S: Alter>(
+    store: &mut Store<S>,
+    alloc: Global,
+    rules: &SharedRules<R>,
+    book: &mut Rulebook<SharedRules<R>>,
+    value: &'a Value,
+    now: i64,
+) -> Answer<'a>
+    requires { IsMoment now }
+    ensures { GoesOn (state S.Store) (serving (state S.Store) (R.known rules.now) book.old store.old)
+        (serving (state S.Store) (R.known rules.now) book.new store.new)
+        (λ x y. Attends R.meaning now (asks_json (Some (json_view value.now))) x (answer_view result) y) }
+{
+    match redeclare_of(value) {
+        Some(text) => redeclare(store, alloc, rules, book, text, now),
+        None => answer(store, alloc, book, value, now),
+    }
+}
+
+/// The reply to a line's JSON.
 fn reply_to<R: RuleSet + Drop, S: Alter>(
     store: &mut Store<S>,
     alloc: Global,
@@ -167,10 +166,8 @@ fn reply_to<R: RuleSet + Drop, S: Alter>(
         (serving (state S.Store) (R.known rules.now) book.new store.new)
         (λ x y. Replies R.meaning now (asks_json (Some (json_view value.now))) x result y) }
 {
-    match redeclare_of(value) {
-        Some(text) => told(alloc, redeclare(store, alloc, rules, book, text, now)),
-        None => reply_without_redeclare(store, alloc, book, value, now),
-    }
+    let answer = attend(store, alloc, rules, book, value, now);
+    Reply::of(alloc, &answer)
 }
 
 /// The reply to a line that isn't over the limit: one step of the service. The declarations in force

@@ -30,13 +30,13 @@ use serde_json::Value;
 use std::alloc::Global;
 
 /// What a command that leaves these records is told: their violations, or that it is done.
-fn judged<R: RuleSet>(
+fn judged<'a, R: RuleSet>(
     alloc: Global,
     book: &Rulebook<R>,
     pending: &Pending<'_>,
     done: Done,
     now: i64,
-) -> Answer
+) -> Answer<'a>
     requires moment { IsMoment now }
     requires typed { AreTyped book.now.types (pending_view pending.now) }
     ensures { JudgesWay R.meaning book.now now (pending_view pending.now) done (answer_view result) }
@@ -58,7 +58,7 @@ fn judge_parts<'a, R: RuleSet>(
     parts: &[Part<'a>],
     done: Done,
     now: i64,
-) -> Answer
+) -> Answer<'a>
     requires { IsMoment now }
     ensures { ChangesBare R.meaning book.now now (map part_view parts.now) done (answer_view result) }
 {
@@ -81,7 +81,7 @@ fn judge_alone<'a, R: RuleSet>(
     book: &Rulebook<R>,
     part: Part<'a>,
     now: i64,
-) -> Answer
+) -> Answer<'a>
     requires { IsMoment now }
     ensures { ServesBare R.meaning book.now now (alone (part_view part.entry)) (answer_view result) }
 {
@@ -90,7 +90,7 @@ fn judge_alone<'a, R: RuleSet>(
 }
 
 /// Lists the ids of a form, of which there is none.
-fn list_none(alloc: Global, schema: &Schema, form: &str) -> Answer
+fn list_none<'a>(alloc: Global, schema: &Schema, form: &str) -> Answer<'a>
     ensures { (means : Meanings) (now : _) (after : _) (limit : _)
         → ServesBare means schema.now now (list form.now after limit) (answer_view result) }
 {
@@ -103,7 +103,12 @@ fn list_none(alloc: Global, schema: &Schema, form: &str) -> Answer
 }
 
 /// The answer to a line's JSON.
-fn answer<'a, R: RuleSet>(alloc: Global, book: &Rulebook<R>, value: &'a Value, now: i64) -> Answer
+fn answer<'a, R: RuleSet>(
+    alloc: Global,
+    book: &Rulebook<R>,
+    value: &'a Value,
+    now: i64,
+) -> Answer<'a>
     requires { IsMoment now }
     ensures { ServesBare R.meaning book.now now (unwrap_or (command_of (json_view value.now)) shape) (answer_view result) }
 {
@@ -130,7 +135,7 @@ fn answer<'a, R: RuleSet>(alloc: Global, book: &Rulebook<R>, value: &'a Value, n
 }
 
 /// The answer to declarations: taken, or their first fault. They aren't put in force.
-fn judge_declarations<R: RuleSet>(alloc: Global, rules: &R, text: &str) -> Answer
+fn judge_declarations<'a, R: RuleSet>(alloc: Global, rules: &R, text: &str) -> Answer<'a>
     ensures { (means : Meanings) (ds : _) (now : _)
         → AnswersBare (R.known rules.now) means ds now (redeclare text.now) (answer_view result) }
 {
@@ -150,7 +155,7 @@ fn attend<'a, R: RuleSet>(
     book: &Rulebook<SharedRules<R>>,
     value: &'a Value,
     now: i64,
-) -> Answer
+) -> Answer<'a>
     requires { IsMoment now }
     ensures { AnswersBare (R.known rules.now) R.meaning book.now now (asks_json (Some (json_view value.now))) (answer_view result) }
 {

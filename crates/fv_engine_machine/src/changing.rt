@@ -41,7 +41,7 @@ pub(crate) fn done_by(part: &Part) -> Done
 }
 
 /// How a part that can't be done is told: in a batch with its number.
-fn told_part(done: Done, part: usize, why: Refusal) -> Answer
+fn told_part<'a>(done: Done, part: usize, why: Refusal) -> Answer<'a>
     ensures { answer_view result ≡ told_part done part why }
 {
     match done {
@@ -51,7 +51,7 @@ fn told_part(done: Done, part: usize, why: Refusal) -> Answer
 }
 
 /// The refusal of a part, or of all for want of memory.
-pub(crate) fn unmade(done: Done, part: usize, fault: PartFault) -> Answer
+pub(crate) fn unmade<'a>(done: Done, part: usize, fault: PartFault) -> Answer<'a>
     ensures memory { fault ≡ PartFault.Memory → answer_view result ≡ refused Refusal.Memory }
     ensures other { fault ≢ PartFault.Memory → answer_view result ≡ told_part done part (part_refusal fault) }
 {
@@ -99,13 +99,13 @@ fn changes_of(
 }
 
 /// Stores what stands on the way: one object alone, where its name is given.
-fn keep<'b, S: Alter>(
+fn keep<'a, 'b, S: Alter>(
     store: &mut Store<S>,
     alloc: Global,
     pending: Pending<'b>,
     object: Option<&str>,
     done: Done,
-) -> Answer
+) -> Answer<'a>
     ensures frame { Frame (state S.Store store.old) (state S.Store store.new) }
     ensures text { store.new.text ≡ store.old.text }
     ensures moves { (ds : Declarations) (bytes : _) (m : _) → AreTyped ds.types (pending_view pending.entry)
@@ -132,7 +132,7 @@ fn settle<'a, R: RuleSet, S: Alter>(
     object: Option<&str>,
     done: Done,
     now: i64,
-) -> Answer
+) -> Answer<'a>
     requires moment { IsMoment now }
     requires typed { AreTyped book.now.types (pending_view pending) }
     ensures frame { Frame (state S.Store store.old) (state S.Store store.new) }
@@ -162,7 +162,7 @@ pub(crate) fn change<'a, R: RuleSet, S: Alter>(
     parts: &[Part<'a>],
     done: Done,
     now: i64,
-) -> Answer
+) -> Answer<'a>
     requires { IsMoment now }
     ensures text { store.new.text ≡ store.old.text }
     ensures becomes { Becomes (state S.Store) (over (state S.Store) book.now store.old)

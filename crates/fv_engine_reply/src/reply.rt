@@ -1,12 +1,9 @@
 ghost use Rattle.std.specs.Prelude.{◌≡◌, IfOk, MatchResult, string_bytes};
 ghost use Rattle.fv_engine_lines.specs.Lines.{ended};
-ghost use Rattle.fv_bundle.specs.Bundles.{Bundled};
-ghost use Rattle.fv_engine_reply.specs.Answers.{done, redeclared, refused, shown};
+ghost use Rattle.fv_engine_reply.specs.Answers.{done, redeclared, refused};
 ghost use Rattle.fv_engine_reply.specs.AnswerView.{answer_view};
 ghost use Rattle.fv_engine_reply.specs.Content.{front, content_line};
 ghost use Rattle.fv_engine_reply.specs.Texts.{answer_text, Tells};
-ghost use Rattle.fv_model.specs.Writing.{bundle_json};
-ghost use Rattle.serde_json.specs.Written.{compact_text};
 
 use crate::answer::{Answer, Done, Refusal};
 use crate::texts::{
@@ -110,6 +107,9 @@ impl Reply {
     {
         match answer {
             Answer::Done(what) => Reply::done(*what),
+            Answer::Shown { id, form, bundle } => {
+                Reply::or_memory(record_shown(alloc, id, form.as_str(), bundle))
+            }
             Answer::Violated { records } => Reply::or_memory(violated(alloc, records)),
             Answer::Checked { violations } => {
                 Reply::or_memory(listing(alloc, "check", violations))
@@ -129,14 +129,6 @@ impl Reply {
             Answer::Misdeclared(fault) => Reply::or_memory(misdeclared(alloc, *fault)),
             Answer::Unfit { id, why } => Reply::or_memory(unfit(alloc, id.as_str(), *why)),
         }
-    }
-
-    /// The reply that shows the record of an id: its form, and its bundle by the text that is written of
-    /// it; the refusal for want of memory where an allocation was refused.
-    pub fn shown(alloc: Global, id: &str, form: &str, bundle: &str) -> Reply
-        ensures { (b : Bundled) → bundle.now ≡ compact_text (bundle_json b) → Tells result (shown id.now form.now b) }
-    {
-        Reply::or_memory(record_shown(alloc, id, form, bundle))
     }
 
     /// The reply that tells what was done. It takes no memory.

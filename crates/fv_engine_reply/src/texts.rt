@@ -1,8 +1,7 @@
 //! The replies whose texts are made.
 ghost use Rattle.std.specs.Prelude.{◌≡◌, false, None, Some, IfOk, map, string_bytes, codes};
 ghost use Rattle.fv_datum.specs.View.{view};
-ghost use Rattle.fv_bundle.specs.Bundles.{Bundled};
-ghost use Rattle.fv_model.specs.Writing.{bundle_json};
+ghost use Rattle.fv_bundle.specs.Views.{bundle_view};
 ghost use Rattle.fv_model_types.specs.Writing.{datum_json};
 ghost use Rattle.fv_engine_reply.specs.Answers.{violated, shown, ids as ids_told, misdeclared, unfit};
 ghost use Rattle.fv_engine_reply.specs.Texts.{violation_json, judged_json, listing_json, refused_json, answer_json, answer_text};
@@ -13,10 +12,11 @@ ghost use Rattle.serde_json.specs.Written.{compact_text, has_float};
 
 use crate::answer::{Misfit, Refusal};
 use crate::reply::Reply;
+use fv_bundle::Bundle;
 use fv_datum::{DatumFault, write_datum};
 use fv_declare_judging::DeclFault;
 use fv_model::BundleFault;
-use fv_model_text::quoted;
+use fv_model_text::{quoted, write_text};
 use fv_validate::{Judged, Violation};
 use serde_json::{Value, json, push};
 use std::alloc::{AllocError, Global};
@@ -223,16 +223,16 @@ pub(crate) fn unfit(alloc: Global, id: &str, why: Misfit) -> Result<Reply, Alloc
     text_of(alloc, &value)
 }
 
-/// `{"bundle":..,"form":..,"id":..,"ok":"get"}`, for a bundle by its text.
+/// `{"bundle":..,"form":..,"id":..,"ok":"get"}`.
 pub(crate) fn record_shown(
     alloc: Global,
     id: &str,
     form: &str,
-    bundle: &str,
+    bundle: &Bundle,
 ) -> Result<Reply, AllocError>
-    ensures { IfOk result (λ r. (b : Bundled) → bundle.now ≡ compact_text (bundle_json b)
-        → r ≡ answer_text (shown id.now form.now b)) }
+    ensures { IfOk result (λ r. r ≡ answer_text (shown id.now form.now (bundle_view bundle.now))) }
 {
+    let bundle = write_text(alloc, bundle)?;
     let form = quoted(alloc, form)?;
     let id = quoted(alloc, id)?;
     let text = format!(in alloc;

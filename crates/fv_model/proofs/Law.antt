@@ -29,7 +29,7 @@ use Rattle.fv_model.specs.Reading.{object_types, has_flaw, conditions, datum_at,
 use Rattle.fv_model_types.specs.Types.{TypeUse, DeclaredFields, Declared, AreApart, FieldsApart, name_at}
 use Rattle.fv_bundle.specs.WellTyped.{NamesObject, FitsUse, FieldsAre, FitsType, IsWellTyped, HasRootType}
 use Rattle.fv_model.specs.Writing.{datum_json, thing_json, bundle_json}
-use Rattle.fv_model.proofs.Conditions.{root_missing, unknown_type, wrong_kind, large_datum, root_type, draft_fault, judged, added, objects_added, flaw_among}
+use Rattle.fv_model.proofs.Conditions.{root_missing, large_datum, root_type, draft_fault, judged, added, objects_added, flaw_among}
 use Rattle.fv_model_types.specs.declared.types.TypeId.{TypeId}
 use Rattle.fv_model_types.proofs.Apart.{apart-head, apart-tail, found_apart}
 use Rattle.fv_datum.proofs.Lists.{each_of, none_made}
@@ -223,12 +223,6 @@ all_back : (ts : Declared) (types : ObjectTypes) (os : Things) → AllByRecursio
 all_back ts types [] all = refl
 all_back ts types (o ∷ os) all = ap (λ x. x ∷ map (object_of ts) (map part_for os)) all.0.back ∙ ap (λ xs. o ∷ xs) (all_back ts types os all.1)
 
--- none of the objects of a well-typed bundle, as they are given, is of an unknown type or has a datum of another kind, and they are read as they were
-pub record AreBack (ts : Declared) (os : Things) : Type 0 where
-  pub typed : unknown_type ts (map part_for os) ≡ false
-  pub fits : wrong_kind ts (map part_for os) ≡ false
-  pub back : map (object_of ts) (map part_for os) ≡ os
-
 type_here : (b : Bool) (t : Thing) (rest : Option (List ℕ)) (found : Option Thing) → rest ≡ option_map (λ u. u.type_name) found → cond b (Some t.type_name) rest ≡ option_map (λ u. u.type_name) (cond b (Some t) found)
 type_here true t rest found e = refl
 type_here false t rest found e = e
@@ -236,17 +230,6 @@ type_here false t rest found e = e
 pub types_agree : (os : Things) → Agree (object_types (map part_for os)) os
 types_agree [] name = refl
 types_agree (o ∷ os) name = type_here (bytes_eq name o.0) o.1 _ _ (types_agree os name)
-
-pub objects_back : (ts : Declared) (b : Bundled) → FieldsApart ts → IsWellTyped ts b → AreBack ts b.objects
-objects_back ts b apart well =
-    let os = b.objects in
-    let types = object_types (map part_for os) in
-    let all : AllByRecursion (IsBack ts types) os = each_of (λ o. FitsType ts os o.1) (IsBack ts types) os (λ o fits. object_back ts os types o apart (types_agree os) fits) well.typed in
-    record {
-      typed = none_made (λ p. not (is_some (at_name p.type_name ts))) part_for (IsBack ts types) os (λ o back. back.typed) all;
-      fits = none_made (has_flaw misfits ts) part_for (IsBack ts types) os (λ o back. back.fits) all;
-      back = all_back ts types os all;
-    }
 
 -- ---- the written objects
 

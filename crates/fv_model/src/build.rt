@@ -77,12 +77,7 @@ fn object_for(alloc: Global, types: &Types, part: &Part) -> Result<Object, Bundl
     Ok(Object::new(types.share()?, type_id, data))
 }
 
-/// The objects that parts are, in their order.
-pub(crate) fn objects_for(
-    alloc: Global,
-    types: &Types,
-    parts: &[Part],
-) -> Result<Objects, BundleFault>
+fn objects_for(alloc: Global, types: &Types, parts: &[Part]) -> Result<Objects, BundleFault>
     requires ascending { IsAscending (keys_of (object_types (map part_view parts.now))) }
     requires declared { list_any (λ p. not (is_some (at_name p.type_name (types_view types.now)))) (map part_view parts.now) ≡ false }
     ensures { Gives BundleFault.Memory objects_view result (unless_wrong

@@ -41,7 +41,7 @@ fn root_missing(draft: &Draft) -> bool
 
 /// An object's type isn't declared.
 #[tactic(auto, using(crate::proofs::Anys::part_turn))]
-pub(crate) fn unknown_type(types: &Types, parts: &[Part]) -> bool
+fn unknown_type(types: &Types, parts: &[Part]) -> bool
     ensures { result ≡ list_any (λ p. not (is_some (at_name p.type_name (types_view types.now)))) (map part_view parts.now) }
 {
     for p in parts {
