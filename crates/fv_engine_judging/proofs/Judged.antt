@@ -28,10 +28,10 @@ use Rattle.fv_walk.specs.Visits.{HasTooManyVisits, HasFewVisits}
 abbrev pub GivesListing : {V : Type 0} → Meanings → Declarations → ℤ → Kept → (V → List Reported) → Result V ValidateFault → Type 0
 GivesListing means ds now k view r = MatchResult r (λ v. IsListingOf means ds now k (view v)) (λ fault. IsOfJudging fault × (fault ≡ TooManyVisits → IsOverVisited ds k))
 
-pub for_groups : {V : Type 0} (means : Meanings) (ds : Declarations) (now : ℤ) (k : Kept) (view : V → List Reported) (gs : List ℕ) (r : Result V ValidateFault) → gs ≡ groups_of ds k.form → IsWellTyped ds.types k.bundle → IfOk r (λ v. IsWellTyped ds.types k.bundle → IsListing means ds now k.bundle gs (view v)) → OnOk r (IsWellTyped ds.types k.bundle → HasFewVisits ds k.bundle gs)
+pub for_groups : {V : Type 0} (means : Meanings) (ds : Declarations) (now : ℤ) (k : Kept) (view : V → List Reported) (gs : List ℕ) (r : Result V ValidateFault) → gs ≡ groups_of ds k.form → IfOk r (λ v. IsListing means ds now k.bundle gs (view v)) → OnOk r (HasFewVisits ds k.bundle gs)
     → IfErr r (λ fault. fault ≡ TooManyVisits → HasTooManyVisits ds k.bundle gs) → IfErr r (λ fault. fault ≢ UnknownGroup) → IfErr r (λ fault. fault ≢ NoSuchField) → GivesListing means ds now k view r
-for_groups means ds now k view gs (Ok v) same typed listing few many known no_field = subst (λ (hs : List ℕ). HasFewVisits ds k.bundle hs × IsListing means ds now k.bundle hs (view v)) same (few typed, listing typed)
-for_groups means ds now k view gs (Err fault) same typed listing few many known no_field = ((known, no_field), λ is. subst (λ (hs : List ℕ). HasTooManyVisits ds k.bundle hs) same (many is))
+for_groups means ds now k view gs (Ok v) same listing few many known no_field = subst (λ (hs : List ℕ). HasFewVisits ds k.bundle hs × IsListing means ds now k.bundle hs (view v)) same (few, listing)
+for_groups means ds now k view gs (Err fault) same listing few many known no_field = ((known, no_field), λ is. subst (λ (hs : List ℕ). HasTooManyVisits ds k.bundle hs) same (many is))
 
 pub none_added : {V : Type 0} (done : List Judged) (id : List ℕ) (view : V → Reported) (vs : List V) → length vs ≡ 0 → done ≡ done ++ some_of id (map view vs)
 none_added done id view [] none = sym (append-nil done)

@@ -24,7 +24,7 @@ use Rattle.fv_model_types.specs.Names.{ObjectTypes}
 use Rattle.fv_model_types.proofs.Back.{read_back, none_large, none_refers}
 use Rattle.fv_bundle.specs.Bundles.{IsAscending, Thing, Things, Bundled}
 use Rattle.fv_datum.specs.Members.{pairs, each_some}
-use Rattle.fv_model.specs.Draft.{Part, part_of, draft_of}
+use Rattle.fv_model.specs.Draft.{Part, Drafted, part_of, draft_of}
 use Rattle.fv_model.specs.Reading.{object_types, has_flaw, conditions, datum_at, field_of, object_of, bundle_of, bundle_read}
 use Rattle.fv_model_types.specs.Types.{TypeUse, DeclaredFields, Declared, AreApart, FieldsApart, name_at}
 use Rattle.fv_bundle.specs.WellTyped.{NamesObject, FitsUse, FieldsAre, FitsType, IsWellTyped, HasRootType}
@@ -285,8 +285,12 @@ pub is_there : (o : Option Thing) → is_some o ≡ true → not (is_some (optio
 is_there (Some t) e = refl
 is_there None e = absurd (true≢false (sym e))
 
-law : (ts : Declared) (asked : Option (List ℕ)) (b : Bundled) → FieldsApart ts → IsWellTyped ts b → ((type : List ℕ) → asked ≡ Some type → HasRootType type b) → bundle_read ts asked (bundle_json b) ≡ Ok b
-law ts asked b apart well rooted =
+-- what is given as it is written of a well-typed bundle
+abbrev pub draft_for : Bundled → Drafted
+draft_for b = record { root = b.root; objects = map part_for b.objects }
+
+pub drafted_back : (ts : Declared) (asked : Option (List ℕ)) (b : Bundled) → FieldsApart ts → IsWellTyped ts b → ((type : List ℕ) → asked ≡ Some type → HasRootType type b) → judged ts asked (Some (draft_for b)) ≡ Ok b
+drafted_back ts asked b apart well rooted =
     let os = b.objects in
     let ps : List Part = map part_for os in
     let types = object_types ps in
@@ -317,8 +321,10 @@ law ts asked b apart well rooted =
         ),
       ),
     ) in
-    ap (judged ts asked) (draft_back b.root os well.ascending) ∙ ap (λ f. unless_fault f (bundle_of ts (record { root = b.root; objects = ps }))) none
-    ∙ ap (λ (xs : Things). Ok (record { root = b.root; objects = xs })) (all_back ts types os all)
+    ap (λ f. unless_fault f (bundle_of ts (record { root = b.root; objects = ps }))) none ∙ ap (λ (xs : Things). Ok (record { root = b.root; objects = xs })) (all_back ts types os all)
+
+law : (ts : Declared) (asked : Option (List ℕ)) (b : Bundled) → FieldsApart ts → IsWellTyped ts b → ((type : List ℕ) → asked ≡ Some type → HasRootType type b) → bundle_read ts asked (bundle_json b) ≡ Ok b
+law ts asked b apart well rooted = ap (judged ts asked) (draft_back b.root b.objects well.ascending) ∙ drafted_back ts asked b apart well rooted
 
 -- the same, where the type is asked by its number
 pub law_asked : (ts : Declared) (asked : Option TypeId) (b : Bundled) → FieldsApart ts → IsWellTyped ts b → ForSome asked (λ t. HasRootType (name_at ts t.index) b)

@@ -9,6 +9,7 @@ pub mod Law
 pub mod Listed
 pub mod Made
 pub mod Named
+pub mod OfParts
 pub mod Sound
 pub mod Typed
 pub mod Unfit

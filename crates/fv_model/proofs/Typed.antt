@@ -232,11 +232,14 @@ root_of ts type root ps ok =
     let own : not (bytes_eq type root_is.0) ≡ false = rw root_is.1 at ok.type in
     named_object ts ps root type (rw (same_name type root_is.0 own) root_is.1)
 
-pub read_well_typed : (ts : Declared) (asked : Option (List ℕ)) (j : json.Data) (b : Bundled) → FieldsApart ts → IsAscending (keys_of b.objects) → AllByRecursion AreWritten b.objects → bundle_read ts asked j ≡ Ok b → IsWellTyped ts b
-read_well_typed ts asked j b apart ascending can e =
-    let found = judged_ok ts asked (draft_of j) b e in
+pub judged_well_typed : (ts : Declared) (asked : Option (List ℕ)) (o : Option Drafted) (b : Bundled) → FieldsApart ts → IsAscending (keys_of b.objects) → AllByRecursion AreWritten b.objects → judged ts asked o ≡ Ok b → IsWellTyped ts b
+judged_well_typed ts asked o b apart ascending can e =
+    let found = judged_ok ts asked o b e in
     subst (λ (c : Bundled). IsWellTyped ts c) found.2 (well_typed_of ts asked found.0.root found.0.objects apart found.1 (subst (λ (c : Bundled). IsAscending (keys_of c.objects)) (sym found.2) ascending)
     (subst (λ (c : Bundled). AllByRecursion AreWritten c.objects) (sym found.2) can))
+
+pub read_well_typed : (ts : Declared) (asked : Option (List ℕ)) (j : json.Data) (b : Bundled) → FieldsApart ts → IsAscending (keys_of b.objects) → AllByRecursion AreWritten b.objects → bundle_read ts asked j ≡ Ok b → IsWellTyped ts b
+read_well_typed ts asked j b apart ascending can e = judged_well_typed ts asked (draft_of j) b apart ascending can e
 
 pub read_root : (ts : Declared) (type : List ℕ) (j : json.Data) (b : Bundled) → bundle_read ts (Some type) j ≡ Ok b → HasRootType type b
 read_root ts type j b e =

@@ -10,6 +10,10 @@ pub record Part : Type 0 where
   pub type_name : List ℕ
   pub given : json.Members
 
+-- what is given of an object, as what is written of one stands
+abbrev pub part_written : Part → List ℕ × (List ℕ × json.Members)
+part_written p = (p.name, (p.type_name, p.given))
+
 -- the root's name, and the objects in the order of their names
 pub record Drafted : Type 0 where
   pub root : List ℕ

@@ -1,6 +1,7 @@
 -- The bundle that a JSON value spells, or its first fault.
-use Rattle.std.specs.Prelude.{ℕ, ◌||◌, List, [], ◌∷◌, length, map, Bool, false, not, nat_lt, Option, Some, Result, Err, option_and_then, unwrap_or, is_some}
+use Rattle.std.specs.Prelude.{ℕ, ◌||◌, List, [], ◌∷◌, length, map, Bool, false, not, nat_lt, Option, Some, None, Result, Err, option_and_then, unwrap_or, is_some, if◌then◌else◌}
 use Rattle.std.specs.List.{list_any}
+use Rattle.std.specs.Map.{keys_of}
 use Rattle.std.specs.Option.{option_map_or}
 use Rattle.serde_json.specs.Data as json
 use Rattle.serde_json.specs.Find.{get_member}
@@ -13,6 +14,7 @@ use Rattle.fv_model_types.specs.Names.{ObjectTypes}
 use Rattle.fv_model_types.specs.Spelled.{datum_of}
 use Rattle.fv_model_types.specs.Types.{TypeUse, DeclaredFields, Declared}
 use Rattle.fv_bundle.specs.Limits.{most_objects}
+use Rattle.fv_bundle.specs.Typing.{ascend_behind}
 use Rattle.fv_bundle.specs.Bundles.{Thing, Bundled}
 use Rattle.fv_datum.specs.Members.{pairs}
 use Rattle.fv_model.specs.Draft.{Part, Drafted, draft_of}
@@ -77,3 +79,8 @@ value_read type_use j =
 -- the bundle that a JSON value spells, its root of the asked type, or the first fault: B0 where it hasn't the form of a bundle
 abbrev pub bundle_read : Declared → Option (List ℕ) → json.Data → Result Bundled BundleFault
 bundle_read ts asked j = option_map_or (λ d. unless_fault (first (conditions ts asked d)) (bundle_of ts d)) (draft_of j) (Err Shape)
+
+-- the bundle of objects that are given one by one, or the first fault: B0 where their names don't ascend
+abbrev pub objects_read : Declared → Drafted → Result Bundled BundleFault
+objects_read ts d =
+    if ascend_behind None (keys_of (object_types d.objects)) then unless_fault (first (conditions ts None d)) (bundle_of ts d) else Err Shape

@@ -71,7 +71,10 @@ fn parts_of<'a>(
 }
 
 /// The names of objects' types by the objects' names, each name once.
-fn object_types_of<'a>(alloc: Global, parts: &[Part<'a>]) -> Result<TypeNames<'a>, AllocError>
+pub(crate) fn object_types_of<'a>(
+    alloc: Global,
+    parts: &[Part<'a>],
+) -> Result<TypeNames<'a>, AllocError>
     requires { IsAscending (keys_of (object_types (map part_view parts.now))) }
     ensures { IfOk result (λ m. object_types_view m ≡ object_types (map part_view parts.now)) }
 {

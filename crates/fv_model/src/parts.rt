@@ -13,11 +13,11 @@ use serde_json::{Map, Value};
 
 /// An object as it is given.
 #[derive(Drop)]
-pub(crate) struct Part<'a> {
-    pub(crate) name: &'a str,
-    pub(crate) type_name: &'a str,
+pub struct Part<'a> {
+    pub name: &'a str,
+    pub type_name: &'a str,
     /// The member `fields`, where there is one.
-    pub(crate) given: Option<&'a Map<String, Value>>,
+    pub given: Option<&'a Map<String, Value>>,
 }
 
 /// A bundle as it is given.

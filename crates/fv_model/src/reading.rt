@@ -69,7 +69,7 @@ fn spelled_bundle(
 }
 
 /// The bundle that a draft is, or its first fault.
-fn judged(
+pub(crate) fn judged(
     alloc: Global,
     types: &Types,
     asked: Option<TypeId>,

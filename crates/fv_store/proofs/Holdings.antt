@@ -31,7 +31,7 @@ use Rattle.fv_store.specs.Stands.{Frame, Holds, about_rows}
 use Rattle.sqlite.specs.Order.{Row}
 use Rattle.fv_tables.specs.Stands.{Entries}
 use Rattle.fv_store.specs.Stock.{Stock}
-use Rattle.fv_store.specs.Stored.{stored_view, untyped, written_view}
+use Rattle.fv_store.specs.Stored.{stored_view, text_of, text_view, untyped, written_view}
 use Rattle.fv_store.proofs.Openings.{keeps_of, holds_as, holds_after}
 
 -- the same store has the same connection
@@ -44,27 +44,42 @@ given_is : (r : Result (Option Stored) StoreFault) (o : Option Kept) → Gives M
 given_is (Err e) o h = tt
 given_is (Ok x) o h = cc
 
+-- ---- what the rows of a record keep
+
+module _ (s : State) (id : List ℕ) (clean : HasCleanDisk s) (live : IsTrue s.is_open) where
+  pub rows_out : (r : Result (Option RecordRows) StoreFault)
+      → IfOk r (λ found. (d : List Row) (m : Entries) → tables.Keeps s d m → AllNamed m → option_map rows_view found ≡ m id)
+      → IfOk r (λ found. (c : Contents) → Holds s c → option_map rows_view found ≡ option_map entry_of (option_map written_of (c.records id)))
+  rows_out (Err e) h = tt
+  rows_out (Ok found) h = λ c holds. h (about_rows c.bytes) (all_kept c.records) (keeps_of s c holds) (all_named c (holds clean live).0.fit)
+
 -- ---- what is written of a record
 
 module _ (s : State) (id : List ℕ) (found : Option RecordRows) (clean : HasCleanDisk s) (live : IsTrue s.is_open)
-    (shown : (d : List Row) (m : Entries) → tables.Keeps s d m → AllNamed m → option_map rows_view found ≡ m id) where
+    (shown : (c : Contents) → Holds s c → option_map rows_view found ≡ option_map entry_of (option_map written_of (c.records id))) where
+  pub text_out : (r : Result (Option Written) StoreFault)
+      → IfOk r (λ w. (types : Declared) (o : Option Kept) → ForSome o (λ k. IsWellTyped types k.bundle)
+      → option_map rows_view found ≡ option_map entry_of (option_map written_of o) → option_map text_view w ≡ option_map text_of o)
+      → IfOk r (λ w. (c : Contents) → Holds s c → option_map text_view w ≡ option_map text_of (c.records id))
+  text_out (Err e) h = tt
+  text_out (Ok w) h = λ c holds. h c.types (c.records id) (λ k known. ((holds clean live).0.fit id k known).typed) (shown c holds)
+
   pub written_out : (r : Result (Option Written) StoreFault)
       → IfOk r (λ w. (types : Declared) (o : Option Kept) → has_deep types ≡ false → ForSome o (λ k. IsWellTyped types k.bundle)
       → option_map rows_view found ≡ option_map entry_of (option_map written_of o) → option_map written_view w ≡ option_map untyped o)
       → IfOk r (λ w. (c : Contents) → has_deep c.types ≡ false → Holds s c → option_map written_view w ≡ option_map untyped (c.records id))
   written_out (Err e) h = tt
   written_out (Ok w) h = λ c few holds.
-      h c.types (c.records id) few (λ k known. ((holds clean live).0.fit id k known).typed)
-      (shown (about_rows c.bytes) (all_kept c.records) (keeps_of s c holds) (all_named c (holds clean live).0.fit))
+      h c.types (c.records id) few (λ k known. ((holds clean live).0.fit id k known).typed) (shown c holds)
 
 -- ---- a record read under types
 
-module _ (s : State) (types : Declared) (id : List ℕ) (found : Option Written) (r : Result (Option Stored) StoreFault) (few : has_deep types ≡ false) (clean : HasCleanDisk s) (live : IsTrue s.is_open)
-    (shown : (c : Contents) → has_deep c.types ≡ false → Holds s c → option_map written_view found ≡ option_map untyped (c.records id))
-    (gives : (o : Option Kept) → ForSome o (λ k. IsWellTyped types k.bundle) → option_map written_view found ≡ option_map untyped o → Gives Memory (option_map stored_view) r (Ok o)) where
+module _ (s : State) (types : Declared) (id : List ℕ) (found : Option RecordRows) (r : Result (Option Stored) StoreFault) (clean : HasCleanDisk s) (live : IsTrue s.is_open)
+    (shown : (c : Contents) → Holds s c → option_map rows_view found ≡ option_map entry_of (option_map written_of (c.records id)))
+    (gives : (o : Option Kept) → ForSome o (λ k. IsWellTyped types k.bundle) → option_map rows_view found ≡ option_map entry_of (option_map written_of o) → Gives Memory (option_map stored_view) r (Ok o)) where
   handed : (c : Contents) → c.types ≡ types → Holds s c → Gives Memory (option_map stored_view) r (Ok (c.records id))
   handed c same holds = gives (c.records id) (λ k known. subst (λ (ts : Declared). IsWellTyped ts k.bundle) same ((holds clean live).0.fit id k known).typed)
-      (shown c (subst (λ (ts : Declared). has_deep ts ≡ false) (sym same) few) holds)
+      (shown c holds)
 
   pub handed_out : IfOk r (λ o. (c : Contents) → c.types ≡ types → Holds s c → option_map stored_view o ≡ c.records id)
   handed_out = go r handed

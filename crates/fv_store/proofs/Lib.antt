@@ -12,5 +12,6 @@ pub mod Openings
 pub mod Pages
 pub mod ReadBack
 pub mod Refusals
+pub mod RowsRead
 pub mod Steps
 pub mod Upgraded

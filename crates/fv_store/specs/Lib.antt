@@ -5,6 +5,7 @@ pub mod FaultNames
 pub mod Faults
 pub mod Lists
 pub mod Pages
+pub mod ReadRows
 pub mod Records
 pub mod Stands
 pub mod Steps

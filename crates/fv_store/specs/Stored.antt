@@ -8,6 +8,7 @@ use Rattle.fv_store.specs.declared.about.About.{About}
 use Rattle.fv_store.specs.declared.stored.Stored.{Stored}
 use Rattle.fv_store.specs.declared.written.Written.{Written}
 use Rattle.fv_store.specs.Records.{Kept}
+use Rattle.fv_store.specs.Texts.{bundle_text}
 
 -- the record that it is
 abbrev pub stored_view : Stored → Kept
@@ -20,6 +21,14 @@ written_view w = (string_bytes w.form, read (string_bytes w.bundle))
 -- what is handed out of a record without types: its form, and its bundle's JSON
 abbrev pub untyped : Kept → List ℕ × Option json.Data
 untyped k = (k.form, Some (bundle_json k.bundle))
+
+-- the same as text: its form, and its bundle's JSON with no space
+abbrev pub text_of : Kept → List ℕ × List ℕ
+text_of k = (k.form, bundle_text k.bundle)
+
+-- as it is handed out
+abbrev pub text_view : Written → List ℕ × List ℕ
+text_view w = (string_bytes w.form, string_bytes w.bundle)
 
 -- a version of the tables, and declarations
 abbrev pub Told : Type 0

@@ -9,10 +9,10 @@ mod fault;
 mod joining;
 mod object_rows;
 mod opening;
+mod reading;
 mod redeclaring;
 mod store;
 mod stored;
-mod text;
 mod written;
 
 pub use change::Change;

@@ -16,8 +16,9 @@ ghost use Rattle.fv_store.specs.Stock.{stock_state};
 ghost use Rattle.fv_store.specs.Faults.{about_fault, IsAboutFault};
 ghost use Rattle.fv_store.specs.Lists.{Lists, ListsOf};
 ghost use Rattle.fv_store.specs.Records.{AllFit, Contents};
-ghost use Rattle.fv_store.specs.Stored.{stored_view, untyped, written_view};
-ghost use Rattle.fv_store.specs.Written.{writings};
+ghost use Rattle.fv_store.specs.Stored.{stored_view, text_of, text_view, untyped, written_view};
+ghost use Rattle.fv_store.specs.Written.{entry_of, writings, written_of};
+ghost use Rattle.fv_tables.specs.Stored.{rows_view};
 
 use crate::change::Change;
 use crate::fault::{OpenStoreFault, StoreFault};
@@ -26,7 +27,7 @@ use crate::stored::{Stored, stored_if};
 use crate::written::{Written, written_if};
 use crate::{changes, redeclaring};
 use fv_model_types::Types;
-use fv_tables::{find, find_all_ids, find_ids};
+use fv_tables::{RecordRows, find, find_all_ids, find_ids};
 use sqlite::{Alter, Connection};
 use std::alloc::Global;
 use std::marker::Model;
@@ -164,8 +165,30 @@ impl<S: Alter> Store<S> {
         ensures untouched { (c : _) → Holds (stock_state S.Store self.old) c
             → Stays (stock_state S.Store self.old) (stock_state S.Store self.new) }
     {
-        let found = self.written(alloc, id)?;
+        let found = self.rows(alloc, id)?;
         stored_if(alloc, types, found)
+    }
+
+    /// What the rows keep of the record of that id, if there is one.
+    fn rows(&mut self, alloc: Global, id: &str) -> Result<Option<RecordRows>, StoreFault>
+        ensures frame { Frame (stock_state S.Store self.old) (stock_state S.Store self.new) }
+        ensures text { self.new.text ≡ self.old.text }
+        ensures open { OnOk result (IsLive (stock_state S.Store self.new)) }
+        ensures found { HasCleanDisk (stock_state S.Store self.new)
+            → IfOk result (λ o. (c : _) → Holds (stock_state S.Store self.old) c
+            → option_map rows_view o ≡ option_map entry_of (option_map written_of (c.records id.now))) }
+        ensures cause { HasCleanDisk (stock_state S.Store self.new) → IfErr result (λ e. e ≡ StoreFault.Store → (c : _)
+            → Holds (stock_state S.Store self.old) c
+            → HasFailed (stock_state S.Store self.old) (stock_state S.Store self.new)) }
+        ensures same { HasCleanDisk (stock_state S.Store self.new) → OnOk result ((c : _)
+            → Holds (stock_state S.Store self.old) c
+            → (stock_state S.Store self.new).now ≡ (stock_state S.Store self.old).now) }
+        ensures stays { (c : _) → Holds (stock_state S.Store self.old) c → Holds (stock_state S.Store self.new) c }
+        ensures untouched { (c : _) → Holds (stock_state S.Store self.old) c
+            → Stays (stock_state S.Store self.old) (stock_state S.Store self.new) }
+    {
+        prove!(self.connection.is_autocommit());
+        Ok(find(&mut self.connection, alloc, id)?)
     }
 
     /// What is written of the record of that id, if there is one: its form, and its bundle's JSON.
@@ -179,6 +202,9 @@ impl<S: Alter> Store<S> {
         ensures found { HasCleanDisk (stock_state S.Store self.new)
             → IfOk result (λ o. (c : _) → has_deep c.types ≡ false → Holds (stock_state S.Store self.old) c
             → option_map written_view o ≡ option_map untyped (c.records id.now)) }
+        ensures as_text { HasCleanDisk (stock_state S.Store self.new)
+            → IfOk result (λ o. (c : _) → Holds (stock_state S.Store self.old) c
+            → option_map text_view o ≡ option_map text_of (c.records id.now)) }
         ensures cause { HasCleanDisk (stock_state S.Store self.new) → IfErr result (λ e. e ≡ StoreFault.Store → (c : _)
             → Holds (stock_state S.Store self.old) c
             → HasFailed (stock_state S.Store self.old) (stock_state S.Store self.new)) }
@@ -189,8 +215,7 @@ impl<S: Alter> Store<S> {
         ensures untouched { (c : _) → Holds (stock_state S.Store self.old) c
             → Stays (stock_state S.Store self.old) (stock_state S.Store self.new) }
     {
-        prove!(self.connection.is_autocommit());
-        let found = find(&mut self.connection, alloc, id)?;
+        let found = self.rows(alloc, id)?;
         Ok(written_if(alloc, found)?)
     }
 

@@ -6,13 +6,15 @@ ghost use Rattle.fv_model_types.specs.TypesView.{types_view};
 ghost use Rattle.fv_bundle.specs.Views.{bundle_view};
 ghost use Rattle.fv_bundle.specs.WellTyped.{IsWellTyped};
 ghost use Rattle.fv_store.specs.Records.{Kept};
-ghost use Rattle.fv_store.specs.Stored.{stored_view, untyped, written_view};
+ghost use Rattle.fv_store.specs.Stored.{stored_view};
+ghost use Rattle.fv_store.specs.Written.{entry_of, written_of};
+ghost use Rattle.fv_tables.specs.Stored.{rows_view};
 
 use crate::fault::StoreFault;
-use crate::text::bundle_of;
-use crate::written::Written;
+use crate::reading::bundle_of;
 use fv_bundle::Bundle;
 use fv_model_types::Types;
+use fv_tables::RecordRows;
 use std::alloc::Global;
 
 /// A record: the name of its form, and its bundle.
@@ -22,32 +24,32 @@ pub struct Stored {
     pub bundle: Bundle,
 }
 
-/// The record, its bundle read under these types. `Store` where its JSON spells no bundle.
-fn stored_from(alloc: Global, types: &Types, written: Written) -> Result<Stored, StoreFault>
-    ensures read { (k : Kept) → IsWellTyped (types_view types.now) k.bundle → written_view written ≡ untyped k
+/// The record that rows keep, its bundle read under these types. `Store` where they keep none.
+fn stored_from(alloc: Global, types: &Types, rows: RecordRows) -> Result<Stored, StoreFault>
+    ensures read { (k : Kept) → IsWellTyped (types_view types.now) k.bundle → rows_view rows ≡ entry_of (written_of k)
         → Gives StoreFault.Memory stored_view result (Ok k) }
     ensures typed { IfOk result (λ s. IsWellTyped (types_view types.now) (bundle_view s.bundle)) }
 {
-    let bundle = bundle_of(alloc, types, written.bundle.as_str())?;
+    let bundle = bundle_of(alloc, types, &rows)?;
     Ok(Stored {
-        form: written.form,
+        form: rows.form,
         bundle,
     })
 }
 
-/// The record that was found, where there is one.
+/// The record whose rows were found, where there are some.
 pub(crate) fn stored_if(
     alloc: Global,
     types: &Types,
-    found: Option<Written>,
+    found: Option<RecordRows>,
 ) -> Result<Option<Stored>, StoreFault>
     ensures read { (o : Option Kept) → ForSome o (λ k. IsWellTyped (types_view types.now) k.bundle)
-        → option_map written_view found ≡ option_map untyped o
+        → option_map rows_view found ≡ option_map entry_of (option_map written_of o)
         → Gives StoreFault.Memory (option_map stored_view) result (Ok o) }
     ensures typed { IfOk result (λ o. IfSome o (λ s. IsWellTyped (types_view types.now) (bundle_view s.bundle))) }
 {
     match found {
-        Some(written) => Ok(Some(stored_from(alloc, types, written)?)),
+        Some(rows) => Ok(Some(stored_from(alloc, types, rows)?)),
         None => Ok(None),
     }
 }

@@ -4,7 +4,7 @@ ghost use Rattle.std.specs.Option.{ForSome};
 ghost use Rattle.fv_model_types.specs.Types.{Declared, has_deep};
 ghost use Rattle.fv_bundle.specs.WellTyped.{IsWellTyped};
 ghost use Rattle.fv_store.specs.Records.{Kept};
-ghost use Rattle.fv_store.specs.Stored.{untyped, written_view};
+ghost use Rattle.fv_store.specs.Stored.{text_of, text_view, untyped, written_view};
 ghost use Rattle.fv_store.specs.Written.{entry_of, written_of};
 ghost use Rattle.fv_tables.specs.Stored.{rows_view};
 
@@ -21,7 +21,9 @@ pub struct Written {
 
 /// The record that rows keep.
 fn written_from(alloc: Global, rows: RecordRows) -> Result<Written, AllocError>
-    ensures { IfOk result (λ w. (types : Declared) (k : Kept) → has_deep types ≡ false → IsWellTyped types k.bundle
+    ensures text { IfOk result (λ w. (types : Declared) (k : Kept) → IsWellTyped types k.bundle
+        → rows_view rows ≡ entry_of (written_of k) → text_view w ≡ text_of k) }
+    ensures read { IfOk result (λ w. (types : Declared) (k : Kept) → has_deep types ≡ false → IsWellTyped types k.bundle
         → rows_view rows ≡ entry_of (written_of k) → written_view w ≡ untyped k) }
 {
     let bundle = joined(alloc, &rows)?;
@@ -36,7 +38,10 @@ pub(crate) fn written_if(
     alloc: Global,
     found: Option<RecordRows>,
 ) -> Result<Option<Written>, AllocError>
-    ensures { IfOk result (λ w. (types : Declared) (o : Option Kept) → has_deep types ≡ false
+    ensures text { IfOk result (λ w. (types : Declared) (o : Option Kept) → ForSome o (λ k. IsWellTyped types k.bundle)
+        → option_map rows_view found ≡ option_map entry_of (option_map written_of o)
+        → option_map text_view w ≡ option_map text_of o) }
+    ensures read { IfOk result (λ w. (types : Declared) (o : Option Kept) → has_deep types ≡ false
         → ForSome o (λ k. IsWellTyped types k.bundle)
         → option_map rows_view found ≡ option_map entry_of (option_map written_of o)
         → option_map written_view w ≡ option_map untyped o) }

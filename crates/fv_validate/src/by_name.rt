@@ -51,7 +51,11 @@ pub fn validate<R: RuleSet>(
         × HasTooManyVisits rulebook.now (bundle_view bundle.now) (numbers_of rulebook.now.groups (map string_bytes asked.now))) }
     ensures no_field { IfErr result (λ fault. fault ≢ ValidateFault.NoSuchField) }
 {
-    let asked = groups_named(alloc, rulebook.schema().groups(), asked)?;
+    let schema = rulebook.schema();
+    let asked = groups_named(alloc, schema.groups(), asked)?;
+    if !bundle.is_well_typed(schema.types()) {
+        return Ok(Vec::new(alloc));
+    }
     validating::validate(alloc, rulebook, bundle, &asked, now)
 }
 

@@ -31,7 +31,7 @@ use fv_local::Rulebook;
 use fv_message::Messages;
 use fv_registry::RuleSet;
 use fv_walk::Failure;
-use fv_walk::by_id::walk;
+use fv_walk::by_id::walk_typed;
 use std::alloc::{AllocError, Global};
 
 /// What the message of a constraint becomes; empty where there is no constraint.
@@ -106,13 +106,12 @@ pub(crate) fn listing_of(
     Ok(violations)
 }
 
-/// The violations of a bundle at a moment, in whole seconds since 1970-01-01T00:00:00Z, for the
-/// groups that are asked for: each once, ascending by the bytes of the path, then by the number of
+/// The violations of a well-typed bundle at a moment, in whole seconds since 1970-01-01T00:00:00Z, for
+/// the groups that are asked for: each once, ascending by the bytes of the path, then by the number of
 /// the constraint. The objects that the root reaches through valid references are validated, along
 /// each way to them on which no object stands twice. Where no group is asked for, `Default` is.
 ///
-/// Nothing is told of a bundle that isn't well-typed by the declarations, which
-/// `Bundle::is_well_typed` tells.
+/// The caller knows that the bundle is well-typed, and it isn't looked at again.
 ///
 /// Refused by `TooManyVisits` for more than 4,096 visits, before any validator is asked; `Memory` at
 /// any place.
@@ -124,21 +123,24 @@ pub fn validate<R: RuleSet>(
     now: i64,
 ) -> Result<Vec<Violation>, ValidateFault>
     requires moment { IsMoment now }
+    requires typed { IsWellTyped rulebook.now.types (bundle_view bundle.now) }
     requires asked { All (λ g. g.index < length rulebook.now.groups) asked.now }
-    ensures listing { IfOk result (λ v. IsWellTyped rulebook.now.types (bundle_view bundle.now)
-        → IsListing R.meaning rulebook.now now (bundle_view bundle.now) (indices asked.now) (map violation_view v.items)) }
+    ensures listing { IfOk result (λ v. IsListing R.meaning rulebook.now now (bundle_view bundle.now) (indices asked.now) (map violation_view v.items)) }
     // What is judged twice at one moment is judged alike.
-    ensures alike { IfOk result (λ v. IsWellTyped rulebook.now.types (bundle_view bundle.now)
-        → (vs : _) → IsListing R.meaning rulebook.now now (bundle_view bundle.now) (indices asked.now) vs
+    ensures alike { IfOk result (λ v. (vs : _) → IsListing R.meaning rulebook.now now (bundle_view bundle.now) (indices asked.now) vs
         → vs ≡ map violation_view v.items) }
-    ensures few { OnOk result (IsWellTyped rulebook.now.types (bundle_view bundle.now)
-        → HasFewVisits rulebook.now (bundle_view bundle.now) (indices asked.now)) }
+    ensures few { OnOk result (HasFewVisits rulebook.now (bundle_view bundle.now) (indices asked.now)) }
     ensures many { IfErr result (λ fault. fault ≡ ValidateFault.TooManyVisits
         → HasTooManyVisits rulebook.now (bundle_view bundle.now) (indices asked.now)) }
     ensures known { IfErr result (λ fault. fault ≢ ValidateFault.UnknownGroup) }
     ensures no_field { IfErr result (λ fault. fault ≢ ValidateFault.NoSuchField) }
 {
-    let failures = walk(alloc, rulebook, bundle, asked, now)?;
+    let walked = walk_typed(alloc, rulebook, bundle, asked, now)?;
     let schema = rulebook.schema();
-    Ok(listing_of(alloc, schema.occurrences(), schema.messages(), failures)?)
+    Ok(listing_of(
+        alloc,
+        schema.occurrences(),
+        schema.messages(),
+        walked.failures,
+    )?)
 }

@@ -16,4 +16,5 @@ pub mod Paths
 pub mod Ranked
 pub mod Steps
 pub mod Tellings
+pub mod Traces
 pub mod Typed

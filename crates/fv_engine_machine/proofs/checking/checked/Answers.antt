@@ -32,8 +32,8 @@ returns-in-Ok g c =
     let some : Some (indices c.in-Ok-Some.asked.items) ≡ each_some (number_of c.groups.result.now) names = rw c.in-Ok-Some.field-0-is at c.in-Ok-Some.ensures.numbers in
     let named = all_named c.groups.result.now names (indices c.in-Ok-Some.asked.items) some in
     let numbers : indices c.in-Ok-Some.asked.items ≡ numbers_of ds.groups names = named.1 ∙ ap (λ (gs : Groups). numbers_of gs names) same in
-    let few : HasFewVisits ds b (indices c.in-Ok-Some.asked.items) = rw c.deref.ensures.value at (c.in-Ok.ensures.few c.requires.typed) in
-    let listing : IsListing m ds c.args.now b (indices c.in-Ok-Some.asked.items) vs = rw (c.deref.ensures.value, to_z-of_z w64 c.args.now c.ranges.now) at (c.in-Ok.ensures.listing c.requires.typed) in
+    let few : HasFewVisits ds b (indices c.in-Ok-Some.asked.items) = rw c.deref.ensures.value at c.in-Ok.ensures.few in
+    let listing : IsListing m ds c.args.now b (indices c.in-Ok-Some.asked.items) vs = rw (c.deref.ensures.value, to_z-of_z w64 c.args.now c.ranges.now) at c.in-Ok.ensures.listing in
     let both = subst (λ (groups : List ℕ). HasFewVisits ds b groups × IsListing m ds c.args.now b groups vs) numbers (few, listing) in
     inr (inl (subst (λ (gs : Groups). unknown_in gs names ≡ false) same named.0, inr (vs, both.0, both.1, refl)))
 

@@ -14,26 +14,26 @@ use Rattle.fv_walk.specs.FailureView.{failure_view}
 use Rattle.fv_validate.proofs.validating.validate.Goals as goal
 
 pub returns-clause-listing : goal.returns-clause-listing
-returns-clause-listing g c = λ typed.
+returns-clause-listing g c =
     let m = g.R.RuleSet.meaning in
     let ds = c.args.rulebook.now in
     let b = bundle_view c.args.bundle.now in
     let asked = indices c.args.asked.now in
-    let fs : List Violation = map failure_view c.in_ok-failures.failures.items in
+    let fs : List Violation = map failure_view c.in_ok-walked.walked.failures.items in
     let vs : List Reported = map violation_view c.in_ok-listing_of.field-0.items in
-    let exact : (v : Violation) → IsIn fs v ↔ IsViolation (request_of m ds c.args.now b asked) v = rw (to_z-of_z w64 c.args.now c.ranges.now) at (c.in_ok-failures.ensures.violations typed) in
+    let exact : (v : Violation) → IsIn fs v ↔ IsViolation (request_of m ds c.args.now b asked) v = rw (to_z-of_z w64 c.args.now c.ranges.now) at c.in_ok-walked.ensures.violations in
     let list : AreListed ds.occurrences ds.messages (IsIn fs) vs = rw (c.occurrences.ensures.uses, c.messages.ensures, c.schema-schema.ensures) at c.in_ok-listing_of.ensures in
     same_listed ds.occurrences ds.messages fs (IsViolation (request_of m ds c.args.now b asked)) vs exact list
 
 pub returns-clause-alike : goal.returns-clause-alike
-returns-clause-alike g c = λ typed.
+returns-clause-alike g c =
     let m = g.R.RuleSet.meaning in
     let ds = c.args.rulebook.now in
     let b = bundle_view c.args.bundle.now in
     let asked = indices c.args.asked.now in
-    let fs : List Violation = map failure_view c.in_ok-failures.failures.items in
+    let fs : List Violation = map failure_view c.in_ok-walked.walked.failures.items in
     let vs : List Reported = map violation_view c.in_ok-listing_of.field-0.items in
-    let exact : (v : Violation) → IsIn fs v ↔ IsViolation (request_of m ds c.args.now b asked) v = rw (to_z-of_z w64 c.args.now c.ranges.now) at (c.in_ok-failures.ensures.violations typed) in
+    let exact : (v : Violation) → IsIn fs v ↔ IsViolation (request_of m ds c.args.now b asked) v = rw (to_z-of_z w64 c.args.now c.ranges.now) at c.in_ok-walked.ensures.violations in
     let list : AreListed ds.occurrences ds.messages (IsIn fs) vs = rw (c.occurrences.ensures.uses, c.messages.ensures, c.schema-schema.ensures) at c.in_ok-listing_of.ensures in
     let listed : IsListing m ds c.args.now b asked vs = same_listed ds.occurrences ds.messages fs (IsViolation (request_of m ds c.args.now b asked)) vs exact list in
     λ other is. one_listing ds.occurrences ds.messages (IsViolation (request_of m ds c.args.now b asked)) other vs is listed

@@ -1,7 +1,7 @@
 use Rattle.std.proofs.Common.{map, sym}
 use Rattle.fv_datum.specs.View.{view}
 use Rattle.fv_extract.specs.Views.{step_view}
-use Rattle.fv_walk_request.proofs.Parts.{part_there}
+use Rattle.fv_walk.proofs.Tellings.{part_there}
 use Rattle.fv_walk.proofs.telling.push_part.Goals as goal
 
 pub push_spot-requires-clause-named : goal.push_spot-requires-clause-named

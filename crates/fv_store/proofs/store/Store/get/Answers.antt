@@ -6,8 +6,8 @@ use Rattle.fv_store.proofs.store.Store.get.Goals as goal
 
 pub returns-clause-found : goal.returns-clause-found
 returns-clause-found g c clean =
-    let frame = c.written.ensures.frame in
-    handed_out (state g.S.Store c.args.self.now.connection) (types_view c.args.types.now) c.args.id.now c.in_ok-found.found c.stored_if.result c.args.types.now.shallow (frame.clean clean) (frame.was_open clean (c.in_ok-found.ensures.open clean)) (c.in_ok-found.ensures.found clean) c.stored_if.ensures.read
+    let frame = c.rows.ensures.frame in
+    handed_out (state g.S.Store c.args.self.now.connection) (types_view c.args.types.now) c.args.id.now c.in_ok-found.found c.stored_if.result (frame.clean clean) (frame.was_open clean (c.in_ok-found.ensures.open clean)) (c.in_ok-found.ensures.found clean) c.stored_if.ensures.read
 
 pub returns-in_err-found-clause-cause : goal.returns-in_err-found-clause-cause
 returns-in_err-found-clause-cause g c clean =
@@ -15,5 +15,5 @@ returns-in_err-found-clause-cause g c clean =
 
 pub returns-clause-cause : goal.returns-clause-cause
 returns-clause-cause g c clean =
-    let frame = c.written.ensures.frame in
-    never_refused (state g.S.Store c.args.self.now.connection) (types_view c.args.types.now) c.args.id.now c.in_ok-found.found c.stored_if.result c.args.types.now.shallow (frame.clean clean) (frame.was_open clean (c.in_ok-found.ensures.open clean)) (c.in_ok-found.ensures.found clean) c.stored_if.ensures.read _
+    let frame = c.rows.ensures.frame in
+    never_refused (state g.S.Store c.args.self.now.connection) (types_view c.args.types.now) c.args.id.now c.in_ok-found.found c.stored_if.result (frame.clean clean) (frame.was_open clean (c.in_ok-found.ensures.open clean)) (c.in_ok-found.ensures.found clean) c.stored_if.ensures.read _

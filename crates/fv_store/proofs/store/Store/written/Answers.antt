@@ -1,67 +1,19 @@
-use Rattle.std.proofs.Common.{◌≡◌, Ok, inl, inr, not, ap, ◌∙◌}
-use Rattle.std.proofs.lemmas.Bool.{cases_Bool}
+use Rattle.std.proofs.Common.{Ok}
 use Rattle.sqlite.specs.Held.{state}
-use Rattle.fv_store.specs.Faults.{fault_of}
-use Rattle.fv_store.specs.Stands.{about_rows}
-use Rattle.fv_store.proofs.Openings.{keeps_of, holds_still}
-use Rattle.fv_store.proofs.Holdings.{same_connection, written_out, is_refusal}
+use Rattle.fv_store.proofs.Holdings.{text_out, written_out}
 use Rattle.fv_store.proofs.Refusals.{handed_on}
-use Rattle.fv_store.proofs.Kept.{all_kept}
-use Rattle.fv_store.proofs.Named.{all_named}
 use Rattle.fv_store.proofs.store.Store.written.Goals as goal
 
 pub returns-clause-found : goal.returns-clause-found
 returns-clause-found g c clean =
-    let same : c.self.inside.connection ≡ c.args.self.now.connection = same_connection c.self.view_is in
-    let found = rw same at (c.in_ok-found.ensures.found clean) in
-    written_out (state g.S.Store c.args.self.now.connection) c.args.id.now c.in_ok-found.found (rw same at (c.find.ensures.frame.clean clean)) found.0 found.1 (Ok c.in_ok-written_if.field-0) c.in_ok-written_if.ensures
+    let frame = c.rows.ensures.frame in
+    written_out (state g.S.Store c.args.self.now.connection) c.args.id.now c.in_ok-found.found (frame.clean clean) (frame.was_open clean (c.in_ok-found.ensures.open clean)) (c.in_ok-found.ensures.found clean) (Ok c.in_ok-written_if.field-0) c.in_ok-written_if.ensures.read
 
-pub returns-clause-stays : goal.returns-clause-stays
-returns-clause-stays g c =
-    let same : c.self.inside.connection ≡ c.args.self.now.connection = same_connection c.self.view_is in
-    rw same at (holds_still (state g.S.Store c.self.inside.connection) (state g.S.Store c.find.new.conn) c.find.ensures.frame (λ d m. c.find.ensures.stays (about_rows d) (all_kept m)))
-
-pub returns-in_err-found-clause-stays : goal.returns-in_err-found-clause-stays
-returns-in_err-found-clause-stays g c =
-    let same : c.self.inside.connection ≡ c.args.self.now.connection = same_connection c.self.view_is in
-    rw same at (holds_still (state g.S.Store c.self.inside.connection) (state g.S.Store c.find.new.conn) c.find.ensures.frame (λ d m. c.find.ensures.stays (about_rows d) (all_kept m)))
+pub returns-clause-as_text : goal.returns-clause-as_text
+returns-clause-as_text g c clean =
+    let frame = c.rows.ensures.frame in
+    text_out (state g.S.Store c.args.self.now.connection) c.args.id.now c.in_ok-found.found (frame.clean clean) (frame.was_open clean (c.in_ok-found.ensures.open clean)) (c.in_ok-found.ensures.found clean) (Ok c.in_ok-written_if.field-0) c.in_ok-written_if.ensures.text
 
 pub returns-in_err-found-clause-cause : goal.returns-in_err-found-clause-cause
 returns-in_err-found-clause-cause g c clean =
-    let same : c.self.inside.connection ≡ c.args.self.now.connection = same_connection c.self.view_is in
-    handed_on _ c.from_residual.result (fault_of c.in_err-found.field-0.0) c.from_residual.ensures.1
-    (λ is k holds. elim (cases_Bool (state g.S.Store c.args.self.now.connection).is_open) [
-      | inl live ↦
-          let named = all_named k (holds (rw same at (c.find.ensures.frame.clean clean)) live).0.fit in
-          rw same at (c.in_err-found.ensures.cause clean c.self.invariant.1 (about_rows k.bytes) (all_kept k.records)) (keeps_of (state g.S.Store c.args.self.now.connection) k holds) named (is_refusal c.in_err-found.field-0.0 is)
-      | inr shut ↦ inr shut
-    ])
-
-pub returns-clause-same : goal.returns-clause-same
-returns-clause-same g c clean =
-    let same : c.self.inside.connection ≡ c.args.self.now.connection = same_connection c.self.view_is in
-    let stays = rw same at (c.in_ok-found.ensures.same clean) in
-    λ k holds. stays (about_rows k.bytes) (all_kept k.records) (keeps_of (state g.S.Store c.args.self.now.connection) k holds)
-
-pub returns-clause-untouched : goal.returns-clause-untouched
-returns-clause-untouched g c =
-    let same : c.self.inside.connection ≡ c.args.self.now.connection = same_connection c.self.view_is in
-    λ k holds.
-    rw same at (c.find.ensures.untouched (c.is_autocommit.ensures.settled (c.is_autocommit.ensures.value ∙ ap not c.self.invariant.0)) (about_rows k.bytes) (all_kept k.records)) (keeps_of (state g.S.Store c.args.self.now.connection) k holds)
-
-pub returns-in_err-found-clause-untouched : goal.returns-in_err-found-clause-untouched
-returns-in_err-found-clause-untouched g c =
-    let same : c.self.inside.connection ≡ c.args.self.now.connection = same_connection c.self.view_is in
-    λ k holds.
-    rw same at (c.find.ensures.untouched (c.is_autocommit.ensures.settled (c.is_autocommit.ensures.value ∙ ap not c.self.invariant.0)) (about_rows k.bytes) (all_kept k.records)) (keeps_of (state g.S.Store c.args.self.now.connection) k holds)
-
-pub returns-in_err-written_if-clause-stays : goal.returns-in_err-written_if-clause-stays
-returns-in_err-written_if-clause-stays g c =
-    let same : c.self.inside.connection ≡ c.args.self.now.connection = same_connection c.self.view_is in
-    rw same at (holds_still (state g.S.Store c.self.inside.connection) (state g.S.Store c.find.new.conn) c.find.ensures.frame (λ d m. c.find.ensures.stays (about_rows d) (all_kept m)))
-
-pub returns-in_err-written_if-clause-untouched : goal.returns-in_err-written_if-clause-untouched
-returns-in_err-written_if-clause-untouched g c =
-    let same : c.self.inside.connection ≡ c.args.self.now.connection = same_connection c.self.view_is in
-    λ k holds.
-    rw same at (c.find.ensures.untouched (c.is_autocommit.ensures.settled (c.is_autocommit.ensures.value ∙ ap not c.self.invariant.0)) (about_rows k.bytes) (all_kept k.records)) (keeps_of (state g.S.Store c.args.self.now.connection) k holds)
+    handed_on _ c.from_residual.result c.in_err-found.field-0.0 c.from_residual.ensures.1 (λ is k holds. c.in_err-found.ensures.cause clean is k holds)

@@ -1,0 +1,16 @@
+-- The row of an object, its fields read as JSON.
+use Rattle.std.specs.Prelude.{ℕ, List, Option, option_map, option_and_then, string_bytes, unwrap_or}
+use Rattle.serde_json.specs.Data as json
+use Rattle.serde_json.specs.Find.{as_object}
+use Rattle.serde_json.specs.Read.{read}
+use Rattle.serde_json.specs.View.{view as json_view}
+use Rattle.fv_store.specs.declared.reading.ReadRow.{ReadRow}
+use Rattle.fv_tables.specs.Changes.{Thing}
+
+-- the object's name, its type's name and its fields' JSON; none where their text isn't that of a JSON object
+abbrev pub row_read : Thing → Option (List ℕ × (List ℕ × json.Members))
+row_read o = option_map (λ fields. (o.0, (o.1.kind, fields))) (option_and_then as_object (read o.1.fields))
+
+-- as the code has it
+abbrev pub read_view : ReadRow → List ℕ × (List ℕ × json.Members)
+read_view r = (string_bytes r.row.now.name, (string_bytes r.row.now.kind, unwrap_or (as_object (json_view r.fields)) json.no_members))
