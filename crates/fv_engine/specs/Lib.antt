@@ -1,5 +1,3 @@
-pub mod ExportSteps
-pub mod Exports
 pub mod FaultNames
 pub mod Laws
 pub mod Openings

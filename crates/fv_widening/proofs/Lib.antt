@@ -1,4 +1,0 @@
-mod Counted
-mod Sames
-mod Turns
-mod Widened

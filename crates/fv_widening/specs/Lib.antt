@@ -1,3 +1,0 @@
-pub mod Narrowed
-pub mod Same
-pub mod Widens
