@@ -1,28 +1,32 @@
 #!/usr/bin/env python3
-"""Measures puts that `formd judge` answers, beside puts that `formd serve` answers over a file in memory, and beside the same checks in Python without a store.
+"""Measures puts that `formd judge` answers, beside puts that `formd serve` answers over a file in memory, and beside the same checks in Python and by Ajv without a store.
 
     judged.py                  instructions (needs valgrind) and seconds
     judged.py --program FILE   with another build of formd than the one that `make` leaves
 
 Instructions are those of so many puts behind the first, by vectors (see `BY_VECTORS` in bench.py), so that reading the declarations isn't among them; of `serve` each put changes all
 objects of a record that is there. Seconds are of runs in turn, of which the middle one counts: the lines come from a file, and the replies go to none. Python reads each line by its json,
-checks it by pydantic where that is installed, else by hand, and writes its reply, as formd does. `shapes.py` has the shapes.
+checks it by pydantic where that is installed, else by hand, and writes its reply, as formd does. So does Node where it and Ajv are installed (Debian's `node-ajv`): by the JSON Schema that
+`formd explain --schema` writes of the form, in which each object has to hold what its type is judged by. `shapes.py` has the shapes.
 """
 
 import argparse
 import json
+import os
+import shutil
 import subprocess
 import sys
 import tempfile
 import time
 from pathlib import Path
 
-from bench import BY_VECTORS, FORMD, THERE, commands_over, lines_of, spent, total
+from bench import BY_VECTORS, FORMD, HERE, THERE, commands_over, lines_of, spent, total
 from shapes import SHAPES, checks, compact
 
 FEW, MANY = 200, 600
 LINES, TURNS = 40_000, 5
 ROOM = "/dev/shm"
+NODE = {**os.environ, "NODE_PATH": "/usr/share/nodejs"}
 
 
 def baseline(shape):
@@ -65,23 +69,42 @@ def instructions(program):
         print(f"{shape:<13}{one:>14,.0f}{other:>15,.0f}{one / other:>8.0%}", flush=True)
 
 
-def took(words, lines):
+def took(words, lines, env=None):
     with open(lines, "rb") as given:
         begun = time.monotonic()
-        subprocess.run(words, stdin=given, stdout=subprocess.DEVNULL, check=True)
+        subprocess.run(words, stdin=given, stdout=subprocess.DEVNULL, check=True, env=env)
         return time.monotonic() - begun
 
 
+def has_ajv():
+    return shutil.which("node") is not None and subprocess.run(["node", "-e", 'require("ajv")'], env=NODE, capture_output=True).returncode == 0
+
+
+def schema(program, folder, shape):
+    """The JSON Schema of a shape's form, in which each object has to hold what its type is judged by."""
+    told = subprocess.run([program, "explain", folder / "d.json", "--schema", SHAPES[shape].form], capture_output=True, check=True).stdout
+    made = json.loads(told)
+    del made["$schema"]
+    made["properties"]["objects"]["additionalProperties"] = {"anyOf": [{"$ref": f"#/$defs/{kind}.validated"} for kind in SHAPES[shape].declarations["types"]]}
+    return made
+
+
 def seconds(program):
-    print(f"\n{LINES:,} puts judged\nshape          formd, s   Python, s   Python / formd   puts a second by formd")
+    others = {"Python": lambda folder, shape: ([sys.executable, __file__, "--baseline", shape], None)}
+    if has_ajv():
+        others["Ajv"] = lambda folder, shape: (["node", HERE / "judged.js", folder / "schema.json"], NODE)
+    print(f"\n{LINES:,} puts judged\nshape          formd, s" + "".join(f"{other + ', s':>12}{other + ' / formd':>18}" for other in others) + "   puts a second by formd")
     for shape in SHAPES:
         with tempfile.TemporaryDirectory(dir=ROOM) as name:
             folder = Path(name)
             (folder / "d.json").write_text(compact(SHAPES[shape].declarations))
             (folder / "lines").write_bytes(lines_of(puts(shape, LINES)))
-            runs = [(took(judging(program, folder), folder / "lines"), took([sys.executable, __file__, "--baseline", shape], folder / "lines")) for _ in range(TURNS)]
-        ours, theirs = (sorted(turns)[TURNS // 2] for turns in zip(*runs))
-        print(f"{shape:<13}{ours:>10.2f}{theirs:>12.2f}{theirs / ours:>17.2f}{LINES / ours:>25,.0f}", flush=True)
+            if "Ajv" in others:
+                (folder / "schema.json").write_text(compact(schema(program, folder, shape)))
+            words = [(judging(program, folder), None)] + [other(folder, shape) for other in others.values()]
+            runs = [[took(given, folder / "lines", env) for given, env in words] for _ in range(TURNS)]
+        ours, *theirs = (sorted(turns)[TURNS // 2] for turns in zip(*runs))
+        print(f"{shape:<13}{ours:>10.2f}" + "".join(f"{other:>12.2f}{other / ours:>18.2f}" for other in theirs) + f"{LINES / ours:>25,.0f}", flush=True)
 
 
 def main():

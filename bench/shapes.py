@@ -109,6 +109,31 @@ SURVEY = {
     "forms": {"survey": {"root": "Survey"}},
 }
 
+SHARE = {"constraint": "Share"}
+CODE = {"constraint": "Code"}
+REPORT = {
+    "constraints": {
+        "Code": {
+            "attributes": {"most": {"kind": "integer", "default": 12}},
+            "compose": [NOT_BLANK, pattern("[A-Z]{2}-[0-9]{4}"), {"constraint": "Size", "override": {"max": "most"}}],
+        },
+        "Share": {"compose": [{"constraint": "Min", "with": {"value": 0}}, {"constraint": "Max", "with": {"value": 100}}]},
+    },
+    "types": {
+        "Report": {
+            "fields": {
+                "code": field("text", NOT_NULL, CODE),
+                "counts": field({"list": field({"list": field("integer", AT_LEAST_ONE)}, size(max=12))}, size(max=12)),
+                "sections": field({"list": field({"ref": "Section"}, NOT_NULL, valid=True)}, size(max=20)),
+                "shares": field({"map": field("integer", NOT_NULL, SHARE), "keys": [size(max=20)]}, size(max=40)),
+                "summary": field("text", NOT_BLANK, size(max=4000)),
+            }
+        },
+        "Section": {"fields": {"code": field("text", NOT_NULL, CODE), "share": field("integer", NOT_NULL, SHARE), "title": field("text", NOT_BLANK, size(max=80))}},
+    },
+    "forms": {"report": {"root": "Report"}},
+}
+
 
 def item(number):
     return {"root": "a", "objects": {"a": {"type": "Item", "fields": {"count": number % 97 + 1, "name": "abc"}}}}
@@ -150,12 +175,28 @@ def survey(number):
     return {"root": "survey", "objects": objects}
 
 
+def report(number):
+    sections = [f"section{at}" for at in range(8)]
+    fields = {
+        "code": f"RP-{number % 10_000:04}",
+        "counts": [[(number + row * 10 + column) % 97 + 1 for column in range(10)] for row in range(10)],
+        "sections": sections,
+        "shares": {f"district {at:02}": (number + at) % 101 for at in range(24)},
+        "summary": f"Report {number}. " + "The season was wet, and the paths along the river were closed twice. " * 29,
+    }
+    objects = {"report": {"type": "Report", "fields": fields}}
+    for at, name in enumerate(sections):
+        objects[name] = {"type": "Section", "fields": {"code": f"SE-{(number + at) % 10_000:04}", "share": (number + at) % 101, "title": f"Of the work in district {at}"}}
+    return {"root": "report", "objects": objects}
+
+
 SHAPES = {
     "demonstration": Shape(DEMONSTRATION, "item", item, ("a", "count", lambda number: number % 89 + 1)),
     "order": Shape(ORDER, "order", order, ("order", "customer", lambda number: f"Ada {number % 997}")),
     "patterns": Shape(PATTERNS, "order", patterned, ("order", "customer", lambda number: f"Ada {number % 997}")),
     "graph": Shape(GRAPH, "graph", graph, ("p07", "weight", lambda number: number % 89 + 1)),
     "survey": Shape(SURVEY, "survey", survey, ("person", "age", lambda number: number % 97 + 1)),
+    "report": Shape(REPORT, "report", report, ("section3", "share", lambda number: number % 101)),
 }
 
 
@@ -168,7 +209,9 @@ def reached(bundle, valid):
             met.add(name)
             found = objects[name]
             yield found["type"], found["fields"]
-            left += [found["fields"][name] for name in valid.get(found["type"], ()) if found["fields"].get(name) is not None]
+            for name in valid.get(found["type"], ()):
+                names = found["fields"].get(name)
+                left += names if isinstance(names, list) else [] if names is None else [names]
 
 
 VALID = {
@@ -177,6 +220,7 @@ VALID = {
     "patterns": {"Order": [f"line{at}" for at in range(10)]},
     "graph": {"Part": ["next"]},
     "survey": {"Survey": ["person", *(f"answer{at:02}" for at in range(24))]},
+    "report": {"Report": ["sections"]},
 }
 
 
@@ -212,7 +256,14 @@ def order_by_hand(is_number):
 
 def by_hand(shape):
     """For each type, whether an object's fields hold."""
-    number, article, question = re.compile(r"[0-9]{8}"), re.compile(r"[A-Z]{3}-[0-9]{4}"), re.compile(r"Q[0-9]{2}")
+    number, article, question, code = (re.compile(regexp) for regexp in (r"[0-9]{8}", r"[A-Z]{3}-[0-9]{4}", r"Q[0-9]{2}", r"[A-Z]{2}-[0-9]{4}"))
+
+    def is_code(text):
+        return text is not None and code.fullmatch(text) and is_filled(text, 12)
+
+    def is_share(value):
+        return value is not None and 0 <= value <= 100
+
     return {
         "demonstration": {"Item": lambda fields: is_count(fields.get("count")) and is_text(fields.get("name"), 1, 3)},
         "order": {"Order": order_by_hand(lambda text: is_text(text, 8, 8))},
@@ -237,6 +288,18 @@ def by_hand(shape):
                 and is_filled(fields.get("text"), 200)
             ),
         },
+        "report": {
+            "Report": lambda fields: (
+                is_code(fields.get("code"))
+                and len(fields.get("counts") or []) <= 12
+                and all(len(row) <= 12 and all(is_count(count) for count in row) for row in fields.get("counts") or [])
+                and len(fields.get("sections") or []) <= 20
+                and len(fields.get("shares") or {}) <= 40
+                and all(is_text(key, 0, 20) and is_share(share) for key, share in (fields.get("shares") or {}).items())
+                and is_filled(fields.get("summary"), 4000)
+            ),
+            "Section": lambda fields: is_code(fields.get("code")) and is_share(fields.get("share")) and is_filled(fields.get("title"), 80),
+        },
     }[shape]
 
 
@@ -253,9 +316,11 @@ def by_pydantic(shape):
     count = (Optional[Annotated[int, Field(ge=1)]], None)
     amount = Annotated[Decimal, Field(ge=0)]
     name = (Optional[str], None)
+    code = Annotated[str, Field(pattern=r"^[A-Z]{2}-[0-9]{4}$", max_length=12)]
+    share = Annotated[int, Field(ge=0, le=100)]
 
-    def model(title, **fields):
-        made = create_model(title, __config__=ConfigDict(extra="forbid"), **{key: kind if isinstance(kind, tuple) else (kind, ...) for key, kind in fields.items()})
+    def model(called, **fields):
+        made = create_model(called, __config__=ConfigDict(extra="forbid"), **{key: kind if isinstance(kind, tuple) else (kind, ...) for key, kind in fields.items()})
 
         def holds(fields):
             try:
@@ -283,6 +348,17 @@ def by_pydantic(shape):
             "Survey": model("Survey", filled=date, person=str, subject=short, **{f"answer{at:02}": name for at in range(24)}),
             "Person": model("Person", age=count, name=short),
             "Answer": model("Answer", question=Annotated[str, Field(pattern=r"^Q[0-9]{2}$")], score=Annotated[int, Field(ge=1)], text=Annotated[str, Field(pattern=r"\S", max_length=200)]),
+        },
+        "report": lambda: {
+            "Report": model(
+                "Report",
+                code=code,
+                counts=Annotated[list[Annotated[list[Annotated[int, Field(ge=1)]], Field(max_length=12)]], Field(max_length=12)],
+                sections=Annotated[list[str], Field(max_length=20)],
+                shares=Annotated[dict[Annotated[str, Field(max_length=20)], share], Field(max_length=40)],
+                summary=Annotated[str, Field(pattern=r"\S", max_length=4000)],
+            ),
+            "Section": model("Section", code=code, share=share, title=short),
         },
     }[shape]()
 

@@ -16,7 +16,7 @@ import house  # noqa: E402
 COST = re.compile(r"^(proof|tests|edit|compile) +(\w+) +\d+ +(\d+) ", re.M)
 KEPT = re.compile(r"^rt: (\w+) is kept: ", re.M)
 KINDS = {"proof": "proof", "tests": "tests", "edit": "edits", "compile": "builds"}
-BEGIN, END = "<!-- the table begins: tests/gatetable.py LOG --into docs/history/GATE.md -->", "<!-- the table ends -->"
+BEGIN, END = "<!-- the table begins: tests/gatetable.py LOG --into FILE -->", "<!-- the table ends -->"
 
 
 def seconds_in(log):

@@ -226,10 +226,9 @@ def text_of(value):
     return str(value).lower() if isinstance(value, bool) else str(value)
 
 
-def told(table, folder):
-    """Rows `> DECLARATIONS`, or `json> DECLARATIONS`, and behind it the lines that `formd explain` writes of them; `¿` is a byte that no UTF-8 has. A
-    row `NAME := TEXT` names a text. Declarations with a fault are refused by the one that their line tells."""
-    asked, file = [], Path(folder) / "told.json"
+def told_blocks(table):
+    """Each row `> TEXT` or `json> TEXT`, with the words that it asks for, the text, and the lines behind it; a row `NAME := TEXT` names a text."""
+    asked = []
     for row in table.rows:
         begun = re.fullmatch(r"(json)?> ?(.*)", row)
         named = re.fullmatch(r"(\w+) := (.*)", row)
@@ -239,14 +238,34 @@ def told(table, folder):
             table.names[named[1]] = table.expanded(named[2])
         else:
             asked[-1][3].append(table.expanded(row))
-    for row, words, text, wanted in asked:
+    return asked
+
+
+def lines_told(words, wanted):
+    """What `formd explain` writes, and behind it how it ends, where that isn't as the lines that are wanted say."""
+    ran = subprocess.run([PROGRAM, "explain", *words], capture_output=True, text=True)
+    refused = ran.stderr.removeprefix("formd: declarations refused: ").strip()
+    is_told = refused in ran.stdout or all(f'"{part}"' in ran.stdout for part in refused.split(" "))
+    is_fault = any(re.search(r': F\d+ \w+: |^\{"line":"fault"', line) for line in wanted)
+    return ran.stdout.splitlines() + ([] if is_told and ran.returncode == (3 if is_fault else 0) else [f"status {ran.returncode}: {ran.stderr}"])
+
+
+def told(table, folder):
+    """Rows `> DECLARATIONS`, or `json> DECLARATIONS`, and behind it the lines that `formd explain` writes of them; `¿` is a byte that no UTF-8 has. A
+    row `NAME := TEXT` names a text. Declarations with a fault are refused by the one that their line tells."""
+    file = Path(folder) / "told.json"
+    for row, words, text, wanted in told_blocks(table):
         file.write_bytes(text.encode().replace("¿".encode(), b"\xff"))
-        ran = subprocess.run([PROGRAM, "explain", *words, file], capture_output=True, text=True)
-        refused = ran.stderr.removeprefix("formd: declarations refused: ").strip()
-        is_told = refused in ran.stdout or all(f'"{part}"' in ran.stdout for part in refused.split(" "))
-        is_fault = any(re.search(r': F\d+ \w+: |^\{"line":"fault"', line) for line in wanted)
-        found = ran.stdout.splitlines() + ([] if is_told and ran.returncode == (3 if is_fault else 0) else [f"status {ran.returncode}: {ran.stderr}"])
-        yield row, "\n".join(wanted), "\n".join(found)
+        yield row, "\n".join(wanted), "\n".join(lines_told([*words, file], wanted))
+
+
+def over(table, folder):
+    """Rows `> NEW over OLD`, or `json> NEW over OLD`, and behind it the lines that `formd explain NEW --over OLD` writes."""
+    new, old = Path(folder) / "new.json", Path(folder) / "old.json"
+    for row, words, text, wanted in told_blocks(table):
+        for file, declarations in zip((new, old), text.split(" over ")):
+            file.write_text(declarations)
+        yield row, "\n".join(wanted), "\n".join(lines_told([*words, new, "--over", old], wanted))
 
 
 def forms(table, folder):
@@ -356,6 +375,7 @@ KINDS = {
     "judged": uses_judged,
     "lines": lines,
     "pairs": pairs,
+    "over": over,
     "told": told,
     "uses": uses,
     "values": values,

@@ -157,6 +157,8 @@ def long_declarations(folder):
     for declarations in "longer.json", "long.json":
         serve(folder, declarations, [get(1)], [shown(1)])
         look("declarations of 100 KB are kept", selected(folder / "g.db", "SELECT CAST(declarations AS TEXT) FROM about"), [kept])
+    for words in ["--database", "g.db"], ["long.json"]:
+        run(folder, ["explain", *words, "--text"], [], (0, kept, ""))
 
 
 def many_records(folder):
@@ -181,7 +183,8 @@ def failing_streams(folder):
         no_file = os.open(folder, os.O_RDONLY)
         ended(words, 4, b"formd: read\n", stdin=no_file, stdout=subprocess.DEVNULL)
         os.close(no_file)
-    for words in [], served, ["rehearse", "--declarations", "d.json"], ["declarations", "d.json"], ["explain", "d.json"]:
+    explained = [["explain", "d.json", *words] for words in ([], ["--text"], ["--schema", "item"], ["--over", "d.json"])]
+    for words in [], served, ["rehearse", "--declarations", "d.json"], ["declarations", "d.json"], *explained, ["export", "--database", "g.db"]:
         with open("/dev/full", "wb") as full:
             told = TOLD if "rehearse" in words else ""
             ended(words, 4, f"{told}formd: write\n".encode(), input=GET.encode(), stdout=full)

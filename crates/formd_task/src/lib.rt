@@ -9,4 +9,4 @@ mod task;
 pub use clocks::MachineClock;
 pub use files::{FileFault, read_file, read_whole};
 pub use made::{Absent, NotOpened, absent_at, close_refused, open_database};
-pub use task::{Service, Task, VERSION, task_of};
+pub use task::{Explain, Service, Source, Task, Telling, VERSION, task_of};

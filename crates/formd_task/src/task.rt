@@ -1,5 +1,5 @@
 use clap::error::ErrorKind;
-use clap::{Arg, ArgAction, ArgMatches, Command, Error, value_parser};
+use clap::{Arg, ArgAction, ArgGroup, ArgMatches, Command, Error, value_parser};
 use fv_datum::moment_ok;
 use fv_engine_lines::FixedClock;
 use std::alloc::Global;
@@ -14,9 +14,10 @@ pub enum Task<'a> {
     Demonstration,
     /// Say whether the declarations of the file at this path are taken.
     Declarations(&'a str),
-    /// Say what the declarations of the file at this path declare, or where they are wrong; as JSON
-    /// where that is asked.
-    Explain(&'a str, bool),
+    /// Say what declarations declare, or where they are wrong.
+    Explain(Explain<'a>),
+    /// Write the declarations in force and the records of the database at this path, as command lines.
+    Export(&'a str),
     /// Serve declarations over a database.
     Serve(Service<'a>),
     /// Serve declarations over a database in memory, and tell in words why lines are refused.
@@ -25,6 +26,39 @@ pub enum Task<'a> {
     Judge(Service<'a>),
     /// Say which version this is.
     Version,
+}
+
+/// Where declarations are.
+#[derive(Clone, Copy)]
+pub enum Source<'a> {
+    /// In the file at this path.
+    File(&'a str),
+    /// In force in the database at this path.
+    Database(&'a str),
+}
+
+/// In which form it is told what declarations declare.
+#[derive(Clone, Copy)]
+pub enum Telling<'a> {
+    /// In words, a line each.
+    Words,
+    /// As JSON, an object a line.
+    Json,
+    /// As the text of the declarations.
+    Text,
+    /// As the JSON Schema of the bundles of the form of this name.
+    Schema(&'a str),
+    /// By what differs from other declarations; as JSON where that is asked.
+    Over(Source<'a>, bool),
+}
+
+/// What is explained.
+#[derive(Clone, Copy)]
+pub struct Explain<'a> {
+    /// Where the declarations are.
+    pub declarations: Source<'a>,
+    /// In which form they are told.
+    pub telling: Telling<'a>,
 }
 
 /// What is served.
@@ -51,23 +85,95 @@ fn declarations_command<'a>(alloc: Global) -> Result<Command<'a>, Error> {
     )
 }
 
-/// `explain FILE [--json]`.
-fn explain_command<'a>(alloc: Global) -> Result<Command<'a>, Error> {
+/// `--NAME`.
+fn flag<'a>(alloc: Global, name: &'a str, help: &'a str) -> Arg<'a> {
+    Arg::new(alloc, name)
+        .long(name)
+        .action(ArgAction::SetTrue)
+        .help(help)
+}
+
+/// `--NAME VALUE`.
+fn option<'a>(alloc: Global, name: &'a str, value: &'a str, help: &'a str) -> Arg<'a> {
+    Arg::new(alloc, name)
+        .long(name)
+        .value_name(value)
+        .help(help)
+}
+
+/// `FILE | --database FILE`.
+fn with_source<'a>(alloc: Global, command: Command<'a>) -> Result<Command<'a>, Error> {
     let file = Arg::new(alloc, "file")
         .value_name("FILE")
-        .required(true)
         .help("The file with the declarations");
-    let json = Arg::new(alloc, "json")
-        .long("json")
-        .action(ArgAction::SetTrue)
-        .help("One JSON object a line");
+    let database = option(
+        alloc,
+        "database",
+        "FILE",
+        "The declarations in force in this database",
+    );
+    let source = ArgGroup::new(alloc, "source")
+        .arg("file")?
+        .arg("database")?
+        .required(true);
+    Ok(command.arg(file)?.arg(database)?.group(source)?)
+}
+
+/// `[--text | --schema FORM | --over FILE | --over-database FILE]`.
+fn with_telling<'a>(alloc: Global, command: Command<'a>) -> Result<Command<'a>, Error> {
+    let text = flag(alloc, "text", "Their text, as it was given").conflicts_with("json")?;
+    let schema = option(
+        alloc,
+        "schema",
+        "FORM",
+        "The JSON Schema of this form's bundles",
+    )
+    .conflicts_with("json")?;
+    let over = option(
+        alloc,
+        "over",
+        "FILE",
+        "What they add, change and remove over the declarations of this file",
+    );
+    let over_database = option(
+        alloc,
+        "over-database",
+        "FILE",
+        "The same over the declarations in force in this database",
+    );
+    let telling = ArgGroup::new(alloc, "telling")
+        .arg("text")?
+        .arg("schema")?
+        .arg("over")?
+        .arg("over-database")?;
     Ok(
-        Command::new(alloc, "explain")
+        command
+            .arg(text)?
+            .arg(schema)?
+            .arg(over)?
+            .arg(over_database)?
+            .group(telling)?,
+    )
+}
+
+/// `explain (FILE | --database FILE) [--json] [--text | --schema FORM | --over FILE | --over-database FILE]`.
+fn explain_command<'a>(alloc: Global) -> Result<Command<'a>, Error> {
+    let command = Command::new(alloc, "explain").about(
+        "Writes what declarations declare, with warnings, or where their first fault is.",
+    );
+    let told = with_source(alloc, command)?.arg(flag(alloc, "json", "One JSON object a line"))?;
+    with_telling(alloc, told)
+}
+
+/// `export --database FILE`.
+fn export_command<'a>(alloc: Global) -> Result<Command<'a>, Error> {
+    let database = option(alloc, "database", "FILE", "The database").required(true);
+    Ok(
+        Command::new(alloc, "export")
             .about(
-                "Writes what declarations declare, with warnings, or where their first fault is.",
+                "Writes the declarations in force and the records of a database, as command lines.",
             )
-            .arg(file)?
-            .arg(json)?,
+            .arg(database)?,
     )
 }
 
@@ -153,6 +259,7 @@ fn command<'a>(alloc: Global) -> Result<Command<'a>, Error> {
             .subcommand(declarations_command(alloc)?)?
             .subcommand(explain_command(alloc)?)?
             .subcommand(rehearse_command(alloc)?)?
+            .subcommand(export_command(alloc)?)?
             .subcommand(version_command(alloc))?,
     )
 }
@@ -186,6 +293,48 @@ fn service_of<'a>(
     })
 }
 
+/// The declarations over which others are told, where some are given.
+fn over_of<'a>(given: &ArgMatches<'a>) -> Option<Source<'a>> {
+    if let Some(path) = given.get_str("over") {
+        return Some(Source::File(path));
+    }
+    match given.get_str("over-database") {
+        Some(path) => Some(Source::Database(path)),
+        None => None,
+    }
+}
+
+/// In which form it is told.
+fn telling_of<'a>(given: &ArgMatches<'a>) -> Telling<'a> {
+    let as_json = given.get_flag("json");
+    if let Some(old) = over_of(given) {
+        return Telling::Over(old, as_json);
+    }
+    if let Some(form) = given.get_str("schema") {
+        return Telling::Schema(form);
+    }
+    if given.get_flag("text") {
+        return Telling::Text;
+    }
+    if as_json {
+        Telling::Json
+    } else {
+        Telling::Words
+    }
+}
+
+/// What `explain` asks.
+fn explain_of<'a>(given: &ArgMatches<'a>) -> Explain<'a> {
+    let declarations = match given.get_str("database") {
+        Some(path) => Source::Database(path),
+        None => Source::File(given.get_str("file").unwrap_or("")),
+    };
+    Explain {
+        declarations,
+        telling: telling_of(given),
+    }
+}
+
 /// What the words ask, without the program's name. Refused by their text for the user, also where
 /// they call for help or for the version, or for want of memory.
 pub fn task_of<'a>(alloc: Global, words: &'a [String]) -> Result<Task<'a>, Error> {
@@ -206,10 +355,8 @@ pub fn task_of<'a>(alloc: Global, words: &'a [String]) -> Result<Task<'a>, Error
             given,
             rehearse_command(alloc)?.bin_name("formd rehearse")?,
         )?)),
-        Some(("explain", given)) => Ok(Task::Explain(
-            given.get_str("file").unwrap_or(""),
-            given.get_flag("json"),
-        )),
+        Some(("explain", given)) => Ok(Task::Explain(explain_of(given))),
+        Some(("export", given)) => Ok(Task::Export(given.get_str("database").unwrap_or(""))),
         Some(("version", _)) => Ok(Task::Version),
         Some((_, given)) => Ok(Task::Declarations(given.get_str("file").unwrap_or(""))),
         None => Ok(Task::Demonstration),

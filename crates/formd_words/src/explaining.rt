@@ -1,40 +1,50 @@
+//! Explaining: what declarations declare, of a file or in force in a database.
+use crate::comparing::compare;
 use crate::failure::Failure;
-use formd_task::read_file;
-use fv_explain::{ExplainFault, explain};
+use crate::in_force::declarations_in;
+use crate::schemas::write_schema;
+use crate::telling::tell;
+use formd_task::{Explain, Source, Telling, read_file};
 use fv_registry::RuleSet;
-use std::alloc::Global;
-use std::fs::Files;
 use std::io::Write;
 
-impl From<ExplainFault> for Failure {
-    fn from(fault: ExplainFault) -> Failure {
-        match fault {
-            ExplainFault::Write => Failure::Write,
-            ExplainFault::Memory => Failure::Memory,
-        }
+/// The text of declarations. Refused as a file not readable, or as `declarations_in` refuses a database.
+fn text_at(rt: &HostRuntime, source: Source<'_>) -> Result<Vec<u8>, Failure> {
+    match source {
+        Source::File(path) => Ok(read_file(rt.alloc(), rt, path)?),
+        Source::Database(path) => declarations_in(rt, path),
     }
 }
 
-/// Reads the declarations of the file at a path with some rules, and writes what they declare, or where
-/// their first fault is.
+/// Writes bytes as they are, and flushes.
+fn write_as_is<W: Write>(text: &[u8], output: &mut W) -> Result<(), Failure> {
+    if output.write_all(text).is_err() || output.flush().is_err() {
+        return Err(Failure::Write);
+    }
+    Ok(())
+}
+
+/// Explains declarations with some rules, as is asked.
 ///
-/// Refused as not readable, then as not written, then by the fault of the declarations; for want of
-/// memory at any place.
-pub(crate) fn explain_file<F: Files, R: RuleSet, W: Write>(
-    alloc: Global,
-    files: &F,
-    path: &str,
-    as_json: bool,
+/// Refused as declarations not readable or a database not taken, those that are explained before those
+/// over which they are told; then, but where their text alone is asked, by the fault of the
+/// declarations, once it is written as `tell` writes it; then as a form that isn't declared, then as
+/// not written; for want of memory at any place.
+pub(crate) fn explain_as_asked<R: RuleSet, W: Write>(
+    rt: &HostRuntime,
+    asked: Explain<'_>,
     registry: &R,
     output: &mut W,
 ) -> Result<(), Failure> {
-    let bytes = read_file(alloc, files, path)?;
-    let found = explain(alloc, registry, &bytes, as_json, output)?;
-    if output.flush().is_err() {
-        return Err(Failure::Write);
-    }
-    match found {
-        None => Ok(()),
-        Some(fault) => Err(Failure::from(fault)),
+    let text = text_at(rt, asked.declarations)?;
+    match asked.telling {
+        Telling::Words => tell(rt, &text, false, registry, output),
+        Telling::Json => tell(rt, &text, true, registry, output),
+        Telling::Text => write_as_is(&text, output),
+        Telling::Schema(form) => write_schema(rt, &text, form, registry, output),
+        Telling::Over(source, as_json) => {
+            let old = text_at(rt, source)?;
+            compare(rt, &text, &old, as_json, registry, output)
+        }
     }
 }

@@ -32,6 +32,9 @@ pub enum Failure {
     /// The declarations aren't taken.
     #[error("declarations refused")]
     Declarations(DeclFault),
+    /// The form that is asked for isn't declared.
+    #[error("a form that isn't declared")]
+    UnknownForm,
     /// The database isn't taken.
     #[error("store refused")]
     Store(OpenStoreFault),
@@ -100,6 +103,7 @@ impl Failure {
             Failure::Unreadable => "Unreadable",
             Failure::CannotOpen => "CannotOpen",
             Failure::Declarations(_) => "Declarations",
+            Failure::UnknownForm => "UnknownForm",
             Failure::Store(_) => "Store",
             Failure::Read => "Read",
             Failure::Write => "Write",
@@ -127,6 +131,7 @@ impl Failure {
                 let name = fault.name();
                 writeln!(error, "formd: declarations refused: {code} {name}")
             }
+            Failure::UnknownForm => writeln!(error, "formd: no such form"),
             Failure::Store(fault) => {
                 let name = fault.name();
                 writeln!(error, "formd: store: {name}")

@@ -1,6 +1,7 @@
 use crate::declarations::check_declarations;
 use crate::demonstration::serve_demonstration;
-use crate::explaining::explain_file;
+use crate::explaining::explain_as_asked;
+use crate::exporting::export_file;
 use crate::failure::Failure;
 use crate::judging::judge_file;
 use crate::rehearsing::rehearse_file;
@@ -44,9 +45,8 @@ fn run_task<R: RuleSet + Drop, I: Read, W: Write, E: Write, C: Clock>(
     match task {
         Task::Demonstration => serve_demonstration(rt.alloc(), registry, reader, output),
         Task::Declarations(path) => check_declarations(rt.alloc(), rt, path, &registry, output),
-        Task::Explain(path, as_json) => {
-            explain_file(rt.alloc(), rt, path, as_json, &registry, output)
-        }
+        Task::Explain(asked) => explain_as_asked(rt, asked, &registry, output),
+        Task::Export(path) => export_file(rt, path, registry, output),
         Task::Rehearse(service) => {
             rehearse_file(rt, service, registry, reader, output, error, clock)
         }
@@ -63,8 +63,11 @@ fn run_task<R: RuleSet + Drop, I: Read, W: Write, E: Write, C: Clock>(
 /// or at those of the clock, under its own declarations; under those of the file F where it is empty;
 /// `judge --declarations F [--now N]` answers lines as where there is no record, and keeps nothing;
 /// `explain F [--json]` writes what the declarations of the file F declare, or where their first fault
-/// is; `rehearse --declarations F [--now N]` serves a database in memory, and tells on the error writer
-/// where lines are wrong; `version` prints which version this is.
+/// is, `--database G` in place of F those in force in a database; `--text` writes their text alone,
+/// `--schema N` the JSON Schema of the form N, `--over O` or `--over-database O` what they add, change
+/// and remove over others; `export --database G` writes the declarations in force and the records of a
+/// database as command lines; `rehearse --declarations F [--now N]` serves a database in memory, and
+/// tells on the error writer where lines are wrong; `version` prints which version this is.
 ///
 /// Gives the exit status: 0 done; 2 the words weren't understood, or call for help, with a text on
 /// the error writer; 3 where the declarations are refused and 4 for any other failure, with a line

@@ -18,10 +18,9 @@ use Rattle.fv_engine_machine.specs.Machines.{Machine, contents}
 use Rattle.fv_engine_machine.specs.Redeclaring.{IsAgain, JudgesAll, RedeclareStep, Refits, Reign, misfit, under}
 use Rattle.fv_engine_machine.specs.Services.{Attends, GoesOn, Keeps, RedeclareCauses, Responds, Service, TellsOfRecords, Turned, reign_of, with_mapped}
 use Rattle.fv_engine_machine.proofs.Becoming.{checked_other, step_stays}
-use Rattle.fv_engine_machine.proofs.Serving.{redeclare_rests}
 use Rattle.fv_engine_machine.specs.Refusals.{when, first_of, is_too_long, is_no_json, is_misshapen, lacks_form, value_fault, part_fault, lacks_record, lacks_group, lacks_field, part_refusal, told_fault, made, parts_of, refusal}
 use Rattle.fv_engine_machine.specs.Step.{done_by, Changes, Checked, FieldChecked, Serves, LooksUp, Step, Told}
-use Rattle.fv_engine.proofs.Lifts.{follows, turned_of, weaker}
+use Rattle.fv_engine.proofs.Lifts.{follows, redeclare_rests, turned_of, weaker}
 use Rattle.fv_engine_machine.proofs.Changes.{by_itself, refusal_of}
 use Rattle.fv_engine_command.specs.Commands.{Part, put, set, remove, Request, too_long, not_json, shape, alone, batch, get, check, check_field, check_value, list, asked, Asked, redeclare, of_records, asks}
 use Rattle.fv_engine_command.proofs.Asking.{asks_inner, asks_shape}

@@ -1,4 +1,8 @@
 pub mod DeclaredOnce
+pub mod EngineExports
+pub mod ExportLaws
+pub mod ExportRuns
+pub mod Exported
 pub mod InMemory
 pub mod Laws
 pub mod Lifts

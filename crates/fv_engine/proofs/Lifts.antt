@@ -12,7 +12,7 @@ use Rattle.fv_engine_reply.specs.Texts.{answer_text}
 use Rattle.fv_engine_reply.specs.declared.answer.Refusal.TheVariants.{LineTooLong}
 use Rattle.fv_store.specs.Records.{Records}
 pub use Rattle.fv_engine_machine.proofs.Going.{follows, weaker, rests, onwards}
-pub use Rattle.fv_engine_machine.proofs.Serving.{long_judged, long_responds, short_judged, short_responds}
+pub use Rattle.fv_engine_machine.proofs.Serving.{long_judged, long_responds, redeclare_rests, short_judged, short_responds}
 
 module _ {H : Type 0} (means : Meanings) (held : H → State) (line : List ℕ) (moment : ℤ) (text : List ℕ) where
   -- a line that is over the limit

@@ -1,3 +1,5 @@
+pub mod ExportSteps
+pub mod Exports
 pub mod FaultNames
 pub mod Laws
 pub mod Openings

@@ -23,11 +23,12 @@ pub record IsInForce (old new : State) (given text : List ℕ) : Type 0 where
 abbrev pub DeclaresSome : Known → List ℕ → Type 0
 DeclaresSome known text = (ds : Declarations) × Declares known text (Ok ds)
 
--- declarations are refused by their first fault: those handed in, or, where these declare something, those that the database keeps
+-- Declarations are refused by their first fault: those handed in, and the database is as it was; or, where these declare something, those that
+-- the database keeps, and one of version 1 is the migrated one.
 abbrev pub IsMisdeclared : Known → State → State → List ℕ → DeclFault → Type 0
 IsMisdeclared known old new given fault =
-    Declares known given (Err fault)
-    ⊎ (DeclaresSome known given × (text : List ℕ) × IsInForce old new given text × Declares known text (Err fault))
+    (Declares known given (Err fault) × Stays old new)
+    ⊎ (DeclaresSome known given × ((text : List ℕ) × IsInForce old new given text × Declares known text (Err fault)) × IsUpgraded old new)
 
 -- the database may have been of version 1, and if it was, tables of version 2 keep since what its rows kept
 pub record IsMigrated (old new : State) : Type 0 where

@@ -67,7 +67,7 @@ impl OpenFault {
 pub struct Engine<R: RuleSet, S: Alter> {
     rules: SharedRules<R>,
     book: Rulebook<SharedRules<R>>,
-    store: Store<S>,
+    pub(crate) store: Store<S>,
 }
 
 impl<R: RuleSet + Drop, S: Alter + Drop> Drop for Engine<R, S> {
@@ -147,9 +147,9 @@ impl<R: RuleSet + Drop, S: Alter + Drop> Engine<R, S> {
     ///
     /// `Declarations` with the fault of the declarations handed in, then `Store` with that of the
     /// database, then `Declarations` with the fault of those that the database keeps; `Memory` at any
-    /// place. A refusal hands the connection back, its database as it was, or, where it was of version 1
-    /// and the refusal is `Declarations` or `Memory`, perhaps migrated, with the same records. It drops
-    /// the rules.
+    /// place. A refusal hands the connection back, its database as it was; but one of version 1 is the
+    /// migrated one, with the same records, where the declarations that it keeps are refused, and perhaps
+    /// for want of memory. It drops the rules.
     pub fn open(
         alloc: Global,
         rules: R,
@@ -177,7 +177,7 @@ impl<R: RuleSet + Drop, S: Alter + Drop> Engine<R, S> {
             ⊎ (HasCleanDisk (stock_state S.Store e.machine.records) → MayBeFirst (state S.Store connection).now)) }
         // One of version 1 is opened only where the text of each row is a bundle by its form, whatever texts they are.
         ensures upgraded { IfOk result (λ e. IsUpgraded (state S.Store connection) (stock_state S.Store e.machine.records)) }
-        // Declarations are told by their first fault; those handed in come first.
+        // Declarations are told by their first fault; those handed in come first, and nothing is migrated then.
         ensures refused { IfErr result (λ r. (fault : _) → r.0 ≡ OpenFault.Declarations fault
             → IsMisdeclared (R.known rules) (state S.Store connection) (state S.Store r.1) declarations.now fault) }
         ensures after { IfErr result (λ r. (fault : _) → r.0 ≡ OpenFault.Store fault

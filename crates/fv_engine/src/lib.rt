@@ -3,10 +3,12 @@
 #![tactic(auto)]
 
 mod engine;
+mod exporting;
 mod judge;
 mod serving;
 
 pub use engine::{Engine, OpenFault};
+pub use exporting::ExportFault;
 pub use fv_engine_lines::{Clock, FixedClock, Input, ServeFault};
 pub use fv_engine_reply::Reply;
 pub use judge::LineJudge;

@@ -6,6 +6,7 @@ use Rattle.fv_model_types.specs.Types.{Declared, has_deep}
 use Rattle.fv_store.specs.Faults.{IsAboutFault, about_fault}
 use Rattle.fv_store.specs.Records.{Contents}
 use Rattle.fv_store.specs.Stands.{Opens}
+use Rattle.fv_store.specs.Steps.{IsUpgraded}
 use Rattle.fv_store.specs.declared.fault.OpenStoreFault.{OpenStoreFault}
 use Rattle.fv_engine.proofs.DeclaredOnce.{same_contents}
 use Rattle.fv_engine.specs.Openings.{DeclaresSome, IsLeft}
@@ -58,12 +59,16 @@ returns-in-Ok-in_force-clause-opened g c = λ known ds m declares opens.
 
 pub returns-in-Err-in_force-clause-refused : goal.returns-in-Err-in_force-clause-refused
 returns-in-Err-in_force-clause-refused g c = λ fault is.
+    let old = state g.S.Store c.args.connection in
     let told = rw (c.declarations.ensures, c.in-Ok.ensures) at (text_told _ c.in-Err-in_force.fault fault c.in-Err-in_force.ensures.refused.1 is) in
     inr (
       (_, rw c.in-Ok.ensures at c.in-Ok-read_rulebook.ensures.taken),
-      _,
-      record { opened = λ clean k opens. c.in-Ok-open.ensures.in_force (subst (λ s. HasCleanDisk (state g.S.Store s)) c.into_connection.ensures.same clean) k opens; told = λ clean version d tells. c.in-Ok-open.ensures.taken (subst (λ s. HasCleanDisk (state g.S.Store s)) c.into_connection.ensures.same clean) version d tells },
-      told,
+      (
+        _,
+        record { opened = λ clean k opens. c.in-Ok-open.ensures.in_force (subst (λ s. HasCleanDisk (state g.S.Store s)) c.into_connection.ensures.same clean) k opens; told = λ clean version d tells. c.in-Ok-open.ensures.taken (subst (λ s. HasCleanDisk (state g.S.Store s)) c.into_connection.ensures.same clean) version d tells },
+        told,
+      ),
+      subst (λ s. IsUpgraded old (state g.S.Store s)) (sym c.into_connection.ensures.same) c.in-Ok-open.ensures.upgraded,
     )
 
 pub returns-in-Err-in_force-clause-stays : goal.returns-in-Err-in_force-clause-stays

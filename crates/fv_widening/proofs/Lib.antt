@@ -1,0 +1,4 @@
+mod Counted
+mod Sames
+mod Turns
+mod Widened

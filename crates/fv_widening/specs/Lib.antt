@@ -1,0 +1,3 @@
+pub mod Narrowed
+pub mod Same
+pub mod Widens
