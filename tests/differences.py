@@ -150,9 +150,9 @@ def rows(at):
     label = "a\\{b\\}c \\\\ d"
     labelled = {"L": {"attributes": {"label": {"kind": "text"}}, "compose": [{"constraint": "NotNull"}], "single": True, "message": "[{label}]"}}
     yield "a backslash in what an attribute puts in", at.value("text", use("L", label=label), None, constraints=labelled)[0]["message"] == f"[{label}]"
-    wordings = [("decimal", use("DecimalMin", value="0.5"), "0.4"), ("decimal", use("DecimalMax", value="0.5", inclusive=False), "0.5"), ("text", use("Pattern", regexp="a"), "b")]
+    wordings = [("decimal", use("DecimalMin", value="0.5"), "0.4"), ("decimal", use("DecimalMax", value="0.5", inclusive=False), "0.5")]
     told = [at.value(*three)[0]["message"] for three in wordings]
-    yield "DecimalMin, DecimalMax, Pattern without a message", told == ["must not be below 0.5 (inclusive: true)", "must not be above 0.5 (inclusive: false)", 'must match "a"']
+    yield "DecimalMin, DecimalMax without a message", told == ["must not be below 0.5 (inclusive: true)", "must not be above 0.5 (inclusive: false)"]
     keyed = at.value({"map": field("text", use("NotNull"))}, use("NotNull"), {"k": None})
     yield "an entry of a map, in a path", [one["path"] for one in keyed] == ['t["k"].<map value>']
 
