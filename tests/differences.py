@@ -189,8 +189,8 @@ def cells():
     """The first cell of each row under "Where answers differ" and "What is left out"."""
     page = PAGE.read_text()
     part = page[page.index("## Where answers differ") :]
-    first = [line.split(" | ")[0].removeprefix("| ") for line in part.splitlines() if line.startswith("| ")]
-    return [cell for cell in first if cell not in ("case", "left out") and not re.match(r"^-+", cell)]
+    first = [line.split(" | ")[0] for line in part.splitlines() if " | " in line]
+    return [cell for cell in first if cell not in ("case", "left out")]
 
 
 def main():
