@@ -17,10 +17,10 @@ MADE = re.compile(r"/out/|/target/")
 
 
 def missing(document):
-    """The paths of a document that aren't there. What a history names may have gone."""
+    """The paths of a document that aren't there."""
     text = (ROOT / document).read_text()
     links = ((ROOT / document).parent / link for link in LINK.findall(text) if "://" not in link)
-    paths = () if "/history/" in document else (ROOT / path for path in PATH.findall(text) if not MADE.search(path))
+    paths = (ROOT / path for path in PATH.findall(text) if not MADE.search(path))
     return sorted({str(path) for path in (*links, *paths) if not path.exists()})
 
 
