@@ -30,7 +30,7 @@ planted:
 # Runs the program that `make` leaves, longer than `make test` does: rows, its words, the manual's examples, declarations over others, files that it can't
 # serve, pages of ids, exports, hostile patterns, a hundred kills, files of version 1 and kills while one is migrated, the clients while their processes are
 # killed, the forms of examples/, the rental application, what differs from Bean Validation, an intake over PostgreSQL (left out where it or psycopg isn't
-# there), the schemas of declarations and of bundles (need jsonschema).
+# there), the schemas of declarations and of bundles (need jsonschema), and what tools of others make of these.
 served: rows
 	tests/readme.py
 	tests/manual.py
@@ -54,6 +54,7 @@ served: rows
 	tests/postgres.py
 	tests/schema.py
 	tests/schemas.py
+	tests/generators.py
 
 # Treats formd as an enemy or a bad machine would: each request for memory refused, also of openings by themselves, files and streams
 # stopped at each call, files that can't be served, kills, bytes that aren't what was written, the worst inputs within the limits. Prints its

@@ -1,4 +1,5 @@
-"""The two tables of records, as formd makes and writes them, by Python's SQLite; and what the loops in C are given of them."""
+"""The two tables of records, as formd makes and writes them, by Python's SQLite, and what the loops in C are given of them; and the one row a record that a service might
+keep instead."""
 
 import hashlib
 import json
@@ -11,6 +12,8 @@ TABLES = (
     "CREATE TABLE object (rec TEXT NOT NULL REFERENCES record (id) ON DELETE CASCADE, name TEXT NOT NULL, kind TEXT NOT NULL, fields TEXT NOT NULL,"
     " PRIMARY KEY (rec, name))",
 )
+ONE_TABLE = ("CREATE TABLE record (id TEXT NOT NULL PRIMARY KEY, form TEXT NOT NULL, bundle TEXT NOT NULL)",)
+PUT_ROW = "INSERT INTO record (id, form, bundle) VALUES (?1, ?2, ?3) ON CONFLICT (id) DO UPDATE SET form = excluded.form, bundle = excluded.bundle"
 UPDATE_RECORD = "UPDATE record SET form = ?2, root = ?3 WHERE id = ?1"
 INSERT_RECORD = "INSERT INTO record (id, form, root) VALUES (?1, ?2, ?3)"
 FIND_RECORD = "SELECT form, root FROM record WHERE id = ?1"
@@ -36,13 +39,13 @@ def line(key, form, bundle):
     return "\t".join([key, form, bundle["root"], *(text for row in object_rows(bundle) for text in row)])
 
 
-def opened(file):
+def opened(file, tables=TABLES):
     """A new database with the tables."""
     base = sqlite3.connect(file, isolation_level=None)
     base.execute("PRAGMA journal_mode = WAL")
     base.execute("PRAGMA synchronous = FULL")
     base.execute("PRAGMA foreign_keys = ON")
-    for table in TABLES:
+    for table in tables:
         base.execute(table)
     return base
 
@@ -66,6 +69,11 @@ def put(base, key, form, bundle):
             base.execute(INSERT_OBJECT, (key, *row))
 
 
+def put_row(base, key, form, bundle):
+    """Writes a record as one row in place of the one that is there, inside a transaction."""
+    base.execute(PUT_ROW, (key, form, compact(bundle)))
+
+
 def set_object(base, key, name, made):
     """Writes an object of a record, which is there, inside a transaction."""
     base.execute(UPDATE_OBJECT, (key, *object_row(name, made)))
@@ -78,13 +86,31 @@ def get(base, key):
     return form, {"root": root, "objects": objects}
 
 
+def counted(rows):
+    """How many rows these are, and a digest of them."""
+    digest, count = hashlib.sha256(), 0
+    for row in rows:
+        digest.update((compact(row) + "\n").encode())
+        count += 1
+    return count, digest.hexdigest()
+
+
+def selected(file, *queries):
+    base = sqlite3.connect(file)
+    told = counted(row for query in queries for row in base.execute(query))
+    base.close()
+    return told
+
+
+def bundles_of(put):
+    """What a file of one table has to hold behind these puts."""
+    return counted(sorted({key: (key, form, compact(bundle)) for key, form, bundle in put}.values()))
+
+
+def bundles_in(file):
+    return selected(file, "SELECT id, form, bundle FROM record ORDER BY id")
+
+
 def rows_in(file):
     """How many rows both tables of a file have, and a digest of them."""
-    base = sqlite3.connect(file)
-    digest, count = hashlib.sha256(), 0
-    for rows in ("SELECT 'record', id, form, root FROM record ORDER BY id", "SELECT 'object', rec, name, kind, fields FROM object ORDER BY rec, name"):
-        for row in base.execute(rows):
-            digest.update((compact(row) + "\n").encode())
-            count += 1
-    base.close()
-    return count, digest.hexdigest()
+    return selected(file, "SELECT 'record', id, form, root FROM record ORDER BY id", "SELECT 'object', rec, name, kind, fields FROM object ORDER BY rec, name")
