@@ -7,11 +7,9 @@ use Rattle.fv_declare_schema.specs.Declarations.{Declarations}
 use Rattle.fv_engine_machine.specs.Causes.{HasRoomFor}
 use Rattle.fv_engine_machine.specs.Machines.{Machine}
 use Rattle.fv_engine_command.specs.Commands.{put, Request, alone, get, check, check_field, asked, redeclare, asks}
-use Rattle.fv_datum.specs.Lookup.{at_name}
 use Rattle.fv_declare_judging.specs.Declares.{Declares}
 use Rattle.fv_engine_machine.specs.Redeclaring.{Reign}
 use Rattle.fv_engine_judging.specs.Rejudging.{HasFewIds}
-use Rattle.fv_model.specs.Extends.{Extends}
 use Rattle.fv_registry.specs.Rules.{Known}
 use Rattle.fv_store.specs.Causes.{IsShortAbout}
 use Rattle.fv_engine_machine.specs.Refusals.{parts_of}
@@ -29,6 +27,7 @@ use Rattle.fv_engine_reply.specs.declared.answer.Done.{Done}
 use Rattle.fv_engine_reply.specs.declared.answer.Done.TheVariants.{Put}
 use Rattle.fv_engine_reply.specs.declared.answer.Refusal.TheVariants.{Store, Memory}
 use Rattle.fv_walk_request.specs.Requests.{asked_groups}
+use Rattle.fv_widening.specs.Widens.{Widens}
 use Rattle.fv_store.specs.Records.{Kept, Records}
 
 -- the reply tells that a command that changes records was taken
@@ -133,7 +132,7 @@ LeavesNothingAtAll means now reply new = IsRedeclared reply
 
 -- declarations have each type of others, with each of its fields, and each form with the same root; they may have more
 abbrev pub OnlyAdd : Declarations → Declarations → Type 0
-OnlyAdd old ds = Extends old.types ds.types × ((form root : List ℕ) → at_name form old.forms ≡ Some root → at_name form ds.forms ≡ Some root)
+OnlyAdd old ds = Widens old.types old.forms ds.types ds.forms
 
 -- no record is told not to fit
 abbrev pub IsNoMisfit : Answer → Type 0

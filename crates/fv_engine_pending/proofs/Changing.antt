@@ -62,7 +62,7 @@ makes (leaves id o) m = λ q. cond (bytes_eq q id) o (m q)
 makes (sets id name t) m = with_object id name t m
 
 pub makes_so : (c : Change) (m : Records) → after c m ≡ makes (altered c) m
-makes_so (Put id form bundle) m = refl
+makes_so (Put id s) m = refl
 makes_so (Object id name object) m = refl
 makes_so (Remove id) m = refl
 
@@ -72,7 +72,7 @@ LeavesFit types forms (leaves id o) m = ForSome o (Fits types forms)
 LeavesFit types forms (sets id name t) m = (k : Kept) → m id ≡ Some k → Fits types forms (with_thing name t k)
 
 pub fits_so : (types : Declared) (forms : Roots) (c : Change) (m : Records) → LeavesFit types forms (altered c) m → ChangeFits types forms c m
-fits_so types forms (Put id form bundle) m h = h _ refl
+fits_so types forms (Put id s) m h = h _ refl
 fits_so types forms (Object id name object) m h = h
 fits_so types forms (Remove id) m h = tt
 
@@ -82,7 +82,7 @@ LeavesShort (leaves id o) = ForSome o (IsShort id)
 LeavesShort (sets id name t) = IsShortObject id (name, t)
 
 pub short_so : (c : Change) → LeavesShort (altered c) → WritesShort c
-short_so (Put id form bundle) h = h _ refl
+short_so (Put id s) h = h _ refl
 short_so (Object id name object) h = h
 short_so (Remove id) h = tt
 
@@ -93,7 +93,7 @@ taken (leaves id (Some k)) = 1 + length k.bundle.objects
 taken (sets id name t) = 0
 
 pub taken_so : (c : Change) → rows_of c ≡ taken (altered c)
-taken_so (Put id form bundle) = refl
+taken_so (Put id s) = refl
 taken_so (Object id name object) = refl
 taken_so (Remove id) = refl
 

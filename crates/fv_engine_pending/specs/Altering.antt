@@ -3,9 +3,10 @@ use Rattle.std.specs.Prelude.{◌≡◌, ℕ, ◌+◌, List, [], ◌∷◌, IsSo
 use Rattle.fv_datum.specs.Lookup.{at_name}
 use Rattle.fv_bundle.specs.Bundles.{Thing}
 use Rattle.fv_bundle.specs.Limits.{most_objects}
-use Rattle.fv_bundle.specs.Views.{object_view, bundle_view}
+use Rattle.fv_bundle.specs.Views.{object_view}
 use Rattle.fv_engine_pending.specs.Ways.{Way}
 use Rattle.fv_store.specs.Records.{Kept, Records, with_thing}
+use Rattle.fv_store.specs.Stored.{stored_view}
 use Rattle.fv_store.specs.declared.change.Change.{Change}
 use Rattle.fv_store.specs.declared.change.Change.TheVariants.{Put, Object, Remove}
 
@@ -30,7 +31,7 @@ pub data Altered : Type 0 where
 
 -- what a change of the store does
 abbrev pub altered : Change → Altered
-altered (Put id form bundle) = leaves (string_bytes id) (Some (record { form = string_bytes form; bundle = bundle_view bundle }))
+altered (Put id s) = leaves (string_bytes id) (Some (stored_view s))
 altered (Object id name object) = sets (string_bytes id) (string_bytes name) (object_view object)
 altered (Remove id) = leaves (string_bytes id) None
 

@@ -128,7 +128,7 @@ fn change_of(alloc: Global, id: &str, stored: Option<Stored>) -> Result<Change, 
 {
     let id = String::from_str(alloc, id)?;
     match stored {
-        Some(Stored { form, bundle }) => Ok(Change::Put { id, form, bundle }),
+        Some(stored) => Ok(Change::Put { id, stored }),
         None => Ok(Change::Remove { id }),
     }
 }

@@ -4,28 +4,22 @@ use crate::telling::Declared;
 use fv_model_types::{TypeId, TypeUse, use_in};
 use fv_widening::Narrowed;
 
-/// Whether the difference of two type uses is that their references lead to different types.
-fn refers_otherwise(own: &TypeUse, other: &TypeUse) -> bool {
+/// What two type uses hold, as far as both are lists, maps or optionals alike.
+fn innermost<'a>(own: &'a TypeUse, other: &'a TypeUse) -> (&'a TypeUse, &'a TypeUse) {
     match own {
-        TypeUse::Ref(_) => other.target().is_some(),
         TypeUse::List(held) => match other.items() {
-            Some(items) => refers_otherwise(held, items),
-            None => false,
+            Some(items) => innermost(held, items),
+            None => (own, other),
         },
         TypeUse::Map(held) => match other.values() {
-            Some(values) => refers_otherwise(held, values),
-            None => false,
+            Some(values) => innermost(held, values),
+            None => (own, other),
         },
         TypeUse::Optional(held) => match other.content() {
-            Some(content) => refers_otherwise(held, content),
-            None => false,
+            Some(content) => innermost(held, content),
+            None => (own, other),
         },
-        TypeUse::Text
-        | TypeUse::Integer
-        | TypeUse::Decimal
-        | TypeUse::Boolean
-        | TypeUse::Date
-        | TypeUse::Instant => false,
+        _ => (own, other),
     }
 }
 
@@ -41,28 +35,24 @@ fn add_at(lines: &mut OverLines, names: &[&str], fault: &str, name: &str, text: 
 }
 
 /// Adds that a field's type use is another.
-fn add_use(
-    lines: &mut OverLines,
-    names: &[&str],
-    own: &TypeUse,
-    other: Option<&TypeUse>,
-) -> Written {
-    match other {
-        Some(other) if refers_otherwise(own, other) => add_at(
+fn add_use(lines: &mut OverLines, names: &[&str], own: &TypeUse, other: &TypeUse) -> Written {
+    let (own, other) = innermost(own, other);
+    let refers = other.target().is_some();
+    if refers && own.target().is_some() {
+        return add_at(
             lines,
             names,
             "B7",
             "RefType",
             "references lead to another type: a record may not fit in which one isn't null",
-        ),
-        _ => add_at(
-            lines,
-            names,
-            "B5",
-            "WrongKind",
-            "it holds something else: a record may not fit in which it isn't null",
-        ),
+        );
     }
+    let text = if refers && matches!(own, TypeUse::Text) {
+        "a text becomes a reference: a record may not fit in which it isn't null, also as B6 DanglingRef or B7 RefType"
+    } else {
+        "it holds something else: a record may not fit in which it isn't null"
+    };
+    add_at(lines, names, "B5", "WrongKind", text)
 }
 
 /// Adds what is narrowed of a field: that it isn't there, or that it holds something else.
@@ -72,7 +62,6 @@ fn add_field(
     new: Declared,
     type_number: usize,
     number: usize,
-    is_there: bool,
 ) -> Written {
     let id = TypeId { index: type_number };
     let type_name = old.types.name(id);
@@ -81,23 +70,22 @@ fn add_field(
         return Ok(());
     };
     let field = field.as_str();
-    if !is_there {
-        return add_at(
+    let there = new.types.fields(type_name);
+    match there.and_then(|fields| use_in(fields, field)) {
+        Some(other) => add_use(
+            lines,
+            &["types", type_name, "fields", field, "type"],
+            own,
+            other,
+        ),
+        None => add_at(
             lines,
             &["types", type_name, "fields", field],
             "B4",
             "UnknownField",
             "the field isn't there: no record fits in which it isn't null",
-        );
+        ),
     }
-    let there = new.types.fields(type_name);
-    let other = there.and_then(|fields| use_in(fields, field));
-    add_use(
-        lines,
-        &["types", type_name, "fields", field, "type"],
-        own,
-        other,
-    )
 }
 
 /// Adds what is narrowed of a form: that it isn't there, or that its root is of another type.
@@ -141,15 +129,9 @@ pub(crate) fn add_narrowed(
                 "the type isn't there: no record fits with an object of it",
             )
         }
-        Narrowed::Field(type_number, number) => add_field(
-            lines,
-            old,
-            new,
-            type_number,
-            number,
-            false,
-        ),
-        Narrowed::Use(type_number, number) => add_field(lines, old, new, type_number, number, true),
+        Narrowed::Field(type_number, number) | Narrowed::Use(type_number, number) => {
+            add_field(lines, old, new, type_number, number)
+        }
         Narrowed::Form(number) => add_form(lines, old, number, false),
         Narrowed::Root(number) => add_form(lines, old, number, true),
     }

@@ -132,7 +132,7 @@ fits_with_object k id name t fits fit other e known = elim (cases_Bool (bytes_eq
     changed_from (Some was) is = (was, refl, cc)
 
 fits_after : (k : Contents) (c : Change) → ChangeFits k.types k.roots c k.records → AllFit k → AllFit (with_records (after c k.records) k)
-fits_after k (Put id form bundle) fits fit = fits_with k (string_bytes id) _ fits fit
+fits_after k (Put id s) fits fit = fits_with k (string_bytes id) _ fits fit
 fits_after k (Object id name object) fits fit = fits_with_object k (string_bytes id) (string_bytes name) (object_view object) fits fit
 fits_after k (Remove id) fits fit = fits_without k (string_bytes id) fit
 

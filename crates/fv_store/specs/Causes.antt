@@ -10,6 +10,7 @@ use Rattle.fv_model.specs.Writing.{named_written}
 use Rattle.fv_store.specs.declared.change.Change.{Change}
 use Rattle.fv_store.specs.declared.change.Change.TheVariants.{Put, Object, Remove}
 use Rattle.fv_store.specs.Records.{Kept}
+use Rattle.fv_store.specs.Stored.{stored_view}
 use Rattle.fv_store.specs.Written.{object_kept}
 
 -- the row of an object of the id's record is not too long for the database
@@ -22,7 +23,7 @@ IsShort id k = IsShortHead id (record { form = k.form; root = k.bundle.root }) �
 
 -- what a change writes is short
 abbrev pub WritesShort : Change → Type 0
-WritesShort (Put id form bundle) = IsShort (string_bytes id) (record { form = string_bytes form; bundle = bundle_view bundle })
+WritesShort (Put id s) = IsShort (string_bytes id) (stored_view s)
 WritesShort (Object id name object) = IsShortObject (string_bytes id) (string_bytes name, object_view object)
 WritesShort (Remove id) = Unit {0}
 
@@ -32,7 +33,7 @@ AreShort = AllByRecursion WritesShort
 
 -- how many rowids a change takes in each of the two tables, at most
 abbrev pub rows_of : Change → ℕ
-rows_of (Put id form bundle) = 1 + length (bundle_view bundle).objects
+rows_of (Put id s) = 1 + length (bundle_view s.bundle).objects
 rows_of (Object id name object) = 0
 rows_of (Remove id) = 0
 

@@ -1,14 +1,15 @@
 -- What changes make of the records.
 use Rattle.std.specs.Prelude.{◌≡◌, List, [], ◌∷◌, Some, string_bytes}
 use Rattle.fv_model_types.specs.Types.{Declared}
-use Rattle.fv_bundle.specs.Views.{object_view, bundle_view}
+use Rattle.fv_bundle.specs.Views.{object_view}
 use Rattle.fv_store.specs.declared.change.Change.{Change}
 use Rattle.fv_store.specs.declared.change.Change.TheVariants.{Put, Object, Remove}
+use Rattle.fv_store.specs.Stored.{stored_view}
 use Rattle.fv_store.specs.Records.{Kept, Records, Roots, Fits, Contents, with_record, without_record, with_thing, with_object, with_records}
 
 -- after one change: what is put is the record of its id, an object is the one of its name in its record, and what is removed is gone
 abbrev pub after : Change → Records → Records
-after (Put id form bundle) m = with_record (string_bytes id) (record { form = string_bytes form; bundle = bundle_view bundle }) m
+after (Put id s) m = with_record (string_bytes id) (stored_view s) m
 after (Object id name object) m = with_object (string_bytes id) (string_bytes name) (object_view object) m
 after (Remove id) m = without_record (string_bytes id) m
 
@@ -23,7 +24,7 @@ changed cs c = with_records (after_all cs c.records) c
 
 -- what is put fits, and so does the record with an object in it
 abbrev pub ChangeFits : Declared → Roots → Change → Records → Type 0
-ChangeFits types roots (Put id form bundle) m = Fits types roots (record { form = string_bytes form; bundle = bundle_view bundle })
+ChangeFits types roots (Put id s) m = Fits types roots (stored_view s)
 ChangeFits types roots (Object id name object) m =
     (k : Kept) → m (string_bytes id) ≡ Some k → Fits types roots (with_thing (string_bytes name) (object_view object) k)
 ChangeFits types roots (Remove id) m = Unit {0}

@@ -1,6 +1,7 @@
 //! Changes of the records.
 
-use fv_bundle::{Bundle, Object};
+use crate::stored::Stored;
+use fv_bundle::Object;
 
 /// A change of the records.
 #[derive(Drop)]
@@ -8,8 +9,7 @@ pub enum Change {
     /// The record of the id is this one from now on, whether or not there was one.
     Put {
         id: String,
-        form: String,
-        bundle: Bundle,
+        stored: Stored,
     },
     /// The object of that name of the id's record is this one from now on, where there is one. Its row
     /// alone is written.

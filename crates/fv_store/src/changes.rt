@@ -90,7 +90,13 @@ fn apply<S: Alter>(tx: &mut Transaction<'_, S>, alloc: Global, change: &Change) 
         → WritesShort change.now → IsExcused old new e)) }
 {
     match change {
-        Change::Put { id, form, bundle } => put(tx, alloc, id.as_str(), form.as_str(), bundle),
+        Change::Put { id, stored } => put(
+            tx,
+            alloc,
+            id.as_str(),
+            stored.form.as_str(),
+            &stored.bundle,
+        ),
         Change::Object { id, name, object } => set(tx, alloc, id.as_str(), name.as_str(), object),
         Change::Remove { id } => remove(tx, id.as_str()),
     }

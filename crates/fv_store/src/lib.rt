@@ -17,6 +17,7 @@ mod written;
 
 pub use change::Change;
 pub use fault::{OpenStoreFault, StoreFault};
+pub use opening::kept_declarations;
 pub use store::Store;
 pub use stored::Stored;
 pub use written::Written;

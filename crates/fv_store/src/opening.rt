@@ -112,6 +112,28 @@ fn stored<S: Alter>(conn: &mut Connection<S>) -> Result<About, OpenStoreFault>
     }
 }
 
+/// The declarations that a database keeps, in tables of version 1 or of version 2. Nothing is changed in it.
+///
+/// Refused by `OtherVersion` for tables of another version; by `Memory` at any place; and by `Store` where the disk
+/// has failed during the call or the connection was shut before, and where the database has no row of declarations,
+/// or one of another form.
+pub fn kept_declarations<S: Alter>(conn: &mut Connection<S>) -> Result<Vec<u8>, OpenStoreFault>
+    ensures mode { conn.old.in_transaction ≡ false → conn.new.in_transaction ≡ false }
+    ensures frame { Frame (state S.Store conn.old) (state S.Store conn.new) }
+    ensures limit { conn.new.step_limit ≡ conn.old.step_limit }
+    ensures untouched { IsSettled (state S.Store conn.old) → Stays (state S.Store conn.old) (state S.Store conn.new) }
+    ensures taken { HasCleanDisk (state S.Store conn.new)
+        → IfOk result (λ v. IsTaken (state S.Store conn.old) v.items) }
+    ensures cause { HasCleanDisk (state S.Store conn.new) → (IsBlank (state S.Store conn.old).now → ⊥)
+        → IfErr result (IsCaused (state S.Store conn.old)) }
+    ensures store_known { HasCleanDisk (state S.Store conn.new) → conn.old.step_limit ≡ None
+        → IfErr result (λ e. (version : _) (d : _) → TellsAbout version d (state S.Store conn.old).now
+        → IsOpenExcused (state S.Store conn.old) (state S.Store conn.new) e) }
+{
+    let found = stored(conn)?;
+    Ok(found.declarations)
+}
+
 /// The declarations of a database that isn't blank. One of version 1 is migrated; one that says so and
 /// has other tables than its two is refused, so that nothing but these is ever dropped.
 fn kept<S: Alter>(conn: &mut Connection<S>, alloc: Global) -> Result<Vec<u8>, OpenStoreFault>

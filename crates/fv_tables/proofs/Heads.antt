@@ -57,8 +57,9 @@ head_stays s id h v is inside = record {
 }
 
 -- and another is written
-pub head_written : (old new : State) (id : List ℕ) (h v : Head) (count : ℕ) → Advances old new (UpdatesHead id h count) → Advances old new (Makes 0 (HasHead id v) (put id h))
-head_written old new id h v count updated = record {
+pub head_written : (old new : State) (id : List ℕ) (h v : Head) (r : Result ℕ Error) → IfOk r (λ count. Advances old new (UpdatesHead id h count)) → OnOk r (Advances old new (Makes 0 (HasHead id v) (put id h)))
+head_written old new id h v (Err e) updated = tt
+head_written old new id h v (Ok count) updated = record {
   was_open = updated.was_open;
   mode = updated.mode;
   committed = updated.committed;

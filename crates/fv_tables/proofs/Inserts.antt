@@ -1,4 +1,4 @@
--- What the two INSERTs do.
+-- What the INSERT of a record's row does.
 use Rattle.std.proofs.Common.{◌≡◌, ◌≢◌, ℕ, List, [], ◌∷◌, map, drop, bytes_eq, Bool, true, false, cond, Option, None, Ok, refl, sym, ap, subst, ◌∙◌}
 use Rattle.sqlite.specs.declared.types.Value.{Value}
 use Rattle.sqlite.specs.declared.types.Value.TheVariants.{Null, Text}
@@ -19,13 +19,13 @@ use Rattle.sqlite.specs.Listing.{understood}
 use Rattle.sqlite.specs.Effect.{Database}
 use Rattle.sqlite.specs.State.{State, mode_of, Executes}
 use Rattle.sqlite.proofs.Callers.{statement_of, runs_as, one_step}
-use Rattle.fv_tables.specs.Tables.{store_schema, kept_record, kept_object}
+use Rattle.fv_tables.specs.Tables.{store_schema, kept_record}
 use Rattle.fv_tables.specs.Rows.{HasRows}
-use Rattle.fv_tables.specs.Stands.{Head, Part, Place, Maps, same_place, head_row, part_row, IsTextHead, IsTextPart, Spells, put, added}
-use Rattle.fv_tables.specs.Steps.{Lacks, LacksPart}
-use Rattle.fv_tables.proofs.Texts.{put_text, put_terms, put_is, put_plain, add_text, add_terms, add_is, add_plain}
+use Rattle.fv_tables.specs.Stands.{Head, Part, Place, Maps, head_row, part_row, IsTextHead, IsTextPart, Spells, put}
+use Rattle.fv_tables.specs.Steps.{Lacks}
+use Rattle.fv_tables.proofs.Texts.{put_text, put_terms, put_is, put_plain}
 use Rattle.fv_tables.proofs.RowEdits.{spells_put}
-use Rattle.fv_tables.proofs.Layouts.{heads, parts}
+use Rattle.fv_tables.proofs.Layouts.{heads}
 use Rattle.fv_tables.proofs.Cascade.{works_put_one}
 use Rattle.fv_tables.proofs.Removes.{went, same_value, zero_is_not_one, three_is_not_one}
 
@@ -103,47 +103,3 @@ module _ (old new : State) (id : List ℕ) (it : Head) (count : ℕ) (d : List R
       let now : new.now ≡ at_trees done.0.trees = ap (λ (p : Tally × Database). p.1) (same_value (went (went done.2).2).2) in
       let wrote = put_writes old.step_limit old.now.trees id it d t (in_place old.now d t spelled) none good done.0 done.1 in
       subst (λ b. Spells b d (put id it t) × (b.trees 1 ≡ put_all (old.now.trees 1) (head_row (next_rowid (old.now.trees 1)) id it ∷ [])) × (b.trees 3 ≡ old.now.trees 3)) (sym now) wrote
-
--- ---- the row of an object
-
-module _ (limit : Option ℕ) (db : Trees) (place : Place) (it : Part) (d : List Row) (t : Maps) (spelled : Spells (at_trees db) d t) (none : LacksPart place t) (good : IsTextPart place it) where
-  abbrev add_new : Row
-  add_new = part_row (next_rowid (db 3)) place it
-
-  pub add_writes : (w : Written) → Inserts (task_of limit kept_object (part_params place it)) (Values add_terms 5) db (Ok w)
-      → Spells (at_trees w.trees) d (added place it t) × (w.trees 1 ≡ db 1) × (w.trees 3 ≡ put_all (db 3) (add_new ∷ []))
-  add_writes w h =
-      let given = went h in
-      let written = went (went given.2).2 in
-      let counted = went written.2 in
-      let trees : w.trees ≡ written.0 = ap (λ (x : Written). x.trees) (same_value counted.2) ∙ same_value counted.1 in
-      let edit : Edit = edit_of db kept_object [] Chosen 0 given.0 in
-      let row = add_new in
-      let news : edit.news ≡ row ∷ [] = ap (λ all. numbered Chosen (db 3) (map (λ s. cast_row kept_object (drop 0 s)) all)) given.1.1 ∙ rw cast_null in
-      let applied = one_step store_schema Enforced db written.0 edit (works_put_one 3 (taken_by db edit) edit.news row news) written.1 in
-      let rows : written.0 3 ≡ put_all (db 3) (row ∷ []) = applied.rows ∙ ap (put_all (db 3)) news in
-      let fresh : are_fresh (db 3) (row ∷ []) ≡ true = ap (are_fresh (db 3)) (sym news) ∙ applied.fresh in
-      let at : (n : ℕ) → w.trees n ≡ written.0 n = λ n. ap (λ (ts : Trees). ts n) trees in
-      let all = at 3 ∙ rows in
-      let others = at 1 ∙ applied.tables.1.0 one_is_not_three in (
-        record {
-          schema = refl;
-          about = at 0 ∙ applied.tables.0 zero_is_not_three ∙ spelled.about;
-          heads = subst (λ rs. HasRows head_row IsTextHead rs t.heads) (sym others) spelled.heads;
-          parts = subst (λ rs. HasRows part_row IsTextPart rs (added place it t).parts) (sym all) (spells_put part_row IsTextPart same_place parts (db 3) t.parts spelled.parts (next_rowid (db 3)) place it none good fresh);
-        },
-        others,
-        all,
-      )
-
-module _ (old new : State) (place : Place) (it : Part) (count : ℕ) (d : List Row) (t : Maps) (spelled : Spells old.now d t) (none : LacksPart place t) (good : IsTextPart place it) (h : Executes add_text (part_params place it) old new (Ok count)) where
-  pub adds : Spells new.now d (added place it t) × (new.now.trees 1 ≡ old.now.trees 1) × (new.now.trees 3 ≡ put_all (old.now.trees 3) (part_row (next_rowid (old.now.trees 3)) place it ∷ []))
-  adds =
-      let params = part_params place it in
-      let command = Insert 2 (Values add_terms 5) in
-      let w = runs_as add_text params old new store_schema spelled.schema command add_is add_plain count h in
-      let text = statement_of add_text (understood store_schema add_text) in
-      let done = went (subst (λ s. Does old.step_limit (mode_of old) params (record old.now { schema = s }) text None command (Ok (w.tally, new.now))) spelled.schema w.changed) in
-      let now : new.now ≡ at_trees done.0.trees = ap (λ (p : Tally × Database). p.1) (same_value (went (went done.2).2).2) in
-      let wrote = add_writes old.step_limit old.now.trees place it d t (in_place old.now d t spelled) none good done.0 done.1 in
-      subst (λ b. Spells b d (added place it t) × (b.trees 1 ≡ old.now.trees 1) × (b.trees 3 ≡ put_all (old.now.trees 3) (part_row (next_rowid (old.now.trees 3)) place it ∷ []))) (sym now) wrote

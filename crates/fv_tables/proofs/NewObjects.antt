@@ -13,14 +13,14 @@ use Rattle.sqlite_rules.proofs.ListLemmas.{has_left}
 use Rattle.fv_tables.specs.declared.entry.ObjectRow.{ObjectRow}
 use Rattle.fv_tables.specs.Stands.{Head, Part, Maps, Spells, Frame, IsOwned, added}
 use Rattle.fv_tables.specs.Changes.{Things, AreApart, has_name, all_added, object_view, objects_view, IsFree}
-use Rattle.fv_tables.specs.Causes.{HasRooms, IsExcused, AreShort}
+use Rattle.fv_tables.specs.Causes.{HasRooms, IsExcused, IsShortPart, AreShort}
 use Rattle.fv_tables.specs.Inserting.{AreNew, IsRun, insert_of, object_values, row_values}
-use Rattle.fv_tables.specs.Steps.{Advances, Makes}
+use Rattle.fv_tables.specs.Steps.{Advances, LacksPart, Makes}
 use Rattle.fv_tables.proofs.Objects.{neither, unseen, heads_added, both_rooms}
 use Rattle.fv_tables.proofs.Runs.{AreTexts, others_apart, run_step}
 use Rattle.fv_tables.proofs.RunCauses.{run_refused}
-use Rattle.fv_tables.proofs.Composed.{fewer_rooms, owned_all}
-use Rattle.fv_tables.proofs.Steps.{failed_then}
+use Rattle.fv_tables.proofs.Composed.{fewer_rooms, more_on_err, owned_all}
+use Rattle.fv_tables.proofs.Steps.{failed_then, led_on_ok}
 
 -- ---- of two lists
 
@@ -120,7 +120,7 @@ none_yet s id os inside = record {
 -- ---- a run, as the code has it
 
 -- what is put is text
-texts_of : (id : List ℕ) → IsUtf8 id → (os : List ObjectRow) → AreTexts id (objects_view os)
+pub texts_of : (id : List ℕ) → IsUtf8 id → (os : List ObjectRow) → AreTexts id (objects_view os)
 texts_of id good [] = tt
 texts_of id good (o ∷ os) = ((good, IsUtf8-string_bytes o.name, IsUtf8-string_bytes o.kind, IsUtf8-string_bytes o.fields), texts_of id good os)
 
@@ -143,6 +143,19 @@ module _ (old new : State) (id : List ℕ) (good : IsUtf8 id) (os : List ObjectR
   objects_refused none =
       subst (λ k. IfErr r (λ e. (d : List Row) (t : Maps) → Spells old.now d t → IsOwned t → AreNew id things t → IsSome (t.heads id) → HasRooms k old.now → AreShort id things → IsExcused old new e)) count
       (run_refused old new none id things (subst IsRun (sym count) run) (texts_of id good os) r ran_so)
+
+-- ---- a run of one
+
+one_new : (id : List ℕ) (o : List ℕ × Part) (t : Maps) → LacksPart (id, o.0) t → AreNew id (o ∷ []) t
+one_new id o t lacks = ((refl, tt), λ x h. elim h [ inl is ↦ subst (λ (e : List ℕ × Part). t.parts (id, e.0) ≡ None) (sym is) lacks | inr never ↦ absurd never ])
+
+pub one_added : (a b : State) (id : List ℕ) (o : List ℕ × Part) (r : Result ℕ Error) → OnOk r (Advances a b (Makes 1 (AreNew id (o ∷ [])) (all_added id (o ∷ [])))) → OnOk r (Advances a b (Makes 1 (LacksPart (id, o.0)) (added (id, o.0) o.1)))
+one_added a b id o r = led_on_ok a b r (λ x y made d t spelled lacks. made d t spelled (one_new id o t lacks))
+
+pub one_refused : (a b : State) (id : List ℕ) (o : List ℕ × Part) (r : Result ℕ Error)
+    → IfErr r (λ e. (d : List Row) (t : Maps) → Spells a.now d t → IsOwned t → AreNew id (o ∷ []) t → IsSome (t.heads id) → HasRooms 1 a.now → AreShort id (o ∷ []) → IsExcused a b e)
+    → IfErr r (λ e. (d : List Row) (t : Maps) → Spells a.now d t → IsOwned t → LacksPart (id, o.0) t → IsSome (t.heads id) → HasRooms 1 a.now → IsShortPart (id, o.0) o.1 → IsExcused a b e)
+one_refused a b id o r = more_on_err _ _ r (λ e h d t spelled owned lacks has room short. h d t spelled owned (one_new id o t lacks) has room (short, tt))
 
 -- ---- its parameters
 

@@ -46,7 +46,7 @@ neither true b is = absurd cc
 neither false b is = (refl, is)
 
 -- names are apart either way round
-apart_back : (a b : List ℕ) → bytes_eq a b ≡ false → bytes_eq b a ≡ false
+pub apart_back : (a b : List ℕ) → bytes_eq a b ≡ false → bytes_eq b a ≡ false
 apart_back a b apart = false_from_ne_true _ (λ same. let is = (bytes_eq-Decides b a).0 same in let also = (bytes_eq-Decides a b).1 (sym is) in cc (apart, also))
 
 last_other : (name : List ℕ) (os : Things) (x : List ℕ × Part) → has_name name (os ++ x ∷ []) ≡ false → bytes_eq x.0 name ≡ false

@@ -1,5 +1,5 @@
 -- The objects of a record that is there are replaced: what the statements make of the tables, one after another.
-use Rattle.std.proofs.Common.{◌≡◌, ◌≢◌, ◌⊎◌, ◌++◌, ◌&&◌, ◌||◌, ◌+◌, ◌<◌, length, arith, zero, suc, take, ℕ, ℤ, inl, inr, Bool, true, false, cond, bytes_eq, List, [], ◌∷◌, Option, Some, None, IsSome, Ok, Err, Result, OnOk, IfErr, IsTrue, refl, sym, ap, subst, ◌∙◌, string_bytes, get_or}
+use Rattle.std.proofs.Common.{◌≡◌, ◌≢◌, ◌⊎◌, ◌++◌, ◌&&◌, ◌||◌, ◌+◌, ◌<◌, length, arith, zero, suc, take, ℕ, ℤ, inl, inr, Bool, true, false, cond, bytes_eq, List, [], ◌∷◌, Option, Some, None, IsSome, Ok, Err, Result, OnOk, IfErr, IsTrue, refl, sym, ap, subst, ◌∙◌, string_bytes}
 use Rattle.std.proofs.lemmas.Bool.{cases_Bool}
 use Rattle.std.proofs.lemmas.List.{map-append}
 use Rattle.std.proofs.lemmas.Slice.Eq.{bytes_eq-Decides}
@@ -94,7 +94,7 @@ part_new_cause a b c at p clean before after updated (Err e) h = λ d t spelled 
 -- ---- one object after another
 
 -- an object with another name than all that are added is as before
-unmoved : (id : List ℕ) (os : Things) (name : List ℕ) (t : Maps) → ((o : List ℕ × Part) → Has os o → bytes_eq name o.0 ≡ false) → (all_added id os t).parts (id, name) ≡ t.parts (id, name)
+pub unmoved : (id : List ℕ) (os : Things) (name : List ℕ) (t : Maps) → ((o : List ℕ × Part) → Has os o → bytes_eq name o.0 ≡ false) → (all_added id os t).parts (id, name) ≡ t.parts (id, name)
 unmoved id [] name t apart = refl
 unmoved id (o ∷ os) name t apart = unmoved id os name (added (id, o.0) o.1 t) (λ x h. apart x (inr h)) ∙ rw (other_name id name o.0 (apart o (inl refl))) refl
 
@@ -128,6 +128,9 @@ part_more id there all i o more x y z p q d t spelled are =
 pub part_written : (a b : State) (at : Place) (p : Part) (Applies : Maps → Type 0) → Advances a b (Makes 1 Anyhow (added at p)) → Advances a b (Makes 1 Applies (added at p))
 part_written a b at p Applies = led a b (λ x y made d t spelled _. made d t spelled tt)
 
+pub anyhow : {X : Type 0} (a b : State) (at : Place) (p : Part) (Applies : Maps → Type 0) (r : Result X Error) → OnOk r (Advances a b (Makes 1 Anyhow (added at p))) → OnOk r (Advances a b (Makes 1 Applies (added at p)))
+anyhow a b at p Applies r = led_on_ok a b r (λ x y made d t spelled _. made d t spelled tt)
+
 -- the same as a row that was found is the same as one of the rows
 same_among : (there : List FoundRow) (r : FoundRow) → Has there r → (o : List ℕ × Part) → has_object o (object_view r.object ∷ []) ≡ true → has_object o (found_objects there) ≡ true
 same_among [] r h o is = absurd h
@@ -160,8 +163,9 @@ pub not_dropped : (s : State) (id : List ℕ) (os : Things) (name : List ℕ) �
 not_dropped s id os name has inside = begun s (dropped_unless_kept id os name) (λ t. rw has refl) inside
 
 -- another is taken out
-pub unkept_dropped : (a b : State) (id : List ℕ) (os : Things) (name : List ℕ) → has_name name os ≡ false → Advances a b (Makes 0 Anyhow (dropped (id, name))) → Advances a b (Makes 0 Anyhow (dropped_unless_kept id os name))
-unkept_dropped a b id os name has = led a b (λ x y p d t spelled _. let it = p d t spelled tt in let gone : dropped_unless_kept id os name t ≡ dropped (id, name) t = rw has refl in (subst (Spells y d) (sym gone) it.0, it.1))
+pub unkept_dropped : {X : Type 0} (a b : State) (id : List ℕ) (os : Things) (name : List ℕ) → has_name name os ≡ false → (r : Result X Error)
+    → OnOk r (Advances a b (Makes 0 Anyhow (dropped (id, name)))) → OnOk r (Advances a b (Makes 0 Anyhow (dropped_unless_kept id os name)))
+unkept_dropped a b id os name has r = led_on_ok a b r (λ x y p d t spelled _. let it = p d t spelled tt in let gone : dropped_unless_kept id os name t ≡ dropped (id, name) t = rw has refl in (subst (Spells y d) (sym gone) it.0, it.1))
 
 -- some objects were written and the next was refused
 pub parts_cause : (a b c : State) (id : List ℕ) (there : Things) (all : List ObjectRow) (i : ℕ) (o : ObjectRow) → i < length all → take (i + 1) all ≡ take i all ++ o ∷ [] → HasCleanDisk c → Frame a b → Frame b c
@@ -300,7 +304,7 @@ parts_stay id os (n ∷ names) name t has = parts_stay id os names name (dropped
 
 -- ---- objects that are the same
 
-named : (os : Things) (o : List ℕ × Part) → Has os o → has_name o.0 os ≡ true
+pub named : (os : Things) (o : List ℕ × Part) → Has os o → has_name o.0 os ≡ true
 named [] o h = absurd h
 named (x ∷ os) o (inl is) = let same : bytes_eq x.0 o.0 ≡ true = (bytes_eq-Decides x.0 o.0).1 (ap (λ (e : List ℕ × Part). e.0) (sym is)) in rw same refl
 named (x ∷ os) o (inr later) = rw (named os o later) (go (bytes_eq x.0 o.0))

@@ -26,7 +26,7 @@ equal_ints i n h = grind (arith, ints, nat_tests)
 pub same_int : (n : ℤ) → is_eq (int_cmp n n) ≡ true
 same_int n = grind (arith, ints, nat_tests)
 
-rowid_is : (i n : ℤ) (row : Row) → rowid row ≡ Int n → has_rowid i row ≡ true → i ≡ n
+pub rowid_is : (i n : ℤ) (row : Row) → rowid row ≡ Int n → has_rowid i row ≡ true → i ≡ n
 rowid_is i n row id is = equal_ints i n (rw (id, value_cmp-Int n i) at is)
 
 pub has_itself : (n : ℤ) (row : Row) → rowid row ≡ Int n → has_rowid n row ≡ true
@@ -61,11 +61,11 @@ left_from (id ∷ ids) rows x h =
     let was = has_filtered (λ y. not (has_rowid id y)) rows x r.0 in
     (was.0, λ other k. elim k [ inl e ↦ rw e (not-true _ was.1) | inr more ↦ r.1 other more ])
 
-left_has : (ids : List ℤ) (rows : List Row) (x : Row) → Has rows x → Lacks ids x → Has (without_all rows ids) x
+pub left_has : (ids : List ℤ) (rows : List Row) (x : Row) → Has rows x → Lacks ids x → Has (without_all rows ids) x
 left_has [] rows x h lacks = h
 left_has (id ∷ ids) rows x h lacks = left_has ids (without_rowid id rows) x (has_kept (λ y. not (has_rowid id y)) rows x h (ap not (lacks id (inl refl)))) (λ other k. lacks other (inr k))
 
-left_apart : (ids : List ℤ) (rows : List Row) → IsTable rows → IsTable (without_all rows ids)
+pub left_apart : (ids : List ℤ) (rows : List Row) → IsTable rows → IsTable (without_all rows ids)
 left_apart [] rows up = up
 left_apart (id ∷ ids) rows up = left_apart ids (without_rowid id rows) (ascending-filter _ (λ y. not (has_rowid id y)) rows up)
 

@@ -11,14 +11,14 @@ use Rattle.sqlite.specs.Disk.{MoreFaults}
 use Rattle.sqlite.specs.Store.{Ghosts}
 use Rattle.sqlite.specs.Held.{Held, state}
 use Rattle.sqlite.specs.State.{State, HasCleanDisk, ExecutesInside, KeepsCommit, Survives}
-use Rattle.fv_tables.specs.Stands.{Head, Part, Place, head_row, part_row, IsTextHead, IsTextPart, IsOwned, Frame, put, added, removed}
-use Rattle.fv_tables.specs.Steps.{Advances, Makes, Lacks, LacksPart}
+use Rattle.fv_tables.specs.Stands.{Head, head_row, IsTextHead, IsOwned, Frame, put, removed}
+use Rattle.fv_tables.specs.Steps.{Advances, Makes, Lacks}
 use Rattle.sqlite.specs.Edit.{next_rowid}
 use Rattle.fv_tables.specs.Causes.{HasRoom, HasFailed}
 use Rattle.fv_tables.proofs.Rooms.{fewer, room_among, room_after}
-use Rattle.fv_tables.proofs.Texts.{remove_text, put_text, add_text}
+use Rattle.fv_tables.proofs.Texts.{remove_text, put_text}
 use Rattle.fv_tables.proofs.Removes.{removes}
-use Rattle.fv_tables.proofs.Inserts.{head_params, part_params, puts, adds}
+use Rattle.fv_tables.proofs.Inserts.{head_params, puts}
 
 same_room : (rows new : List Row) (n k : ℕ) → new ≡ rows → HasRoom (n + k) rows → HasRoom n new
 same_room rows new n k is room = subst (HasRoom n) (sym is) (fewer n (n + k) rows (omega arith) room)
@@ -45,18 +45,6 @@ put_step old new id it (Ok count) text h =
       change = λ d t spelled none.
           let made = puts old new id it count d t spelled none text h.0 in
           (made.0, λ n room. (room_after (old.now.trees 1) (new.now.trees 1) (head_row (next_rowid (old.now.trees 1)) id it) refl made.1 n room.0, same_room (old.now.trees 3) (new.now.trees 3) n 1 made.2 room.1));
-    }
-
-pub add_step : (old new : State) (at : Place) (it : Part) (r : Result ℕ Error) → IsTextPart at it → ExecutesInside 0 add_text (part_params at it) old new r → OnOk r (Advances old new (Makes 1 (LacksPart at) (added at it)))
-add_step old new at it (Err error) text h = tt
-add_step old new at it (Ok count) text h =
-    record {
-      was_open = λ _. h.1.was_open;
-      mode = h.1.mode;
-      committed = h.1.committed_is;
-      change = λ d t spelled none.
-          let made = adds old new at it count d t spelled none text h.0 in
-          (made.0, λ n room. (same_room (old.now.trees 1) (new.now.trees 1) n 1 made.1 room.0, room_after (old.now.trees 3) (new.now.trees 3) (part_row (next_rowid (old.now.trees 3)) at it) refl made.2 n room.1));
     }
 
 -- whatever a statement answers, nothing is committed
@@ -126,6 +114,11 @@ next_step a b c joined p q = record { was_open = λ live. p.was_open (q.was_open
 pub then_on_ok : {X E : Type 0} {R S T : Database → Database → Type 0} (a b c : State) (r : Result X E) → ((x y z : Database) → R x y → S y z → T x z) → Advances a b R → OnOk r (Advances b c S) → OnOk r (Advances a c T)
 then_on_ok a b c (Err e) joined p q = tt
 then_on_ok a b c (Ok x) joined p q = next_step a b c joined p q
+
+-- what holds whatever is answered
+pub on_ok : {X E : Type 0} {P : Type 0} (r : Result X E) → P → OnOk r P
+on_ok (Err e) p = tt
+on_ok (Ok x) p = p
 
 -- the same step, in other words
 pub led : {R S : Database → Database → Type 0} (a b : State) → ((x y : Database) → R x y → S x y) → Advances a b R → Advances a b S

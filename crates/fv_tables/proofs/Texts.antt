@@ -102,24 +102,6 @@ change_whole = (lit≤ tt, refl)
 
 -- ---- one object
 
-abbrev pub add_terms : List Term
-add_terms = lit Null ∷ col 0 0 ∷ col 0 1 ∷ col 0 2 ∷ col 0 3 ∷ []
-
-abbrev pub add_text : List ℕ
-add_text = codes "INSERT INTO object (rec, name, kind, fields) VALUES (?1, ?2, ?3, ?4)"
-
-pub add_is : command_of (understood store_schema add_text) ≡ Insert 2 (Values add_terms 5)
-unfolding understood everything
-add_is = refl
-
-pub add_plain : IsPlain (understood store_schema add_text)
-unfolding understood everything
-add_plain = (refl, refl)
-
-pub add_whole : IsWhole add_text 4 (understood store_schema add_text)
-unfolding understood everything
-add_whole = (lit≤ tt, refl)
-
 -- the rowid of the row, and then the whole new row
 abbrev pub set_terms : List Term
 set_terms = col 1 0 ∷ col 1 0 ∷ col 1 1 ∷ col 1 2 ∷ col 0 2 ∷ col 0 3 ∷ []

@@ -1,4 +1,4 @@
--- No rule of the database refuses the INSERT of a row that has room, nor a row in place of an object's.
+-- No rule of the database refuses the INSERT of a record's row that has room, nor a row in place of an object's.
 use Rattle.std.proofs.Common.{◌≡◌, inl, inr, bytes_eq, cond, ℕ, zero, suc, ℤ, pos, negsuc, Bool, true, false, List, [], ◌∷◌, length, length-append, map, drop, Option, Some, None, IsSome, IsTrue, Result, Ok, Err, IfErr, refl, sym, ap, subst, ◌∙◌, arith}
 use Rattle.sqlite.specs.declared.types.Value.TheVariants.{Int, Text}
 use Rattle.sqlite.specs.declared.error.Error.{Error}
@@ -38,9 +38,9 @@ use Rattle.sqlite_rules.proofs.PlaceLemmas.{next_is_free}
 use Rattle.sqlite_typing.specs.Types.{accepts_program, accepts_terms}
 use Rattle.fv_tables.specs.Tables.{store_schema, kept_record, kept_object}
 use Rattle.fv_tables.specs.Stands.{Head, Part, Place, Maps, head_row, part_row, IsTextHead, IsTextPart, same_place, Spells, IsOwned, put, added}
-use Rattle.fv_tables.specs.Steps.{Lacks, LacksPart}
+use Rattle.fv_tables.specs.Steps.{Lacks}
 use Rattle.fv_tables.specs.Causes.{HasRoom, HasRooms, IsShortHead, IsShortPart, IsExcused}
-use Rattle.fv_tables.proofs.Texts.{put_text, put_terms, put_is, put_plain, put_whole, add_text, add_terms, add_is, add_plain, add_whole, set_query}
+use Rattle.fv_tables.proofs.Texts.{put_text, put_terms, put_is, put_plain, put_whole, set_query}
 use Rattle.fv_tables.proofs.Refusals.{never_steps, run_cause}
 use Rattle.fv_tables.proofs.Rooms.{next_fits}
 use Rattle.fv_tables.proofs.RowEdits.{spells_put, spells_replaced, fresh_again}
@@ -48,7 +48,7 @@ use Rattle.std.proofs.lemmas.Bool.{cases_Bool}
 use Rattle.sqlite_tied.specs.Compute.{everything}
 use Rattle.fv_tables.proofs.Layouts.{heads, parts, place_is}
 use Rattle.fv_tables.proofs.Cascade.{works_put_one}
-use Rattle.fv_tables.proofs.Inserts.{cast_null, at_trees, in_place, task_of, head_params, part_params, put_writes, add_writes}
+use Rattle.fv_tables.proofs.Inserts.{cast_null, at_trees, in_place, task_of, head_params, put_writes}
 use Rattle.fv_tables.proofs.Updates.{exchange}
 use Rattle.fv_tables.proofs.Rules.{AreApart, apart_of, keys_apart, refers}
 
@@ -180,9 +180,6 @@ module _ (db : Trees) (d : List Row) (t : Maps) (spelled : Spells (at_trees db) 
   head_keyed : (row : Row) → Has (db 1) row → IsTrue (is_int (rowid row))
   head_keyed row there = let it = spelled.heads.sound row there in rw it.is refl
 
-  part_keyed : (row : Row) → Has (db 3) row → IsTrue (is_int (rowid row))
-  part_keyed row there = let it = spelled.parts.sound row there in rw it.is refl
-
   pub heads_apart : AreApart head_row (db 1)
   heads_apart = apart_of head_row IsTextHead (db 1) t.heads spelled.heads
 
@@ -212,29 +209,6 @@ module _ (db : Trees) (d : List Row) (t : Maps) (spelled : Spells (at_trees db) 
     put_allowed BadReference w = never_false w
     put_allowed TooDeep w = w
 
-  module _ (at : Place) (p : Part) (none : LacksPart at t) (good : IsTextPart at p) (room : HasRoom 1 (db 3)) where
-    abbrev new_part : Row
-    new_part = part_row (next_rowid (db 3)) at p
-
-    part_fresh : are_fresh (db 3) (new_part ∷ []) ≡ true
-    part_fresh =
-        let untaken : is_taken (db 3) new_part ≡ false = next_is_free Chosen (db 3) (drop 1 new_part) spelled.parts.apart (all_from (λ r. IsTrue (is_int (rowid r))) (db 3) part_keyed) in
-        rw untaken refl
-
-    add_allowed : (why : Refusal) → IsRefused store_schema Enforced db (put_edit kept_object new_part) why → ⊥
-    unfolding same_name joined
-    add_allowed (Violates Datatype) w = never_false w
-    add_allowed (Violates NotNull) w = never_false w
-    add_allowed (Violates Check) w = never_false w
-    add_allowed (Violates PrimaryKey) w = never_false (sym part_fresh ∙ w)
-    add_allowed (Violates Unique) w = w (keys_apart (with_tree db 3 (put_all (db 3) (new_part ∷ []))) heads_apart
-        (apart_of part_row IsTextPart (put_all (db 3) (new_part ∷ [])) (added at p t).parts (spells_put part_row IsTextPart same_place parts (db 3) t.parts spelled.parts (next_rowid (db 3)) at p none good part_fresh)))
-    add_allowed (Violates ForeignKey) w = w
-    add_allowed Mismatch w = never_false w
-    add_allowed NoRowid w = let fits = next_fits (db 3) room in never_false (sym (rw fits refl) ∙ w)
-    add_allowed BadReference w = never_false w
-    add_allowed TooDeep w = w
-
   module _ (at : Place) (p q : Part) (n : ℤ) (there : Has (db 3) (part_row n at q)) (good : IsTextPart at p) (fits : fits_i64 n ≡ true) where
     pub set_allowed : (why : Refusal) → IsRefused store_schema Enforced db (exchange (n ∷ []) (part_row n at p ∷ [])) why → ⊥
     unfolding same_name joined
@@ -253,10 +227,6 @@ module _ (db : Trees) (d : List Row) (t : Maps) (spelled : Spells (at_trees db) 
 put_accepted : (id form root : List ℕ) → accepts_terms put_terms (Text id ∷ Text form ∷ Text root ∷ []) ≡ true
 unfolding everything
 put_accepted id form root = refl
-
-add_accepted : (id name kind fields : List ℕ) → accepts_terms add_terms (Text id ∷ Text name ∷ Text kind ∷ Text fields ∷ []) ≡ true
-unfolding everything
-add_accepted id name kind fields = refl
 
 pub set_accepted : (id name kind fields : List ℕ) → accepts_program store_schema [] set_query (Text id ∷ Text name ∷ Text kind ∷ Text fields ∷ []) ≡ true
 unfolding everything
@@ -286,26 +256,6 @@ module _ (s : State) (none : s.step_limit ≡ None) (d : List Row) (t : Maps) (s
     never_put sql stop (inr (w, inserted, concluded)) =
         never_concluded s kept_record (head_params id h) w d (put id h t) (put_writes s.step_limit db id h d t spelled lacks good w inserted).0 (owned_put id h t owned) stop concluded
 
-  module _ (at : Place) (p : Part) (lacks : LacksPart at t) (has : IsSome (t.heads at.0)) (good : IsTextPart at p) (room : HasRoom 1 (db 3)) (short : IsShortPart at p) where
-    never_add_sourced : (stop : Option Error) → Sourced s.step_limit (at_trees db) (part_params at p) (Values add_terms 5) (Err stop) → ⊥
-    never_add_sourced None w = w
-    never_add_sourced (Some e) (inl w) = never_false (sym (add_accepted at.0 at.1 p.kind p.fields) ∙ w.1)
-    never_add_sourced (Some e) (inr w) = never_steps s.step_limit none w.1
-
-    never_add : (sql : List ℕ) (stop : Option Error) → Does s.step_limit (mode_of s) (part_params at p) (at_trees db) sql None (Insert 2 (Values add_terms 5)) (Err stop) → ⊥
-    never_add sql stop (inl (st, inl (st', sourced, _), _)) = never_add_sourced st' sourced
-    never_add sql stop (inl (st, inr (rows, given, inl (st', wrong, _)), _)) = never_ok wrong
-    never_add sql stop (inl (st, inr (rows, given, inr (counter, counted, inl (st', edited, _))), _)) =
-        let row = part_row (next_rowid (db 3)) at p in
-        let news : numbered Chosen (db 3) (map (λ r. cast_row kept_object (drop 0 r)) rows) ≡ row ∷ [] = ap (λ all. numbered Chosen (db 3) (map (λ r. cast_row kept_object (drop 0 r)) all)) given.1 ∙ rw cast_null in
-        let is = ap (λ all. record { table = kept_object; gone = []; news = all }) news in
-        never_edited db (put_edit kept_object row) (works_put_one 3 [] (row ∷ []) row refl) (add_allowed db d t spelled at p lacks good room) (part_fits (next_rowid (db 3)) at p short) st'
-        (subst (λ (edit : Edit). Edited store_schema Enforced db edit (Err st')) is edited)
-    never_add sql stop (inl (st, inr (rows, given, inr (counter, counted, inr (next, edited, inl (st', wrong, _)))), _)) = never_ok wrong
-    never_add sql stop (inl (st, inr (rows, given, inr (counter, counted, inr (next, edited, inr (after, kept, wrong)))), _)) = never_ok wrong
-    never_add sql stop (inr (w, inserted, concluded)) =
-        never_concluded s kept_object (part_params at p) w d (added at p t) (add_writes s.step_limit db at p d t spelled lacks good w inserted).0 (owned_added at p t owned has) stop concluded
-
 -- ---- the causes
 
 module _ (old new : State) (none : old.step_limit ≡ None) where
@@ -318,15 +268,4 @@ module _ (old new : State) (none : old.step_limit ≡ None) where
       let text = statement_of put_text (understood store_schema put_text) in
       run_cause put_text params old new store_schema spelled.schema put_plain put_whole command put_is tt
       (λ stop does. never_put old none d t (in_place old.now d t spelled) owned id h lacks good room.0 short text stop
-      (subst (λ sc. Does old.step_limit (mode_of old) params (record old.now { schema = sc }) text None command (Err stop)) spelled.schema does)) e ran refused
-
-  pub add_cause : (at : Place) (p : Part) → IsTextPart at p → (r : Result ℕ Error) → ExecutesInside 0 add_text (part_params at p) old new r
-      → IfErr r (λ e. (d : List Row) (t : Maps) → Spells old.now d t → IsOwned t → LacksPart at t → IsSome (t.heads at.0) → HasRooms 1 old.now → IsShortPart at p → IsExcused old new e)
-  add_cause at p good (Ok count) ran = tt
-  add_cause at p good (Err e) ran = λ d t spelled owned lacks has room short refused.
-      let params = part_params at p in
-      let command = Insert 2 (Values add_terms 5) in
-      let text = statement_of add_text (understood store_schema add_text) in
-      run_cause add_text params old new store_schema spelled.schema add_plain add_whole command add_is tt
-      (λ stop does. never_add old none d t (in_place old.now d t spelled) owned at p lacks has good room.1 short text stop
       (subst (λ sc. Does old.step_limit (mode_of old) params (record old.now { schema = sc }) text None command (Err stop)) spelled.schema does)) e ran refused

@@ -5,6 +5,7 @@ pub mod Stands
 pub mod Steps
 pub mod Changes
 pub mod Inserting
+pub mod Updating
 pub mod Stored
 pub mod Causes
 pub mod Lists

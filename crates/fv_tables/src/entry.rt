@@ -1,10 +1,10 @@
 //! What the rows of a record keep, as it is written and handed out.
-ghost use Rattle.std.specs.Prelude.{◌≡◌, IfErr, IfOk, map, ◌++◌, ◌∷◌, [], List, OnOk};
+ghost use Rattle.std.specs.Prelude.{◌≡◌, IfErr, IfOk, map, option_map, ◌++◌, ◌∷◌, [], List, OnOk, Option};
 ghost use Rattle.std.specs.List.{AllByRecursion};
 ghost use Rattle.sqlite.specs.Order.{Row as Values};
 ghost use Rattle.fv_tables.specs.Causes.{IsRefusal};
 ghost use Rattle.fv_tables.specs.Changes.{Thing, Things, found_view, object_view, objects_view};
-ghost use Rattle.fv_tables.specs.Stands.{Head, NumberedThing, shown_head, shown_part, shown_row, IsTextOfHead, IsTextObject, IsTextRow};
+ghost use Rattle.fv_tables.specs.Stands.{Head, NumberedThing, ShowsHead, shown_head, shown_part, shown_row, IsTextOfHead, IsTextObject, IsTextRow};
 ghost use Rattle.fv_tables.specs.Stored.{head_view, front, front_four};
 
 use sqlite::{Error, Row};
@@ -41,13 +41,24 @@ pub struct RecordRows {
 }
 
 /// Reads the row that shows a record.
-pub(crate) fn read_head(row: &Row) -> Result<HeadRow, Error>
+fn read_head(row: &Row) -> Result<HeadRow, Error>
     ensures shown { IfOk result (λ s. (h : Head) → row.now ≡ shown_head h → head_view s ≡ h) }
     ensures cause { IfErr result (λ e. (h : Head) → row.now ≡ shown_head h → IsTextOfHead h → ¬ IsRefusal e) }
 {
     let form = row.get(0)?;
     let root = row.get(1)?;
     Ok(HeadRow { form, root })
+}
+
+/// What the first of these rows shows of a record, if there is one.
+pub(crate) fn head_in(rows: &[Row]) -> Result<Option<HeadRow>, Error>
+    ensures shown { IfOk result (λ s. (o : Option Head) → ShowsHead rows.now o → option_map head_view s ≡ o) }
+    ensures cause { IfErr result (λ e. (o : Option Head) → ShowsHead rows.now o → ¬ IsRefusal e) }
+{
+    match rows.first() {
+        Some(row) => Ok(Some(read_head(row)?)),
+        None => Ok(None),
+    }
 }
 
 /// Reads the row that shows an object, whatever it shows behind.

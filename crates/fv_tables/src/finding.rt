@@ -7,7 +7,7 @@ ghost use Rattle.fv_tables.specs.Changes.{IsNamed, AllNamed, objects_view};
 ghost use Rattle.fv_tables.specs.Stands.{Frame, IsLive, IsSettled, Keeps, ShowsHead, Stays, head_of, shown_part};
 ghost use Rattle.fv_tables.specs.Stored.{head_view, rows_view};
 
-use crate::entry::{HeadRow, ObjectRow, RecordRows, objects_in, read_head};
+use crate::entry::{HeadRow, ObjectRow, RecordRows, head_in, objects_in};
 use sqlite::{Alter, Connection, Error, Row, params};
 use std::alloc::Global;
 
@@ -74,10 +74,7 @@ fn find_head<S: Alter>(conn: &mut Connection<S>, id: &str) -> Result<Option<Head
         → Stays (state S.Store conn.old) (state S.Store conn.new) }
 {
     let rows = find_record(conn, id)?;
-    match rows.first() {
-        Some(row) => Ok(Some(read_head(row)?)),
-        None => Ok(None),
-    }
+    head_in(&rows)
 }
 
 /// The objects of the record, ascending by their names.

@@ -14,8 +14,7 @@ use sqlite::types::ValueRef;
 use sqlite::{Alter, Error, Transaction};
 use std::alloc::{AllocError, Global};
 
-pub(crate) const INSERT_OBJECT: &str =
-    "INSERT INTO object (rec, name, kind, fields) VALUES (?1, ?2, ?3, ?4)";
+const INSERT_OBJECT: &str = "INSERT INTO object (rec, name, kind, fields) VALUES (?1, ?2, ?3, ?4)";
 
 const INSERT_TWO: &str =
     "INSERT INTO object (rec, name, kind, fields) VALUES (?1, ?2, ?3, ?4), (?1, ?5, ?6, ?7)";
@@ -95,7 +94,7 @@ fn values_of<'a>(
 }
 
 /// Writes the rows of objects that a record does not have: 16, 8, 4, 2 or 1.
-fn insert_run<S: Alter>(
+pub(crate) fn insert_run<S: Alter>(
     tx: &mut Transaction<'_, S>,
     id: &str,
     objects: &[ObjectRow],

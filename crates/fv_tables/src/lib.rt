@@ -11,6 +11,7 @@ mod inserting;
 mod listing;
 mod migrating;
 mod rows;
+mod updating;
 
 pub use about::{read_about, write_about};
 pub use creating::create_tables;

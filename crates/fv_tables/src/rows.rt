@@ -11,10 +11,12 @@ ghost use Rattle.fv_tables.specs.Steps.{Advances, Anyhow, ArePartsOf, AreRowsOf,
 ghost use Rattle.fv_tables.specs.Steps.{UpdatesHead, UpdatesPart, UpdatesRow};
 ghost use Rattle.fv_tables.specs.Stored.{head_view};
 
-use crate::entry::{FoundRow, HeadRow, ObjectRow, found_in, read_head};
+use crate::entry::{FoundRow, HeadRow, ObjectRow, found_in, head_in};
 use crate::finding::FIND_RECORD;
-use crate::inserting::{INSERT_OBJECT, insert_objects};
-use sqlite::{Alter, Error, Row, Transaction, params};
+use crate::inserting::{insert_objects, insert_run};
+use crate::updating::{is_range, update_range};
+use sqlite::{Alter, Error, Transaction, params};
+use std::slice::from_ref;
 
 const DELETE_RECORD: &str = "DELETE FROM record WHERE id = ?1";
 
@@ -45,69 +47,6 @@ pub(crate) fn delete_record<S: Alter>(tx: &mut Transaction<'_, S>, id: &str) -> 
         → IsExcused old new e)) }
 {
     tx.execute(DELETE_RECORD, params![id])
-}
-
-/// Writes the head of the record of the id anew, if there is one, and counts the rows that it changed: 1, or else 0.
-fn update_record<S: Alter>(
-    tx: &mut Transaction<'_, S>,
-    id: &str,
-    form: &str,
-    root: &str,
-) -> Result<usize, Error>
-    ensures same_reference { tx.new.conn.ghost_name ≡ tx.old.conn.ghost_name }
-    ensures frame { Frame (state S.Store tx.old.conn.now) (state S.Store tx.new.conn.now) }
-    ensures limit { tx.new.conn.now.step_limit ≡ tx.old.conn.now.step_limit }
-    ensures kept { Inside S.Store tx.old.conn.now tx.new.conn.now KeepsCommit }
-    ensures done { Inside S.Store tx.old.conn.now tx.new.conn.now (λ old new. IfOk result (λ count. Advances old new
-        (UpdatesHead id.now (record { form = form.now; root = root.now }) count))) }
-    ensures cause { Inside S.Store tx.old.conn.now tx.new.conn.now (λ old new. tx.old.conn.now.step_limit ≡ None
-        → IfErr result (λ e. (d : _) (t : _) → Spells old.now d t → IsOwned t
-        → HasRooms 0 old.now → IsShortHead id.now (record { form = form.now; root = root.now }) → IsExcused old new e)) }
-{
-    tx.execute(UPDATE_RECORD, params![id, form, root])
-}
-
-/// Writes the row of a record whose id has none.
-fn insert_record<S: Alter>(
-    tx: &mut Transaction<'_, S>,
-    id: &str,
-    form: &str,
-    root: &str,
-) -> Result<usize, Error>
-    ensures same_reference { tx.new.conn.ghost_name ≡ tx.old.conn.ghost_name }
-    ensures frame { Frame (state S.Store tx.old.conn.now) (state S.Store tx.new.conn.now) }
-    ensures limit { tx.new.conn.now.step_limit ≡ tx.old.conn.now.step_limit }
-    ensures kept { Inside S.Store tx.old.conn.now tx.new.conn.now KeepsCommit }
-    ensures done { Inside S.Store tx.old.conn.now tx.new.conn.now (λ old new. OnOk result (Advances old new
-        (Makes 1 (Lacks id.now) (put id.now (record { form = form.now; root = root.now }))))) }
-    ensures cause { Inside S.Store tx.old.conn.now tx.new.conn.now (λ old new. tx.old.conn.now.step_limit ≡ None
-        → IfErr result (λ e. (d : _) (t : _) → Spells old.now d t → IsOwned t → Lacks id.now t
-        → HasRooms 1 old.now → IsShortHead id.now (record { form = form.now; root = root.now })
-        → IsExcused old new e)) }
-{
-    tx.execute(INSERT_RECORD, params![id, form, root])
-}
-
-/// Writes the row of an object that isn't there.
-fn insert_object<S: Alter>(
-    tx: &mut Transaction<'_, S>,
-    id: &str,
-    name: &str,
-    kind: &str,
-    fields: &str,
-) -> Result<usize, Error>
-    ensures same_reference { tx.new.conn.ghost_name ≡ tx.old.conn.ghost_name }
-    ensures frame { Frame (state S.Store tx.old.conn.now) (state S.Store tx.new.conn.now) }
-    ensures limit { tx.new.conn.now.step_limit ≡ tx.old.conn.now.step_limit }
-    ensures kept { Inside S.Store tx.old.conn.now tx.new.conn.now KeepsCommit }
-    ensures done { Inside S.Store tx.old.conn.now tx.new.conn.now (λ old new. OnOk result (Advances old new
-        (Makes 1 (LacksPart (id.now, name.now)) (added (id.now, name.now) (record { kind = kind.now; fields = fields.now }))))) }
-    ensures cause { Inside S.Store tx.old.conn.now tx.new.conn.now (λ old new. tx.old.conn.now.step_limit ≡ None
-        → IfErr result (λ e. (d : _) (t : _) → Spells old.now d t → IsOwned t → LacksPart (id.now, name.now) t
-        → IsSome (t.heads id.now) → HasRooms 1 old.now → IsShortPart (id.now, name.now) (record { kind = kind.now; fields = fields.now })
-        → IsExcused old new e)) }
-{
-    tx.execute(INSERT_OBJECT, params![id, name, kind, fields])
 }
 
 /// Writes the row of an object anew, if there is one, and counts the rows that it changed: 1, or else 0.
@@ -154,38 +93,6 @@ fn update_row<S: Alter>(
     )
 }
 
-/// Takes the row of an object out, if there is one.
-fn delete_object<S: Alter>(
-    tx: &mut Transaction<'_, S>,
-    id: &str,
-    name: &str,
-) -> Result<usize, Error>
-    ensures same_reference { tx.new.conn.ghost_name ≡ tx.old.conn.ghost_name }
-    ensures frame { Frame (state S.Store tx.old.conn.now) (state S.Store tx.new.conn.now) }
-    ensures limit { tx.new.conn.now.step_limit ≡ tx.old.conn.now.step_limit }
-    ensures kept { Inside S.Store tx.old.conn.now tx.new.conn.now KeepsCommit }
-    ensures done { Inside S.Store tx.old.conn.now tx.new.conn.now (λ old new. OnOk result (Advances old new (Makes 0 Anyhow (dropped (id.now, name.now))))) }
-    ensures cause { Inside S.Store tx.old.conn.now tx.new.conn.now (λ old new. tx.old.conn.now.step_limit ≡ None
-        → IfErr result (λ e. (d : _) (t : _) → Spells old.now d t → IsOwned t → IsExcused old new e)) }
-{
-    tx.execute(DELETE_OBJECT, params![id, name])
-}
-
-/// The rows that show the objects of a record, with their rowids.
-fn find_part_rows<S: Alter>(tx: &mut Transaction<'_, S>, id: &str) -> Result<Vec<Row>, Error>
-    ensures same_reference { tx.new.conn.ghost_name ≡ tx.old.conn.ghost_name }
-    ensures frame { Frame (state S.Store tx.old.conn.now) (state S.Store tx.new.conn.now) }
-    ensures limit { tx.new.conn.now.step_limit ≡ tx.old.conn.now.step_limit }
-    ensures kept { Inside S.Store tx.old.conn.now tx.new.conn.now KeepsCommit }
-    ensures done { Inside S.Store tx.old.conn.now tx.new.conn.now (λ old new. OnOk result (Advances old new (λ was is. is ≡ was))) }
-    ensures shown { Inside S.Store tx.old.conn.now tx.new.conn.now (λ old new. IfOk result (λ rows. (d : _) (t : _)
-        → Spells old.now d t → ShowsParts id.now rows.items old.now t)) }
-    ensures cause { Inside S.Store tx.old.conn.now tx.new.conn.now (λ old new. tx.old.conn.now.step_limit ≡ None
-        → IfErr result (λ e. (d : _) (t : _) → Spells old.now d t → IsExcused old new e)) }
-{
-    tx.query_all(FIND_PARTS, params![id])
-}
-
 /// The objects of a record with the rowids of their rows. The query has them ascend by their names, on which no clause rests.
 fn find_parts<S: Alter>(tx: &mut Transaction<'_, S>, id: &str) -> Result<Vec<FoundRow>, Error>
     ensures same_reference { tx.new.conn.ghost_name ≡ tx.old.conn.ghost_name }
@@ -198,7 +105,7 @@ fn find_parts<S: Alter>(tx: &mut Transaction<'_, S>, id: &str) -> Result<Vec<Fou
     ensures cause { Inside S.Store tx.old.conn.now tx.new.conn.now (λ old new. tx.old.conn.now.step_limit ≡ None
         → IfErr result (λ e. (d : _) (t : _) → Spells old.now d t → IsExcused old new e)) }
 {
-    let rows = find_part_rows(tx, id)?;
+    let rows = tx.query_all(FIND_PARTS, params![id])?;
     found_in(*rows.allocator(), &rows)
 }
 
@@ -225,19 +132,13 @@ fn put_object<S: Alter>(
         object.kind.as_str(),
         object.fields.as_str(),
     )? {
-        0 => insert_object(
-            tx,
-            id,
-            object.name.as_str(),
-            object.kind.as_str(),
-            object.fields.as_str(),
-        ),
+        0 => insert_run(tx, id, from_ref(object)),
         changed => Ok(changed),
     }
 }
 
 /// Whether two objects have the same name, the same type's name and the same fields.
-fn is_same(one: &ObjectRow, other: &ObjectRow) -> bool
+pub(crate) fn is_same(one: &ObjectRow, other: &ObjectRow) -> bool
     ensures { result ≡ same_object (object_view one.now) (object_view other.now) }
 {
     one.name.as_str() == other.name.as_str()
@@ -279,36 +180,13 @@ fn has_name(objects: &[ObjectRow], name: &str) -> bool
     false
 }
 
-/// Writes the row of an object of a record that is there, by the rowid under which it was found. Where it isn't there any more, as `put_object` does.
-fn put_over<S: Alter>(
-    tx: &mut Transaction<'_, S>,
-    id: &str,
-    row: &FoundRow,
-    object: &ObjectRow,
-) -> Result<usize, Error>
-    ensures same_reference { tx.new.conn.ghost_name ≡ tx.old.conn.ghost_name }
-    ensures frame { Frame (state S.Store tx.old.conn.now) (state S.Store tx.new.conn.now) }
-    ensures limit { tx.new.conn.now.step_limit ≡ tx.old.conn.now.step_limit }
-    ensures kept { Inside S.Store tx.old.conn.now tx.new.conn.now KeepsCommit }
-    ensures done { Inside S.Store tx.old.conn.now tx.new.conn.now (λ old new. OnOk result (Advances old new
-        (Makes 1 Anyhow (added (id.now, (object_view object.now).0) (object_view object.now).1)))) }
-    ensures cause { Inside S.Store tx.old.conn.now tx.new.conn.now (λ old new. tx.old.conn.now.step_limit ≡ None
-        → IfErr result (λ e. (d : _) (t : _) → Spells old.now d t → IsOwned t → IsSome (t.heads id.now)
-        → HasRooms 1 old.now → IsShortPart (id.now, (object_view object.now).0) (object_view object.now).1 → IsExcused old new e)) }
-{
-    match update_row(tx, id, row, object)? {
-        0 => put_object(tx, id, object),
-        changed => Ok(changed),
-    }
-}
-
-/// Writes the row of an object of a record that is there over the row that was found, unless that has the same.
+/// Writes the row of an object of a record that is there over the row that was found, unless that has the same. Where it isn't there any more, as `put_object` does.
 fn put_changed<S: Alter>(
     tx: &mut Transaction<'_, S>,
     id: &str,
     row: &FoundRow,
     object: &ObjectRow,
-) -> Result<(), Error>
+) -> Result<usize, Error>
     ensures same_reference { tx.new.conn.ghost_name ≡ tx.old.conn.ghost_name }
     ensures frame { Frame (state S.Store tx.old.conn.now) (state S.Store tx.new.conn.now) }
     ensures limit { tx.new.conn.now.step_limit ≡ tx.old.conn.now.step_limit }
@@ -321,10 +199,12 @@ fn put_changed<S: Alter>(
         → HasRooms 1 old.now → IsShortPart (id.now, (object_view object.now).0) (object_view object.now).1 → IsExcused old new e)) }
 {
     if is_same(&row.object, object) {
-        return Ok(());
+        return Ok(0);
     }
-    put_over(tx, id, row, object)?;
-    Ok(())
+    match update_row(tx, id, row, object)? {
+        0 => put_object(tx, id, object),
+        changed => Ok(changed),
+    }
 }
 
 /// Writes the row of an object of a record that is there, unless the same is among those that the record has.
@@ -333,7 +213,7 @@ fn put_among<S: Alter>(
     id: &str,
     there: &[FoundRow],
     object: &ObjectRow,
-) -> Result<(), Error>
+) -> Result<usize, Error>
     ensures same_reference { tx.new.conn.ghost_name ≡ tx.old.conn.ghost_name }
     ensures frame { Frame (state S.Store tx.old.conn.now) (state S.Store tx.new.conn.now) }
     ensures limit { tx.new.conn.now.step_limit ≡ tx.old.conn.now.step_limit }
@@ -347,10 +227,7 @@ fn put_among<S: Alter>(
 {
     match row_named(there, object.name.as_str()) {
         Some(row) => put_changed(tx, id, row, object),
-        None => {
-            put_object(tx, id, object)?;
-            Ok(())
-        }
+        None => put_object(tx, id, object),
     }
 }
 
@@ -385,7 +262,7 @@ fn drop_unless_kept<S: Alter>(
     id: &str,
     object: &ObjectRow,
     objects: &[ObjectRow],
-) -> Result<(), Error>
+) -> Result<usize, Error>
     ensures same_reference { tx.new.conn.ghost_name ≡ tx.old.conn.ghost_name }
     ensures frame { Frame (state S.Store tx.old.conn.now) (state S.Store tx.new.conn.now) }
     ensures limit { tx.new.conn.now.step_limit ≡ tx.old.conn.now.step_limit }
@@ -395,10 +272,10 @@ fn drop_unless_kept<S: Alter>(
     ensures cause { Inside S.Store tx.old.conn.now tx.new.conn.now (λ old new. tx.old.conn.now.step_limit ≡ None
         → IfErr result (λ e. (d : _) (t : _) → Spells old.now d t → IsOwned t → IsExcused old new e)) }
 {
-    if !has_name(objects, object.name.as_str()) {
-        delete_object(tx, id, object.name.as_str())?;
+    if has_name(objects, object.name.as_str()) {
+        return Ok(0);
     }
-    Ok(())
+    tx.execute(DELETE_OBJECT, params![id, &object.name])
 }
 
 /// Takes the objects of a record out whose names are not among these.
@@ -440,6 +317,10 @@ fn replace_objects<S: Alter>(
         → HasRooms (length objects.now) old.now → AreShort id.now (objects_view objects.now) → IsExcused old new e)) }
 {
     let there = find_parts(tx, id)?;
+    if is_range(&there, objects) {
+        update_range(tx, id, &there, objects)?;
+        return Ok(());
+    }
     drop_others(tx, id, &there, objects)?;
     put_objects(tx, id, &there, objects)
 }
@@ -464,23 +345,8 @@ fn write_new<S: Alter>(
         → HasRooms (1 + length objects.now) old.now → IsShortHead id.now (record { form = form.now; root = root.now })
         → AreShort id.now (objects_view objects.now) → IsExcused old new e)) }
 {
-    insert_record(tx, id, form, root)?;
+    tx.execute(INSERT_RECORD, params![id, form, root])?;
     insert_objects(tx, id, objects)
-}
-
-/// The rows that show the head of the record of the id: one, or none.
-fn find_head_rows<S: Alter>(tx: &mut Transaction<'_, S>, id: &str) -> Result<Vec<Row>, Error>
-    ensures same_reference { tx.new.conn.ghost_name ≡ tx.old.conn.ghost_name }
-    ensures frame { Frame (state S.Store tx.old.conn.now) (state S.Store tx.new.conn.now) }
-    ensures limit { tx.new.conn.now.step_limit ≡ tx.old.conn.now.step_limit }
-    ensures kept { Inside S.Store tx.old.conn.now tx.new.conn.now KeepsCommit }
-    ensures done { Inside S.Store tx.old.conn.now tx.new.conn.now (λ old new. OnOk result (Advances old new (λ was is. is ≡ was))) }
-    ensures shown { Inside S.Store tx.old.conn.now tx.new.conn.now (λ old new. IfOk result (λ rows. (d : _) (t : _)
-        → Spells old.now d t → ShowsHead rows.items (t.heads id.now))) }
-    ensures cause { Inside S.Store tx.old.conn.now tx.new.conn.now (λ old new. tx.old.conn.now.step_limit ≡ None
-        → IfErr result (λ e. (d : _) (t : _) → Spells old.now d t → IsExcused old new e)) }
-{
-    tx.query_all(FIND_RECORD, params![id])
 }
 
 /// The form and the root of the record, if there is one.
@@ -495,11 +361,8 @@ fn find_head<S: Alter>(tx: &mut Transaction<'_, S>, id: &str) -> Result<Option<H
     ensures cause { Inside S.Store tx.old.conn.now tx.new.conn.now (λ old new. tx.old.conn.now.step_limit ≡ None
         → IfErr result (λ e. (d : _) (t : _) → Spells old.now d t → IsExcused old new e)) }
 {
-    let rows = find_head_rows(tx, id)?;
-    match rows.first() {
-        Some(row) => Ok(Some(read_head(row)?)),
-        None => Ok(None),
-    }
+    let rows = tx.query_all(FIND_RECORD, params![id])?;
+    head_in(&rows)
 }
 
 /// Writes the head of the record of the id anew, where it isn't this one.
@@ -509,7 +372,7 @@ fn write_head<S: Alter>(
     head: &HeadRow,
     form: &str,
     root: &str,
-) -> Result<(), Error>
+) -> Result<usize, Error>
     ensures same_reference { tx.new.conn.ghost_name ≡ tx.old.conn.ghost_name }
     ensures frame { Frame (state S.Store tx.old.conn.now) (state S.Store tx.new.conn.now) }
     ensures limit { tx.new.conn.now.step_limit ≡ tx.old.conn.now.step_limit }
@@ -521,10 +384,9 @@ fn write_head<S: Alter>(
         → HasRooms 0 old.now → IsShortHead id.now (record { form = form.now; root = root.now }) → IsExcused old new e)) }
 {
     if head.form.as_str() == form && head.root.as_str() == root {
-        return Ok(());
+        return Ok(0);
     }
-    update_record(tx, id, form, root)?;
-    Ok(())
+    tx.execute(UPDATE_RECORD, params![id, form, root])
 }
 
 /// Writes the record, in place of the one that is there.

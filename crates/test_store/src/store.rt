@@ -5,7 +5,7 @@ use fv_datum::read_text;
 use fv_model::read_bundle;
 use fv_model_text::write_bundle;
 use fv_model_types::Types;
-use fv_store::{Change, OpenStoreFault, Store, StoreFault};
+use fv_store::{Change, OpenStoreFault, Store, StoreFault, Stored};
 use sqlite::Alter;
 use std::alloc::Global;
 use std::str;
@@ -37,8 +37,10 @@ fn change_of(alloc: Global, types: &Types, record: &str) -> Result<Change> {
     }
     Ok(Change::Put {
         id: String::from_str(alloc, id)?,
-        form: String::from_str(alloc, form)?,
-        bundle,
+        stored: Stored {
+            form: String::from_str(alloc, form)?,
+            bundle,
+        },
     })
 }
 

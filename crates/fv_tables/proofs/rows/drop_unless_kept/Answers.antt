@@ -1,27 +1,32 @@
-use Rattle.std.proofs.Common.{◌≡◌, rules, false, true, ap, sym, ◌∙◌}
+use Rattle.std.proofs.Common.{◌≡◌, false, true, ap, string_bytes, sym, ◌∙◌}
 use Rattle.sqlite.specs.Held.{state}
 use Rattle.fv_tables.specs.Changes.{has_name, object_view, objects_view}
+use Rattle.fv_tables.proofs.Drops.{drop_step, drop_cause}
 use Rattle.fv_tables.proofs.Replaces.{not_dropped, unkept_dropped}
-use Rattle.fv_tables.proofs.Refusals.{handed_on}
+use Rattle.fv_tables.proofs.Steps.{inside_frame, inside_keeps}
 use Rattle.fv_tables.proofs.rows.drop_unless_kept.Goals as goal
 
-pub returns-in_err-delete_object-clause-cause : goal.returns-in_err-delete_object-clause-cause
-returns-in_err-delete_object-clause-cause g c clean inside none =
-    handed_on _ c.from_residual.result c.in_err-delete_object.field-0.0 c.from_residual.ensures.1 (c.in_err-delete_object.ensures.cause clean inside none)
-
-pub returns-in_ok-delete_object-clause-done : goal.returns-in_ok-delete_object-clause-done
-returns-in_ok-delete_object-clause-done g c clean inside =
+pub returns-then-has_name-clause-done : goal.returns-then-has_name-clause-done
+returns-then-has_name-clause-done g c clean inside =
     let os = objects_view c.args.objects.now in
     let name = (object_view c.args.object.now).0 in
-    let absent : c.has_name.result ≡ false = search (rules, c.if-not-has_name.true) in
-    let other : has_name name os ≡ false = ap (λ n. has_name n os) (sym c.as_str.ensures.value) ∙ sym c.has_name.ensures ∙ absent in
-    unkept_dropped (state g.S.Store c.args.tx.now.conn.now) (state g.S.Store c.delete_object.new.tx.conn.now) c.args.id.now os name other
-    (rw c.as_str-then-not-has_name.ensures.value at (c.in_ok-delete_object.ensures.done clean inside))
-
-pub returns-else-not-has_name-clause-done : goal.returns-else-not-has_name-clause-done
-returns-else-not-has_name-clause-done g c clean inside =
-    let os = objects_view c.args.objects.now in
-    let name = (object_view c.args.object.now).0 in
-    let present : c.has_name.result ≡ true = search (rules, c.if-not-has_name.false) in
-    let has : has_name name os ≡ true = ap (λ n. has_name n os) (sym c.as_str.ensures.value) ∙ sym c.has_name.ensures ∙ present in
+    let has : has_name name os ≡ true = ap (λ n. has_name n os) (sym c.as_str.ensures.value) ∙ sym c.has_name.ensures ∙ c.if-has_name.true in
     not_dropped (state g.S.Store c.args.tx.now.conn.now) c.args.id.now os name has inside
+
+pub returns-clause-done : goal.returns-clause-done
+returns-clause-done g c clean inside =
+    let os = objects_view c.args.objects.now in
+    let name = (object_view c.args.object.now).0 in
+    let other : has_name name os ≡ false = ap (λ n. has_name n os) (sym c.as_str.ensures.value) ∙ sym c.has_name.ensures ∙ c.if-has_name.false in
+    unkept_dropped (state g.S.Store c.args.tx.now.conn.now) (state g.S.Store c.execute.new.self.conn.now) c.args.id.now os name other c.execute.result
+    (drop_step (state g.S.Store c.args.tx.now.conn.now) (state g.S.Store c.execute.new.self.conn.now) (c.args.id.now, name) c.execute.result (rw (c.params-to_sql.ensures, c.params-to_sql-2.ensures) at (c.execute.ensures.runs clean inside)))
+
+pub returns-clause-kept : goal.returns-clause-kept
+returns-clause-kept g c clean inside = inside_keeps _ _ (state g.S.Store c.args.tx.now.conn.now) (state g.S.Store c.execute.new.self.conn.now) c.execute.result (c.execute.ensures.runs clean inside)
+
+pub returns-clause-frame : goal.returns-clause-frame
+returns-clause-frame g c = inside_frame g.S.Store c.args.tx.now.conn.now c.execute.new.self.conn.now _ _ c.execute.result c.execute.ensures.survives c.execute.ensures.ended c.execute.ensures.runs
+
+pub returns-clause-cause : goal.returns-clause-cause
+returns-clause-cause g c clean inside none =
+    drop_cause (state g.S.Store c.args.tx.now.conn.now) (state g.S.Store c.execute.new.self.conn.now) none (c.args.id.now, string_bytes c.args.object.now.name) c.execute.result (rw (c.params-to_sql.ensures, c.params-to_sql-2.ensures) at (c.execute.ensures.runs clean inside))

@@ -1,8 +1,7 @@
 use Rattle.sqlite.specs.Held.{state}
 use Rattle.fv_tables.specs.Changes.{found_objects, object_view}
 use Rattle.fv_tables.specs.Steps.{IsThere}
-use Rattle.fv_tables.proofs.Replaces.{part_over, part_written}
-use Rattle.fv_tables.proofs.Refusals.{handed_on}
+use Rattle.fv_tables.proofs.Replaces.{anyhow, part_over}
 use Rattle.fv_tables.proofs.rows.put_among.Goals as goal
 
 pub returns-in-Some-clause-done : goal.returns-in-Some-clause-done
@@ -10,11 +9,7 @@ returns-in-Some-clause-done g c clean inside =
     part_over (state g.S.Store c.args.tx.now.conn.now) (state g.S.Store c.put_changed.new.tx.conn.now) c.args.id.now c.args.there.now c.in-Some.row.now c.in-Some.ensures.0
     (object_view c.args.object.now) c.put_changed.result (c.put_changed.ensures.done clean inside)
 
-pub returns-in_err-put_object-in-None-clause-cause : goal.returns-in_err-put_object-in-None-clause-cause
-returns-in_err-put_object-in-None-clause-cause g c clean inside none =
-    handed_on _ c.from_residual.result c.in_err-put_object-in-None.field-0.0 c.from_residual.ensures.1 (c.in_err-put_object-in-None.ensures.cause clean inside none)
-
-pub returns-in_ok-put_object-in-None-clause-done : goal.returns-in_ok-put_object-in-None-clause-done
-returns-in_ok-put_object-in-None-clause-done g c clean inside =
-    part_written (state g.S.Store c.args.tx.now.conn.now) (state g.S.Store c.put_object.new.tx.conn.now) (c.args.id.now, (object_view c.args.object.now).0) (object_view c.args.object.now).1
-    (IsThere c.args.id.now (found_objects c.args.there.now) (object_view c.args.object.now)) (c.in_ok-put_object-in-None.ensures.done clean inside)
+pub returns-in-None-clause-done : goal.returns-in-None-clause-done
+returns-in-None-clause-done g c clean inside =
+    anyhow (state g.S.Store c.args.tx.now.conn.now) (state g.S.Store c.put_object.new.tx.conn.now) (c.args.id.now, (object_view c.args.object.now).0) (object_view c.args.object.now).1
+    (IsThere c.args.id.now (found_objects c.args.there.now) (object_view c.args.object.now)) c.put_object.result (c.put_object.ensures.done clean inside)

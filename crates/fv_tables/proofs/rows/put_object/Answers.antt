@@ -4,6 +4,7 @@ use Rattle.fv_tables.specs.Changes.{object_view}
 use Rattle.fv_tables.specs.Stands.{Part, Place}
 use Rattle.fv_tables.proofs.Composed.{fewer_rooms}
 use Rattle.fv_tables.proofs.Steps.{then_on_ok}
+use Rattle.fv_tables.proofs.NewObjects.{one_added, one_refused}
 use Rattle.fv_tables.proofs.Replaces.{part_new, part_in_place, part_new_cause}
 use Rattle.fv_tables.proofs.Refusals.{handed_on}
 use Rattle.fv_tables.proofs.rows.put_object.Goals as goal
@@ -18,17 +19,17 @@ pub returns-in-0-clause-done : goal.returns-in-0-clause-done
 returns-in-0-clause-done g c clean inside =
     let at : Place = (c.args.id.now, (object_view c.args.object.now).0) in
     let p : Part = (object_view c.args.object.now).1 in
-    let updated = rw c.in-0.is at (rw (c.as_str.ensures.value, c.as_str-2.ensures.value, c.as_str-3.ensures.value) at (c.in_ok-changed.ensures.done (c.insert_object.ensures.frame.clean clean) inside)) in
-    then_on_ok (state g.S.Store c.args.tx.now.conn.now) (state g.S.Store c.update_object.new.tx.conn.now) (state g.S.Store c.insert_object.new.tx.conn.now) c.insert_object.result
-    (part_new at p) updated (rw (c.as_str-in-0.ensures.value, c.as_str-in-0-2.ensures.value, c.as_str-in-0-3.ensures.value) at (c.insert_object.ensures.done clean updated.mode))
+    let updated = rw c.in-0.is at (rw (c.as_str.ensures.value, c.as_str-2.ensures.value, c.as_str-3.ensures.value) at (c.in_ok-changed.ensures.done (c.insert_run.ensures.frame.clean clean) inside)) in
+    then_on_ok (state g.S.Store c.args.tx.now.conn.now) (state g.S.Store c.update_object.new.tx.conn.now) (state g.S.Store c.insert_run.new.tx.conn.now) c.insert_run.result
+    (part_new at p) updated (one_added (state g.S.Store c.update_object.new.tx.conn.now) (state g.S.Store c.insert_run.new.tx.conn.now) c.args.id.now (object_view c.args.object.now) c.insert_run.result (rw c.from_ref.ensures.value at (c.insert_run.ensures.done clean updated.mode)))
 
 pub returns-in-0-clause-cause : goal.returns-in-0-clause-cause
 returns-in-0-clause-cause g c clean inside none =
     let at : Place = (c.args.id.now, (object_view c.args.object.now).0) in
     let p : Part = (object_view c.args.object.now).1 in
-    let updated = rw c.in-0.is at (rw (c.as_str.ensures.value, c.as_str-2.ensures.value, c.as_str-3.ensures.value) at (c.in_ok-changed.ensures.done (c.insert_object.ensures.frame.clean clean) inside)) in
-    part_new_cause (state g.S.Store c.args.tx.now.conn.now) (state g.S.Store c.update_object.new.tx.conn.now) (state g.S.Store c.insert_object.new.tx.conn.now) at p clean c.update_object.ensures.frame c.insert_object.ensures.frame updated c.insert_object.result
-    (rw (c.as_str-in-0.ensures.value, c.as_str-in-0-2.ensures.value, c.as_str-in-0-3.ensures.value) at (c.insert_object.ensures.cause clean updated.mode (c.update_object.ensures.limit ∙ none)))
+    let updated = rw c.in-0.is at (rw (c.as_str.ensures.value, c.as_str-2.ensures.value, c.as_str-3.ensures.value) at (c.in_ok-changed.ensures.done (c.insert_run.ensures.frame.clean clean) inside)) in
+    part_new_cause (state g.S.Store c.args.tx.now.conn.now) (state g.S.Store c.update_object.new.tx.conn.now) (state g.S.Store c.insert_run.new.tx.conn.now) at p clean c.update_object.ensures.frame c.insert_run.ensures.frame updated c.insert_run.result
+    (one_refused (state g.S.Store c.update_object.new.tx.conn.now) (state g.S.Store c.insert_run.new.tx.conn.now) c.args.id.now (object_view c.args.object.now) c.insert_run.result (rw c.from_ref.ensures.value at (c.insert_run.ensures.cause clean updated.mode (c.update_object.ensures.limit ∙ none))))
 
 pub returns-in_default-clause-done : goal.returns-in_default-clause-done
 returns-in_default-clause-done g c clean inside =
