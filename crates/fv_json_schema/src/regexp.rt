@@ -137,7 +137,8 @@ impl Written {
             }
             Look::WordAsciiNegate | Look::WordUnicodeNegate => {
                 self.is_wide = true;
-                self.push("\\B")
+                // not by `\B`, which some readers don't match with an empty text
+                self.push("(?!\\b)")
             }
             _ => {
                 self.is_loose = true;
