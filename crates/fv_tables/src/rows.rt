@@ -300,7 +300,7 @@ fn drop_others<S: Alter>(
     Ok(())
 }
 
-/// Makes these the objects of a record that is there.
+/// Makes these the objects of a record that is there, by one statement where one serves.
 fn replace_objects<S: Alter>(
     tx: &mut Transaction<'_, S>,
     id: &str,

@@ -31,6 +31,9 @@ const UPDATE_RANGE: &str =
 /// As many rows as the statement has places for.
 const PLACES: usize = 16;
 
+/// As few as it writes sooner than a statement for each.
+const FEWEST: usize = 3;
+
 /// As many parameters as the statement has.
 const MOST_VALUES: usize = 49;
 
@@ -64,15 +67,17 @@ fn most_differ(rows: &[FoundRow], objects: &[ObjectRow]) -> bool
     same < rows.len() - same
 }
 
-/// Whether one statement shall write these objects over these rows: where most of them differ, and few rows of others lie between them.
+/// Whether one statement shall write these objects over these rows: where most of them differ, and at most half of the rowids between are those of others.
+/// Only speed rests on it where it answers `false`.
 pub(crate) fn is_range(rows: &[FoundRow], objects: &[ObjectRow]) -> bool
     ensures { result ≡ true → IsRange (map found_view rows.now) (objects_view objects.now) }
 {
-    if rows.is_empty() || rows.len() > PLACES || rows.len() != objects.len() {
+    let count = rows.len();
+    if count < FEWEST || count > PLACES || count != objects.len() {
         return false;
     }
-    let between = rows[rows.len() - 1].rowid.wrapping_sub(rows[0].rowid);
-    between < 32 && are_in_step(rows, objects) && most_differ(rows, objects)
+    let reach = rows[count - 1].rowid.abs_diff(rows[0].rowid);
+    reach / 2 < count as u64 && are_in_step(rows, objects) && most_differ(rows, objects)
 }
 
 /// Behind these values those of a place.
