@@ -1,26 +1,36 @@
-//! Databases that are only read: the file is there before, and nothing is changed in it.
+//! Databases that are only read: the file is there before, and no record and no declaration is changed in it.
 use crate::failure::Failure;
 use formd_task::{Absent, absent_at, close_refused, open_database};
 use sqlite::{Connection, File, FileStore};
 use std::fs;
+use std::io::{self, ErrorKind};
+
+/// Whether what can't be looked at isn't there: yes, unless it is for want of memory.
+fn is_missing(refused: &io::Error) -> Result<bool, Failure> {
+    if refused.kind() == ErrorKind::OutOfMemory {
+        return Err(Failure::Memory);
+    }
+    Ok(true)
+}
 
 /// Whether no file is at a path, or one that has no byte.
-fn is_empty(rt: &HostRuntime, path: &str) -> bool {
+fn is_empty(rt: &HostRuntime, path: &str) -> Result<bool, Failure> {
     match fs::metadata(rt, path) {
-        Ok(found) => found.len() == 0,
-        Err(_) => true,
+        Ok(found) => Ok(found.len() == 0),
+        Err(refused) => is_missing(&refused),
     }
 }
 
 /// Whether no database can stand at a path: no file is there, or one without a byte and without a log
 /// in which it may stand. An opening would make one there.
 fn is_unmade(rt: &HostRuntime, path: &str) -> Result<bool, Failure> {
-    let Ok(real) = fs::canonicalize(rt, path) else {
-        return Ok(true);
+    let real = match fs::canonicalize(rt, path) {
+        Ok(real) => real,
+        Err(refused) => return is_missing(&refused),
     };
     let alloc = rt.alloc();
     match format!(in alloc; "{}-wal", real.as_str()) {
-        Ok(log) => Ok(is_empty(rt, path) && is_empty(rt, log.as_str())),
+        Ok(log) => Ok(is_empty(rt, path)? && is_empty(rt, log.as_str())?),
         Err(_) => Err(Failure::Memory),
     }
 }
@@ -35,7 +45,7 @@ fn is_blank(connection: &Connection<FileStore<File>>) -> bool {
 /// files aren't there.
 ///
 /// Refused as a database not opened where no file is there, where it is empty, or where it can't be
-/// opened; for want of memory at any place. No file is made, and nothing is written.
+/// opened; for want of memory at any place. No file is made.
 pub(crate) fn open_standing(
     rt: &HostRuntime,
     path: &str,
