@@ -494,7 +494,7 @@ def read(page, name, words, wanted):
 
 def is_front(text, whole):
     """Whether a text is lines with which another begins, not all of them."""
-    return whole.startswith(text) and text != whole and text[-1:] in (b"", b"\n") or not text
+    return not text or text.endswith(b"\n") and text != whole and whole.startswith(text)
 
 
 def databases(folder, page, kept):
