@@ -76,6 +76,12 @@ def took(words, lines, env=None):
         return time.monotonic() - begun
 
 
+def look_at_replies(words, lines):
+    """Each line is taken; Python and Node end at one that isn't."""
+    if subprocess.run(words, input=lines.read_bytes(), capture_output=True, check=True).stdout != b'{"ok":"put"}\n' * LINES:
+        raise SystemExit("the lines are meant to be taken")
+
+
 def has_ajv():
     return shutil.which("node") is not None and subprocess.run(["node", "-e", 'require("ajv")'], env=NODE, capture_output=True).returncode == 0
 
@@ -101,6 +107,7 @@ def seconds(program):
             (folder / "lines").write_bytes(lines_of(puts(shape, LINES)))
             if "Ajv" in others:
                 (folder / "schema.json").write_text(compact(schema(program, folder, shape)))
+            look_at_replies(judging(program, folder), folder / "lines")
             words = [(judging(program, folder), None)] + [other(folder, shape) for other in others.values()]
             runs = [[took(given, folder / "lines", env) for given, env in words] for _ in range(TURNS)]
         ours, *theirs = (sorted(turns)[TURNS // 2] for turns in zip(*runs))

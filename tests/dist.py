@@ -4,6 +4,7 @@
     tests/dist.py            of the program that `make` leaves
 
 The root has the archive's files and the libraries that the program names, and nothing else: a record is put and shown there, and each file has the checksum that the archive tells.
+The version of the program is that of the archive's name and of its README.
 The root is looked at where the caller may change it (chroot), the unit by systemd-analyze and the manual page by man where they are there.
 """
 
@@ -71,11 +72,18 @@ def look_at_checksums(unpacked):
     look("checksums", told, there)
 
 
+def look_at_version(name, unpacked):
+    told = subprocess.run([unpacked / "bin" / "formd", "version"], capture_output=True, text=True).stdout
+    version = told.removeprefix("formd ").partition(",")[0]
+    look("the version in the archive's name", name, f"gavelumbrine-{version}-linux-x86_64.tar.gz")
+    look("the version in the README", re.findall(r"\*\*Version\*\* (\S+)", (unpacked / "share/doc/gavelumbrine/README.md").read_text()), [version])
+
+
 def look_at_texts(unpacked):
     if shutil.which("man"):
         page = subprocess.run(["man", "-l", "--warnings", unpacked / "share/man/man1/formd.1"], capture_output=True, text=True, env={**os.environ, "MANWIDTH": "200"})
         look("warnings of the manual page", page.stderr, "")
-        look("the manual page has each word", [word for word in ("serve", "judge", "declarations", "explain", "rehearse", "version") if word not in page.stdout], [])
+        look("the manual page has each word", [word for word in ("serve", "judge", "declarations", "explain", "rehearse", "export", "version") if word not in page.stdout], [])
     if shutil.which("systemd-analyze"):
         unit = subprocess.run(["systemd-analyze", "verify", "--man=no", unpacked / "lib/systemd/system/orders.service"], capture_output=True, text=True)
         wrong = [line for line in unit.stderr.splitlines() if "orders.service" in line and "is not executable" not in line]
@@ -93,6 +101,7 @@ def main():
             tar.extractall(folder / "root", filter="data")
         unpacked = folder / "root" / one.name.removesuffix(".tar.gz")
         look_at_checksums(unpacked)
+        look_at_version(one.name, unpacked)
         look_at_texts(unpacked)
         if os.geteuid() == 0:
             look_at_root(folder / "root", unpacked)

@@ -5,21 +5,27 @@
     tests/export.py PROGRAM             another build of formd
     tests/export.py PROGRAM RECORDS     with another number of records than 100,000 where its memory is looked at
 
-Records of every kind of data, among them ids in another order than their bytes, are exported: the lines are reckoned here. A service over a new
-file takes each of them and gives the same export. A file that grew by sets and removes is smaller when it is made so. What is exported is not
-changed: the files, and what is served from them. Many records are exported at the peak memory of an opening of the same file, but for some mebibytes.
+Records of every kind of data, among them ids in another order than their bytes and a line of more than 100,000 bytes, are exported: the lines are
+reckoned here of what was put. A service over a new file takes each of them and gives the same export. A file of version 1 gives the lines that its
+migrated copy gives. A file that grew by sets and removes is smaller when it is made so. What is exported is not changed: the files, and what is
+served from them. Many records, more than a page, are exported line by line at the peak memory of an opening of the same file, but for some mebibytes.
 And what can't be exported, with its status: no file, an empty one, a folder, garbage, one in use, tables of another program, a pipe that nobody reads, a
 full disk.
 """
 
+import itertools
 import json
 import re
+import shutil
 import sqlite3
 import subprocess
 import sys
 import tempfile
 import time
 from pathlib import Path
+
+sys.dont_write_bytecode = True
+from migration import first_tables, made, quoted
 
 ROOT = Path(__file__).resolve().parent.parent
 PROGRAM = Path(sys.argv[1] if len(sys.argv) > 1 else ROOT / "crates" / "formd" / "out" / "formd").resolve()
@@ -88,7 +94,13 @@ def records():
         {},
     ]
     keys = ["a", "Z", "-", "_", "0", "aa", "a-", "a_", "B9"] + [f"r{number}" for number in range(30)]
-    return {key: put(key, "thing" if at % 4 == 1 else "item", kinds[at % len(kinds)]) for at, key in enumerate(keys)}
+    there = {key: put(key, "thing" if at % 4 == 1 else "item", kinds[at % len(kinds)]) for at, key in enumerate(keys)}
+    return there | {"long": put("long", "item", {"name": "ü" * 30_000, "tags": ["x" * 60_000]})}
+
+
+def lines_of(puts):
+    """The lines of an export, by what was put of each record: nothing of it is null, so all is written."""
+    return [compact({"do": "redeclare", "text": DECLARATIONS})] + [compact(line) for line in sorted(puts, key=lambda line: line["id"].encode())]
 
 
 def shown(database, declarations, keys):
@@ -106,13 +118,9 @@ def read_back(folder):
     text = exported(database)
     look("the files behind an export", (sorted(around(folder)), database.read_bytes()), (names, kept))
     look("the same export", exported(database), text)
-    lines = text.decode().splitlines()
-    look("the first line", lines[0], compact({"do": "redeclare", "text": DECLARATIONS}))
-    wanted = []
-    for key in sorted(there, key=str.encode):
-        reply = shows[list(there).index(key)]
-        wanted.append(compact({"bundle": reply["bundle"], "do": "put", "form": reply["form"], "id": key}))
-    look("the lines of records", lines[1:], wanted)
+    lines = text.decode().split("\n")
+    look("the lines", lines, [*lines_of(there.values()), ""])
+    look("a long line", max(map(len, text.splitlines())) > 100_000, True)
     nothing = folder / "nothing.json"
     nothing.write_text(NOTHING)
     ran = subprocess.run([PROGRAM, "serve", "--declarations", nothing, "--database", again, "--now", "0"], input=text, capture_output=True)
@@ -127,6 +135,20 @@ def read_back(folder):
         log.unlink()
     look("an export without a log", exported(database), text)
     look("no log is left", log.exists(), False)
+
+
+def of_version_1(folder):
+    """A file of version 1 is exported as what it is migrated to."""
+    declarations, first, second = folder / "d.json", folder / "first.db", folder / "second.db"
+    declarations.write_text(DECLARATIONS)
+    there = records().values()
+    rows = "".join(f"INSERT INTO record VALUES ({quoted(line['id'])}, {quoted(line['form'])}, {quoted(compact(line['bundle']))});\n" for line in there)
+    made(first, first_tables(DECLARATIONS) + rows)
+    shutil.copy(first, second)
+    serve(declarations, second, [])
+    text = exported(first)
+    look("the lines of a file of version 1", text.decode().split("\n"), [*lines_of(there), ""])
+    look("the export of its migrated copy", exported(second), text)
 
 
 def empty_records(folder):
@@ -158,14 +180,17 @@ def smaller(folder):
     print(f"a file that grew by sets and removes: {size(database):,} bytes, made again {size(again):,}")
 
 
+def one_of_many(at):
+    return put(f"r{at}", "item", {"count": at, "name": "x" * (at % 100)})
+
+
 def filled(folder, number):
     """A database of so many records."""
     declarations, database = folder / "d.json", folder / f"many{number}.db"
     declarations.write_text(DECLARATIONS)
     with subprocess.Popen([PROGRAM, "serve", "--declarations", declarations, "--database", database, "--now", "0"], stdin=subprocess.PIPE, stdout=subprocess.DEVNULL, text=True) as run:
         for first in range(0, number, 50):
-            parts = [put(f"r{at}", "item", {"count": at, "name": "x" * (at % 100)}) for at in range(first, first + 50)]
-            run.stdin.write(compact({"do": "batch", "parts": parts}) + "\n")
+            run.stdin.write(compact({"do": "batch", "parts": [one_of_many(at) for at in range(first, first + 50)]}) + "\n")
     return database
 
 
@@ -189,13 +214,15 @@ def peak_of_export(database, number):
     """That of an export, looked at some lines before the end, more than the pipe holds: so long the process is there."""
     begun = time.monotonic()
     with subprocess.Popen([PROGRAM, "export", "--database", database], stdout=subprocess.PIPE) as run:
-        lines = used = 0
+        lines, used = [], 0
         for line in run.stdout:
-            lines += 1
-            if lines == number - 900:
+            lines.append(line)
+            if len(lines) == number - 900:
                 used = peak(run)
-        look(f"an export of {number} records", (lines, run.wait()), (number + 1, 0))
+        look(f"an export of {number} records", (len(lines), run.wait()), (number + 1, 0))
     print(f"{number:,} records exported in {time.monotonic() - begun:.1f} s")
+    wanted = [line.encode() + b"\n" for line in lines_of(map(one_of_many, range(number)))]
+    look(f"the first line of {number} records that differs", [pair for pair in itertools.zip_longest(lines, wanted) if pair[0] != pair[1]][:1], [])
     return used
 
 
@@ -251,7 +278,7 @@ def refused(folder):
 def main():
     if not PROGRAM.is_file():
         raise SystemExit(f"{PROGRAM} isn't there: make it by `make`")
-    for part in (read_back, empty_records, smaller, refused, look_at_peaks):
+    for part in (read_back, of_version_1, empty_records, smaller, refused, look_at_peaks):
         with tempfile.TemporaryDirectory() as folder:
             part(Path(folder))
     print(f"{count} looks, {failed} wrong")

@@ -7,11 +7,13 @@
 Indented lines that begin with `formd` or `jq` are commands: they run in a new folder that has `order.json` of `examples/`, the same once more as
 `new.json`, and the lines of `examples/order.jsonl`, and have to end with status 0. The form is the indented text that begins with `{"types"`;
 an indented command line is followed by its reply, and the last reply is that of the put before it with the name that the text says.
+The version and the kit that it names are those of `formd version`; of `rt version` too, where `rt` is on the path.
 """
 
 import json
 import os
 import re
+import shutil
 import subprocess
 import sys
 import tempfile
@@ -21,12 +23,27 @@ ROOT = Path(__file__).resolve().parent.parent
 PROGRAM = Path(sys.argv[1] if len(sys.argv) > 1 else ROOT / "crates" / "formd" / "out" / "formd").resolve()
 
 
+def versions(text):
+    """What README.md says of the version and the kit, and what the programs say."""
+    told = subprocess.run([PROGRAM, "version"], capture_output=True, text=True).stdout
+    shown, toolchain = re.search(r"\*\*Version\*\* (\S+)", text)[1], re.search(r"`rt version`: `([^`]+)`", text)[1]
+    found = re.fullmatch(r"formd (\S+), files of version \d+, (\S+)\n", told)
+    yield (shown, toolchain.split()[0]), found and found.groups()
+    if shutil.which("rt"):
+        yield toolchain, subprocess.run(["rt", "version"], capture_output=True, text=True).stdout.strip()
+
+
 def main():
     if not PROGRAM.is_file():
         raise SystemExit(f"{PROGRAM} isn't there: make it by `make`")
     text = (ROOT / "README.md").read_text()
     blocks = ["".join(line[4:] for line in block.splitlines(keepends=True)) for block in re.findall(r"(?:^    .*\n)+", text, re.MULTILINE)]
     failed = count = 0
+    for shown, told in versions(text):
+        count += 1
+        if shown != told:
+            failed += 1
+            print(f"versions: README.md says {shown}, and {told} is told")
     with tempfile.TemporaryDirectory() as name:
         room = Path(name)
         (room / "bin").mkdir()
@@ -56,7 +73,7 @@ def main():
             if ran.returncode:
                 failed += 1
                 print(f"$ {command}\nstatus {ran.returncode}: {ran.stdout}{ran.stderr}")
-    print(f"{count} lines and commands of README.md, {failed} differ")
+    print(f"{count} lines, commands and versions of README.md, {failed} differ")
     return 1 if failed or not commands else 0
 
 

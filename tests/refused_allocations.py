@@ -15,7 +15,8 @@ there. What each line calls for is worked out here, by the declarations in force
 over a database in memory, and over one in a file.
 
 A run whose start has one request refused serves its lines, or ends with status 4 and `formd: memory`; the next
-run, undisturbed, answers as ever. The same over a file of version 1: behind each run it is of version 1 or of
+run, undisturbed, answers as ever. Where each request is refused, an export and what is explained of a database end so
+too, behind some of their lines. The same over a file of version 1: behind each run it is of version 1 or of
 version 2, with the same records, and a run that isn't disturbed finds them.
 
 An opening by itself answers what it does undisturbed, or that memory was refused; then the same opening of the database that came back, with nothing refused, answers as ever,
@@ -476,19 +477,34 @@ def runs(page, words, lines, before=lambda: None):
             break
 
 
-def read(page, file, wanted):
-    """Declarations that are read, with each request refused: the run ends as it does undisturbed, or for want of memory."""
+def read(page, name, words, wanted):
+    """Words that only read, with each request refused: the run ends as it does undisturbed, or for want of memory, behind some of its lines."""
     early = last = bad = 0
-    for number, run in runs(page, ["declarations", file], b""):
-        if (run.returncode, run.stdout, run.stderr) == (4, b"", b"formd: memory\n"):
+    for number, run in runs(page, words, b""):
+        if (run.returncode, run.stderr) == (4, b"formd: memory\n") and is_front(run.stdout, wanted[1]):
             early += 1
         elif (run.returncode, run.stdout, run.stderr) != wanted:
             bad += 1
-            tell(f"declarations, request {number}: {run}")
+            tell(f"{name}, request {number}: {run}")
         last += 1
     if last == 1:
-        tell("declarations: no request was refused")
-    print(f"declarations of {file.name}, read: {last - 1} requests for memory, each refused in its turn, {early} ended with status 4; {bad} lost")
+        tell(f"{name}: no request was refused")
+    print(f"{name}, read: {last - 1} requests for memory, each refused in its turn, {early} ended with status 4; {bad} lost", flush=True)
+
+
+def is_front(text, whole):
+    """Whether a text is lines with which another begins, not all of them."""
+    return not text or text.endswith(b"\n") and text != whole and whole.startswith(text)
+
+
+def databases(folder, page, kept):
+    """What is in force in a database, that over which other declarations are told, and its export, each with a request refused."""
+    lines = [redeclare(declarations()), *FIRST]
+    exported = "".join(compact(line) + "\n" for line in lines).encode()
+    read(page, "an export", ["export", "--database", kept], (0, exported, b""))
+    for words in ["--database", kept, "--text"], [folder / "d.json", "--over-database", kept]:
+        whole = subprocess.run([PROGRAM, "explain", *words], capture_output=True, timeout=60).stdout
+        read(page, f"explain {' '.join(map(str, words)).replace(f'{folder}/', '')}", ["explain", *words], (0, whole, b""))
 
 
 def found_in(run, wanted):
@@ -506,10 +522,10 @@ def starts(folder, page):
     given, none, kept, file = folder / "d.json", folder / "none.json", folder / "kept.db", folder / "g2.db"
     given.write_text(declarations())
     none.write_text(NO_DECLARATIONS)
-    read(page, given, (0, b"ok\n", b""))
+    read(page, f"declarations of {given.name}", ["declarations", given], (0, b"ok\n", b""))
     ring = folder / "ring.json"
     ring.write_text(json.dumps({**json.loads(declarations()), "messages": {"p": "{q}", "q": "{p}"}}))
-    read(page, ring, (3, b"", b"formd: declarations refused: F20 MessageCycle\n"))
+    read(page, f"declarations of {ring.name}", ["declarations", ring], (3, b"", b"formd: declarations refused: F20 MessageCycle\n"))
     model = Model(json.loads(declarations()), {})
     made = [compact(line) for line in FIRST]
     filled = "".join(compact(model.answer(line)) + "\n" for line in made)
@@ -518,6 +534,8 @@ def starts(folder, page):
     run = subprocess.run([PROGRAM, *served(given, kept)], input="".join(line + "\n" for line in made), capture_output=True, text=True)
     if (run.returncode, run.stdout) != (0, filled):
         sys.exit(f"the first records aren't made: {run}")
+    if EACH == 1:
+        databases(folder, page, kept)
 
     def over(name, declared, questions, wanted, source):
         def before():

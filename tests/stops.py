@@ -9,7 +9,8 @@ Of the database file and of its log each call fails from the first one on, then 
 meets none; and the same with half of the bytes of the first write that fails. So over an opening of empty files, a put, a set, a
 batch of a put and a remove, a remove, a redeclare, and an opening that migrates. The command is answered as it calls for, or C11 or
 C12, or the opening is refused with status 4; then a run that isn't disturbed finds the records and declarations from before the
-command or from behind it, and from behind it where it was taken.
+command or from behind it, and from behind it where it was taken. In the long form also over an export and what is
+explained of a database, which end as ever or with status 4 behind some of their lines, and change no record.
 
 Standard input and output take 37 bytes a call and fail at each call in turn, over a list of all commands, and one byte or seven over a put and two gets, the last without its
 end: what is written is the replies to the whole lines that were read, or the front of the replies that was taken; and the records are those behind the
@@ -134,6 +135,27 @@ def disk(folder, page, name, source, line, before, after, is_first_version=False
             print(f"{name}: {NAMES[which]} stopped at each of {number - 1} calls{', half of the bytes of the first write written' if sign < 0 else ''}: {figures}; {lost - bad} lost", flush=True)
 
 
+def reads(folder, page, words):
+    """Words that read a database, with both files stopped at each call: they end as undisturbed, or with status 4 behind a front of what they write. The records stay."""
+    replaced(folder, "kept")
+    whole = subprocess.run([PROGRAM, *words], capture_output=True, timeout=60).stdout
+    for which in DATABASE, LOG:
+        number, refused, bad = 0, 0, lost
+        while True:
+            number += 1
+            replaced(folder, "kept")
+            run, calls = page.run(words, b"", which, number)
+            is_refused = run.returncode == 4 and run.stderr in NOT_OPENED and whole.startswith(run.stdout)
+            if calls < number and is_refused or not is_refused and (run.returncode, run.stdout, run.stderr) != (0, whole, b""):
+                tell(f"{words[0]}, {NAMES[which]} stopped at call {number} of {calls}: {run}")
+            if calls < number:
+                break
+            refused += is_refused
+            if found(served(folder / "d.json", folder / "g.db")) != shown(stored()):
+                tell(f"{words[0]}, {NAMES[which]} stopped at call {number}: other records are there")
+        print(f"{words[0]} of a database: {NAMES[which]} stopped at each of {number - 1} calls, {refused} ended with status 4; {lost - bad} lost", flush=True)
+
+
 def disks(folder, page):
     (folder / "d.json").write_text(declarations())
     before = stored()
@@ -150,6 +172,9 @@ def disks(folder, page):
         if after.answer(compact(command)) != {"ok": command["do"]}:
             sys.exit(f"{name} isn't taken")
         disk(folder, page, name, "kept", compact(command), before, after)
+    if "short" not in sys.argv[2:]:
+        for words in ["export", "--database", folder / "g.db"], ["explain", "--database", folder / "g.db"], ["explain", folder / "d.json", "--over-database", folder / "g.db"]:
+            reads(folder, page, words)
     first_file(folder / "first.db")
     (folder / "d.json").write_text(NO_DECLARATIONS)
     old = Model(json.loads(declarations()), {key: ("item", json.loads(bundle)) for key, bundle in FIRST_BUNDLES.items()})

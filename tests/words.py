@@ -5,8 +5,8 @@
     tests/words.py PROGRAM    with another build of formd
 
 The runs stand in tests/data/words.rows, whose head says how they are written. Those whose files are made by a rule stand here: declarations of too many forms, of as many bytes as are
-read and of one more, of 100 KB, which a database keeps whole; hundreds of records that one run stores and shows; and streams that fail at once: an input that is a folder,
-an output that is a full disk.
+read and of one more, of 100 KB, which a database keeps whole; hundreds of records that one run stores and shows; a database that another process serves; and streams that fail
+at once: an input that is a folder, an output that is a full disk.
 """
 
 import os
@@ -27,6 +27,8 @@ TOLD = 'line 1: C6 NoRecord: id: there is no record "r1"\n'
 MARKS = "><!?"
 DECLARATIONS = '{"types":{"Item":{"fields":{"count":{"type":"integer"}}}},"forms":{"item":{"root":"Item"}}}'
 MOST_BYTES = 16_777_216
+# Words that make no file and take none away.
+ONLY_READ = ("explain", "export", "judge", "rehearse")
 failed = count = 0
 
 
@@ -77,8 +79,10 @@ class Row:
         fault, _, declarations = self.text.partition(": ")
         match self.kind:
             case "$":
-                status = int(*self.below["?"] or "0")
+                status, files = int(*self.below["?"] or "0"), sorted(folder.iterdir())
                 run(folder, shlex.split(self.text), self.below[">"] or [GET], (status, text_of(self.below["<"]), text_of(self.below["!"])))
+                if name in ONLY_READ:
+                    look(f"the files behind {self.text}", sorted(folder.iterdir()), files)
             case "file":
                 (folder / name).write_text(rest)
             case "sql":
@@ -170,6 +174,19 @@ def many_records(folder):
     serve(folder, "d.json", gets, replies)
 
 
+def in_use(folder):
+    """A database that another process serves is neither exported nor explained."""
+    (folder / "d.json").write_text(DECLARATIONS)
+    words = ["serve", "--declarations", "d.json", "--database", "g.db"]
+    with subprocess.Popen([PROGRAM, *words], stdin=subprocess.PIPE, stdout=subprocess.PIPE, cwd=folder, text=True) as service:
+        service.stdin.write(GET + "\n")
+        service.stdin.flush()
+        service.stdout.readline()
+        database = ["--database", "g.db"]
+        for words in ["export", *database], ["explain", *database], ["explain", *database, "--text"], ["explain", "d.json", "--over-database", "g.db"]:
+            run(folder, words, [], (4, "", "formd: cannot open database\n"))
+
+
 def failing_streams(folder):
     """A read that fails, and a write, end each word that reads or writes with status 4."""
     (folder / "d.json").write_text(DECLARATIONS)
@@ -179,12 +196,14 @@ def failing_streams(folder):
         ran = subprocess.run([PROGRAM, *words], stderr=subprocess.PIPE, cwd=folder, timeout=120, **streams)
         look(f"formd {shlex.join(words)}", (ran.returncode, ran.stderr), (status, error))
 
-    for words in [], served, ["rehearse", "--declarations", "d.json"]:
+    judged = ["judge", "--declarations", "d.json"]
+    for words in [], served, judged, ["rehearse", "--declarations", "d.json"]:
         no_file = os.open(folder, os.O_RDONLY)
         ended(words, 4, b"formd: read\n", stdin=no_file, stdout=subprocess.DEVNULL)
         os.close(no_file)
     explained = [["explain", "d.json", *words] for words in ([], ["--text"], ["--schema", "item"], ["--over", "d.json"])]
-    for words in [], served, ["rehearse", "--declarations", "d.json"], ["declarations", "d.json"], *explained, ["export", "--database", "g.db"]:
+    explained += [["explain", "--database", "g.db"], ["explain", "d.json", "--over-database", "g.db"]]
+    for words in [], served, judged, ["rehearse", "--declarations", "d.json"], ["declarations", "d.json"], *explained, ["export", "--database", "g.db"], ["version"]:
         with open("/dev/full", "wb") as full:
             told = TOLD if "rehearse" in words else ""
             ended(words, 4, f"{told}formd: write\n".encode(), input=GET.encode(), stdout=full)
@@ -195,7 +214,7 @@ def main():
         raise SystemExit(f"{PROGRAM} isn't there: make it by `make`")
     for section in sections():
         in_a_folder(lambda folder: [row.look(folder) for row in section])
-    for looks in sizes, long_declarations, many_records, failing_streams:
+    for looks in sizes, long_declarations, many_records, in_use, failing_streams:
         in_a_folder(looks)
     print(f"{count} looked at, {failed} differ")
     return 1 if failed or not count else 0
