@@ -60,6 +60,8 @@ for line in sys.stdin:
         reply += "\\n" + reply
     elif id == "other":
         reply = reply.replace("other", "another")
+    elif id == "large":
+        reply = reply.replace("get", "x" * 5000)
     elif id == "hold":
         tell("held")
         wait("go")
@@ -212,8 +214,8 @@ def interrupted():
 def by_stub(language):
     """What doesn't wait for a deadline."""
     # each with the id of the next reply, and whether it comes from the same process
-    ended = [["OutcomeUnknown", f"behind-{key}", False] for key in ("end", "junk", "two", "other")]
-    Play(language, "wrong", stub=True).is_told([["fine", "behind-fine", True], *ended, ["more", "behind-more", False]])
+    ended = [["OutcomeUnknown", f"behind-{key}", False] for key in ("end", "junk", "two", "other", "large")]
+    Play(language, "wrong", stub=True, limits={"largest": 1000}).is_told([["fine", "behind-fine", True], *ended, ["more", "behind-more", False]])
     Play(language, "full", stub=True, limits={"queue": 4}).is_told([["hold", "r0", "r1", "r2", "r3"], "NotSent", "behind"])
 
 
@@ -222,7 +224,10 @@ def by_the_clock(language):
     if play.has_run():
         play.want("seconds of a line that isn't answered", 0.5 <= play.found.pop("seconds") < 5, True)
         play.is_told({"never": "OutcomeUnknown", "ids": ["r0", "r1", "r2"], "others": True})
-    Play(language, "patience", stub=True, limits={"patience": 0.3}).is_told(["NotSent", "slow"])
+    Play(language, "patience", stub=True, limits={"patience": 0.3, "queue": 1}).is_told(["NotSent", True, "slow"])
+    play = Play(language, "cut", stub=True)
+    if play.has_run():
+        play.want("a stop while a line isn't answered", (play.found[0], 0.5 <= play.found[1] < 5), ("OutcomeUnknown", True))
     play = Play(language, "opening-mute", stub=True, limits={"opening": 0.5})
     if play.has_run():
         play.want("an opening that isn't done", (play.found[0], 0.5 <= play.found[1] < 5), ("NotSent", True))
@@ -249,6 +254,7 @@ def main():
         Play(language, "numbers", files=2, numbers=NUMBERS).is_told([[digits, digits] for digits in NUMBERS])
         Play(language, "large").is_told([True] * 24)
         Play(language, "begin", folder="none").is_told(["NotSent", {"error": "C6", "name": "NoRecord"}])
+        Play(language, "deploy", folder=".").is_told(["NotSent", {"text": "1"}])
         by_stub(language)
         if not SHORT:
             by_the_clock(language)

@@ -25,7 +25,7 @@ async function told(promise) {
 }
 
 async function until(isSo, seconds = 0.01) {
-  while (!isSo()) await sleep(seconds);
+  while (!(await isSo())) await sleep(seconds);
 }
 
 /** Tells the stub, or waits until it tells. */
@@ -211,11 +211,22 @@ const PLAYS = {
     return [first, await pool.ask(get('a'))];
   }),
 
+  /** A second pool over the same file, whose lines aren't sent until the first one is stopped. */
+  deploy: over(async (pool, config) => {
+    const old = poolOf(config);
+    await old.ask(put('a', { text: '1' }));
+    const before = await told(pool.ask(get('a')));
+    await old.stop();
+    let reply;
+    await until(async () => (reply = await told(pool.ask(get('a')))) !== 'NotSent');
+    return [before, fieldsOf(reply)];
+  }),
+
   /** A process that ends, says no JSON, twice as much, or something else; behind each one the next line. */
   wrong: over(async (pool, config) => {
     const found = [];
     let before = (await pool.ask(get('first'))).form;
-    for (const id of ['fine', 'end', 'junk', 'two', 'other', 'more']) {
+    for (const id of ['fine', 'end', 'junk', 'two', 'other', 'large', 'more']) {
       const reply = await told(pool.ask(get(id)));
       if (id === 'more') {
         tell(config, 'said');
@@ -249,11 +260,23 @@ const PLAYS = {
     return { never: await never, seconds, ids: replies.map((reply) => reply.id), others: replies.every((reply) => reply.form !== first) };
   }),
 
-  /** A line waits behind a slow one for longer than it may. */
+  /** A line waits behind a slow one for longer than it may, again and again: none of them stands in the way of the next. */
   patience: over(async (pool) => {
     const slow = pool.ask(get('slow'));
-    return [await told(pool.ask(get('waits'))), (await slow).id];
+    const replies = [];
+    while (replies.length < 20 && (replies.at(-1) ?? 'NotSent') === 'NotSent') replies.push(await told(pool.ask(get('waits'))));
+    return [replies[0], replies.length < 20, (await slow).id];
   }),
+
+  /** The pool is stopped while a line is under way that is never answered. */
+  async cut(config) {
+    const pool = poolOf(config);
+    const never = told(pool.ask(get('never')));
+    await wait(config, 'never');
+    const begun = now();
+    await pool.stop(0.5);
+    return [await never, now() - begun];
+  },
 
   /** A process that doesn't begin to answer. */
   opening: over(async (pool) => {

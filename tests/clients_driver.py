@@ -245,11 +245,22 @@ def begin(config):
         return [first, pool.ask(get("a"))]
 
 
+def deploy(config):
+    """A second pool over the same file, whose lines aren't sent until the first one is stopped."""
+    with pool_of(config) as new:
+        with pool_of(config) as old:
+            old.ask(put("a", text="1"))
+            before = told(lambda: new.ask(get("a")))
+        while (reply := told(lambda: new.ask(get("a")))) == "NotSent":
+            pass
+        return [before, fields_of(reply)]
+
+
 def wrong(config):
     """A process that ends, says no JSON, twice as much, or something else; behind each one the next line."""
     with pool_of(config) as pool:
         found, before = [], pool.ask(get("first"))["form"]
-        for id in ("fine", "end", "junk", "two", "other", "more"):
+        for id in ("fine", "end", "junk", "two", "other", "large", "more"):
             reply = told(lambda: pool.ask(get(id)))
             if id == "more":
                 tell(config, "said")
@@ -317,11 +328,22 @@ def deadline(config):
 
 
 def patience(config):
-    """A line waits behind a slow one for longer than it may."""
+    """A line waits behind a slow one for longer than it may, again and again: none of them stands in the way of the next."""
     with pool_of(config) as pool:
         slow = later(pool, "slow")
         wait(config, "slow")
-        return [told(lambda: pool.ask(get("waits"))), slow.result()["id"]]
+        replies = list(itertools.takewhile(lambda reply: reply == "NotSent", (told(lambda: pool.ask(get("waits"))) for _ in range(20))))
+        return [replies[0], len(replies) < 20, slow.result()["id"]]
+
+
+def cut(config):
+    """The pool is stopped while a line is under way that is never answered."""
+    pool = pool_of(config)
+    never = later(pool, "never")
+    wait(config, "never")
+    begun = time.monotonic()
+    pool.stop(0.5)
+    return [told(never.result), time.monotonic() - begun]
 
 
 def opening(config):
@@ -337,7 +359,7 @@ def pauses(config):
         return [told(lambda: pool.ask(get("a"))) for _ in range(5)]
 
 
-PLAYS = (kills, stop, numbers, create, lines, large, begin, wrong, full, interrupted, deadline, patience, opening, pauses)
+PLAYS = (kills, stop, numbers, create, lines, large, begin, deploy, wrong, full, interrupted, deadline, patience, cut, opening, pauses)
 
 if __name__ == "__main__":
     print(json.dumps({play.__name__: play for play in PLAYS}[sys.argv[1]](json.loads(sys.argv[2]))))

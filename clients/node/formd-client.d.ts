@@ -50,7 +50,7 @@ export class OutcomeUnknown extends Failure {}
 /** The id of a `create` has a record: nothing was put. */
 export class Exists extends Failure {}
 
-/** All are seconds, but for the queue, which counts lines. */
+/** All are seconds, but for the queue, which counts lines, and the largest, which counts bytes. */
 export interface Limits {
   /** From the first byte of a line that is sent to the last of its reply: 10. */
   deadline?: number;
@@ -60,6 +60,8 @@ export interface Limits {
   patience?: number;
   /** Lines that wait for their turn at one file: 64. */
   queue?: number;
+  /** Bytes of a reply; a process that says more is ended: 2 ** 28. */
+  largest?: number;
   /** Before a process is started anew; it doubles with each that ends without an answer: 0.05. */
   pause?: number;
   /** 5. */
@@ -78,7 +80,7 @@ export class Pool {
   create(put: Put, deadline?: number): Promise<ReplyTo<Put>>;
   /** Gives one file after the other other declarations: the replies up to the first refusal. */
   redeclare(text: string, deadline?: number): Promise<Reply[]>;
-  /** Takes no more lines, has those answered that wait, and ends each process in order: their exit statuses, null where none was running. */
+  /** Takes no more lines, has those answered that wait, as far as the seconds go, and ends each process in order: their exit statuses, null where none was running. */
   stop(seconds?: number): Promise<(number | string | null)[]>;
 }
 

@@ -27,12 +27,13 @@ class OutcomeUnknown extends Failure {}
 /** The id of a `create` has a record: nothing was put. */
 class Exists extends Failure {}
 
-// All are seconds, but for the queue, which counts lines.
+// All are seconds, but for the queue, which counts lines, and the largest, which counts bytes.
 const LIMITS = {
   deadline: 10, // from the first byte of a line that is sent to the last of its reply
   opening: 60, // until a process that is started has opened its file and answers
   patience: 10, // until a line's turn comes
   queue: 64, // lines that wait for their turn at one file
+  largest: 2 ** 28, // bytes of a reply; a process that says more is ended
   pause: 0.05, // before a process is started anew; it doubles with each that ends without an answer
   longestPause: 5,
 };
@@ -59,6 +60,8 @@ function stringify(value) {
   return JSON.stringify(value, (_, held) => (typeof held === 'bigint' ? MARK + held : held)).replace(MARKED, '$1');
 }
 
+// Seconds after which a wait looks whether a stop has begun.
+const LOOK = 0.25;
 const now = () => performance.now() / 1000;
 const sleep = (seconds) => new Promise((resolve) => setTimeout(resolve, seconds * 1000));
 
@@ -107,10 +110,12 @@ class Shard {
     });
   }
 
-  /** Takes no more lines, has those answered that wait, and closes the input: the exit status, null where no process was running. */
+  /** Takes no more lines, has those answered that wait, as far as the seconds go, and closes the input: the exit status, null where no process was running. */
   async stop(seconds) {
     this.stopBy = Math.min(this.stopBy ?? Infinity, now() + seconds);
+    const cut = setTimeout(() => this.child?.over(new Error('the pool is stopped')), seconds * 1000);
     await this.work;
+    clearTimeout(cut);
     const { child } = this;
     if (!child) return null;
     this.child = null;
@@ -157,7 +162,7 @@ class Shard {
       };
       // what has come already, while others held the processor, is seen before the deadline is
       const late = () => child.over === over && over(new Error('no reply within its deadline'));
-      const timer = setTimeout(() => setImmediate(late), seconds * 1000);
+      const timer = setTimeout(() => setImmediate(late), this.#left(now() + seconds) * 1000);
       if (child.why) over(child.why);
       else {
         child.over = over;
@@ -166,14 +171,22 @@ class Shard {
     });
   }
 
+  /** Seconds until a moment, or until the end of a stop, if that is earlier: a stop may begin meanwhile. */
+  #left(until) {
+    return Math.min(until, this.stopBy ?? Infinity) - now();
+  }
+
   /** Has a process that answers, one that is started anew where need be. */
   async #makeReady() {
     if (this.stopBy !== null && now() > this.stopBy) throw new NotSent('the pool is stopped');
     if (this.child && (this.child.exitCode !== null || this.child.signalCode !== null)) this.#drop();
     if (this.child) return;
-    if (this.stopBy === null) await sleep(Math.max(0, this.restUntil - now()));
+    while (this.stopBy === null && this.#left(this.restUntil) > 0) await sleep(Math.min(LOOK, this.#left(this.restUntil)));
+    const until = now() + this.limits.opening;
     try {
-      if (!(await within(this.before, this.limits.opening))) throw new Error("the process before it doesn't end");
+      while (!(await within(this.before, Math.min(LOOK, this.#left(until))))) {
+        if (this.#left(until) <= 0) throw new Error("the process before it doesn't end");
+      }
       this.#start();
       await this.#talk('{}\n', this.limits.opening);
     } catch (why) {
@@ -199,13 +212,22 @@ class Shard {
     child.on('error', end);
     child.on('close', (status, signal) => end(new Error(`formd has ended: ${signal ?? `status ${status}`}`)));
     child.stdin.on('error', () => {}); // 'close' tells it
+    const { largest } = this.limits;
     let parts = [];
+    let length = 0;
     child.stdout.on('data', (bytes) => {
       parts.push(bytes);
-      if (bytes[bytes.length - 1] !== 10) return;
-      const reply = Buffer.concat(parts);
+      length += bytes.length;
+      if (length <= largest && bytes[bytes.length - 1] !== 10) return;
+      let told = [new Error(`a reply of more than ${largest} bytes`)];
+      try {
+        if (length <= largest) told = [null, Buffer.concat(parts).toString()];
+      } catch (why) {
+        told = [why]; // a text that is too long for Node
+      }
       parts = [];
-      child.over(null, reply.toString());
+      length = 0;
+      child.over(...told);
     });
   }
 
@@ -292,7 +314,7 @@ class Pool {
     return replies;
   }
 
-  /** Takes no more lines, has those answered that wait, and ends each process in order: their exit statuses, null where none was running. */
+  /** Takes no more lines, has those answered that wait, as far as the seconds go, and ends each process in order: their exit statuses, null where none was running. */
   stop(seconds = 30) {
     return Promise.all(this.shards.map((shard) => shard.stop(seconds)));
   }

@@ -74,7 +74,7 @@ class Exists(Failure):
 
 @dataclass(frozen=True)
 class Limits:
-    """All are seconds, but for the queue, which counts lines."""
+    """All are seconds, but for the queue, which counts lines, and the largest, which counts bytes."""
 
     deadline: float = 10.0
     """From the first byte of a line that is sent to the last of its reply."""
@@ -84,12 +84,16 @@ class Limits:
     """Until a line's turn comes."""
     queue: int = 64
     """Lines that wait for their turn at one file."""
+    largest: int = 1 << 28
+    """Bytes of a reply; a process that says more is ended."""
     pause: float = 0.05
     """Before a process is started anew; it doubles with each that ends without an answer."""
     longest_pause: float = 5.0
 
 
 Exchange = Callable[[dict, bytes, float], Reply]
+# Seconds after which a wait looks whether a stop has begun.
+LOOK = 0.25
 
 
 class Job:
@@ -111,8 +115,13 @@ class Job:
             self.done.release()
 
     def told(self, patience: float) -> Reply:
-        """The reply. NotSent where its turn doesn't come."""
-        if not self.done.acquire(timeout=patience):
+        """The reply. NotSent where its turn doesn't come. Steps that nobody waits for any more aren't made, unless they are under way."""
+        try:
+            is_done = self.done.acquire(timeout=patience)
+        except BaseException:
+            self.taken.acquire(blocking=False)
+            raise
+        if not is_done:
             if self.taken.acquire(blocking=False):
                 raise NotSent(f"its turn didn't come within {patience} s")
             self.done.acquire()
@@ -125,14 +134,6 @@ def as_line(command: dict) -> bytes:
     """A command as a line. What JSON doesn't have is a ValueError or a TypeError, a lone surrogate a line that formd refuses."""
     text = json.dumps(command, ensure_ascii=False, allow_nan=False, separators=(",", ":"))
     return text.encode("utf-8", "surrogatepass") + b"\n"
-
-
-def wait_for(file: Any, event: int, until: float) -> None:
-    """Waits until a pipe takes bytes or has some. What is there already is seen after the deadline too."""
-    poll = select.poll()
-    poll.register(file, event)
-    if not poll.poll(max(0.0, until - time.monotonic()) * 1000):
-        raise TimeoutError("no reply within its deadline")
 
 
 def belongs(reply: Reply, command: dict) -> bool:
@@ -149,6 +150,8 @@ class Shard:
     def __init__(self, words: list[str], limits: Limits):
         self.words, self.limits = words, limits
         self.jobs: queue.SimpleQueue[Job | None] = queue.SimpleQueue()
+        self.waiting: set[Job] = set()
+        self.is_busy = False
         self.at_work = threading.Lock()
         self.stop_by: float | None = None
         self.child: subprocess.Popen | None = None
@@ -165,11 +168,19 @@ class Shard:
             raise NotSent("the pool is that of the process from which this one was forked: make it behind the fork")
         if self.stop_by is not None:
             raise NotSent("the pool is stopped")
-        if self.jobs.qsize() >= self.limits.queue:
+        if self.count() - self.is_busy >= self.limits.queue:
             raise NotSent(f"{self.limits.queue} lines wait already")
         job = Job(steps)
         self.jobs.put(job)
+        self.waiting.add(job)
         return job
+
+    def count(self) -> int:
+        """How many lines wait or are under way, without those that nobody waits for any more."""
+        for job in list(self.waiting):
+            if job.taken.locked():
+                self.waiting.discard(job)
+        return len(self.waiting) + self.is_busy
 
     def begin_stop(self, seconds: float) -> None:
         """Takes no more lines. Those that wait are answered, as far as the seconds go."""
@@ -184,7 +195,9 @@ class Shard:
     def _work(self) -> None:
         while (job := self.jobs.get()) is not None or not self.jobs.empty():
             if job is not None:
+                self.is_busy = True
                 job.make(self._exchange)
+                self.is_busy = False
         self._close()
         self.at_work.release()
 
@@ -204,15 +217,29 @@ class Shard:
         until, rest, reply = time.monotonic() + seconds, memoryview(line), bytearray()
         into, out = self.child.stdin, self.child.stdout
         while rest:
-            wait_for(into, select.POLLOUT, until)
+            self._wait(into, select.POLLOUT, until)
             rest = rest[os.write(into.fileno(), rest) :]
         while not reply.endswith(b"\n"):
-            wait_for(out, select.POLLIN, until)
+            self._wait(out, select.POLLIN, until)
             part = os.read(out.fileno(), 1 << 16)
             if not part:
                 raise EOFError("formd has ended")
             reply += part
+            if len(reply) > self.limits.largest:
+                raise ValueError(f"a reply of more than {self.limits.largest} bytes")
         return reply
+
+    def _wait(self, file: Any, event: int, until: float) -> None:
+        """Waits until a pipe takes bytes or has some. What is there already is seen after the deadline too."""
+        poll = select.poll()
+        poll.register(file, event)
+        while not poll.poll(min(LOOK, max(0.0, self._left(until))) * 1000):
+            if self._left(until) <= 0:
+                raise TimeoutError("no reply within its deadline")
+
+    def _left(self, until: float) -> float:
+        """Seconds until a moment, or until the end of a stop, if that is earlier: a stop may begin meanwhile."""
+        return (until if self.stop_by is None else min(until, self.stop_by)) - time.monotonic()
 
     def _make_ready(self) -> None:
         """Has a process that answers, one that is started anew where need be."""
@@ -222,11 +249,14 @@ class Shard:
             self._drop()
         if self.child is not None:
             return
-        if self.stop_by is None:
-            time.sleep(max(0.0, self.rest_until - time.monotonic()))
+        while self.stop_by is None and self._left(self.rest_until) > 0:
+            time.sleep(min(LOOK, max(0.0, self._left(self.rest_until))))
+        until = time.monotonic() + self.limits.opening
         try:
-            if self.before is not None:
-                self.before.wait(self.limits.opening)
+            while self.before is not None and self.before.poll() is None:
+                if self._left(until) <= 0:
+                    raise TimeoutError("the process before it doesn't end")
+                time.sleep(0.01)
             # a session of its own: what a terminal sends to the group of processes is for its parent alone
             self.child = subprocess.Popen(self.words, stdin=subprocess.PIPE, stdout=subprocess.PIPE, bufsize=0, start_new_session=True)
             os.set_blocking(self.child.stdin.fileno(), False)
@@ -289,7 +319,7 @@ class Pool:
         if do in ("list", "redeclare"):
             raise ValueError(f"a {do} goes to every file: ask, or redeclare")
         if do == "checkvalue":
-            return min(self.shards, key=lambda shard: shard.jobs.qsize())
+            return min(self.shards, key=Shard.count)
         if do != "batch":
             return self.shards[self.shard_of(command.get("id"))]
         parts = command.get("parts")
@@ -339,7 +369,7 @@ class Pool:
         return replies
 
     def stop(self, seconds: float = 30.0) -> list[int | None]:
-        """Takes no more lines, has those answered that wait, and ends each process in order: their exit statuses, None where none was running."""
+        """Takes no more lines, has those answered that wait, as far as the seconds go, and ends each process in order: their exit statuses, None where none was running."""
         for shard in self.shards:
             shard.begin_stop(seconds)
         return [shard.end_stop() for shard in self.shards]
