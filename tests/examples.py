@@ -9,6 +9,7 @@ Each is then run over a stub in the program's place, which refuses as a full dis
 that put has to be answered. Needs `flask` (Debian: python3-flask) and `node`; what isn't there is said and left out.
 """
 
+import hmac
 import importlib.util
 import json
 import os
@@ -75,10 +76,10 @@ class Site:
             self.process.send_signal(signal.SIGTERM)
         self.is_ended = True
 
-    def ask(self, path="/", form=None, headers={}, follow=True):
+    def ask(self, path="/", form=None, headers={}, follow=True, method=None, has_length=True):
         """The status and the text, behind a redirect those of where it leads."""
         data = None if form is None else urllib.parse.urlencode(form).encode()
-        request = urllib.request.Request(f"http://127.0.0.1:{self.port}{path}", data, headers)
+        request = urllib.request.Request(f"http://127.0.0.1:{self.port}{path}", data if has_length else iter([data]), headers, method=method)
         opener = urllib.request.build_opener(*([] if follow else [Unfollowed]))
         try:
             with opener.open(request, timeout=20) as reply:
@@ -156,7 +157,11 @@ def compare(site):
     site.want("the second page", json.loads(second), {"ids": ids[4:], "ok": "list"})
     for odd in "limit=0", "limit=lots", "limit=1001", "after=no%20id":
         site.want(f"a list with {odd}", site.ask(f"/contacts?{odd}", headers=KEY)[0], 400)
-    site.want("a body that is too long", site.ask("/", {"token": tokens[0], **GOOD, "name": "x" * 150_000})[0], 413)
+    for has_length in True, False:
+        site.want("a body that is too long", site.ask("/", {"token": tokens[0], **GOOD, "name": "x" * 150_000}, has_length=has_length)[0], 413)
+    site.want("a body without a length", site.ask("/", {"token": tokens[3], **GOOD}, has_length=False)[0], 200)
+    for method, path in ("PUT", "/"), ("DELETE", "/contacts"), ("POST", f"/contact/{tokens[0]}"):
+        site.want(f"a {method} of {path[:9]}", site.ask(path, method=method)[0], 405)
     site.want("a page that isn't there", site.ask("/nothing")[0], 404)
     status, text = site.ask("/", {"token": site.token(), **GOOD, "name": "x" * 81})
     site.want("a name that is too long", (status, re.findall(r"<b>(.*?)</b>", text)), (422, ["size must be between 0 and 80"]))
@@ -175,6 +180,14 @@ def refusals(name, stub, folder):
             token = site.token()
             site.want(f"a get with {code}", site.ask(f"/contact/{token}"), (status, f"{code} {refusal}"))
             site.want(f"a put with {code} at its get", site.ask("/", {"token": token, **GOOD}), (status, f"{code} {refusal}"))
+
+
+def without_secrets(name, stub, folder):
+    """Settings that are empty are none: nobody lists contacts, or makes a token, by an empty key."""
+    with served(name, stub, folder, KEY="", SECRET="", REPLIES=json.dumps({"list": {"ok": "list", "ids": []}})) as site:
+        site.want("a list by an empty key", site.ask("/contacts", headers={"Authorization": "Bearer "})[0], 401)
+        made = "x." + hmac.new(b"", b"x", "sha256").hexdigest()
+        site.want("an id signed by an empty secret", site.ask("/", {"token": made, **GOOD})[0], 403)
 
 
 def held(name, stub, folder):
@@ -231,6 +244,7 @@ def main():
             counts = [kept(f"{folder}/contacts-{n}.db") for n in range(2)]
             want(f"{name}: records in both files", sum(counts) if all(isinstance(n, int) for n in counts) else counts, 7)
             refusals(name, stub, folder)
+            without_secrets(name, stub, folder)
             held(name, stub, folder)
     print(f"{ran} forms run, {failed} of {count} answers differ")
     return 1 if failed else 0

@@ -4,16 +4,19 @@
 
 One process of the web server, many threads: a database file has one `formd`. A second server process needs files of its own. `SECRET` signs the ids of
 forms: without it a form that was shown before a restart isn't taken behind it. `KEY` opens the list of all contacts (`Authorization: Bearer KEY`).
-SIGTERM ends it in order: no new connections, those that are there answered, each file closed.
+SIGTERM ends it in order: no new connections, those that are there answered or after 20 s cut, each file closed.
 """
 
+import contextlib
 import hashlib
 import hmac
 import os
 import secrets
 import signal
+import socket
 import sys
 import threading
+import time
 import uuid
 from html import escape
 from pathlib import Path
@@ -26,8 +29,8 @@ sys.path.insert(0, str(ROOT / "clients" / "python"))
 from formd_client import Exists, Failure, Pool  # noqa: E402
 
 FIELDS = ["name", "email", "topic"]
-SECRET = os.environ.get("SECRET", secrets.token_hex()).encode()
-KEY = os.environ.get("KEY", secrets.token_hex())
+SECRET = (os.environ.get("SECRET") or secrets.token_hex()).encode()
+KEY = os.environ.get("KEY") or secrets.token_hex()
 # 400 for all others: the same line is refused again. So is one for which formd has no memory (C12).
 STATUSES = {"C1": 413, "C6": 404, "C10": 422, "C11": 503}
 app = Flask(__name__)
@@ -69,6 +72,8 @@ def blank():
 
 @app.post("/")
 def send():
+    if request.content_length is None and len(request.get_data()) >= app.config["MAX_CONTENT_LENGTH"]:
+        return "the body is too long", 413  # without a length Werkzeug cuts it there, and says nothing
     token = request.form.get("token", "")
     id = id_of(token)
     if id is None:
@@ -127,12 +132,30 @@ class OneRequest(WSGIRequestHandler):
 
     protocol_version = "HTTP/1.0"
     timeout = 10
+    at_work = set()
+
+    def setup(self):
+        super().setup()
+        self.at_work.add(self.connection)
+
+    def finish(self):
+        self.at_work.discard(self.connection)
+        super().finish()
+
+
+def stop(server):
+    """Takes no more connections. Whoever hasn't sent his request after 20 s is cut."""
+    server.shutdown()
+    time.sleep(20)
+    for connection in list(OneRequest.at_work):
+        with contextlib.suppress(OSError):
+            connection.shutdown(socket.SHUT_RDWR)
 
 
 def main():
     server = make_server("127.0.0.1", int(os.environ.get("PORT", "8000")), app, threaded=True, request_handler=OneRequest)
     server.daemon_threads = False  # so that the end waits for the requests that are under way
-    signal.signal(signal.SIGTERM, lambda *_: threading.Thread(target=server.shutdown).start())
+    signal.signal(signal.SIGTERM, lambda *_: threading.Thread(target=stop, args=(server,), daemon=True).start())
     server.serve_forever()
     pool.stop()
 

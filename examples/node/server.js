@@ -4,7 +4,7 @@
 //
 // One process of Node: a database file has one `formd`. `SECRET` signs the ids of forms: without it a form that was shown before a restart isn't
 // taken behind it. `KEY` opens the list of all contacts (`Authorization: Bearer KEY`). SIGTERM ends it in order: no new connections, those that are
-// there answered, each file closed.
+// there answered or after 20 s cut, each file closed.
 'use strict';
 const http = require('node:http');
 const path = require('node:path');
@@ -14,8 +14,8 @@ const { Pool, Exists, Failure, stringify } = require('../../clients/node/formd-c
 
 const FIELDS = ['name', 'email', 'topic'];
 const LONGEST = 100_000;
-const SECRET = process.env.SECRET ?? randomBytes(32).toString('hex');
-const KEY = process.env.KEY ?? randomBytes(32).toString('hex');
+const SECRET = process.env.SECRET || randomBytes(32).toString('hex');
+const KEY = process.env.KEY || randomBytes(32).toString('hex');
 // 400 for all others: the same line is refused again. So is one for which formd has no memory (C12).
 const STATUSES = { C1: 413, C6: 404, C10: 422, C11: 503 };
 const declarations = path.join(__dirname, '..', 'contact.json');
@@ -99,9 +99,12 @@ async function contacts(request, { searchParams }) {
 
 async function answer(request) {
   const url = new URL(request.url, 'http://localhost');
-  if (url.pathname === '/') return request.method === 'POST' ? send(request) : [200, page(signed(randomUUID()), {}, {})];
-  if (url.pathname === '/contacts') return contacts(request, url);
-  return url.pathname.startsWith('/contact/') ? show(url.pathname.slice('/contact/'.length)) : [404, 'no such page'];
+  const isRoot = url.pathname === '/';
+  if (!isRoot && url.pathname !== '/contacts' && !url.pathname.startsWith('/contact/')) return [404, 'no such page'];
+  if (isRoot && request.method === 'POST') return send(request);
+  if (request.method !== 'GET' && request.method !== 'HEAD') return [405, 'no such method', { allow: isRoot ? 'GET, HEAD, POST' : 'GET, HEAD' }];
+  if (isRoot) return [200, page(signed(randomUUID()), {}, {})];
+  return url.pathname === '/contacts' ? contacts(request, url) : show(url.pathname.slice('/contact/'.length));
 }
 
 let isStopping = false;
