@@ -15,6 +15,7 @@ Needs PostgreSQL and psycopg, for the Python that runs this (Debian: postgresql;
 Python checks by hand.
 """
 
+import contextlib
 import glob
 import importlib.util
 import itertools
@@ -24,6 +25,7 @@ import os
 import pwd
 import random
 import shutil
+import signal
 import statistics
 import subprocess
 import sys
@@ -52,6 +54,7 @@ SHORT, SECONDS = sys.argv[2:] == ["short"], sys.argv[2:] == ["seconds"]
 # of judges and of the server, each over 1, 2 and 4 judges
 JUDGES_KILLED, SERVERS_KILLED = ((4, 3, 3), (1, 0, 1)) if SHORT else ((34, 33, 33), (7, 7, 6))
 CALLERS = 8
+INTERRUPTED = 100 if SHORT else 1000
 # turns of a caller between two kills, of all together
 TURNS = 20 if SHORT else 40
 CHANGES = 3 if SHORT else 12
@@ -142,6 +145,38 @@ def put(id, **fields):
     return {"do": "put", "id": id, "form": "f", "bundle": bundle(**fields)}
 
 
+# Lines that formd refuses.
+ODD = [
+    *(b"", b"{", b"{}", b"[]", b"null", b"7", b"NaN", b"\xff", b"\xef\xbb\xbf{}", b"[" * 200 + b"]" * 200, b"[" * 99999, b" " * (1 << 20) + b"{}", b"1" * 5000),
+    *(b'{"do":"get","id":%s}' % id for id in (b"7", b"null", b'""', b'"a b"', b'"\\u0000"', b'"\\ud800"', b"NaN", b"1e400", b'"a","more":1')),
+    *(b'{"do":"list","form":"f","limit":%s}' % limit for limit in (b"-1", b"0", b"1001", b"1.0", b"-0", b"true", b'"5"', b"1e400", b"9" * 400)),
+    *(b'{"do":"list","form":"f","after":%s}' % after for after in (b"7", b"null", b'"a b"')),
+    *({"do": do, "form": "nobody"} for do in ("list", "put", "get", "lists", ["list"], None)),
+    *({"do": "batch", "parts": parts} for parts in (None, 7, [7], [None], [{}], [put("a", text="x"), 7], [{"do": "batch", "parts": []}])),
+    *(put("r9", number=number) for number in (1.5, 1.0, 1 << 64)),
+    json.dumps(put("r9", number=5)).replace("5", "-0").encode(),
+    {**put("r9", text="x"), "more": 1},
+]
+# Lines of the intake's own, or that it has no use for.
+OWN = {
+    b'{"do":"remove","id":"r1"}': {"error": "Request"},
+    b'{"do":"set","id":"r1","object":"a","field":"text","value":"x"}': {"error": "Request"},
+    b'{"do":"redeclare","text":"{\\"types\\":{},\\"forms\\":{}}"}': {"error": "Request"},
+    b'{"do":"batch","parts":[{"do":"remove","id":"r1"}]}': {"error": "Request"},
+    json.dumps({**put("r9", text="x"), "expected": 7}).encode(): {"error": "Request"},
+    json.dumps({**put("r9", text="x"), "expected": "\0"}).encode(): {"error": "Request"},
+    json.dumps({**put("r9", text="x"), "expected": "soon"}).encode(): {"error": "InvalidDatetimeFormat"},
+    json.dumps(put("r9", text="\0")).encode(): {"error": "CheckViolation"},
+    b'{"do":"search","form":"f","field":"text","value":"two"}': {"ids": ["r2"], "ok": "search"},
+    b'{"do":"search","form":"f","field":"text","value":"\\u0000"}': {"error": "UntranslatableCharacter"},
+    b'{"do":"search","form":"f","field":7,"value":"two"}': {"error": "C3", "name": "Shape"},
+    b'{"do":"search","form":"f","field":"text"}': {"error": "C3", "name": "Shape"},
+    b'{"do":"search","form":"f","field":"text","value":"two","limit":0}': {"error": "C3", "name": "Shape"},
+    b'{"do":"search","form":"g","field":"text","value":"two"}': {"error": "C4", "name": "UnknownForm"},
+    b'{"do":"search","form":"f","field":"text","value":NaN}': {"error": "C2", "name": "NotJson"},
+}
+
+
 def over(server, judges, declarations=DECLARATIONS):
     """An intake over empty tables with these declarations in force."""
     server.run("TRUNCATE record, declaration")
@@ -182,19 +217,78 @@ def replies(server, folder):
         {"do": "batch", "parts": [put("r6", text="six"), put("r7", text=""), put("r8", text="x" * 61)]},
         {"do": "batch", "parts": [put("r6", text="six"), put("r7", number="x")]},
         {"do": "batch", "parts": []},
+        *ODD,
         put("r1", text="once more", texts=['"', "\\", "\n\t", "\u2028 \U0001f600", "%s", "\\n"]),
         *({"do": "get", "id": f"r{number}"} for number in range(9)),
         {"do": "list", "form": "f"},
         {"do": "list", "form": "f", "limit": 2, "after": "r2"},
     ]
-    text = b"".join(json.dumps(line, ensure_ascii=False).encode("utf-8", "surrogatepass") + b"\n" for line in lines)
-    served = subprocess.run([PROGRAM, "serve", "--declarations", folder / "d.json", "--database", folder / "g.db"], input=text, stdout=subprocess.PIPE, check=True)
+    lines = [line if isinstance(line, bytes) else json.dumps(line, ensure_ascii=False).encode("utf-8", "surrogatepass") for line in lines]
+    served = subprocess.run([PROGRAM, "serve", "--declarations", folder / "d.json", "--database", folder / "g.db"], input=b"\n".join([*lines, b""]), stdout=subprocess.PIPE, check=True)
     wanted = [json.loads(reply) for reply in served.stdout.splitlines()]
     made = over(server, 2)
-    for line, reply in zip(lines, wanted):
+    for line, reply in [*zip(lines, wanted), *OWN.items()]:
         found = intake.answered(made, line)
         found.pop("taken_at", None)
-        want(f"the reply to {str(line)[:200]}", found, reply)
+        want(f"the reply to {line[:200]}", found, reply)
+    made.stop()
+    words = [sys.executable, "-B", ROOT / "examples" / "postgres" / "intake.py", PROGRAM, server.words, "1", folder / "d.json"]
+    for n in range(2):
+        ran = subprocess.run(words, input=b"\xff\n" + lines[0], stdout=subprocess.PIPE)
+        want("the program by itself", (ran.returncode, ran.stdout), (0, b'{"error":"C2","name":"NotJson"}\n{"ok":"put"}\n'))
+    want("it has declared nothing anew", server.run("SELECT count(*) FROM declaration"), [(1,)])
+
+
+def apart(server, folder):
+    """What is raised in the midst of a call reaches its caller, and nothing of the call the next one. A process that was forked has no part in the intake."""
+    made, chance, told = over(server, 2), random.Random(1), {"answered": 0, "interrupted": 0, "wrong": []}
+
+    class Soft(Exception):
+        pass
+
+    def ring(*_):
+        raise Soft
+
+    before = signal.signal(signal.SIGALRM, ring)
+    made.put("first", "f", bundle(text="first"))
+    for n in range(INTERRUPTED):
+        try:
+            signal.setitimer(signal.ITIMER_REAL, chance.random() / 500 + 1e-6)
+            reply = made.put(f"s{n}", "f", bundle(text=("x" * 61, "x")[n % 2]))
+            signal.setitimer(signal.ITIMER_REAL, 0)
+            time.sleep(0)  # a signal that has come by then is told here
+            told["answered"] += 1
+            if (reply == {"ok": "put"}) != (n % 2 == 1) or n % 2 == 0 and reply["records"][0]["id"] != f"s{n}":
+                told["wrong"].append((n, reply))
+        except Soft:
+            told["interrupted"] += 1
+    signal.signal(signal.SIGALRM, before)
+    want("puts that are interrupted, answered by another's reply, or neither", (told["answered"] > 0, told["interrupted"] > 0, told["wrong"]), (True, True, []))
+    with contextlib.suppress(Soft), made.connection() as connection:
+        connection.pgconn.send_query(b"SELECT pg_sleep(9)")
+        raise Soft
+    want("a connection amid a query isn't given to others", made.get("none"), {"error": "C6", "name": "NoRecord"})
+
+    def child():
+        sys.exit([raised(lambda: made.put("x", "f", bundle(text="x"))), raised(lambda: made.get("x"))] != ["NotSent"] * 2)
+
+    forked = multiprocessing.get_context("fork").Process(target=child)
+    forked.start()
+    forked.join()
+    want("a process that was forked", forked.exitcode, 0)
+    want("the one that forked it", made.put("x", "f", bundle(text="x")), {"ok": "put"})
+    server.run("UPDATE record SET bundle = replace(bundle, ',', E',\r\n') WHERE id = 'x'")
+    want("a bundle that another writer keeps in lines", made.redeclare(DECLARATIONS), [])
+    (folder / "slow").write_text('#!/bin/sh\n[ "$1" = declarations ] || exec sleep 60\n')
+    (folder / "slow").chmod(0o755)
+    intake.JUDGING, bound = 0.3, intake.JUDGING
+    want("a judge that never ends", raised(lambda: intake.Intake(str(folder / "slow"), server.words).redeclare(STRICTER)), "NotSent")
+    intake.JUDGING = bound
+    keep = "SELECT keep('y', 'f', '{}', NULL, digest) FROM declaration"
+    want("a write under REPEATABLE READ", is_refused_by_database(lambda: server.run(f"BEGIN ISOLATION LEVEL REPEATABLE READ; {keep}")), "JD003")
+    server.run("CREATE ROLE taker; GRANT SELECT ON record, declaration TO taker; GRANT EXECUTE ON FUNCTION keep TO taker; CREATE ROLE other")
+    for role, statement, state in ("taker", keep + " LIMIT 1 OFFSET 9", None), ("taker", "DELETE FROM record", "42501"), ("other", keep, "42501"):
+        want(f"a write by {role}", is_refused_by_database(lambda: server.run(f"SET ROLE {role}; {statement}")), state)
     made.stop()
 
 
@@ -597,6 +691,7 @@ def main():
         try:
             if not SECONDS:
                 replies(server, Path(room))
+                apart(server, Path(room))
                 expectations(server)
                 contents(server)
                 redeclared(server)

@@ -3,9 +3,11 @@
     createdb intake; psql -d intake -f examples/postgres/schema.sql
     python3 examples/postgres/intake.py formd dbname=intake 4 order.json < lines
 
-The words are the program, the server, the number of judges and, where they are to be put in force first, declarations. Lines are puts, batches of puts, gets and
-lists of formd, with formd's replies; `{"do":"search","form":NAME,"field":NAME,"value":DATUM}` lists the records in which an object has that value. A put
-may tell what it expects to be there: `"expected":"-infinity"` that there is none, `"expected":MOMENT` the record that a get has shown with this `taken_at`.
+The words are the program, the server, the number of judges and declarations, which are put in force where they aren't yet. Lines are puts, batches of puts, gets and
+lists of formd, with formd's replies, a get's with `taken_at`; `{"do":"search","form":NAME,"field":NAME,"value":DATUM}` lists the records in which an object has that value. A
+put may tell what it expects to be there: `"expected":"-infinity"` that there is none, `"expected":MOMENT` the record that a get has shown with this `taken_at`. Whatever formd
+refuses as a line (C1 to C3) is refused so; `{"error":"Request"}` is another command, `Changed`, `NotSent` and `OutcomeUnknown` what these classes say, and any other
+error the name that psycopg has for what PostgreSQL refuses. Nothing bounds a statement but what the server is told: `options='-c statement_timeout=10s'`.
 
 Needs psycopg (Debian: python3-psycopg). `docs/SCALE.md` says what is promised, and how fast it is.
 """
@@ -16,6 +18,7 @@ import contextlib
 import functools
 import hashlib
 import json
+import os
 import queue
 import subprocess
 import sys
@@ -32,6 +35,9 @@ from formd_client import Failure, Limits, NotSent, OutcomeUnknown, Reply, Shard 
 
 ANYTHING, NOTHING = None, "-infinity"
 LIMITS = Limits()
+# Seconds: of the judge of a redeclare, for which puts wait, and until a server takes a connection that isn't told otherwise.
+JUDGING, CONNECTING = 3600.0, 10
+LONGEST = 1 << 20
 KEEP = "SELECT keep(%s, %s, %s, %s, %s)"
 KEEP_ALL = """
 SELECT keep(part.id, part.form, part.bundle, part.expected::timestamptz, %b)
@@ -42,9 +48,9 @@ SELECT id FROM record WHERE form = %s AND id > %s AND EXISTS (
     SELECT FROM jsonb_each(bundle::jsonb -> 'objects') AS object WHERE object.value -> 'fields' -> %s = %s::jsonb
 ) ORDER BY id LIMIT %s
 """
-# Each record as the line by which it was judged. No text of JSON has the characters that quote and delimit here, so nothing is quoted.
+# Each record as the line by which it was judged. No text of JSON has the characters that quote and delimit here, and ends of lines are blanks of it, so nothing is quoted.
 COPY = r"""
-COPY (SELECT format('{"do":"put","id":%s,"form":%s,"bundle":%s}', to_json(id), to_json(form), bundle) FROM record ORDER BY id)
+COPY (SELECT format('{"do":"put","id":%s,"form":%s,"bundle":%s}', to_json(id), to_json(form), translate(bundle, E'\r\n', '  ')) FROM record ORDER BY id)
 TO STDOUT (FORMAT csv, QUOTE E'\x01', DELIMITER E'\x02')
 """
 NUMBERED = "SELECT id FROM (SELECT id, row_number() OVER (ORDER BY id) AS number FROM record) AS numbered WHERE number = ANY(%s) ORDER BY number"
@@ -53,6 +59,10 @@ compact = functools.partial(json.dumps, ensure_ascii=False, allow_nan=False, sep
 
 class Changed(Failure):
     """What is there isn't what was expected: nothing was written."""
+
+
+class Request(Failure):
+    """A line that no intake takes: nothing was written."""
 
 
 def digest_of(text: str) -> str:
@@ -67,16 +77,20 @@ def file_of(text: str) -> Any:
     return file
 
 
-def put_line(id: Any, form: Any, bundle: str) -> str:
-    return f'{{"do":"put","id":{compact(id)},"form":{compact(form)},"bundle":{bundle}}}'
+def encoded(text: str) -> bytes:
+    """A text in UTF-8; one with a lone surrogate in bytes that formd refuses."""
+    return text.encode("utf-8", "surrogatepass")
+
+
+def put_line(id: Any, form: Any, bundle: str) -> bytes:
+    return encoded(f'{{"do":"put","id":{compact(id)},"form":{compact(form)},"bundle":{bundle}}}')
 
 
 class Judge(Shard):
-    """A process of `formd judge`, with the deadlines and restarts of a client's. It keeps nothing, so whoever has it talks to it in a thread of his own: an
-    exception in the midst of a line costs no more than the process."""
+    """A process of `formd judge`, with the thread, deadlines and restarts of a client's."""
 
     def ask(self, command: dict, line: bytes) -> Reply:
-        return self._exchange(command, line, self.limits.deadline)
+        return self.submit(lambda exchange: exchange(command, line, self.limits.deadline)).told(self.limits.patience)
 
 
 class Judges:
@@ -85,31 +99,22 @@ class Judges:
     def __init__(self, program: str, declarations: str, count: int):
         self.digest, self.file = digest_of(declarations), file_of(declarations)
         self.all = [Judge([program, "judge", "--declarations", self.file.name], LIMITS) for _ in range(count)]
-        self.free: queue.SimpleQueue[Judge] = queue.SimpleQueue()
-        for judge in self.all:
-            self.free.put(judge)
 
     def ask(self, command: dict, line: bytes) -> Reply:
-        """The reply to a line. NotSent where there is none: nothing has changed."""
+        """The reply to a line, by the judge that has the fewest. NotSent where there is none: nothing has changed."""
         for _ in range(2):
             try:
-                judge = self.free.get(timeout=LIMITS.patience)
-            except queue.Empty:
-                raise NotSent(f"no judge was free within {LIMITS.patience} s") from None
-            try:
-                return judge.ask(command, line)
+                return min(self.all, key=Judge.count).ask(command, line)
             except OutcomeUnknown as why:
                 lost = why
-            finally:
-                self.free.put(judge)
         raise NotSent(f"no judge has answered: {lost}")
 
     def stop(self) -> None:
-        """Ends the processes, each once nobody has it. Lines that come later aren't sent."""
-        for judge in [self.free.get() for _ in self.all]:
-            judge.begin_stop(0)
+        """Ends the processes behind the lines that they have. Lines that come later aren't sent."""
+        for judge in self.all:
+            judge.begin_stop(LIMITS.deadline)
+        for judge in self.all:
             judge.end_stop()
-            self.free.put(judge)
         self.file.close()
 
 
@@ -120,18 +125,18 @@ class Intake:
     def __init__(self, program: str, server: str, judges: int = 4):
         self.program, self.server, self.count = program, server, judges
         self.judges: Judges | None = None
-        self.lock = threading.Lock()
+        self.lock, self.owner = threading.Lock(), os.getpid()
         self.idle: queue.LifoQueue[psycopg.Connection] = queue.LifoQueue()
 
     def put(self, id: str, form: str, bundle: dict, expected: str | None = ANYTHING) -> Reply:
         """The judge's reply; where it is `ok` the record is written. Changed where that isn't there which was expected."""
         text = compact(bundle)
-        return self._take({"do": "put", "id": id}, put_line(id, form, text), [(id, form, text, expected)])
+        return self.take({"do": "put", "id": id}, put_line(id, form, text), [(id, form, text, expected)])
 
     def batch(self, parts: Iterable[dict]) -> Reply:
         """The same of up to 64 puts, each with `id`, `form`, `bundle` and perhaps `expected`: all are written, or none."""
         rows = [(part["id"], part["form"], compact(part["bundle"]), part.get("expected", ANYTHING)) for part in parts]
-        return self._take({"do": "batch"}, '{"do":"batch","parts":[' + ",".join(put_line(*row[:3]) for row in rows) + "]}", rows)
+        return self.take({"do": "batch"}, b'{"do":"batch","parts":[' + b",".join(put_line(*row[:3]) for row in rows) + b"]}", rows)
 
     def get(self, id: str) -> dict:
         """A record, and the moment at which it was taken; C6 where there is none."""
@@ -162,6 +167,27 @@ class Intake:
                 connection.execute("INSERT INTO declaration (digest, text) VALUES (%s, %s)", (digest_of(declarations), declarations))
             return refused
 
+    def in_force(self) -> str | None:
+        """The declarations in force, if there are some."""
+        with self.connection() as connection:
+            row = connection.execute("SELECT text FROM declaration ORDER BY number DESC LIMIT 1").fetchone()
+        return row[0] if row else None
+
+    def take(self, command: dict, line: bytes, rows: list[tuple]) -> Reply:
+        """Judges a line, and writes what it puts. Where its judges turn out to be of declarations that are no longer in force, it is judged by others."""
+        stale = None
+        while True:
+            judges = self._judges(stale)
+            try:
+                reply = judges.ask(command, line + b"\n")
+            except NotSent:
+                if judges is self.judges:
+                    raise
+                continue  # another thread has found them to be stale, and ends them
+            if "error" in reply or not rows or self.keep(rows, judges.digest):
+                return reply
+            stale = judges
+
     def keep(self, rows: list[tuple], digest: str) -> bool:
         """Writes records that were judged by the declarations of this digest, in one transaction: ids, forms, the texts that were judged, what is expected. False,
         and nothing is written, where other declarations are in force."""
@@ -182,7 +208,8 @@ class Intake:
 
     @contextlib.contextmanager
     def connection(self) -> Iterator[psycopg.Connection]:
-        """A connection that nobody else has meanwhile."""
+        """A connection that nobody else has meanwhile. One that isn't through with its query is closed."""
+        self._look_at_owner()
         try:
             connection = self.idle.get_nowait()
         except queue.Empty:
@@ -192,8 +219,10 @@ class Intake:
         except psycopg.OperationalError as why:
             raise OutcomeUnknown(str(why)) from why
         finally:
-            if not connection.closed:
+            if connection.pgconn.transaction_status == psycopg.pq.TransactionStatus.IDLE:
                 self.idle.put(connection)
+            else:
+                connection.close()
 
     def stop(self) -> None:
         """Ends the judges and closes the connections, once nobody puts any more."""
@@ -202,42 +231,37 @@ class Intake:
         while not self.idle.empty():
             self.idle.get().close()
 
-    def _take(self, command: dict, text: str, rows: list[tuple]) -> Reply:
-        """Judges a line, and writes what it puts. Where its judges turn out to be of declarations that are no longer in force, it is judged by others."""
-        line, stale = text.encode("utf-8", "surrogatepass") + b"\n", None
-        while True:
-            judges = self._judges(stale)
-            try:
-                reply = judges.ask(command, line)
-            except NotSent:
-                if judges is self.judges:
-                    raise
-                continue  # another thread has found them to be stale, and ends them
-            if "error" in reply or self.keep(rows, judges.digest):
-                return reply
-            stale = judges
-
     def _judges(self, stale: Judges | None) -> Judges:
         """Judges by the declarations in force: others than those that are stale."""
+        self._look_at_owner()
         with self.lock:
             if self.judges is stale:
-                with self.connection() as connection:
-                    row = connection.execute("SELECT text FROM declaration ORDER BY number DESC LIMIT 1").fetchone()
-                if row is None:
+                text = self.in_force()
+                if text is None:
                     raise NotSent("no declarations are in force")
-                self.judges = Judges(self.program, row[0], self.count)
+                self.judges = Judges(self.program, text, self.count)
                 if stale is not None:
                     threading.Thread(target=stale.stop).start()
             return self.judges
+
+    def _look_at_owner(self) -> None:
+        if self.owner != os.getpid():
+            raise NotSent("the intake is that of the process from which this one was forked: make it behind the fork")
 
     def _judge_all(self, connection: psycopg.Connection, file: str) -> list[tuple[str, Reply]]:
         """The ids of the records that aren't taken by declarations, with the judge's replies."""
         words = [self.program, "judge", "--declarations", file]
         with tempfile.TemporaryFile() as told, subprocess.Popen(words, stdin=subprocess.PIPE, stdout=told) as judge, connection.cursor() as cursor:
-            with contextlib.suppress(BrokenPipeError), judge.stdin, cursor.copy(COPY) as lines:
-                for part in lines:
-                    judge.stdin.write(part)
-            status = judge.wait()
+            bound = threading.Timer(JUDGING, judge.kill)
+            bound.start()
+            try:
+                with contextlib.suppress(BrokenPipeError), judge.stdin, cursor.copy(COPY) as lines:
+                    for part in lines:
+                        judge.stdin.write(part)
+                status = judge.wait()
+            finally:
+                bound.cancel()
+                judge.kill()
             told.seek(0)
             replies = told.readlines()
             if (status, len(replies)) != (0, cursor.rowcount):
@@ -252,19 +276,56 @@ class Intake:
 
     def _connect(self) -> psycopg.Connection:
         try:
-            connection = psycopg.connect(self.server, autocommit=True)
+            connection = psycopg.connect(**{"connect_timeout": CONNECTING, **psycopg.conninfo.conninfo_to_dict(self.server)}, autocommit=True)
             connection.execute("SET default_transaction_isolation = 'read committed'")  # as `keep` needs it
             return connection
         except psycopg.OperationalError as why:
             raise NotSent(str(why)) from why
 
 
-def answered(intake: Intake, command: dict) -> dict:
-    """The reply to a line of formd, or to a search."""
-    calls = {"put": intake.put, "batch": intake.batch, "get": intake.get, "list": intake.ids, "search": intake.search}
+def as_judged(command: Any) -> Any:
+    """A command as formd knows it: without what it expects, and a search as a list of its form."""
+    if not isinstance(command, dict):
+        return command
+    do = command.get("do")
+    if do == "batch" and isinstance(command.get("parts"), list):
+        return {**command, "parts": [as_judged(part) for part in command["parts"]]}
+    if do == "search" and isinstance(command.get("field"), str) and "value" in command:
+        return {**{member: held for member, held in command.items() if member not in ("field", "value")}, "do": "list"}
+    return {member: held for member, held in command.items() if do != "put" or member != "expected"}
+
+
+def row_of(part: dict) -> tuple:
+    """What is kept of a put that is taken."""
+    expected = part.get("expected", ANYTHING)
+    if expected is not ANYTHING and not (isinstance(expected, str) and expected.isprintable()):
+        raise Request("what is expected is a text")
+    return part.get("id"), part.get("form"), compact(part.get("bundle")), expected
+
+
+def answered(intake: Intake, line: bytes) -> dict:
+    """The reply to a line. A judge looks at each, so that formd itself refuses what is no command."""
+    calls = {"get": intake.get, "list": intake.ids, "search": intake.search}
     try:
-        return calls[command["do"]](**{member: value for member, value in command.items() if member != "do"})
-    except Failure as why:
+        try:
+            command = json.loads(line.decode(), parse_int=lambda digits: -0.0 if digits == "-0" else int(digits))
+            compact(command).encode()
+            judged = as_judged(command)
+        except (ValueError, RecursionError):
+            judged = None
+        if judged is None or len(line) > LONGEST:
+            return intake.take({}, line, [])
+        do = command.get("do") if isinstance(command, dict) else None
+        parts = [command] if do == "put" else command.get("parts") if do == "batch" else None
+        if parts and isinstance(parts, list) and all(isinstance(part, dict) and part.get("do") == "put" for part in parts):
+            return intake.take(judged, encoded(compact(judged)), [row_of(part) for part in parts])
+        reply = intake.take(judged, encoded(compact(judged)), [])
+        if reply.get("error") in ("C1", "C2", "C3"):
+            return reply
+        if not isinstance(do, str) or do not in calls:
+            raise Request("a command of another sort")
+        return reply if reply.get("error", "C6") != "C6" else calls[do](**{member: held for member, held in command.items() if member != "do"})
+    except (Failure, psycopg.Error) as why:
         return {"error": type(why).__name__}
 
 
@@ -272,10 +333,11 @@ def main() -> None:
     program, server, judges, *declarations = sys.argv[1:]
     intake = Intake(program, server, int(judges))
     for file in declarations:
-        for id, reply in intake.redeclare(Path(file).read_text(encoding="utf-8")):
+        text = Path(file).read_text(encoding="utf-8")
+        for id, reply in intake.redeclare(text) if text != intake.in_force() else []:
             sys.exit(f"{file} isn't put in force: {id}: {compact(reply)}")
-    for line in sys.stdin:
-        print(compact(answered(intake, json.loads(line))), flush=True)
+    for line in sys.stdin.buffer:
+        print(compact(answered(intake, line.removesuffix(b"\n"))), flush=True)
     intake.stop()
 
 

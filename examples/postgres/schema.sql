@@ -1,4 +1,5 @@
 -- The tables of an intake whose records `formd judge` judges. Once: psql -d intake -f schema.sql
+SET search_path = public;
 
 -- Declarations as they were put in force: those of the last row are.
 CREATE TABLE declaration (
@@ -22,9 +23,14 @@ CREATE INDEX record_of_form ON record (form, id);
 
 -- Writes a record that was judged by the declarations of a digest, where they are in force, and where that is there which is expected: anything (null), nothing
 -- ('-infinity'), or the record that was taken at this moment. Else JD001 or JD002. All writes go by this function, under READ COMMITTED: a redeclare waits
--- until those that hold the lock are through, and the statements behind it see what a redeclare has left for which they waited.
-CREATE FUNCTION keep(new_id text, new_form text, new_bundle text, expected timestamptz, judged_by text) RETURNS void LANGUAGE plpgsql AS $$
+-- until those that hold the lock are through, and the statements behind it see what a redeclare has left for which they waited. It writes as the owner of the tables, so that
+-- others need no right to write them: GRANT SELECT ON record, declaration TO taker; GRANT EXECUTE ON FUNCTION keep TO taker. A redeclare is the owner's.
+CREATE FUNCTION keep(new_id text, new_form text, new_bundle text, expected timestamptz, judged_by text) RETURNS void
+LANGUAGE plpgsql SECURITY DEFINER SET search_path = public, pg_temp AS $$
 BEGIN
+    IF current_setting('transaction_isolation') <> 'read committed' THEN
+        RAISE EXCEPTION 'keep writes under READ COMMITTED alone' USING ERRCODE = 'JD003';
+    END IF;
     LOCK TABLE record IN ROW EXCLUSIVE MODE;
     IF judged_by IS DISTINCT FROM (SELECT digest FROM declaration ORDER BY number DESC LIMIT 1) THEN
         RAISE EXCEPTION 'other declarations are in force' USING ERRCODE = 'JD001';
@@ -44,3 +50,4 @@ BEGIN
         RAISE EXCEPTION '% isn''t as it was expected', new_id USING ERRCODE = 'JD002';
     END IF;
 END $$;
+REVOKE EXECUTE ON FUNCTION keep FROM PUBLIC;
