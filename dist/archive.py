@@ -1,9 +1,9 @@
 #!/usr/bin/env python3
-"""Puts the program that `make` leaves into one archive, with a manual page, a unit for systemd, the clients, the examples and checksums.
+"""Puts the program that `make` leaves into one archive, with a manual page, a unit for systemd, the documents, the clients, the examples and checksums.
 
     dist/archive.py [FOLDER]    leaves gavelumbrine-VERSION-linux-x86_64.tar.gz in the folder, or in the current one
 
-The same files give the same bytes: names in order, no owner, the time of the last commit. The version is the program's own (`formd version`), the manual page is made of
+The same files give the same bytes: names in order, no owner, the time of the last commit. Documents lie to one another as in the repository; a link to a file that isn't taken along becomes plain text. The version is the program's own (`formd version`), the manual page is made of
 the program's own help.
 """
 
@@ -18,8 +18,8 @@ from pathlib import Path
 
 ROOT = Path(__file__).resolve().parent.parent
 FORMD = ROOT / "crates" / "formd" / "out" / "formd"
-COPIED = ("README.md", "docs/MANUAL.md", "docs/FORMATS.md", "docs/SCALE.md", "docs/CASCADES.md", "docs/picture.svg")
-FOLDERS = ("clients", "examples")
+LINK = re.compile(r"\[([^\]]*)\]\(([^)\s]+)\)")
+TAKEN = ("README.md", "CONTRIBUTING.md", "bench/README.md", "docs", "clients", "examples")
 
 
 def said(*words):
@@ -66,16 +66,27 @@ def manual_page():
     return page.encode()
 
 
+def unlinked(path, taken):
+    """A document, where links to what isn't taken along are plain text."""
+
+    def kept(link):
+        text, to = link.groups()
+        there = (path.parent / to.partition("#")[0]).resolve() if not to.startswith("#") else path
+        return link[0] if "://" in to or there in taken else text
+
+    return LINK.sub(kept, path.read_text()).encode()
+
+
 def files():
     """Each file of the archive: its path below the archive's folder, its bytes, and whether it is a program."""
     yield "bin/formd", FORMD.read_bytes(), True
     yield "share/man/man1/formd.1", manual_page(), False
     yield "lib/systemd/system/orders.service", (ROOT / "dist" / "orders.service").read_bytes(), False
-    for name in COPIED:
-        yield f"share/doc/gavelumbrine/{name}", (ROOT / name).read_bytes(), False
-    listed = subprocess.run(["git", "ls-files", "-z", *FOLDERS], cwd=ROOT, capture_output=True, text=True, check=True).stdout
-    for name in filter(None, listed.split("\0")):
-        yield f"share/gavelumbrine/{name}", (ROOT / name).read_bytes(), (ROOT / name).stat().st_mode & 0o100 != 0
+    listed = subprocess.run(["git", "ls-files", "-z", *TAKEN], cwd=ROOT, capture_output=True, text=True, check=True).stdout
+    taken = {ROOT / name for name in filter(None, listed.split("\0"))}
+    for path in taken:
+        data = unlinked(path, taken) if path.suffix == ".md" else path.read_bytes()
+        yield f"share/gavelumbrine/{path.relative_to(ROOT)}", data, path.stat().st_mode & 0o100 != 0
 
 
 def archive(folder):

@@ -90,6 +90,15 @@ def look_at_texts(unpacked):
         look("what is wrong with the unit", wrong, [])
 
 
+def look_at_links(folder):
+    """Those of the documents, and whether what the unit's program reads is there."""
+    link = module(ROOT / "tests" / "links.py").LINK
+    there = [(document, path) for document in sorted(folder.rglob("*.md")) for path in link.findall(document.read_text()) if "://" not in path]
+    look("links that lead nowhere", [(document.name, path) for document, path in there if not (document.parent / path).exists()], [])
+    needed = "docs/declarations.schema.json", "examples/flask/app.py", "examples/contact.json", "clients/python/formd_client.py"
+    look("files that aren't there", [name for name in needed if not (folder / name).exists()], [])
+
+
 def main():
     archive = module(ROOT / "dist" / "archive.py")
     with tempfile.TemporaryDirectory() as folder:
@@ -98,11 +107,12 @@ def main():
         one, two = archive.archive(folder / "one"), archive.archive(folder / "two")
         look("the archive made twice", hashlib.sha256(two.read_bytes()).hexdigest(), hashlib.sha256(one.read_bytes()).hexdigest())
         with tarfile.open(one) as tar:
-            tar.extractall(folder / "root", filter="data")
+            tar.extractall(folder / "root", **({"filter": "data"} if hasattr(tarfile, "data_filter") else {}))
         unpacked = folder / "root" / one.name.removesuffix(".tar.gz")
         look_at_checksums(unpacked)
         look_at_version(one.name, unpacked)
         look_at_texts(unpacked)
+        look_at_links(unpacked / "share" / "gavelumbrine")
         if os.geteuid() == 0:
             look_at_root(folder / "root", unpacked)
         print(f"{one.name}: {one.stat().st_size:,} bytes, {len(list(unpacked.rglob('*')))} files and folders")
