@@ -36,8 +36,13 @@ LINE = 1_000_000
 AJV = """
 const Ajv = require('ajv');
 const { $schema, ...schema } = JSON.parse(require('fs').readFileSync(process.argv[1]));
-const judge = new (Ajv.default ?? Ajv)({ strict: false }).compile(schema);
-for (const line of require('fs').readFileSync(0, 'utf8').split('\\n')) if (line) console.log(judge(JSON.parse(JSON.parse(line))) ? 'taken' : 'refused');
+const judge = new (Ajv.default ?? Ajv)({ strict: false, allErrors: process.argv[2] === 'places', jsonPointers: true }).compile(schema);
+for (const line of require('fs').readFileSync(0, 'utf8').split('\\n')) {
+  if (!line) continue;
+  const isTaken = judge(JSON.parse(JSON.parse(line)));
+  if (process.argv[2] === 'places') console.log(JSON.stringify((judge.errors ?? []).map((error) => error.instancePath ?? error.dataPath)));
+  else console.log(isTaken ? 'taken' : 'refused');
+}
 """
 # Others than what is to be expected there.
 ODD = [None, True, False, 0, 7, -1, 1.5, 1 << 63, 1 << 32, "", "x", "T", "text", "Default", "Size", "Min", "{", "a b", [], ["x"], [7], {}, {"x": 7}, {"ref": "T"}, {"type": "text"}]
@@ -140,18 +145,18 @@ def by_jsonschema(validator, texts):
     return ["taken" if made.is_valid(json.loads(text)) else "refused" for text in texts]
 
 
-def by_ajv(texts):
-    """None where Ajv isn't installed."""
+def by_ajv(texts, what="answers"):
+    """What Ajv says of each text, or the places of all that it finds wrong; None where it isn't installed."""
     if not shutil.which("node"):
         return None
-    words = ["node", "-e", AJV, rows.ROOT / "docs" / "declarations.schema.json"]
+    words = ["node", "-e", AJV, rows.ROOT / "docs" / "declarations.schema.json", what]
     given = "".join(json.dumps(text) + "\n" for text in texts)
     ran = subprocess.run(words, input=given, capture_output=True, text=True, env={**os.environ, "NODE_PATH": "/usr/share/nodejs"})
     if "Cannot find module 'ajv'" in ran.stderr:
         return None
     if ran.returncode:
         raise SystemExit(ran.stderr)
-    return ran.stdout.split()
+    return ran.stdout.splitlines()
 
 
 def is_beyond(text, as_double):
@@ -177,13 +182,15 @@ def compare(name, texts, codes, answers):
 
 def shown():
     """How many mistakes aren't shown at their places."""
-    wrong = 0
-    for text, place in SHOWN:
-        for validator in jsonschema.Draft202012Validator, jsonschema.Draft7Validator:
-            errors = list(validator(SCHEMA).iter_errors(json.loads(text)))
-            if place not in [list(error.absolute_path) for error in errors]:
+    wrong, by_name = 0, {}
+    for validator in jsonschema.Draft202012Validator, jsonschema.Draft7Validator:
+        by_name[validator.__name__] = [["".join(f"/{step}" for step in error.absolute_path) for error in validator(SCHEMA).iter_errors(json.loads(text))] for text, _ in SHOWN]
+    by_name["Ajv"] = [json.loads(line) for line in by_ajv([text for text, _ in SHOWN], "places") or []]
+    for name, shown_at in by_name.items():
+        for (text, place), places in zip(SHOWN, shown_at):
+            if "".join(f"/{step}" for step in place) not in places:
                 wrong += 1
-                print(f"{text}: wanted at {place}, shown at {[list(error.absolute_path) for error in errors]}")
+                print(f"{name}: {text}: wanted at {place}, shown at {places}")
     return wrong
 
 
