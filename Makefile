@@ -63,7 +63,7 @@ hostile: all
 	cd crates/refused_calls && rt run < stdin > /dev/null
 	tests/hostile.py
 
-# Packs the proved program with a manual page, a unit for systemd, clients, examples and checksums into one archive, and looks at it in an empty root.
+# Packs the proved program with a manual page, a unit for systemd, documents, clients, examples and checksums into one archive, and looks at it in an empty root.
 dist: all
 	tests/dist.py
 	dist/archive.py
