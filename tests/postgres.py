@@ -54,7 +54,7 @@ SHORT, SECONDS = sys.argv[2:] == ["short"], sys.argv[2:] == ["seconds"]
 # of judges and of the server, each over 1, 2 and 4 judges
 JUDGES_KILLED, SERVERS_KILLED = ((4, 3, 3), (1, 0, 1)) if SHORT else ((34, 33, 33), (7, 7, 6))
 CALLERS = 8
-INTERRUPTED = 100 if SHORT else 1000
+INTERRUPTED = 1000
 # turns of a caller between two kills, of all together
 TURNS = 20 if SHORT else 40
 CHANGES = 3 if SHORT else 12
@@ -241,15 +241,16 @@ def replies(server, folder):
 
 def apart(server, folder):
     """What is raised in the midst of a call reaches its caller, and nothing of the call the next one. A process that was forked has no part in the intake."""
-    made, chance, told = over(server, 2), random.Random(1), {"answered": 0, "interrupted": 0, "wrong": []}
+    made, chance, told = over(server, 2), random.Random(1), {"answered": 0, "rung": 0, "interrupted": 0, "wrong": []}
 
     class Soft(Exception):
         pass
 
     def ring(*_):
+        told["rung"] += 1
         raise Soft
 
-    before = signal.signal(signal.SIGALRM, ring)
+    before, sys.unraisablehook = signal.signal(signal.SIGALRM, ring), lambda _: None  # what psycopg says of objects that were interrupted as they were made
     made.put("first", "f", bundle(text="first"))
     for n in range(INTERRUPTED):
         try:
@@ -263,7 +264,10 @@ def apart(server, folder):
         except Soft:
             told["interrupted"] += 1
     signal.signal(signal.SIGALRM, before)
-    want("puts that are interrupted, answered by another's reply, or neither", (told["answered"] > 0, told["interrupted"] > 0, told["wrong"]), (True, True, []))
+    sys.unraisablehook = sys.__unraisablehook__
+    want("replies to another's line", told["wrong"], [])
+    # but for what is raised in a __del__
+    want("whether callers are answered, and what interrupts them reaches them", (told["answered"] > 0, told["interrupted"] > 0.9 * told["rung"] > 0), (True, True))
     with contextlib.suppress(Soft), made.connection() as connection:
         connection.pgconn.send_query(b"SELECT pg_sleep(9)")
         raise Soft
@@ -281,13 +285,14 @@ def apart(server, folder):
     want("a bundle that another writer keeps in lines", made.redeclare(DECLARATIONS), [])
     (folder / "slow").write_text('#!/bin/sh\n[ "$1" = declarations ] || exec sleep 60\n')
     (folder / "slow").chmod(0o755)
-    intake.JUDGING, bound = 0.3, intake.JUDGING
-    want("a judge that never ends", raised(lambda: intake.Intake(str(folder / "slow"), server.words).redeclare(STRICTER)), "NotSent")
+    intake.JUDGING, bound, begun = 0.3, intake.JUDGING, time.monotonic()
+    slow = raised(lambda: intake.Intake(str(folder / "slow"), server.words).redeclare(STRICTER))
+    want("a judge that never ends", (slow, time.monotonic() - begun < 30), ("NotSent", True))
     intake.JUDGING = bound
-    keep = "SELECT keep('y', 'f', '{}', NULL, digest) FROM declaration"
+    keep = "SELECT keep('y', 'f', '{}', NULL, 'x')"
     want("a write under REPEATABLE READ", is_refused_by_database(lambda: server.run(f"BEGIN ISOLATION LEVEL REPEATABLE READ; {keep}")), "JD003")
     server.run("CREATE ROLE taker; GRANT SELECT ON record, declaration TO taker; GRANT EXECUTE ON FUNCTION keep TO taker; CREATE ROLE other")
-    for role, statement, state in ("taker", keep + " LIMIT 1 OFFSET 9", None), ("taker", "DELETE FROM record", "42501"), ("other", keep, "42501"):
+    for role, statement, state in ("taker", keep, "JD001"), ("taker", "DELETE FROM record", "42501"), ("other", keep, "42501"):
         want(f"a write by {role}", is_refused_by_database(lambda: server.run(f"SET ROLE {role}; {statement}")), state)
     made.stop()
 

@@ -19,7 +19,6 @@ import functools
 import hashlib
 import json
 import os
-import queue
 import subprocess
 import sys
 import tempfile
@@ -35,7 +34,7 @@ from formd_client import Failure, Limits, NotSent, OutcomeUnknown, Reply, Shard 
 
 ANYTHING, NOTHING = None, "-infinity"
 LIMITS = Limits()
-# Seconds: of the judge of a redeclare, for which puts wait, and until a server takes a connection that isn't told otherwise.
+# Seconds: of the judge of a redeclare, for which puts wait (an hour is some 100,000,000 orders), and until a server takes a connection that isn't told otherwise.
 JUDGING, CONNECTING = 3600.0, 10
 LONGEST = 1 << 20
 KEEP = "SELECT keep(%s, %s, %s, %s, %s)"
@@ -126,7 +125,7 @@ class Intake:
         self.program, self.server, self.count = program, server, judges
         self.judges: Judges | None = None
         self.lock, self.owner = threading.Lock(), os.getpid()
-        self.idle: queue.LifoQueue[psycopg.Connection] = queue.LifoQueue()
+        self.idle: list[psycopg.Connection] = []  # no queue, whose lock stays closed where something is raised in the midst of it
 
     def put(self, id: str, form: str, bundle: dict, expected: str | None = ANYTHING) -> Reply:
         """The judge's reply; where it is `ok` the record is written. Changed where that isn't there which was expected."""
@@ -211,8 +210,8 @@ class Intake:
         """A connection that nobody else has meanwhile. One that isn't through with its query is closed."""
         self._look_at_owner()
         try:
-            connection = self.idle.get_nowait()
-        except queue.Empty:
+            connection = self.idle.pop()
+        except IndexError:
             connection = self._connect()
         try:
             yield connection
@@ -220,7 +219,7 @@ class Intake:
             raise OutcomeUnknown(str(why)) from why
         finally:
             if connection.pgconn.transaction_status == psycopg.pq.TransactionStatus.IDLE:
-                self.idle.put(connection)
+                self.idle.append(connection)
             else:
                 connection.close()
 
@@ -228,8 +227,8 @@ class Intake:
         """Ends the judges and closes the connections, once nobody puts any more."""
         if self.judges is not None:
             self.judges.stop()
-        while not self.idle.empty():
-            self.idle.get().close()
+        while self.idle:
+            self.idle.pop().close()
 
     def _judges(self, stale: Judges | None) -> Judges:
         """Judges by the declarations in force: others than those that are stale."""
@@ -314,7 +313,7 @@ def answered(intake: Intake, line: bytes) -> dict:
         except (ValueError, RecursionError):
             judged = None
         if judged is None or len(line) > LONGEST:
-            return intake.take({}, line, [])
+            return intake.take({}, line[: LONGEST + 1], [])
         do = command.get("do") if isinstance(command, dict) else None
         parts = [command] if do == "put" else command.get("parts") if do == "batch" else None
         if parts and isinstance(parts, list) and all(isinstance(part, dict) and part.get("do") == "put" for part in parts):
