@@ -76,7 +76,7 @@ def look_at_version(name, unpacked):
     told = subprocess.run([unpacked / "bin" / "formd", "version"], capture_output=True, text=True).stdout
     version = told.removeprefix("formd ").partition(",")[0]
     look("the version in the archive's name", name, f"gavelumbrine-{version}-linux-x86_64.tar.gz")
-    look("the version in the README", re.findall(r"\*\*Version\*\* (\S+)", (unpacked / "share/doc/gavelumbrine/README.md").read_text()), [version])
+    look("the version in the README", re.findall(r"\*\*Version\*\* (\S+)", (unpacked / "share/gavelumbrine/README.md").read_text()), [version])
 
 
 def look_at_texts(unpacked):
