@@ -17,7 +17,6 @@ keeps are refused. What the program may write on standard error is taken from th
 """
 
 import json
-import os
 import random
 import resource
 import sqlite3
@@ -29,8 +28,10 @@ import time
 from collections import Counter
 from pathlib import Path
 
-ROOT = Path(__file__).resolve().parent.parent
-PROGRAM = Path(sys.argv[1] if len(sys.argv) > 1 else ROOT / "crates" / "formd" / "out" / "formd").resolve()
+import looks
+from looks import ROOM, compact, named_program, tell
+
+PROGRAM = named_program()
 SEED = int(sys.argv[2]) if len(sys.argv) > 2 else 1
 SECONDS, GIGABYTE = 10, 1 << 30
 MOST = int(sys.argv[3]) if len(sys.argv) > 3 else None
@@ -45,18 +46,6 @@ RECORD = "CREATE TABLE record (id TEXT NOT NULL PRIMARY KEY, form TEXT NOT NULL,
 FIRST_RECORD = "CREATE TABLE record (id TEXT NOT NULL PRIMARY KEY, form TEXT NOT NULL, bundle TEXT NOT NULL)"
 KEYS = [f"r{number}" for number in range(5)]
 STATUS_4 = {b"formd: cannot open database\n", b"formd: store: OtherVersion\n", b"formd: store: Store\n", b"formd: memory\n"}
-failed = 0
-
-
-def tell(text):
-    global failed
-    failed += 1
-    if failed <= 20:
-        print(text, flush=True)
-
-
-def compact(value):
-    return json.dumps(value, separators=(",", ":"), sort_keys=True)
 
 
 def bundle(number):
@@ -224,13 +213,10 @@ def lengths(chance, size, unit):
 
 
 def main():
-    if not PROGRAM.is_file():
-        sys.exit(f"{PROGRAM} isn't there: make it by `make`")
     limit()
     chance = random.Random(SEED)
     complemented = cut = 0
-    # (how long a disk takes doesn't matter here, so the files are in memory where the system has such a folder)
-    with tempfile.TemporaryDirectory(dir="/dev/shm" if os.access("/dev/shm", os.W_OK) else None) as name:
+    with tempfile.TemporaryDirectory(dir=ROOM) as name:
         folder = Path(name)
         (folder / "d.json").write_text(DECLARATIONS)
         subjects = [(f"version {version}, {'with a log' if has_log else 'no log'}", version, MOST, small(folder, version, has_log)) for version in (2, 1) for has_log in (False, True)]
@@ -256,8 +242,8 @@ def main():
             print(f"{subject}: a file of {len(files[0])} bytes and a log of {len(files[1])}: {bytes_here} bytes complemented, {cuts_here} times cut off; the longest run {opened.longest:.2f} s", flush=True)
             for end, times in opened.ends.most_common():
                 print(f"    {times:6} {end}")
-    print(f"seed {SEED}: {complemented} bytes complemented, {cut} files cut off: {failed} crashes, long runs, odd answers or changed files")
-    return 1 if failed else 0
+    print(f"seed {SEED}: {complemented} bytes complemented, {cut} files cut off: {looks.failed} crashes, long runs, odd answers or changed files")
+    return 1 if looks.failed else 0
 
 
 if __name__ == "__main__":

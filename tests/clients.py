@@ -20,8 +20,9 @@ import tempfile
 import time
 from pathlib import Path
 
-ROOT = Path(__file__).resolve().parent.parent
-PROGRAM = Path(sys.argv[1] if len(sys.argv) > 1 else ROOT / "crates" / "formd" / "out" / "formd").resolve()
+from looks import ROOT, end, look, named_program
+
+PROGRAM = named_program()
 SHORT = sys.argv[2:] == ["short"]
 PUTS, KILLS = (1600, 20) if SHORT else (10_000, 200)
 FIELDS = '"text":{"type":"text","constraints":[{"constraint":"Size","with":{"max":60}}]},"texts":{"type":{"list":{"type":"text"}}},"number":{"type":"integer"}'
@@ -72,15 +73,6 @@ for line in sys.stdin:
         tell("more")
 """
 DRIVERS = {"Python": [sys.executable, ROOT / "tests" / "clients_driver.py"], "Node": ["node", ROOT / "tests" / "clients_driver.js"]}
-failed = count = 0
-
-
-def want(what, found, wanted):
-    global failed, count
-    count += 1
-    if found != wanted:
-        failed += 1
-        print(f"{what}\nwanted {str(wanted)[:400]}\nfound  {str(found)[:400]}", flush=True)
 
 
 class Play:
@@ -106,15 +98,15 @@ class Play:
     def has_run(self):
         """Whether there is something to compare; a run that failed is told."""
         if isinstance(self.found, str):
-            want(self.what, self.found, "a report")
+            look(self.what, self.found, "a report")
         return not isinstance(self.found, str)
 
-    def want(self, what, found, wanted):
-        want(f"{self.what}: {what}", found, wanted)
+    def look(self, what, found, wanted):
+        look(f"{self.what}: {what}", found, wanted)
 
     def is_told(self, wanted):
         if self.has_run():
-            want(self.what, self.found, wanted)
+            look(self.what, self.found, wanted)
 
     def kept(self):
         """The texts of the records in each file by itself, without its log: their processes have ended in order."""
@@ -135,8 +127,8 @@ class Play:
         found = self.kept()
         lost = [key for file, texts in zip(found, wanted) for key in texts if file.get(key) != texts[key]]
         more = [key for file, texts in zip(found, wanted) for key in file if key not in texts]
-        self.want("answered puts that are lost", lost, [])
-        self.want("records that nobody was told of", more, [])
+        self.look("answered puts that are lost", lost, [])
+        self.look("records that nobody was told of", more, [])
 
 
 def kills(language):
@@ -144,10 +136,10 @@ def kills(language):
     if not play.has_run():
         return
     found = play.found
-    play.want("replies to another's line", found["crossed"], [])
-    play.want("answered puts", len(found["answered"]), PUTS)
-    play.want("statuses", found["statuses"], [0, 0, 0])
-    play.want("whether lines were under way when their process was killed", found["unknown"] > 0, True)
+    play.look("replies to another's line", found["crossed"], [])
+    play.look("answered puts", len(found["answered"]), PUTS)
+    play.look("statuses", found["statuses"], [0, 0, 0])
+    play.look("whether lines were under way when their process was killed", found["unknown"] > 0, True)
     play.compare_kept(found["answered"])
     print(
         f"{language}: {PUTS} puts by 32 callers over 3 files, {KILLS} kills in {play.seconds:.1f} s: {found['unknown']} lines made or not, {found['not_sent']} not sent, "
@@ -159,9 +151,9 @@ def kills(language):
 def stop(language):
     play = Play(language, "stop", files=3, puts=PUTS // 8)
     if play.has_run():
-        play.want("lines made or not", play.found["unknown"], [])
-        play.want("statuses", play.found["statuses"], [0, 0, 0])
-        play.want("a line behind the stop", play.found["behind"], "NotSent")
+        play.look("lines made or not", play.found["unknown"], [])
+        play.look("statuses", play.found["statuses"], [0, 0, 0])
+        play.look("a line behind the stop", play.found["behind"], "NotSent")
         play.compare_kept(play.found["answered"])
 
 
@@ -170,9 +162,9 @@ def create(language):
     play = Play(language, "create", files=2, ids=ids)
     for key, found in play.found.items() if play.has_run() else ():
         made = [caller for caller, reply in found["told"] if reply == {"ok": "put"}]
-        play.want(f"callers who have made {key}", len(made), 1)
-        play.want(f"what the others are told of {key}", [reply for caller, reply in found["told"] if caller not in made], ["Exists"] * 31)
-        play.want(f"what is kept as {key}", found["kept"], str(made[0]) if made else None)
+        play.look(f"callers who have made {key}", len(made), 1)
+        play.look(f"what the others are told of {key}", [reply for caller, reply in found["told"] if caller not in made], ["Exists"] * 31)
+        play.look(f"what is kept as {key}", found["kept"], str(made[0]) if made else None)
 
 
 def lines(language):
@@ -180,7 +172,7 @@ def lines(language):
     play = Play(language, "lines", files=3, text=OTHERS)
     if play.has_run():
         found = play.found
-        play.want("a batch changes what it names", (found.pop("its parts"), any(found["alike"]), all(found["alike"])), (found.pop("alike"), True, False))
+        play.look("a batch changes what it names", (found.pop("its parts"), any(found["alike"]), all(found["alike"])), (found.pop("alike"), True, False))
     play.is_told(
         {
             "pages": [ids[at : at + 7] for at in range(0, 30, 7)],
@@ -206,9 +198,9 @@ def lines(language):
 def interrupted():
     play = Play("Python", "interrupted", asks=100 if SHORT else 1000)
     if play.has_run():
-        play.want("replies to another's line", play.found["crossed"], [])
-        play.want("statuses", play.found["statuses"], [0])
-        play.want("whether some asks are interrupted", play.found["interrupted"] > 0, True)
+        play.look("replies to another's line", play.found["crossed"], [])
+        play.look("statuses", play.found["statuses"], [0])
+        play.look("whether some asks are interrupted", play.found["interrupted"] > 0, True)
 
 
 def by_stub(language):
@@ -222,27 +214,25 @@ def by_stub(language):
 def by_the_clock(language):
     play = Play(language, "deadline", stub=True, limits={"deadline": 0.5})
     if play.has_run():
-        play.want("seconds of a line that isn't answered", 0.5 <= play.found.pop("seconds") < 5, True)
+        play.look("seconds of a line that isn't answered", 0.5 <= play.found.pop("seconds") < 5, True)
         play.is_told({"never": "OutcomeUnknown", "ids": ["r0", "r1", "r2"], "others": True})
     Play(language, "patience", stub=True, limits={"patience": 0.3, "queue": 1}).is_told(["NotSent", True, "slow"])
     play = Play(language, "cut", stub=True)
     if play.has_run():
-        play.want("a stop while a line isn't answered", (play.found[0], 0.5 <= play.found[1] < 5), ("OutcomeUnknown", True))
+        play.look("a stop while a line isn't answered", (play.found[0], 0.5 <= play.found[1] < 5), ("OutcomeUnknown", True))
     play = Play(language, "opening-mute", stub=True, limits={"opening": 0.5})
     if play.has_run():
-        play.want("an opening that isn't done", (play.found[0], 0.5 <= play.found[1] < 5), ("NotSent", True))
+        play.look("an opening that isn't done", (play.found[0], 0.5 <= play.found[1] < 5), ("NotSent", True))
     play = Play(language, "pauses-dead", stub=True)
     play.is_told(["NotSent"] * 5)
     starts = [float(line) for line in Path(play.databases[0] + ".starts").read_text().split()]
     between = [later - earlier for earlier, later in zip(starts, starts[1:])]
-    play.want("pauses that are as long as they should be", [found >= wanted for found, wanted in zip(between, (0.05, 0.1, 0.2, 0.4))], [True] * 4)
+    play.look("pauses that are as long as they should be", [found >= wanted for found, wanted in zip(between, (0.05, 0.1, 0.2, 0.4))], [True] * 4)
     if language == "Node":
         Play(language, "busy", stub=True, limits={"deadline": 0.5}).is_told(["quick"])
 
 
 def main():
-    if not PROGRAM.is_file():
-        raise SystemExit(f"{PROGRAM} isn't there: make it by `make`")
     languages = [language for language in DRIVERS if language == "Python" or shutil.which("node")]
     if len(languages) == 1:
         print("node isn't installed: its client is left out")
@@ -259,8 +249,7 @@ def main():
         if not SHORT:
             by_the_clock(language)
     interrupted()
-    print(f"clients in {' and '.join(languages)}: {failed} of {count} comparisons differ")
-    return 1 if failed else 0
+    return end(f"clients in {' and '.join(languages)}: {{failed}} of {{count}} comparisons differ")
 
 
 if __name__ == "__main__":

@@ -17,22 +17,14 @@ import sys
 import tempfile
 from pathlib import Path
 
-HERE = Path(__file__).resolve().parent
-PROGRAM = Path(sys.argv[1] if len(sys.argv) > 1 else HERE.parent / "crates" / "formd" / "out" / "formd").resolve()
+from looks import ROOM, ROOT, end, look, named_program
+
+PROGRAM = named_program()
 LAST = 253_402_128_000
 DAY = 86_400
 FAILS = None
 PAST = {"types": {"T": {"fields": {name: {"type": "instant", "constraints": [{"constraint": name}]} for name in ("Past", "PastOrPresent")}}}, "forms": {}}
 EVENT = {"types": {"Event": {"fields": {"when": {"type": "date", "constraints": [{"constraint": "Future"}]}, "note": {"type": "text"}}}}, "forms": {"f": {"root": "Event"}}}
-failed = count = 0
-
-
-def look(name, found, wanted):
-    global failed, count
-    count += 1
-    if found != wanted:
-        failed += 1
-        print(f"{name}:\n  wanted {wanted!r:.600}\n  found  {found!r:.600}")
 
 
 class Service:
@@ -113,16 +105,13 @@ def events(folder, library):
 
 
 def main():
-    if not PROGRAM.is_file():
-        sys.exit(f"{PROGRAM} isn't there: make it by `make`")
-    with tempfile.TemporaryDirectory(dir="/dev/shm" if os.access("/dev/shm", os.W_OK) else None) as name:
+    with tempfile.TemporaryDirectory(dir=ROOM) as name:
         folder, library = Path(name), Path(name) / "clock.so"
-        subprocess.run(["gcc", "-O1", "-shared", "-fPIC", "-o", library, HERE / "clock.c"], check=True)
+        subprocess.run(["gcc", "-O1", "-shared", "-fPIC", "-o", library, ROOT / "tests" / "clock.c"], check=True)
         for word in "serve", "judge":
             moments(folder, library, word)
         events(folder, library)
-    print(f"{count} looks, {failed} wrong")
-    return 1 if failed or not count else 0
+    return end()
 
 
 if __name__ == "__main__":

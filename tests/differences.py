@@ -15,9 +15,10 @@ import sys
 import tempfile
 from pathlib import Path
 
-ROOT = Path(__file__).resolve().parent.parent
+from looks import ROOT, end, look, named_program
+
 PAGE = ROOT / "docs" / "BEAN-VALIDATION.md"
-PROGRAM = Path(sys.argv[1] if len(sys.argv) > 1 else ROOT / "crates" / "formd" / "out" / "formd").resolve()
+PROGRAM = named_program()
 
 
 def use(constraint, *groups, message=None, **attributes):
@@ -194,31 +195,19 @@ def cells():
 
 
 def main():
-    if not PROGRAM.is_file():
-        raise SystemExit(f"{PROGRAM} isn't there: make it by `make`")
-    wrong = 0
     wanted = cells()
     with tempfile.TemporaryDirectory() as folder:
         at = Service(folder)
         example = json.loads(re.search(r"```json\n(.*?)```", PAGE.read_text(), re.DOTALL)[1])
-        if at.declare(example) != "ok":
-            wrong += 1
-            print("the example's declarations aren't taken")
+        look("the example's declarations", at.declare(example), "ok")
         for words, holds in rows(at):
             found = [cell for cell in wanted if cell.startswith(words)]
-            if len(found) != 1:
-                wrong += 1
-                print(f"{len(found)} rows of the page begin with: {words}")
+            look(f"how many rows of the page begin with: {words}", len(found), 1)
             for cell in found:
                 wanted.remove(cell)
-            if not holds:
-                wrong += 1
-                print(f"otherwise than the page says: {words}")
-    for cell in wanted:
-        wrong += 1
-        print(f"isn't run: {cell}")
-    print(f"docs/BEAN-VALIDATION.md, {wrong} rows wrong")
-    return 1 if wrong else 0
+            look(f"whether it is as the page says: {words}", holds, True)
+    look("rows of the page that aren't run", wanted, [])
+    return end("docs/BEAN-VALIDATION.md, {failed} rows wrong")
 
 
 if __name__ == "__main__":

@@ -20,16 +20,7 @@ import tarfile
 import tempfile
 from pathlib import Path
 
-ROOT = Path(__file__).resolve().parent.parent
-failed = count = 0
-
-
-def look(name, found, wanted):
-    global failed, count
-    count += 1
-    if found != wanted:
-        failed += 1
-        print(f"{name}:\n  wanted {wanted!r:.500}\n  found  {found!r:.500}")
+from looks import ROOT, end, look
 
 
 def module(path):
@@ -116,8 +107,7 @@ def main():
         if os.geteuid() == 0:
             look_at_root(folder / "root", unpacked)
         print(f"{one.name}: {one.stat().st_size:,} bytes, {len(list(unpacked.rglob('*')))} files and folders")
-    print(f"{count} looks, {failed} wrong")
-    return 1 if failed else 0
+    return end()
 
 
 if __name__ == "__main__":

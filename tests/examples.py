@@ -6,7 +6,7 @@
     tests/examples.py PROGRAM NAME    flask alone, or node
 
 Each is then run over a stub in the program's place, which refuses as a full disk makes formd refuse, or holds a put back until the server has been told to end:
-that put has to be answered. Needs `flask` (Debian: python3-flask) and `node`; what isn't there is said and left out.
+that put has to be answered. Needs `flask` (Debian: python3-flask) and `node`; what isn't there is said and left out, and nothing to run is a failure.
 """
 
 import hmac
@@ -28,8 +28,9 @@ import urllib.request
 from contextlib import contextmanager
 from pathlib import Path
 
-ROOT = Path(__file__).resolve().parent.parent
-PROGRAM = Path(sys.argv[1] if len(sys.argv) > 1 else ROOT / "crates" / "formd" / "out" / "formd").resolve()
+from looks import ROOT, end, look, named_program
+
+PROGRAM = named_program()
 GOOD = {"name": "Ada", "email": "ada@example.org", "topic": "order"}
 KEY = {"Authorization": "Bearer of-the-office"}
 SERVERS = {"flask": [sys.executable, ROOT / "examples" / "flask" / "app.py"], "node": ["node", ROOT / "examples" / "node" / "server.js"]}
@@ -48,15 +49,6 @@ for line in sys.stdin:
             time.sleep(0.01)
     print(json.dumps(replies.get(do, {{"error": "C3", "name": "Shape"}})), flush=True)
 """
-failed = count = 0
-
-
-def want(what, got, wanted):
-    global failed, count
-    count += 1
-    if got != wanted:
-        failed += 1
-        print(f"{what}\nwanted {wanted}\ngot    {got}")
 
 
 class Unfollowed(urllib.request.HTTPRedirectHandler):
@@ -91,8 +83,8 @@ class Site:
         """That of a new form."""
         return re.search('name="token" value="([^"]+)"', self.ask()[1])[1]
 
-    def want(self, what, got, wanted):
-        want(f"{self.name}: {what}", got, wanted)
+    def look(self, what, found, wanted):
+        look(f"{self.name}: {what}", found, wanted)
 
 
 def free_port():
@@ -121,7 +113,7 @@ def served(name, program, folder, **environment):
         yield site
     finally:
         site.end()
-        site.want("its status behind SIGTERM", process.wait(timeout=30), 0)
+        site.look("its status behind SIGTERM", process.wait(timeout=30), 0)
 
 
 def plain(text):
@@ -131,40 +123,40 @@ def plain(text):
 def compare(site):
     """The requests, each with what is wanted."""
     status, text = site.ask()
-    site.want("the blank form", (status, len(re.findall("<input", text)), "<b>" in text), (200, 4, False))
+    site.look("the blank form", (status, len(re.findall("<input", text)), "<b>" in text), (200, 4, False))
     tokens = [site.token() for _ in range(7)]
     status, text = site.ask("/", {"token": tokens[0], "name": " ", "email": "ada", "topic": "lunch"})
     told = [re.findall(r"<b>(.*?)</b>", row) for row in re.findall(r"<p>.*?</p>", text)]
-    site.want("a form that isn't taken", (status, told), (422, [["must not be blank"], ["an address has an @ and no blanks"], ["one of [order, return, other]"]]))
-    site.want("nothing of it is stored", site.ask(f"/contact/{tokens[0]}"), (404, "C6 NoRecord"))
+    site.look("a form that isn't taken", (status, told), (422, [["must not be blank"], ["an address has an @ and no blanks"], ["one of [order, return, other]"]]))
+    site.look("nothing of it is stored", site.ask(f"/contact/{tokens[0]}"), (404, "C6 NoRecord"))
     kept = (200, '{"email":"ada@example.org","name":"Ada","topic":"order"}')
     for token in tokens:
         status, text = site.ask("/", {"token": token, **GOOD})
-        site.want("a form that is taken", (status, plain(text)), kept)
+        site.look("a form that is taken", (status, plain(text)), kept)
     status, text = site.ask("/", {"token": tokens[3], **GOOD})
-    site.want("the same form once more", (status, plain(text)), kept)
-    site.want("other fields for it", site.ask("/", {"token": tokens[3], **GOOD, "name": "Bob"})[0], 409)
+    site.look("the same form once more", (status, plain(text)), kept)
+    site.look("other fields for it", site.ask("/", {"token": tokens[3], **GOOD, "name": "Bob"})[0], 409)
     status, text = site.ask(f"/contact/{tokens[3]}")
-    site.want("what was stored first stays", (status, plain(text)), kept)
+    site.look("what was stored first stays", (status, plain(text)), kept)
     ids = sorted(token.split(".")[0] for token in tokens)
     forged = tokens[0].split(".")[0] + "." + tokens[3].split(".")[1]
     for odd in forged, ids[0], "c-1", "":
-        site.want(f"the token {odd!r}", (site.ask("/", {"token": odd, **GOOD})[0], site.ask(f"/contact/{odd}")[0]), (403, 404))
-    site.want("the list without its key", site.ask("/contacts")[0], 401)
+        site.look(f"the token {odd!r}", (site.ask("/", {"token": odd, **GOOD})[0], site.ask(f"/contact/{odd}")[0]), (403, 404))
+    site.look("the list without its key", site.ask("/contacts")[0], 401)
     first = site.ask("/contacts?limit=4", headers=KEY)[1]
-    site.want("the first page of both files", json.loads(first), {"ids": ids[:4], "ok": "list"})
+    site.look("the first page of both files", json.loads(first), {"ids": ids[:4], "ok": "list"})
     second = site.ask(f"/contacts?limit=4&after={ids[3]}", headers=KEY)[1]
-    site.want("the second page", json.loads(second), {"ids": ids[4:], "ok": "list"})
+    site.look("the second page", json.loads(second), {"ids": ids[4:], "ok": "list"})
     for odd in "limit=0", "limit=lots", "limit=1001", "after=no%20id":
-        site.want(f"a list with {odd}", site.ask(f"/contacts?{odd}", headers=KEY)[0], 400)
+        site.look(f"a list with {odd}", site.ask(f"/contacts?{odd}", headers=KEY)[0], 400)
     for has_length in True, False:
-        site.want("a body that is too long", site.ask("/", {"token": tokens[0], **GOOD, "name": "x" * 150_000}, has_length=has_length)[0], 413)
-    site.want("a body without a length", site.ask("/", {"token": tokens[3], **GOOD}, has_length=False)[0], 200)
+        site.look("a body that is too long", site.ask("/", {"token": tokens[0], **GOOD, "name": "x" * 150_000}, has_length=has_length)[0], 413)
+    site.look("a body without a length", site.ask("/", {"token": tokens[3], **GOOD}, has_length=False)[0], 200)
     for method, path in ("PUT", "/"), ("DELETE", "/contacts"), ("POST", f"/contact/{tokens[0]}"):
-        site.want(f"a {method} of {path[:9]}", site.ask(path, method=method)[0], 405)
-    site.want("a page that isn't there", site.ask("/nothing")[0], 404)
+        site.look(f"a {method} of {path[:9]}", site.ask(path, method=method)[0], 405)
+    site.look("a page that isn't there", site.ask("/nothing")[0], 404)
     status, text = site.ask("/", {"token": site.token(), **GOOD, "name": "x" * 81})
-    site.want("a name that is too long", (status, re.findall(r"<b>(.*?)</b>", text)), (422, ["size must be between 0 and 80"]))
+    site.look("a name that is too long", (status, re.findall(r"<b>(.*?)</b>", text)), (422, ["size must be between 0 and 80"]))
 
 
 def refusals(name, stub, folder):
@@ -172,22 +164,22 @@ def refusals(name, stub, folder):
     for code, refusal, status in (("C11", "Store", 503), ("C12", "Memory", 400)):
         reply = {"error": code, "name": refusal}
         with served(name, stub, folder, REPLIES=json.dumps({"put": reply, "get": {"error": "C6", "name": "NoRecord"}, "list": reply})) as site:
-            site.want(f"a put with {code}", site.ask("/", {"token": site.token(), **GOOD}), (status, f"{code} {refusal}"))
-            site.want(f"a list with {code}", site.ask("/contacts", headers=KEY), (status, f"{code} {refusal}"))
+            site.look(f"a put with {code}", site.ask("/", {"token": site.token(), **GOOD}), (status, f"{code} {refusal}"))
+            site.look(f"a list with {code}", site.ask("/contacts", headers=KEY), (status, f"{code} {refusal}"))
             text = site.ask("/", {"token": site.token(), **GOOD, "name": "end"})
-            site.want("a put behind which the process ends", text, (503, "please send it again in a moment"))
+            site.look("a put behind which the process ends", text, (503, "please send it again in a moment"))
         with served(name, stub, folder, REPLIES=json.dumps({"get": reply})) as site:
             token = site.token()
-            site.want(f"a get with {code}", site.ask(f"/contact/{token}"), (status, f"{code} {refusal}"))
-            site.want(f"a put with {code} at its get", site.ask("/", {"token": token, **GOOD}), (status, f"{code} {refusal}"))
+            site.look(f"a get with {code}", site.ask(f"/contact/{token}"), (status, f"{code} {refusal}"))
+            site.look(f"a put with {code} at its get", site.ask("/", {"token": token, **GOOD}), (status, f"{code} {refusal}"))
 
 
 def without_secrets(name, stub, folder):
     """Settings that are empty are none: nobody lists contacts, or makes a token, by an empty key."""
     with served(name, stub, folder, KEY="", SECRET="", REPLIES=json.dumps({"list": {"ok": "list", "ids": []}})) as site:
-        site.want("a list by an empty key", site.ask("/contacts", headers={"Authorization": "Bearer "})[0], 401)
+        site.look("a list by an empty key", site.ask("/contacts", headers={"Authorization": "Bearer "})[0], 401)
         made = "x." + hmac.new(b"", b"x", "sha256").hexdigest()
-        site.want("an id signed by an empty secret", site.ask("/", {"token": made, **GOOD})[0], 403)
+        site.look("an id signed by an empty secret", site.ask("/", {"token": made, **GOOD})[0], 403)
 
 
 def held(name, stub, folder):
@@ -213,10 +205,10 @@ def held(name, stub, folder):
             took = "an answer"
         except OSError:
             took = "none"
-        site.want("a new request behind SIGTERM", took, "none")
+        site.look("a new request behind SIGTERM", took, "none")
         Path(hold).touch()
         sender.join()
-        site.want("a put that was under way at SIGTERM", answers, [303])
+        site.look("a put that was under way at SIGTERM", answers, [303])
 
 
 def kept(file):
@@ -226,8 +218,6 @@ def kept(file):
 
 
 def main():
-    if not PROGRAM.is_file():
-        raise SystemExit(f"{PROGRAM} isn't there: make it by `make`")
     there = {"flask": importlib.util.find_spec("flask"), "node": shutil.which("node")}
     ran = 0
     for name in sys.argv[2:] or SERVERS:
@@ -242,12 +232,11 @@ def main():
             with served(name, PROGRAM, folder) as site:
                 compare(site)
             counts = [kept(f"{folder}/contacts-{n}.db") for n in range(2)]
-            want(f"{name}: records in both files", sum(counts) if all(isinstance(n, int) for n in counts) else counts, 7)
+            look(f"{name}: records in both files", sum(counts) if all(isinstance(n, int) for n in counts) else counts, 7)
             refusals(name, stub, folder)
             without_secrets(name, stub, folder)
             held(name, stub, folder)
-    print(f"{ran} forms run, {failed} of {count} answers differ")
-    return 1 if failed else 0
+    return end(f"{ran} forms run, {{failed}} of {{count}} answers differ")
 
 
 if __name__ == "__main__":

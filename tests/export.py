@@ -25,10 +25,10 @@ import time
 from pathlib import Path
 
 sys.dont_write_bytecode = True
+from looks import compact, end, look, named_program
 from migration import first_tables, made, quoted
 
-ROOT = Path(__file__).resolve().parent.parent
-PROGRAM = Path(sys.argv[1] if len(sys.argv) > 1 else ROOT / "crates" / "formd" / "out" / "formd").resolve()
+PROGRAM = named_program()
 MANY = int(sys.argv[2]) if len(sys.argv) > 2 else 100_000
 FEW = 1_000
 # KiB
@@ -39,19 +39,6 @@ DECLARATIONS = """{"types":{"Item":{"fields":{
     "to":{"type":{"ref":"Item"}},"tags":{"type":{"list":{"type":"text"}}},"sizes":{"type":{"map":{"type":"integer"}}},"maybe":{"type":{"optional":{"type":"text"}}}}}},
     "forms":{"item":{"root":"Item"},"thing":{"root":"Item"}}}"""
 UNREAD = "formd: cannot open database\n"
-failed = count = 0
-
-
-def look(name, found, wanted):
-    global failed, count
-    count += 1
-    if found != wanted:
-        failed += 1
-        print(f"{name}: wanted {wanted!r:.600}, found {found!r:.600}")
-
-
-def compact(value):
-    return json.dumps(value, ensure_ascii=False, separators=(",", ":"), sort_keys=True)
 
 
 def bundle(fields):
@@ -276,13 +263,10 @@ def refused(folder):
 
 
 def main():
-    if not PROGRAM.is_file():
-        raise SystemExit(f"{PROGRAM} isn't there: make it by `make`")
     for part in (read_back, of_version_1, empty_records, smaller, refused, look_at_peaks):
         with tempfile.TemporaryDirectory() as folder:
             part(Path(folder))
-    print(f"{count} looks, {failed} wrong")
-    return 1 if failed or not count else 0
+    return end()
 
 
 if __name__ == "__main__":

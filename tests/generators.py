@@ -17,8 +17,9 @@ import sys
 import tempfile
 from pathlib import Path
 
-ROOT = Path(__file__).resolve().parent.parent
-PROGRAM = Path(sys.argv[1] if sys.argv[1:] else ROOT / "crates" / "formd" / "out" / "formd").resolve()
+from looks import ROOT, end, look, named_program
+
+PROGRAM = named_program()
 PYTHON = "/usr/bin/python3"
 EDITOR = Path("/usr/share/javascript/json-editor/jsoneditor.min.js")
 NODE = {**os.environ, "NODE_PATH": "/usr/share/nodejs"}
@@ -59,15 +60,6 @@ form.on('ready', () => {
   });
 });
 """
-failed = count = 0
-
-
-def look(name, found, wanted):
-    global failed, count
-    count += 1
-    if found != wanted:
-        failed += 1
-        print(f"{name}:\n  wanted {wanted!r}\n  found  {found!r:.1000}")
 
 
 def judged(declarations, form, kind, fields):
@@ -108,9 +100,8 @@ def main():
             told = json.loads(run.stdout or "{}")
             look(f"{kind}: inputs", sorted(told.get("inputs", [])), sorted(f"root[{field}]" for field in json.loads(given)[0]["properties"]))
             look(f"{kind}: form", [told.get("taken"), set(told.get("refused", []))], [[], {f"root.{field}" for field in change}])
-    print(f"generators: {count} looked at, {failed} wrong")
-    sys.exit(failed != 0)
+    return end("generators: {count} looked at, {failed} wrong")
 
 
 if __name__ == "__main__":
-    main()
+    sys.exit(main())

@@ -13,21 +13,19 @@ script that fails doesn't keep the others from being run; the exit status is 1 t
 import subprocess
 import sys
 import time
-from pathlib import Path
 
-HERE = Path(__file__).resolve().parent
-PROGRAM = Path(sys.argv[1] if len(sys.argv) > 1 else HERE.parent / "crates" / "formd" / "out" / "formd").resolve()
+from looks import ROOT, named_program
+
+PROGRAM = named_program()
 SCRIPTS = ["refused_allocations", "stops", "words_not_utf8", "statuses", "pages", "matchers", "kills", "migration", "bytes", "worst"]
 
 
 def main():
-    if not PROGRAM.is_file():
-        sys.exit(f"{PROGRAM} isn't there: make it by `make`")
     figures, failed = [], 0
     for name in sys.argv[2:] or SCRIPTS:
         begun = time.monotonic()
         print(f"tests/{name}.py", flush=True)
-        run = subprocess.Popen([sys.executable, "-u", HERE / f"{name}.py", PROGRAM], stdout=subprocess.PIPE, text=True)
+        run = subprocess.Popen([sys.executable, "-u", ROOT / "tests" / f"{name}.py", PROGRAM], stdout=subprocess.PIPE, text=True)
         lines = []
         for line in run.stdout:
             print(f"    {line}", end="", flush=True)

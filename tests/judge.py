@@ -22,10 +22,10 @@ import time
 from concurrent.futures import ThreadPoolExecutor
 from pathlib import Path
 
-ROOT = Path(__file__).resolve().parent.parent
-sys.path.append(str(ROOT / "bench"))
-
 import rows
+from looks import ROOM, ROOT, end, look
+
+sys.path.append(str(ROOT / "bench"))
 from shapes import SHAPES, compact
 
 PROGRAM, SHORT = rows.PROGRAM, "short" in sys.argv[2:]
@@ -37,16 +37,6 @@ FEW = 10_000
 # KiB: the system counts pages for each processor by itself, so runs of the same lines differ by some hundred; the least that a line could leave, 16 bytes, is three times as much in the end
 ALLOWED = 1024
 LEAST_GAIN = 3.4
-ROOM = "/dev/shm" if os.path.isdir("/dev/shm") else None
-failed = count = 0
-
-
-def look(name, found, wanted):
-    global failed, count
-    count += 1
-    if found != wanted:
-        failed += 1
-        print(f"{name:.300}:\n  wanted {wanted!r:.1000}\n  found  {found!r:.1000}")
 
 
 def asked():
@@ -111,12 +101,12 @@ def compare_all():
         if chosen:
             work.append((declarations, lines, now, chosen))
     with ThreadPoolExecutor(os.cpu_count()) as pool:
-        for found in pool.map(lambda task: compared(*task), work):
-            for line, told, wanted in found:
-                look(line.decode(errors="replace"), told, wanted)
-    print(f"{number} lines to judges, {count} compared with a service that has no record")
+        found = [line for lines in pool.map(lambda task: compared(*task), work) for line in lines]
+    for line, told, wanted in found:
+        look(line.decode(errors="replace"), told, wanted)
+    print(f"{number} lines to judges, {len(found)} compared with a service that has no record")
     look("commands without a line", COMMANDS - commands, set())
-    look(f"{count} lines compared, of at least {LEAST}", count >= LEAST, True)
+    look(f"{len(found)} lines compared, of at least {LEAST}", len(found) >= LEAST, True)
 
 
 def puts(shape, number):
@@ -182,15 +172,12 @@ def look_at_four(folder):
 
 
 def main():
-    if not PROGRAM.is_file():
-        raise SystemExit(f"{PROGRAM} isn't there: make it by `make`")
     compare_all()
     with tempfile.TemporaryDirectory(dir=ROOM) as folder:
         look_at_peaks(Path(folder))
         if not SHORT:
             look_at_four(Path(folder))
-    print(f"{count} looks, {failed} wrong")
-    return 1 if failed or not count else 0
+    return end()
 
 
 if __name__ == "__main__":

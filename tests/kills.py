@@ -26,17 +26,14 @@ import tempfile
 import time
 from pathlib import Path
 
-ROOT = Path(__file__).resolve().parent.parent
-PROGRAM = Path(sys.argv[1] if len(sys.argv) > 1 else ROOT / "crates" / "formd" / "out" / "formd").resolve()
+from looks import compact, named_program
+
+PROGRAM = named_program()
 SEED = int(sys.argv[2]) if len(sys.argv) > 2 else 1
 KILLS = int(sys.argv[3]) if len(sys.argv) > 3 else 100
 IDS = 40
 DECLARATIONS = '{"types":{"Item":{"fields":{"count":{"type":"integer","constraints":[{"constraint":"Min","with":{"value":1}}]},"text":{"type":"text"}}}},"forms":{"item":{"root":"Item"}}}'
 OTHERS = '{"types":{"Item":{"fields":{"count":{"type":"integer"},"more":{"type":"date"},"text":{"type":"text"}}}},"forms":{"item":{"root":"Item"},"other":{"root":"Item"}}}'
-
-
-def compact(value):
-    return json.dumps(value, separators=(",", ":"), sort_keys=True)
 
 
 def bundle(chance, number, lengths=(0, 10, 3000, 20000)):
@@ -221,8 +218,6 @@ def redeclares(chance):
 
 
 def main():
-    if not PROGRAM.is_file():
-        raise SystemExit(f"{PROGRAM} isn't there: make it by `make`")
     chance = random.Random(SEED)
     number = during = 0
     with tempfile.TemporaryDirectory() as name:

@@ -16,8 +16,9 @@ import sys
 import tempfile
 from pathlib import Path
 
-ROOT = Path(__file__).resolve().parent.parent
-PROGRAM = Path(sys.argv[1] if len(sys.argv) > 1 else ROOT / "crates" / "formd" / "out" / "formd").resolve()
+from looks import ROOT, end, look, named_program
+
+PROGRAM = named_program()
 BLOCK = re.compile(r"^```(\w+)(?: (\S+))?\n(.*?)^```$", re.MULTILINE | re.DOTALL)
 
 
@@ -35,9 +36,6 @@ def examples(block):
 
 
 def main():
-    if not PROGRAM.is_file():
-        raise SystemExit(f"{PROGRAM} isn't there: make it by `make`")
-    failed = count = 0
     with tempfile.TemporaryDirectory() as folder:
         (Path(folder) / "bin").mkdir()
         (Path(folder) / "bin" / "formd").symlink_to(PROGRAM)
@@ -56,12 +54,8 @@ def main():
                     ["bash", "-c", f"(exit {status}); {command}"], cwd=room, env=environment, stdout=subprocess.PIPE, stderr=subprocess.STDOUT, text=True, timeout=60
                 )
                 status = ran.returncode
-                count += 1
-                if ran.stdout != wanted:
-                    failed += 1
-                    print(f"$ {command}\nwanted:\n{wanted}printed:\n{ran.stdout}")
-    print(f"{count} commands of docs/MANUAL.md, {failed} differ")
-    return 1 if failed or not count else 0
+                look(f"$ {command}", ran.stdout, wanted)
+    return end("{count} commands of docs/MANUAL.md, {failed} differ")
 
 
 if __name__ == "__main__":

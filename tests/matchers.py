@@ -9,12 +9,12 @@ import json
 import random
 import re
 import subprocess
-import sys
 import tempfile
 from pathlib import Path
 
-ROOT = Path(__file__).resolve().parent.parent
-PROGRAM = Path(sys.argv[1]) if len(sys.argv) > 1 else ROOT / "crates" / "formd" / "out" / "formd"
+from looks import named_program
+
+PROGRAM = named_program()
 HOSTILE = "(?:[ab]*a[ab]{40}|[ab]*b[ab]{35}c)"
 PLAIN = "[ab]{1,60}"
 LENGTHS = (1, 41, 42, 60, 61, 200, 1500, 6000)

@@ -26,9 +26,10 @@ import tempfile
 import time
 from pathlib import Path
 
-ROOT = Path(__file__).resolve().parent.parent
+from looks import ROOT, compact, end, look, named_program
+
 DATA = ROOT / "tests" / "data" / "version1"
-PROGRAM = Path(sys.argv[1] if len(sys.argv) > 1 else ROOT / "crates" / "formd" / "out" / "formd").resolve()
+PROGRAM = named_program()
 RECORDS = int(sys.argv[2]) if len(sys.argv) > 2 else 100_000
 KILLS = int(sys.argv[3]) if len(sys.argv) > 3 else 20
 SEED = 1
@@ -41,19 +42,6 @@ OBJECT = (
 )
 DECLARATIONS = '{"types":{"Item":{"fields":{"count":{"type":"integer"},"name":{"type":"text"},"to":{"type":{"ref":"Item"}}}}},"forms":{"item":{"root":"Item"}}}'
 NO_DECLARATIONS = '{"types":{},"forms":{}}'
-failed = count = 0
-
-
-def look(name, found, wanted):
-    global failed, count
-    count += 1
-    if found != wanted:
-        failed += 1
-        print(f"{name}: wanted {wanted!r:.600}, found {found!r:.600}")
-
-
-def compact(value):
-    return json.dumps(value, separators=(",", ":"), sort_keys=True)
 
 
 def served(declarations, database):
@@ -368,8 +356,6 @@ def kills(folder):
 
 
 def main():
-    if not PROGRAM.is_file():
-        raise SystemExit(f"{PROGRAM} isn't there: make it by `make`")
     with tempfile.TemporaryDirectory() as name:
         folder = Path(name)
         made_by_the_first_program(folder)
@@ -377,8 +363,7 @@ def main():
         empty(folder)
         not_taken(folder)
         kills(folder)
-    print(f"{count} looked at, {failed} differ")
-    return 1 if failed else 0
+    return end("{count} looked at, {failed} differ")
 
 
 if __name__ == "__main__":

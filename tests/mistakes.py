@@ -16,8 +16,9 @@ import sys
 import tempfile
 from pathlib import Path
 
-ROOT = Path(__file__).resolve().parent.parent
-PROGRAM = Path(sys.argv[1] if len(sys.argv) > 1 else ROOT / "crates" / "formd" / "out" / "formd").resolve()
+from looks import ROOT, end, look, named_program
+
+PROGRAM = named_program()
 DATA = ROOT / "tests" / "data" / "mistakes"
 
 
@@ -46,19 +47,14 @@ def rehearsed(row):
 
 
 def main():
-    if not PROGRAM.is_file():
-        raise SystemExit(f"{PROGRAM} isn't there: make it by `make`")
-    failed = 0
     with tempfile.TemporaryDirectory() as name:
         answers = [(row, explained(row, Path(name))) for row in rows("in_declarations.jsonl")]
     for name in ("in_lines.jsonl", "in_three_forms.jsonl"):
         answers += [(row, rehearsed(row)) for row in rows(name)]
     for row, answer in answers:
-        if answer is None or row["told"] not in answer:
-            failed += 1
-            print(f"{row['what']}: wanted {row['told']}\n  found {answer}")
-    print(f"{len(answers)} mistakes, {failed} not told where they are")
-    return 1 if failed or not answers else 0
+        is_told = answer is not None and row["told"] in answer
+        look(row["what"], row["told"] if is_told else answer, row["told"])
+    return end("{count} mistakes, {failed} not told where they are")
 
 
 if __name__ == "__main__":

@@ -22,8 +22,9 @@ from concurrent.futures import ThreadPoolExecutor
 from itertools import zip_longest
 from pathlib import Path
 
-ROOT = Path(__file__).resolve().parent.parent
-PROGRAM = Path(sys.argv[1] if len(sys.argv) > 1 else ROOT / "crates" / "formd" / "out" / "formd").resolve()
+from looks import named_program
+
+PROGRAM = named_program()
 PAIRS = int(sys.argv[2]) if len(sys.argv) > 2 else 1_000
 SEED = int(sys.argv[3]) if len(sys.argv) > 3 else 1
 PLAIN = ["text", "integer", "decimal", "boolean", "date", "instant"]
@@ -256,8 +257,6 @@ def may_be(old, new):
 
 
 def main():
-    if not PROGRAM.is_file():
-        raise SystemExit(f"{PROGRAM} isn't there: make it by `make`")
     with ThreadPoolExecutor(os.cpu_count()) as pool:
         found = list(pool.map(tried, range(SEED * 1_000_000, SEED * 1_000_000 + PAIRS)))
     fit = sum(each[0] for each in found)

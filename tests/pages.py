@@ -8,12 +8,12 @@ What is wanted is reckoned here: the ids of the form that are there, sorted by t
 import json
 import random
 import subprocess
-import sys
 import tempfile
 from pathlib import Path
 
-ROOT = Path(__file__).resolve().parent.parent
-PROGRAM = Path(sys.argv[1]) if len(sys.argv) > 1 else ROOT / "crates" / "formd" / "out" / "formd"
+from looks import named_program
+
+PROGRAM = named_program()
 DECLARATIONS = {"types": {"T": {"fields": {}}}, "forms": {"f": {"root": "T"}, "g": {"root": "T"}}}
 LETTERS = "ABCXYZabcxyz0123456789_-"
 

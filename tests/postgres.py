@@ -36,7 +36,8 @@ from concurrent.futures import ThreadPoolExecutor
 from pathlib import Path
 
 sys.dont_write_bytecode = True
-ROOT = Path(__file__).resolve().parent.parent
+from looks import ROOT, end, look, named_program  # noqa: E402
+
 # the folder of PostgreSQL's programs: that of the path, else the latest
 PROGRAMS = [Path(found).resolve().parent for found in [shutil.which("postgres")] if found] or sorted(map(Path, glob.glob("/usr/lib/postgresql/*/bin")), key=lambda folder: float(folder.parent.name))
 LACKING = [name for name, found in (("PostgreSQL", PROGRAMS), ("psycopg", importlib.util.find_spec("psycopg"))) if not found]
@@ -49,7 +50,7 @@ import psycopg  # noqa: E402
 from formd_client import Pool  # noqa: E402
 from shapes import SHAPES, checks, compact  # noqa: E402
 
-PROGRAM = Path(sys.argv[1] if len(sys.argv) > 1 else ROOT / "crates" / "formd" / "out" / "formd").resolve()
+PROGRAM = named_program()
 SHORT, SECONDS = sys.argv[2:] == ["short"], sys.argv[2:] == ["seconds"]
 # of judges and of the server, each over 1, 2 and 4 judges
 JUDGES_KILLED, SERVERS_KILLED = ((4, 3, 3), (1, 0, 1)) if SHORT else ((34, 33, 33), (7, 7, 6))
@@ -63,15 +64,6 @@ PUTS, BATCHED, BATCH, ROUNDS = 4000, 16384, 64, 3
 FIELDS = '"text":{{"type":"text","constraints":[{{"constraint":"NotBlank"}},{{"constraint":"Size","with":{{"max":{most}}}}}]}},"texts":{{"type":{{"list":{{"type":"text"}}}}}},"number":{{"type":"integer"}}'
 DECLARATIONS, STRICTER = ('{"types":{"T":{"fields":{' + FIELDS.format(most=most) + '}}},"forms":{"f":{"root":"T"}}}' for most in (60, 30))
 NUMBERS = [9223372036854775807, -9223372036854775808, 9007199254740993, -9007199254740993, 9007199254740992, 0]
-failed = count = 0
-
-
-def want(what, found, wanted):
-    global failed, count
-    count += 1
-    if found != wanted:
-        failed += 1
-        print(f"{what}\nwanted {str(wanted)[:600]}\nfound  {str(found)[:600]}", flush=True)
 
 
 def cpu(process):
@@ -181,7 +173,7 @@ def over(server, judges, declarations=DECLARATIONS):
     """An intake over empty tables with these declarations in force."""
     server.run("TRUNCATE record, declaration")
     made = intake.Intake(str(PROGRAM), server.words, judges)
-    want("declarations over no record", made.redeclare(declarations), [])
+    look("declarations over no record", made.redeclare(declarations), [])
     return made
 
 
@@ -230,13 +222,13 @@ def replies(server, folder):
     for line, reply in [*zip(lines, wanted), *OWN.items()]:
         found = intake.answered(made, line)
         found.pop("taken_at", None)
-        want(f"the reply to {line[:200]}", found, reply)
+        look(f"the reply to {line[:200]}", found, reply)
     made.stop()
     words = [sys.executable, "-B", ROOT / "examples" / "postgres" / "intake.py", PROGRAM, server.words, "1", folder / "d.json"]
     for n in range(2):
         ran = subprocess.run(words, input=b"\xff\n" + lines[0], stdout=subprocess.PIPE)
-        want("the program by itself", (ran.returncode, ran.stdout), (0, b'{"error":"C2","name":"NotJson"}\n{"ok":"put"}\n'))
-    want("it has declared nothing anew", server.run("SELECT count(*) FROM declaration"), [(1,)])
+        look("the program by itself", (ran.returncode, ran.stdout), (0, b'{"error":"C2","name":"NotJson"}\n{"ok":"put"}\n'))
+    look("it has declared nothing anew", server.run("SELECT count(*) FROM declaration"), [(1,)])
 
 
 def apart(server, folder):
@@ -265,13 +257,13 @@ def apart(server, folder):
             told["interrupted"] += 1
     signal.signal(signal.SIGALRM, before)
     sys.unraisablehook = sys.__unraisablehook__
-    want("replies to another's line", told["wrong"], [])
+    look("replies to another's line", told["wrong"], [])
     # but for what is raised in a __del__
-    want("whether callers are answered, and what interrupts them reaches them", (told["answered"] > 0, told["interrupted"] > 0.9 * told["rung"] > 0), (True, True))
+    look("whether callers are answered, and what interrupts them reaches them", (told["answered"] > 0, told["interrupted"] > 0.9 * told["rung"] > 0), (True, True))
     with contextlib.suppress(Soft), made.connection() as connection:
         connection.pgconn.send_query(b"SELECT pg_sleep(9)")
         raise Soft
-    want("a connection amid a query isn't given to others", made.get("none"), {"error": "C6", "name": "NoRecord"})
+    look("a connection amid a query isn't given to others", made.get("none"), {"error": "C6", "name": "NoRecord"})
 
     def child():
         sys.exit([raised(lambda: made.put("x", "f", bundle(text="x"))), raised(lambda: made.get("x"))] != ["NotSent"] * 2)
@@ -279,21 +271,21 @@ def apart(server, folder):
     forked = multiprocessing.get_context("fork").Process(target=child)
     forked.start()
     forked.join()
-    want("a process that was forked", forked.exitcode, 0)
-    want("the one that forked it", made.put("x", "f", bundle(text="x")), {"ok": "put"})
+    look("a process that was forked", forked.exitcode, 0)
+    look("the one that forked it", made.put("x", "f", bundle(text="x")), {"ok": "put"})
     server.run("UPDATE record SET bundle = replace(bundle, ',', E',\r\n') WHERE id = 'x'")
-    want("a bundle that another writer keeps in lines", made.redeclare(DECLARATIONS), [])
+    look("a bundle that another writer keeps in lines", made.redeclare(DECLARATIONS), [])
     (folder / "slow").write_text('#!/bin/sh\n[ "$1" = declarations ] || exec sleep 60\n')
     (folder / "slow").chmod(0o755)
     intake.JUDGING, bound, begun = 0.3, intake.JUDGING, time.monotonic()
     slow = raised(lambda: intake.Intake(str(folder / "slow"), server.words).redeclare(STRICTER))
-    want("a judge that never ends", (slow, time.monotonic() - begun < 30), ("NotSent", True))
+    look("a judge that never ends", (slow, time.monotonic() - begun < 30), ("NotSent", True))
     intake.JUDGING = bound
     keep = "SELECT keep('y', 'f', '{}', NULL, 'x')"
-    want("a write under REPEATABLE READ", is_refused_by_database(lambda: server.run(f"BEGIN ISOLATION LEVEL REPEATABLE READ; {keep}")), "JD003")
+    look("a write under REPEATABLE READ", is_refused_by_database(lambda: server.run(f"BEGIN ISOLATION LEVEL REPEATABLE READ; {keep}")), "JD003")
     server.run("CREATE ROLE taker; GRANT SELECT ON record, declaration TO taker; GRANT EXECUTE ON FUNCTION keep TO taker; CREATE ROLE other")
     for role, statement, state in ("taker", keep, "JD001"), ("taker", "DELETE FROM record", "42501"), ("other", keep, "42501"):
-        want(f"a write by {role}", is_refused_by_database(lambda: server.run(f"SET ROLE {role}; {statement}")), state)
+        look(f"a write by {role}", is_refused_by_database(lambda: server.run(f"SET ROLE {role}; {statement}")), state)
     made.stop()
 
 
@@ -305,30 +297,30 @@ def expectations(server):
         return made.get(id)["bundle"]["objects"]["a"]["fields"]["text"]
 
     def is_kept(what, id, text, expected, reply):
-        want(what, raised(lambda: made.put(id, "f", bundle(text=text), expected)), reply)
+        look(what, raised(lambda: made.put(id, "f", bundle(text=text), expected)), reply)
 
     is_kept("a new record", "n", "1", intake.NOTHING, {"ok": "put"})
     is_kept("one that is there", "n", "2", intake.NOTHING, "Changed")
-    want("it is as it was", text_of("n"), "1")
+    look("it is as it was", text_of("n"), "1")
     first = made.get("n")["taken_at"]
-    want("one that is refused", made.put("n", "f", bundle(text=""), first).get("error"), "C10")
+    look("one that is refused", made.put("n", "f", bundle(text=""), first).get("error"), "C10")
     is_kept("one that is as it was", "n", "3", first, {"ok": "put"})
     is_kept("one that isn't any more", "n", "4", first, "Changed")
-    want("it is as it was left", text_of("n"), "3")
+    look("it is as it was left", text_of("n"), "3")
     is_kept("one that isn't there", "m", "1", first, "Changed")
     second = made.get("n")["taken_at"]
     is_kept("anything", "n", "3", intake.ANYTHING, {"ok": "put"})
     is_kept("the same text, taken once more", "n", "5", second, "Changed")
     parts = [{**put("a", text="a"), "expected": intake.NOTHING}, {**put("n", text="6"), "expected": second}, put("b", text="b")]
-    want("a batch of which one part isn't as expected", raised(lambda: made.batch(parts)), "Changed")
-    want("none of it is there", made.ids("f")["ids"], ["n"])
+    look("a batch of which one part isn't as expected", raised(lambda: made.batch(parts)), "Changed")
+    look("none of it is there", made.ids("f")["ids"], ["n"])
     parts[1]["expected"] = made.get("n")["taken_at"]
-    want("a batch", made.batch(parts), {"ok": "batch"})
-    want("all of it is there", [text_of(id) for id in made.ids("f")["ids"]], ["a", "b", "6"])
+    look("a batch", made.batch(parts), {"ok": "batch"})
+    look("all of it is there", [text_of(id) for id in made.ids("f")["ids"]], ["a", "b", "6"])
     with ThreadPoolExecutor(CALLERS) as callers:
         told = list(callers.map(lambda n: raised(lambda: made.put("one", "f", bundle(text=str(n)), intake.NOTHING)), range(CALLERS)))
-    want("of callers who make one record one does", sorted(map(str, told)), ["Changed"] * (CALLERS - 1) + ["{'ok': 'put'}"])
-    want("it is his", told[int(text_of("one"))], {"ok": "put"})
+    look("of callers who make one record one does", sorted(map(str, told)), ["Changed"] * (CALLERS - 1) + ["{'ok': 'put'}"])
+    look("it is his", told[int(text_of("one"))], {"ok": "put"})
     made.stop()
 
 
@@ -336,23 +328,23 @@ def contents(server):
     """Whole numbers, large records and searches; what no jsonb can hold."""
     made = over(server, 1)
     for at, number in enumerate(NUMBERS):
-        want("a put of a number", made.put(f"n{at}", "f", bundle(text="n", number=number)), {"ok": "put"})
+        look("a put of a number", made.put(f"n{at}", "f", bundle(text="n", number=number)), {"ok": "put"})
         shown = made.get(f"n{at}")["bundle"]
-        want("it is shown", shown["objects"]["a"]["fields"]["number"], number)
-        want("it is put as it was shown", made.put(f"m{at}", "f", shown), {"ok": "put"})
-        want("both are found, and no others", made.search("f", "number", number)["ids"], [f"m{at}", f"n{at}"])
-    want("SQL sees the numbers", server.run("SELECT DISTINCT (bundle::jsonb #> '{objects,a,fields,number}')::numeric::text FROM record ORDER BY 1"), sorted((str(number),) for number in NUMBERS))
-    want("the first behind an id", made.search("f", "number", 0, "m5", 1)["ids"], ["n5"])
-    want("a number is no text", made.search("f", "number", "0")["ids"], [])
-    want("a text with U+0000 is refused by the server", is_refused_by_database(lambda: made.put("zero", "f", bundle(text="a\0b"))), "23514")
-    want("it isn't there", made.get("zero"), {"error": "C6", "name": "NoRecord"})
+        look("it is shown", shown["objects"]["a"]["fields"]["number"], number)
+        look("it is put as it was shown", made.put(f"m{at}", "f", shown), {"ok": "put"})
+        look("both are found, and no others", made.search("f", "number", number)["ids"], [f"m{at}", f"n{at}"])
+    look("SQL sees the numbers", server.run("SELECT DISTINCT (bundle::jsonb #> '{objects,a,fields,number}')::numeric::text FROM record ORDER BY 1"), sorted((str(number),) for number in NUMBERS))
+    look("the first behind an id", made.search("f", "number", 0, "m5", 1)["ids"], ["n5"])
+    look("a number is no text", made.search("f", "number", "0")["ids"], [])
+    look("a text with U+0000 is refused by the server", is_refused_by_database(lambda: made.put("zero", "f", bundle(text="a\0b"))), "23514")
+    look("it isn't there", made.get("zero"), {"error": "C6", "name": "NoRecord"})
     texts = ["x" * 17] * 50000
     longest = bundle(text="x", texts=texts)
     texts[0] += "x" * ((1 << 20) - len(intake.put_line("long", "f", intake.compact(longest))))
-    want("the longest line", made.put("long", "f", longest), {"ok": "put"})
-    want("it is judged again", made.redeclare(DECLARATIONS), [])
+    look("the longest line", made.put("long", "f", longest), {"ok": "put"})
+    look("it is judged again", made.redeclare(DECLARATIONS), [])
     texts[0] += "x"
-    want("one byte more", made.put("long", "f", longest), {"error": "C1", "name": "LineTooLong"})
+    look("one byte more", made.put("long", "f", longest), {"error": "C1", "name": "LineTooLong"})
     made.stop()
 
 
@@ -360,21 +352,21 @@ def redeclared(server):
     """A change of the declarations is told which records it would refuse, or is in force for all intakes."""
     one, other = over(server, 2), intake.Intake(str(PROGRAM), server.words, 2)
     for n, length in enumerate((20, 50, 30, 40)):
-        want("a put", (one, other)[n % 2].put(f"r{n}", "f", bundle(text="x" * length)), {"ok": "put"})
+        look("a put", (one, other)[n % 2].put(f"r{n}", "f", bundle(text="x" * length)), {"ok": "put"})
     refused = one.redeclare(STRICTER)
-    want("the records that aren't taken", [(id, reply["error"], reply["records"][0]["id"], len(reply["records"][0]["violations"])) for id, reply in refused], [("r1", "C10", "r1", 1), ("r3", "C10", "r3", 1)])
-    want("the form has another name", [(id, reply["error"]) for id, reply in one.redeclare(DECLARATIONS.replace('"f":{"root"', '"g":{"root"'))], [(f"r{n}", "C4") for n in range(4)])
-    want("the field isn't there", [(id, reply["fault"]) for id, reply in one.redeclare(DECLARATIONS.replace('"text":{', '"word":{'))], [(f"r{n}", "B4") for n in range(4)])
-    want("no declarations", raised(lambda: one.redeclare("{")), "ValueError")
-    want("the declarations stay", other.put("r4", "f", bundle(text="x" * 60)), {"ok": "put"})
+    look("the records that aren't taken", [(id, reply["error"], reply["records"][0]["id"], len(reply["records"][0]["violations"])) for id, reply in refused], [("r1", "C10", "r1", 1), ("r3", "C10", "r3", 1)])
+    look("the form has another name", [(id, reply["error"]) for id, reply in one.redeclare(DECLARATIONS.replace('"f":{"root"', '"g":{"root"'))], [(f"r{n}", "C4") for n in range(4)])
+    look("the field isn't there", [(id, reply["fault"]) for id, reply in one.redeclare(DECLARATIONS.replace('"text":{', '"word":{'))], [(f"r{n}", "B4") for n in range(4)])
+    look("no declarations", raised(lambda: one.redeclare("{")), "ValueError")
+    look("the declarations stay", other.put("r4", "f", bundle(text="x" * 60)), {"ok": "put"})
     for id in ("r1", "r3", "r4"):
-        want("a shorter text", one.put(id, "f", bundle(text=id)), {"ok": "put"})
-    want("all are taken", one.redeclare(STRICTER), [])
-    want("the other one judges by them", other.put("r5", "f", bundle(text="x" * 31)).get("error"), "C10")
-    want("so does a batch", other.batch([put("r5", text="x" * 31), put("r6", text="x")]).get("error"), "C10")
-    want("and back", other.redeclare(DECLARATIONS), [])
-    want("the first one judges by those", one.put("r5", "f", bundle(text="x" * 31)), {"ok": "put"})
-    want("each is of declarations that were in force", server.run("SELECT DISTINCT digest IS NULL FROM record LEFT JOIN declaration ON declared = digest"), [(False,)])
+        look("a shorter text", one.put(id, "f", bundle(text=id)), {"ok": "put"})
+    look("all are taken", one.redeclare(STRICTER), [])
+    look("the other one judges by them", other.put("r5", "f", bundle(text="x" * 31)).get("error"), "C10")
+    look("so does a batch", other.batch([put("r5", text="x" * 31), put("r6", text="x")]).get("error"), "C10")
+    look("and back", other.redeclare(DECLARATIONS), [])
+    look("the first one judges by those", one.put("r5", "f", bundle(text="x" * 31)), {"ok": "put"})
+    look("each is of declarations that were in force", server.run("SELECT DISTINCT digest IS NULL FROM record LEFT JOIN declaration ON declared = digest"), [(False,)])
     with psycopg.connect(server.words) as changing, ThreadPoolExecutor(1) as caller:
         changing.execute("LOCK TABLE record IN SHARE ROW EXCLUSIVE MODE")
         changing.execute("INSERT INTO declaration (digest, text) VALUES (%s, %s)", (intake.digest_of(STRICTER), STRICTER))
@@ -382,7 +374,7 @@ def redeclared(server):
         while not told.done() and not server.run("SELECT FROM pg_locks WHERE NOT granted"):
             time.sleep(0.001)
         changing.commit()
-        want("a put that has waited for a change is judged by what is in force then", told.result().get("error"), "C10")
+        look("a put that has waited for a change is judged by what is in force then", told.result().get("error"), "C10")
     one.stop()
     other.stop()
 
@@ -490,13 +482,13 @@ def killed(server, judges, kills, kill, chance):
         kill(made)
     callers.wait(TURNS)
     callers.end()
-    want("no answer is another's", callers.wrong, [])
+    look("no answer is another's", callers.wrong, [])
     rows = dict(server.run("SELECT id, bundle::jsonb #>> '{objects,a,fields,text}' FROM record WHERE id <> 'first'"))
-    want("answered puts that aren't there", sorted(id for id, allowed in callers.allowed.items() if rows.get(id) not in allowed), [])
-    want("records that nobody was answered", sorted(rows.keys() - callers.allowed.keys()), [])
-    want("records that were refused", sorted(rows.keys() & callers.refused), [])
-    want("records that are refused when they are judged again", made.redeclare(DECLARATIONS), [])
-    want("records that weren't judged by declarations that were in force", server.run("SELECT id FROM record WHERE declared NOT IN (SELECT digest FROM declaration)"), [])
+    look("answered puts that aren't there", sorted(id for id, allowed in callers.allowed.items() if rows.get(id) not in allowed), [])
+    look("records that nobody was answered", sorted(rows.keys() - callers.allowed.keys()), [])
+    look("records that were refused", sorted(rows.keys() & callers.refused), [])
+    look("records that are refused when they are judged again", made.redeclare(DECLARATIONS), [])
+    look("records that weren't judged by declarations that were in force", server.run("SELECT id FROM record WHERE declared NOT IN (SELECT digest FROM declaration)"), [])
     made.stop()
     return callers, len(rows)
 
@@ -551,9 +543,9 @@ def changes(server):
                     tries += 1
                     server.run("DELETE FROM record WHERE id = ANY(%s)", ([id for id, _ in refused],))
                 for _ in range(5):
-                    want("long texts under declarations that refuse them", server.run("SELECT id FROM record WHERE length(bundle::jsonb #>> '{objects,a,fields,text}') > 30"), [])
+                    look("long texts under declarations that refuse them", server.run("SELECT id FROM record WHERE length(bundle::jsonb #>> '{objects,a,fields,text}') > 30"), [])
                     time.sleep(0.02)
-                want("back", changer.redeclare(DECLARATIONS), [])
+                look("back", changer.redeclare(DECLARATIONS), [])
                 before = told["taken"]
                 while told["taken"] < before + 10:
                     time.sleep(0.001)
@@ -561,8 +553,8 @@ def changes(server):
             ended.set()
         for one in calls:
             one.result()
-    want("replies of another sort", told["wrong"], [])
-    want("puts taken and refused", (told["taken"] > 0, told["refused"] > 0), (True, True))
+    look("replies of another sort", told["wrong"], [])
+    look("puts taken and refused", (told["taken"] > 0, told["refused"] > 0), (True, True))
     print(f"{2 * CHANGES} changes of the declarations, {tries - CHANGES} refused, amid {told['taken']} puts taken and {told['refused']} refused: nothing was there that those in force refuse", flush=True)
     taker.stop()
     changer.stop()
@@ -636,10 +628,10 @@ def measured(server, kind, shape, processes, threads, together, room):
         gate.wait()
         for worker in workers:
             worker.join()
-            want("a process of puts", worker.exitcode, 0)
+            look("a process of puts", worker.exitcode, 0)
     puts = sum(number for _, _, number in found)
     ((rows, size),) = server.run("SELECT count(*), pg_total_relation_size('record') FROM record")
-    want("records", rows, 0 if kind == "serve" else total)
+    look("records", rows, 0 if kind == "serve" else total)
     python, judges = (sum(part[at] for part in found) / puts * 1e6 for at in (0, 1))
     return puts / took, python, judges, used / puts * 1e6, size / max(rows, 1), wal / puts
 
@@ -679,15 +671,13 @@ def redeclares(server):
         for at in range(0, BATCHED, BATCH):
             made.batch([{"id": f"r{n}", "form": form, "bundle": make(n)} for n in range(at, at + BATCH)])
         begun = time.monotonic()
-        want("a redeclare", made.redeclare(compact(declarations)), [])
+        look("a redeclare", made.redeclare(compact(declarations)), [])
         took = time.monotonic() - begun
         print(f"{shape:<14}{BATCHED:>8,}{took:>14.2f}{BATCHED / took:>12,.0f}", flush=True)
         made.stop()
 
 
 def main():
-    if not PROGRAM.is_file():
-        raise SystemExit(f"{PROGRAM} isn't there: make it by `make`")
     with tempfile.TemporaryDirectory() as room:
         folder = Path(room) / "server"
         folder.mkdir(mode=0o700)
@@ -707,8 +697,7 @@ def main():
                 redeclares(server)
         finally:
             server.stop()
-    print(f"the intake over PostgreSQL: {failed} of {count} comparisons differ")
-    return 1 if failed else 0
+    return end("the intake over PostgreSQL: {failed} of {count} comparisons differ")
 
 
 if __name__ == "__main__":

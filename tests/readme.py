@@ -10,6 +10,7 @@ an indented command line is followed by its reply, and the last reply is that of
 The version and the kit that it names are those of `formd version`; of `rt version` too, where `rt` is on the path.
 """
 
+import itertools
 import json
 import os
 import re
@@ -19,8 +20,9 @@ import sys
 import tempfile
 from pathlib import Path
 
-ROOT = Path(__file__).resolve().parent.parent
-PROGRAM = Path(sys.argv[1] if len(sys.argv) > 1 else ROOT / "crates" / "formd" / "out" / "formd").resolve()
+from looks import ROOT, end, look, named_program
+
+PROGRAM = named_program()
 
 
 def versions(text):
@@ -34,16 +36,10 @@ def versions(text):
 
 
 def main():
-    if not PROGRAM.is_file():
-        raise SystemExit(f"{PROGRAM} isn't there: make it by `make`")
     text = (ROOT / "README.md").read_text()
     blocks = ["".join(line[4:] for line in block.splitlines(keepends=True)) for block in re.findall(r"(?:^    .*\n)+", text, re.MULTILINE)]
-    failed = count = 0
     for shown, told in versions(text):
-        count += 1
-        if shown != told:
-            failed += 1
-            print(f"versions: README.md says {shown}, and {told} is told")
+        look("what README.md says of a version", shown, told)
     with tempfile.TemporaryDirectory() as name:
         room = Path(name)
         (room / "bin").mkdir()
@@ -58,23 +54,19 @@ def main():
         long = json.loads(refusal)["records"][0]["violations"][0]["value"]
         lines.append(lines[0].replace('"abc"', json.dumps(long, ensure_ascii=False)))
         ran = subprocess.run(["formd", "rehearse", "--declarations", form, "--now", "0"], input="\n".join(lines), capture_output=True, text=True, env=environment)
-        count += len(lines)
-        if ran.stdout.splitlines() != [*replies, refusal]:
-            failed += 1
-            print(f"replies of README.md: printed {ran.stdout}")
+        for line, reply, wanted in itertools.zip_longest(lines, ran.stdout.splitlines(), [*replies, refusal]):
+            look(f"the reply to {line}", reply, wanted)
         order = (ROOT / "examples" / "order.json").read_text()
         for file in "order.json", "new.json":
             (room / file).write_text(order)
         (room / "lines").write_text((ROOT / "examples" / "order.jsonl").read_text())
         commands = [line for block in blocks for line in block.splitlines() if line.startswith(("formd ", "jq "))]
+        if not commands:
+            sys.exit("README.md shows no commands")
         for command in commands:
-            count += 1
             ran = subprocess.run(["bash", "-c", command.replace("[--now SECONDS]", "< /dev/null")], cwd=room, env=environment, capture_output=True, text=True, timeout=60)
-            if ran.returncode:
-                failed += 1
-                print(f"$ {command}\nstatus {ran.returncode}: {ran.stdout}{ran.stderr}")
-    print(f"{count} lines, commands and versions of README.md, {failed} differ")
-    return 1 if failed or not commands else 0
+            look(f"$ {command}", ran.returncode and f"status {ran.returncode}: {ran.stdout}{ran.stderr}", 0)
+    return end("{count} lines, commands and versions of README.md, {failed} differ")
 
 
 if __name__ == "__main__":

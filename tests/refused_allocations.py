@@ -36,28 +36,16 @@ import sys
 import tempfile
 from pathlib import Path
 
-HERE = Path(__file__).resolve().parent
-FORMD = HERE.parent / "crates" / "formd"
-PROGRAM = Path(sys.argv[1] if len(sys.argv) > 1 else FORMD / "out" / "formd").resolve()
-CALLS = Path(sys.argv[2] if len(sys.argv) > 2 else HERE.parent / "crates" / "refused_calls" / "out" / "refused_calls").resolve()
+import looks
+from looks import ROOM, ROOT, compact, named_program, tell
+
+PROGRAM = named_program()
+CALLS = Path(sys.argv[2] if len(sys.argv) > 2 else ROOT / "crates" / "refused_calls" / "out" / "refused_calls").resolve()
 EACH = int(sys.argv[3]) if len(sys.argv) > 3 else 1
 TURNS = itertools.count()
 MEMORY = {"error": "C12", "name": "Memory"}
 NO_DECLARATIONS = '{"types":{},"forms":{}}'
 IDS = ("r1", "r2", "r3", "r9")
-lost = 0
-
-
-def compact(value):
-    return json.dumps(value, separators=(",", ":"), sort_keys=True, ensure_ascii=False)
-
-
-def tell(text):
-    """What is wrong with a run, of which one thing is lost at most."""
-    global lost
-    lost += 1
-    if lost <= 20:
-        print(text, flush=True)
 
 
 # Declarations and what they call for
@@ -356,7 +344,7 @@ class Page:
         self.file.write_bytes(bytes(32))
         with open(self.file, "r+b") as file:
             self.numbers = mmap.mmap(file.fileno(), 32)
-        subprocess.run(["gcc", "-O1", "-shared", "-fPIC", "-o", self.library, HERE / "refuse.c"], check=True)
+        subprocess.run(["gcc", "-O1", "-shared", "-fPIC", "-o", self.library, ROOT / "tests" / "refuse.c"], check=True)
         self.environment = {**os.environ, "LD_PRELOAD": str(self.library), "REFUSE_PAGE": str(self.file)}
 
     def refuse(self, number, is_last=True):
@@ -447,9 +435,9 @@ def commands(folder, page):
             if code != wanted.get("error", "ok"):
                 sys.exit(f"{name}: {wanted} isn't {code}")
             for is_last in True, False:
-                before = lost
+                before = looks.failed
                 found = one_line(service, model, f"{name} {code}, {store}", text, is_last)
-                figures.setdefault((name, is_last), []).append((*found, lost - before))
+                figures.setdefault((name, is_last), []).append((*found, looks.failed - before))
         service.end()
         for (name, is_last), found in figures.items():
             refused, wants, bad = map(sum, zip(*found))
@@ -755,7 +743,7 @@ def by_themselves(page):
     """Each opening with each of its requests refused in turn."""
     program = Calls(page)
     for which, (name, wanted, behind, memory) in enumerate(openings()):
-        refused, wants, before = 0, 0, lost
+        refused, wants, before = 0, 0, looks.failed
         for number in numbers():
             (first, *rest), was = program.make(str(which), 3, number)
             if rest != [wanted, behind] or first not in ([wanted, *memory] if was else [wanted]):
@@ -766,16 +754,14 @@ def by_themselves(page):
             refused += 1
         if not refused:
             tell(f"{name}: none of its requests was refused")
-        print(f"{name}, opened by itself: {refused} requests for memory, each refused in its turn, {wants} of them answered so; {lost - before} lost", flush=True)
+        print(f"{name}, opened by itself: {refused} requests for memory, each refused in its turn, {wants} of them answered so; {looks.failed - before} lost", flush=True)
     program.end()
 
 
 def main():
-    for program, how in (PROGRAM, "`make`"), (CALLS, "`rt run` in crates/refused_calls"):
-        if not program.is_file():
-            sys.exit(f"{program} isn't there: make it by {how}")
-    # (how long a disk takes doesn't matter here, so the files are in memory where the system has such a folder)
-    with tempfile.TemporaryDirectory(dir="/dev/shm" if os.access("/dev/shm", os.W_OK) else None) as name:
+    if not CALLS.is_file():
+        sys.exit(f"{CALLS} isn't there: make it by `rt run` in crates/refused_calls")
+    with tempfile.TemporaryDirectory(dir=ROOM) as name:
         folder = Path(name)
         page = Page(folder)
         by_themselves(page)
@@ -784,8 +770,8 @@ def main():
         judged(folder, page)
         rehearsed(folder, page)
         migration(folder, page)
-    print(f"requests for memory refused: {lost} lost")
-    return 1 if lost else 0
+    print(f"requests for memory refused: {looks.failed} lost")
+    return 1 if looks.failed else 0
 
 
 if __name__ == "__main__":

@@ -14,8 +14,9 @@ import sys
 import tempfile
 from pathlib import Path
 
-ROOT = Path(__file__).resolve().parent.parent
-PROGRAM = Path(sys.argv[1] if len(sys.argv) > 1 else ROOT / "crates" / "formd" / "out" / "formd").resolve()
+from looks import end, look, named_program
+
+PROGRAM = named_program()
 
 
 def field(kind, **more):
@@ -264,37 +265,30 @@ def run(*words, lines):
     return subprocess.run([PROGRAM, *words], input="".join(line + "\n" for line in lines), capture_output=True, text=True, errors="surrogateescape")
 
 
-def told_otherwise(declarations, mistakes):
-    """How many of these lines are answered or told otherwise than wanted."""
+def rehearse(declarations, mistakes):
+    """Looks at what these lines are answered and what is told of them."""
     lines = [line for line, _, _ in mistakes]
     with tempfile.TemporaryDirectory() as folder:
         file = Path(folder) / "declarations.json"
         file.write_text(json.dumps(declarations))
         rehearsed = run("rehearse", "--declarations", file, "--now", "0", lines=lines)
         served = run("serve", "--declarations", file, "--database", Path(folder) / "served.db", "--now", "0", lines=lines)
-    failed = 0
-    if (rehearsed.returncode, rehearsed.stdout) != (0, served.stdout):
-        failed += 1
-        print(f"status {rehearsed.returncode}, or other replies than those of serve")
+    look("status 0, and the replies of serve", (rehearsed.returncode, rehearsed.stdout), (0, served.stdout))
     replies = [json.loads(reply) for reply in rehearsed.stdout.splitlines()]
     told = {}
     for words in rehearsed.stderr.splitlines():
         number, _, rest = words.removeprefix("line ").partition(": ")
         told.setdefault(int(number), []).append(rest)
     for number, ((line, code, words), reply) in enumerate(zip(mistakes, replies, strict=True), 1):
-        found = told.get(number, [])
-        if reply.get("error", "ok") != code or found != ([words] if words else []):
-            failed += 1
-            print(f"line {number}: {line[:100]}\n  wanted {code} {words}\n  found {reply} {found}")
-    return failed
+        look(f"line {number}: {line}", (reply.get("error", "ok"), told.get(number, [])), (code, [words] if words else []))
 
 
 def main():
-    failed = told_otherwise(DECLARATIONS, MISTAKES) + told_otherwise(nodes("Wide"), CROWDED)
+    rehearse(DECLARATIONS, MISTAKES)
+    rehearse(nodes("Wide"), CROWDED)
     mistakes = sum(words is not None for _, _, words in MISTAKES + CROWDED)
-    print(f"{mistakes} mistakes in lines, {failed} told otherwise than wanted")
-    sys.exit(failed > 0)
+    return end(f"{mistakes} mistakes in lines, {{failed}} told otherwise than wanted")
 
 
 if __name__ == "__main__":
-    main()
+    sys.exit(main())

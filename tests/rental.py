@@ -10,11 +10,11 @@ tests/rental/lines.txt has the commands (`>`), the replies (`<`) and the moments
 import subprocess
 import sys
 import tempfile
-from pathlib import Path
 
-ROOT = Path(__file__).resolve().parent.parent
+from looks import ROOT, end, look, named_program
+
 RENTAL = ROOT / "tests" / "rental"
-PROGRAM = Path(sys.argv[1] if len(sys.argv) > 1 else ROOT / "crates" / "formd" / "out" / "formd").resolve()
+PROGRAM = named_program()
 
 
 def runs():
@@ -40,20 +40,13 @@ def serve(database, moment, commands):
 
 
 def main():
-    if not PROGRAM.is_file():
-        raise SystemExit(f"{PROGRAM} isn't there: make it by `make`")
-    failed = count = 0
     with tempfile.TemporaryDirectory() as folder:
         for moment, pairs in runs():
             replies = serve(f"{folder}/rental.db", moment, [command for command, _ in pairs])
             replies += ["no reply"] * (len(pairs) - len(replies))
             for (command, wanted), reply in zip(pairs, replies):
-                count += 1
-                if reply != wanted:
-                    failed += 1
-                    print(f"{command}\nwanted: {wanted}\nreply:  {reply}")
-    print(f"{count} lines of tests/rental, {failed} replies differ")
-    return 1 if failed or not count else 0
+                look(command, reply, wanted)
+    return end("{count} lines of tests/rental, {failed} replies differ")
 
 
 if __name__ == "__main__":

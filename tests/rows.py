@@ -23,9 +23,10 @@ import tempfile
 from concurrent.futures import ThreadPoolExecutor
 from pathlib import Path
 
-ROOT = Path(__file__).resolve().parent.parent
+from looks import ROOM, ROOT, named_program
+
 DATA = ROOT / "tests" / "data" / "rows"
-PROGRAM = Path(sys.argv[1] if len(sys.argv) > 1 else ROOT / "crates" / "formd" / "out" / "formd").resolve()
+PROGRAM = named_program()
 GET = '{"do":"get","id":"r1"}'
 SHOWN = 400
 
@@ -394,7 +395,7 @@ def tables(file):
 
 
 def compared(table):
-    with tempfile.TemporaryDirectory(dir="/dev/shm" if os.path.isdir("/dev/shm") else None) as folder:
+    with tempfile.TemporaryDirectory(dir=ROOM) as folder:
         try:
             return list(KINDS[table.kind](table, folder))
         except Unanswered as run:
@@ -417,8 +418,6 @@ def judge(file, pool):
 
 
 def main():
-    if not PROGRAM.is_file():
-        raise SystemExit(f"{PROGRAM} isn't there: make it by `make`")
     with ThreadPoolExecutor(os.cpu_count()) as pool:
         counts = [judge(file, pool) for file in map(Path, sys.argv[2:] or sorted(DATA.glob("*.rows")))]
     total, wrong = map(sum, zip(*counts))

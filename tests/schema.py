@@ -195,8 +195,6 @@ def shown():
 
 
 def main():
-    if not rows.PROGRAM.is_file():
-        raise SystemExit(f"{rows.PROGRAM} isn't there: make it by `make`")
     for validator in jsonschema.Draft202012Validator, jsonschema.Draft7Validator:
         validator.check_schema(SCHEMA)
     chance = random.Random(1)

@@ -34,8 +34,9 @@ try:
 except ImportError:
     jsonschema = None
 
-ROOT = Path(__file__).resolve().parent.parent
-PROGRAM = Path(sys.argv[1] if len(sys.argv) > 1 else ROOT / "crates" / "formd" / "out" / "formd").resolve()
+from looks import named_program
+
+PROGRAM = named_program()
 SHORT = sys.argv[2:] == ["short"]
 DECLARATIONS, BUNDLES = (50, 40) if SHORT else (500, 40)
 NOW, TODAY = 1_700_000_000, "2023-11-14"
@@ -627,8 +628,6 @@ def answered(all_told):
 
 
 def main():
-    if not PROGRAM.is_file():
-        raise SystemExit(f"{PROGRAM} isn't there: make it by `make`")
     begun, wrong, readers = time.monotonic(), 0, []
     with ProcessPoolExecutor(os.cpu_count()) as pool:
         all_told = list(pool.map(told, range(len(EDGES) + DECLARATIONS)))

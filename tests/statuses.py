@@ -22,8 +22,9 @@ import sys
 import tempfile
 from pathlib import Path
 
-ROOT = Path(__file__).resolve().parent.parent
-PROGRAM = Path(sys.argv[1] if len(sys.argv) > 1 else ROOT / "crates" / "formd" / "out" / "formd").resolve()
+from looks import end, look, named_program
+
+PROGRAM = named_program()
 DECLARATIONS = '{"types":{"T":{"fields":{"t":{"type":"text"}}}},"forms":{"f":{"root":"T"}}}'
 ABOUT = "CREATE TABLE about (one INTEGER PRIMARY KEY CHECK (one = 1), version INTEGER NOT NULL, declarations BLOB NOT NULL)"
 OBJECT = (
@@ -38,15 +39,6 @@ ORDERS = """{"types":{
     "Note":{"fields":{"words":{"type":{"list":{"type":"text"}}}}}
     },"forms":{"order":{"root":"Order"},"line":{"root":"Line"}}}"""
 NOBODY = 65534
-failed = count = 0
-
-
-def look(name, found, wanted):
-    global failed, count
-    count += 1
-    if found != wanted:
-        failed += 1
-        print(f"{name}: wanted {wanted}, found {found}")
 
 
 def put(number, length=0):
@@ -342,8 +334,6 @@ def full(folder):
 
 
 def main():
-    if not PROGRAM.is_file():
-        raise SystemExit(f"{PROGRAM} isn't there: make it by `make`")
     with tempfile.TemporaryDirectory() as name:
         # the files beside a database are looked at, also where it is the folder itself: so nobody else's stand beside that
         folder = Path(name) / "databases"
@@ -355,8 +345,7 @@ def main():
         declared(folder)
         pipes(folder)
         full(folder)
-    print(f"{count} looked at, {failed} differ")
-    return 1 if failed else 0
+    return end("{count} looked at, {failed} differ")
 
 
 if __name__ == "__main__":

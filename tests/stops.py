@@ -34,9 +34,10 @@ from collections import Counter
 from pathlib import Path
 
 sys.dont_write_bytecode = True
-from refused_allocations import FIRST, FIRST_BUNDLES, IDS, LINES, NO_DECLARATIONS, PROGRAM, Model, compact, declarations, first_file, redeclare, served, version_of
+import looks
+from looks import ROOM, ROOT, compact, tell
+from refused_allocations import FIRST, FIRST_BUNDLES, IDS, LINES, NO_DECLARATIONS, PROGRAM, Model, declarations, first_file, redeclare, served, version_of
 
-HERE = Path(__file__).resolve().parent
 DATABASE, LOG, INPUT, OUTPUT, DECLARATIONS = range(5)
 FILES = itertools.cycle([(LOG,), (DATABASE,)] if "short" in sys.argv[2:] else [(DATABASE, LOG)])
 NAMES = ("the database file", "the log", "standard input", "standard output")
@@ -44,14 +45,6 @@ REFUSALS = ('{"error":"C11","name":"Store"}', '{"error":"C12","name":"Memory"}')
 NOT_OPENED = (b"formd: cannot open database\n", b"formd: store: Store\n", b"formd: memory\n")
 MORE = {"do": "checkvalue", "type": "Item", "field": "more", "value": None}
 QUESTIONS = [compact({"do": "get", "id": key}) for key in IDS] + [compact({"do": "list", "form": "item"}), compact(MORE)]
-lost = 0
-
-
-def tell(text):
-    global lost
-    lost += 1
-    if lost <= 20:
-        print(text, flush=True)
 
 
 class Page:
@@ -62,7 +55,7 @@ class Page:
         self.file.write_bytes(bytes(32))
         with open(self.file, "r+b") as file:
             self.numbers = mmap.mmap(file.fileno(), 32)
-        subprocess.run(["gcc", "-O1", "-shared", "-fPIC", "-o", library, HERE / "stop.c"], check=True)
+        subprocess.run(["gcc", "-O1", "-shared", "-fPIC", "-o", library, ROOT / "tests" / "stop.c"], check=True)
         self.environment = {**os.environ, "LD_PRELOAD": str(library), "STOP_PAGE": str(self.file)}
 
     def run(self, words, lines, which, first, width=0):
@@ -103,7 +96,7 @@ def disk(folder, page, name, source, line, before, after, is_first_version=False
     undisturbed = None if line is None else compact(Model(before.declared, before.records).answer(line))
     for which in next(FILES):
         for sign in (1, -1):
-            ends, number, bad = Counter(), 0, lost
+            ends, number, bad = Counter(), 0, looks.failed
             while True:
                 number += 1
                 replaced(folder, source)
@@ -132,7 +125,7 @@ def disk(folder, page, name, source, line, before, after, is_first_version=False
             if number == 1:
                 tell(f"{name}: {NAMES[which]} is never stopped")
             figures = ", ".join(f"{times} {end}" for end, times in sorted(ends.items()))
-            print(f"{name}: {NAMES[which]} stopped at each of {number - 1} calls{', half of the bytes of the first write written' if sign < 0 else ''}: {figures}; {lost - bad} lost", flush=True)
+            print(f"{name}: {NAMES[which]} stopped at each of {number - 1} calls{', half of the bytes of the first write written' if sign < 0 else ''}: {figures}; {looks.failed - bad} lost", flush=True)
 
 
 def reads(folder, page, words):
@@ -140,7 +133,7 @@ def reads(folder, page, words):
     replaced(folder, "kept")
     whole = subprocess.run([PROGRAM, *words], capture_output=True, timeout=60).stdout
     for which in DATABASE, LOG:
-        number, refused, bad = 0, 0, lost
+        number, refused, bad = 0, 0, looks.failed
         while True:
             number += 1
             replaced(folder, "kept")
@@ -153,7 +146,7 @@ def reads(folder, page, words):
             refused += is_refused
             if found(served(folder / "d.json", folder / "g.db")) != shown(stored()):
                 tell(f"{words[0]}, {NAMES[which]} stopped at call {number}: other records are there")
-        print(f"{words[0]} of a database: {NAMES[which]} stopped at each of {number - 1} calls, {refused} ended with status 4; {lost - bad} lost", flush=True)
+        print(f"{words[0]} of a database: {NAMES[which]} stopped at each of {number - 1} calls, {refused} ended with status 4; {looks.failed - bad} lost", flush=True)
 
 
 def disks(folder, page):
@@ -193,7 +186,7 @@ def stream(folder, page, name, lines, which, width, is_ended=True):
     text, wanted = "".join(line + "\n" for line in lines).encode(), "".join(replies).encode()
     text = text if is_ended else text[:-1]
     ends = [len("".join(line + "\n" for line in lines[:count]).encode()) for count in range(len(lines) + 1)]
-    number, bad = 0, lost
+    number, bad = 0, looks.failed
     while True:
         number += 1
         replaced(folder, None)
@@ -220,7 +213,7 @@ def stream(folder, page, name, lines, which, width, is_ended=True):
             tell(f"{at}: {held}")
     if number == 1:
         tell(f"{NAMES[which]} is never stopped")
-    print(f"{name}: {NAMES[which]} of {width} bytes a call stopped at each of {number - 1} calls; {lost - bad} lost", flush=True)
+    print(f"{name}: {NAMES[which]} of {width} bytes a call stopped at each of {number - 1} calls; {looks.failed - bad} lost", flush=True)
 
 
 def streams(folder, page):
@@ -281,18 +274,15 @@ def unread(folder, page):
 
 
 def main():
-    if not PROGRAM.is_file():
-        sys.exit(f"{PROGRAM} isn't there: make it by `make`")
-    # (how long a disk takes doesn't matter here, so the files are in memory where the system has such a folder)
-    with tempfile.TemporaryDirectory(dir="/dev/shm" if os.access("/dev/shm", os.W_OK) else None) as name:
+    with tempfile.TemporaryDirectory(dir=ROOM) as name:
         folder = Path(name)
         page = Page(folder)
         disks(folder, page)
         streams(folder, page)
         odd_lines(folder, page)
         unread(folder, page)
-    print(f"files and streams stopped: {lost} lost")
-    return 1 if lost else 0
+    print(f"files and streams stopped: {looks.failed} lost")
+    return 1 if looks.failed else 0
 
 
 if __name__ == "__main__":

@@ -18,9 +18,10 @@ import sys
 import tempfile
 from pathlib import Path
 
-ROOT = Path(__file__).resolve().parent.parent
+from looks import ROOT, end, look, named_program
+
 ROWS = ROOT / "tests" / "data" / "words.rows"
-PROGRAM = Path(sys.argv[1] if len(sys.argv) > 1 else ROOT / "crates" / "formd" / "out" / "formd").resolve()
+PROGRAM = named_program()
 GET = '{"do":"get","id":"r1"}'
 # What a rehearsal says of it on standard error.
 TOLD = 'line 1: C6 NoRecord: id: there is no record "r1"\n'
@@ -29,15 +30,6 @@ DECLARATIONS = '{"types":{"Item":{"fields":{"count":{"type":"integer"}}}},"forms
 MOST_BYTES = 16_777_216
 # Words that make no file and take none away.
 ONLY_READ = ("explain", "export", "judge", "rehearse")
-failed = count = 0
-
-
-def look(name, found, wanted):
-    global failed, count
-    count += 1
-    if found != wanted:
-        failed += 1
-        print(f"{name:.300}:\n  wanted {wanted!r:.2000}\n  found  {found!r:.2000}")
 
 
 def text_of(lines):
@@ -210,14 +202,11 @@ def failing_streams(folder):
 
 
 def main():
-    if not PROGRAM.is_file():
-        raise SystemExit(f"{PROGRAM} isn't there: make it by `make`")
     for section in sections():
         in_a_folder(lambda folder: [row.look(folder) for row in section])
     for looks in sizes, long_declarations, many_records, in_use, failing_streams:
         in_a_folder(looks)
-    print(f"{count} looked at, {failed} differ")
-    return 1 if failed or not count else 0
+    return end("{count} looked at, {failed} differ")
 
 
 if __name__ == "__main__":

@@ -10,9 +10,10 @@ No test in Rattle reaches this: a program's words there are UTF-8.
 
 import subprocess
 import sys
-from pathlib import Path
 
-FORMD = Path(__file__).resolve().parent.parent / "crates" / "formd" / "out" / "formd"
+from looks import named_program
+
+PROGRAM = named_program()
 TEXT = b"""error: invalid UTF-8 was detected in one or more arguments
 
 Usage: formd [COMMAND]
@@ -25,10 +26,9 @@ BYTES = [b"\xff", b"\x80", b"\xe2\x82", b"\xed\xa0\x80", b"\xc0\xaf"]
 
 
 def main():
-    program = sys.argv[1] if len(sys.argv) > 1 else FORMD
     for bad in BYTES:
         for words in [bad], [b"a" + bad], [b"declarations", bad], [bad, b"--help"]:
-            run = subprocess.run([program, *words], input=b"", capture_output=True, timeout=60)
+            run = subprocess.run([PROGRAM, *words], input=b"", capture_output=True, timeout=60)
             if (run.returncode, run.stdout, run.stderr) != (2, b"", TEXT):
                 sys.exit(f"{words}: status {run.returncode}, {run.stdout!r}, {run.stderr!r}")
     print(f"{4 * len(BYTES)} runs with words that aren't UTF-8: each ended with status 2 and its text")

@@ -21,8 +21,9 @@ import sys
 import tempfile
 from pathlib import Path
 
-ROOT = Path(__file__).resolve().parent.parent
-PROGRAM = Path(sys.argv[1] if len(sys.argv) > 1 else ROOT / "crates" / "formd" / "out" / "formd").resolve()
+from looks import ROOM, end, look, named_program
+
+PROGRAM = named_program()
 WORDS = sys.argv[2:]
 GIGABYTES, SECONDS, MOST_SECONDS = 2, 10, 30
 LINE = 1048576
@@ -30,7 +31,6 @@ EASY = {"types": {"T": {"fields": {"t": {"type": "text"}}}}, "forms": {"f": {"ro
 NN = {"constraint": "NotNull"}
 ENDLESS = " " * (3 * LINE)
 ODD = "\\u0001" * 65536
-failed = 0
 
 
 def compact(value):
@@ -297,27 +297,18 @@ def judged(cost, lines, code, needs):
 
 
 def main():
-    global failed
-    if not PROGRAM.is_file():
-        sys.exit(f"{PROGRAM} isn't there: make it by `make`")
-    looked = over = 0
+    over = 0
     print("| input | answer | seconds | MB | longest reply, bytes |\n|---|---|---|---|---|", flush=True)
-    # (how long a disk takes doesn't matter here, so the files are in memory where the system has such a folder)
-    with tempfile.TemporaryDirectory(dir="/dev/shm" if os.access("/dev/shm", os.W_OK) else None) as name:
+    with tempfile.TemporaryDirectory(dir=ROOM) as name:
         for what, declared, lines, code, needs in INPUTS:
             if WORDS and not any(word in what for word in WORDS):
                 continue
             cost = Cost(Path(name), declared, lines, BEFORE.get(what))
-            looked += 1
             over += needs is not None
             answer = " ".join(cost.codes[: len(lines)] or ["taken"]) if cost.status == 0 else cost.error.decode().strip() or "ended by the limit"
             print(f"| {what} | {answer} | {cost.seconds:.1f} | {cost.megabytes:,} | {cost.longest:,} |", flush=True)
-            wrong = judged(cost, lines, code, needs)
-            if wrong:
-                failed += 1
-                print(f"{what}: {wrong}", flush=True)
-    print(f"{looked} inputs, {over} of them past {SECONDS} s or {GIGABYTES} GB as bench/README.md says; {failed} others are, or are answered otherwise")
-    return 1 if failed else 0
+            look(what, judged(cost, lines, code, needs), None)
+    return end(f"{{count}} inputs, {over} of them past {SECONDS} s or {GIGABYTES} GB as bench/README.md says; {{failed}} others are, or are answered otherwise")
 
 
 if __name__ == "__main__":

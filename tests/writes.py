@@ -17,9 +17,9 @@ import tempfile
 from pathlib import Path
 
 sys.dont_write_bytecode = True
-from refused_allocations import FIRST, LINES, ODD, PROGRAM, Model, change, compact, declarations, item, put, redeclare, served
+from looks import ROOM, ROOT, compact, end, look
+from refused_allocations import FIRST, LINES, ODD, PROGRAM, Model, change, declarations, item, put, redeclare, served
 
-HERE = Path(__file__).resolve().parent
 # further refusals: of what the line says by itself, behind a record that is found, and when all parts of a batch are made
 MORE = [
     ("put", "C5", put("r2", "a", a=item(name="a", next="zz"))),
@@ -31,15 +31,6 @@ MORE = [
     ("list", "C4", {"do": "list", "form": "other"}),
 ]
 CHANGES = ("put", "set", "remove", "batch", "redeclare")
-failed = count = 0
-
-
-def look(name, found, wanted):
-    global failed, count
-    count += 1
-    if found != wanted:
-        failed += 1
-        print(f"{name:.300}:\n  wanted {wanted!r:.600}\n  found  {found!r:.600}")
 
 
 class Noted:
@@ -78,11 +69,9 @@ def is_transaction(noted):
 
 
 def main():
-    if not PROGRAM.is_file():
-        sys.exit(f"{PROGRAM} isn't there: make it by `make`")
-    with tempfile.TemporaryDirectory(dir="/dev/shm" if os.access("/dev/shm", os.W_OK) else None) as name:
+    with tempfile.TemporaryDirectory(dir=ROOM) as name:
         folder, library = Path(name), Path(name) / "writes.so"
-        subprocess.run(["gcc", "-O1", "-shared", "-fPIC", "-o", library, HERE / "writes.c"], check=True)
+        subprocess.run(["gcc", "-O1", "-shared", "-fPIC", "-o", library, ROOT / "tests" / "writes.c"], check=True)
         (folder / "d.json").write_text(declarations())
         filled = "".join(compact(line) + "\n" for line in FIRST)
         run = subprocess.run([PROGRAM, *served(folder / "d.json", folder / "kept.db")], input=filled, capture_output=True, text=True)
@@ -106,8 +95,7 @@ def main():
                 look(f"one transaction by {line}: {changed}", is_transaction(changed), True)
             else:
                 look(f"what {line} changes", changed, [])
-    print(f"{count} looks, {failed} wrong")
-    return 1 if failed or not count else 0
+    return end()
 
 
 if __name__ == "__main__":
