@@ -2,6 +2,7 @@
 """Counts the definitions that a reader of public calls' contracts needs, down to the ground.
 
     tests/definitions.py CRATE FUNCTION .. [--list]      as in: tests/definitions.py fv_engine serve open
+    tests/definitions.py .. --given=MODULE               what a module's definitions stand on isn't counted: with fv_declare_judging.specs.Declares page one of docs/READING.md
 
 It begins at the names in the calls' clauses and in the views of the crate's types, and follows each definition of the crates' specs/ to the
 definitions that it names, through names that are handed on by `pub use`; the libraries of the toolchain
@@ -102,8 +103,8 @@ def views_of(crate):
             yield view, imports_of(source), None
 
 
-def needed(crate, functions):
-    """The definitions that the contracts need: module and name of each."""
+def needed(crate, functions, given=()):
+    """The definitions that the contracts need: module and name of each. Those of given modules are needed, and not looked into."""
     known = modules()
     seen, waiting = set(), [(*clauses_of(crate, function), None) for function in functions] + list(views_of(crate))
     while waiting:
@@ -118,7 +119,8 @@ def needed(crate, functions):
                 if found and found not in seen:
                     seen.add(found)
                     place, name = found
-                    waiting.append(("\n".join(known[place][1][name]), known[place][0], place))
+                    if place not in given:
+                        waiting.append(("\n".join(known[place][1][name]), known[place][0], place))
     return seen, known
 
 
@@ -143,7 +145,7 @@ def holder(definitions, name):
 
 def main():
     crate, *functions = (word for word in sys.argv[1:] if not word.startswith("--"))
-    seen, known = needed(crate, functions)
+    seen, known = needed(crate, functions, [word.removeprefix("--given=") for word in sys.argv if word.startswith("--given=")])
     names = {}
     for place, name in seen:
         names.setdefault(place, []).append(name)
