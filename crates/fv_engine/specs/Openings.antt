@@ -5,11 +5,14 @@ use Rattle.fv_declare_judging.specs.Declares.{Declares}
 use Rattle.fv_declare_judging.specs.declared.fault.DeclFault.{DeclFault}
 use Rattle.fv_declare_schema.specs.Declarations.{Declarations}
 use Rattle.fv_registry.specs.Rules.{Known}
+use Rattle.fv_store.specs.Causes.{IsShortAbout}
 use Rattle.fv_store.specs.Faults.{about_fault}
 use Rattle.fv_store.specs.Records.{Contents}
-use Rattle.fv_store.specs.Stands.{MayBeFirst, Opens, Stays, TellsAbout}
+use Rattle.fv_store.specs.Stands.{first_version, IsBlank, KeepsFirst, MayBeFirst, Opens, Stays, TellsAbout}
 use Rattle.fv_store.specs.Steps.{IsUpgraded}
 use Rattle.fv_store.specs.declared.fault.OpenStoreFault.{OpenStoreFault}
+use Rattle.fv_tables.specs.Olds.{Olds}
+use Rattle.fv_upgrade.specs.Upgraded.{AllShort, AllUpgrade, HasFew, upgraded}
 use Rattle.fv_engine.specs.declared.engine.OpenFault.{OpenFault}
 use Rattle.fv_engine.specs.declared.engine.OpenFault.TheVariants.{Store}
 
@@ -39,3 +42,16 @@ pub record IsMigrated (old new : State) : Type 0 where
 -- migrated.
 abbrev pub IsLeft : Known → List ℕ → State → State → OpenFault → Type 0
 IsLeft known given old new fault = Stays old new ⊎ (DeclaresSome known given × ((f : OpenStoreFault) → fault ≢ Store f) × IsMigrated old new)
+
+-- An opening leaves a database as it was that was no empty one and not of version 1; one of version 1 is the migrated one.
+pub record IsKept (old new : State) : Type 0 where
+  pub still : (IsBlank old.now → ⊥) → Stays old new ⊎ (HasCleanDisk new → MayBeFirst old.now)
+  pub upgraded : IsUpgraded old new
+
+-- a database in which nothing but its disk hinders an opening: tables that tell another version than the first; those of version 1, whose rows
+-- all are records, which fit; or an empty one
+abbrev pub CanBeOpened : State → List ℕ → Type 0
+CanBeOpened old given =
+    ((version : ℕ) × (kept : List ℕ) × TellsAbout version kept old.now × (version ≢ first_version))
+    ⊎ ((kept : List ℕ) × (m : Olds) × KeepsFirst old kept m × AllUpgrade m × IsShortAbout kept × AllShort (upgraded m) × HasFew m)
+    ⊎ (IsBlank old.now × IsShortAbout given)

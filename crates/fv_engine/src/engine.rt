@@ -3,15 +3,12 @@ ghost use Rattle.sqlite.specs.State.{HasCleanDisk};
 ghost use Rattle.sqlite.specs.Held.{state};
 ghost use Rattle.fv_datum.specs.Moments.{IsMoment};
 ghost use Rattle.fv_store.specs.Faults.{about_fault, IsAboutFault};
-ghost use Rattle.fv_store.specs.Causes.{HasFailed, IsShortAbout};
-ghost use Rattle.fv_store.specs.Stands.{first_version, Frame, Holds, IsBlank, IsLive, MayBeFirst, KeepsFirst, Opens, Stays, TellsAbout};
-ghost use Rattle.fv_store.specs.Steps.{IsUpgraded};
-ghost use Rattle.fv_tables.specs.Olds.{Olds};
-ghost use Rattle.fv_upgrade.specs.Upgraded.{AllShort, AllUpgrade, HasFew, upgraded};
+ghost use Rattle.fv_store.specs.Causes.{HasFailed};
+ghost use Rattle.fv_store.specs.Stands.{Frame, Holds, IsLive, Opens, Stays, TellsAbout};
 ghost use Rattle.fv_store.specs.Stock.{stock_state};
 ghost use Rattle.fv_declare_judging.specs.Declares.{Declares};
 ghost use Rattle.fv_engine.specs.Laws.{ShowsWhatWasPut, ChangesNoGet, ListsSome, MayChangePlaces, LeavesNothingToList, FailsWhereShut, FailsForRoomAlone, ShowsTheSame, LeavesNothingAtAll, FitsWhereAdded};
-ghost use Rattle.fv_engine.specs.Openings.{DeclaresSome, IsInForce, IsLeft, IsMisdeclared};
+ghost use Rattle.fv_engine.specs.Openings.{CanBeOpened, DeclaresSome, IsInForce, IsKept, IsLeft, IsMisdeclared};
 ghost use Rattle.fv_engine_machine.specs.Machines.{contents};
 ghost use Rattle.fv_engine_machine.specs.Services.{GoesOn, Keeps, Responds, Turned, reign_of};
 ghost use Rattle.fv_model_types.specs.Types.{FieldsApart, has_deep};
@@ -91,7 +88,12 @@ impl<R: RuleSet, S: Alter> Model for Engine<R, S> {
 
     ghost Value = { Service (Stock S) };
 
-    ghost coded = { Prim.hlevel (codes, type_use_code, tree_code {N = Node} (Prim.hlevel (codes, pattern_code)), stock_code S.code) };
+    ghost coded = { Prim.hlevel (
+      codes,
+      type_use_code,
+      tree_code {N = Node} (Prim.hlevel (codes, pattern_code)),
+      stock_code S.code,
+    ) };
 
     ghost view = { λ e. serving (stock_state S.Store) (R.known e.rules) e.book e.store };
 }
@@ -129,7 +131,8 @@ fn in_force<R: RuleSet + Drop>(
     requires { Declares (R.known rules.now) declarations.now (Ok given) }
     ensures taken { IfOk result (λ b. Declares (R.known rules.now) text.now (Ok b)) }
     ensures refused { IfErr result (λ f. (text.now ≢ declarations.now) × (f ≡ OpenFault.Memory
-        ⊎ ((fault : DeclFault) × (f ≡ OpenFault.Declarations fault) × Declares (R.known rules.now) text.now (Err fault)))) }
+        ⊎ ((fault : DeclFault) × (f ≡ OpenFault.Declarations fault)
+        × Declares (R.known rules.now) text.now (Err fault)))) }
 {
     if text == declarations {
         return Ok(given);
@@ -157,31 +160,30 @@ impl<R: RuleSet + Drop, S: Alter + Drop> Engine<R, S> {
         connection: Connection<S>,
     ) -> Result<Engine<R, S>, (OpenFault, Connection<S>)>
         requires { R.means rules }
-        ensures rules { IfOk result (λ e. e.known ≡ R.known rules) }
-        ensures declared { IfOk result (λ e. Declares e.known e.text (Ok e.machine.declared)) }
-        // Those handed in declare something, also where others are in force.
-        ensures given { IfOk result (λ e. DeclaresSome (R.known rules) declarations.now) }
+        // The declarations in force declare what the engine judges by, under the rules handed in.
+        ensures declared { IfOk result (λ e. (e.known ≡ R.known rules)
+            × Declares e.known e.text (Ok e.machine.declared)) }
+        // Those handed in declare something, also where others are in force, and where the store refuses.
+        ensures given { MatchResult result (λ e. DeclaresSome (R.known rules) declarations.now)
+            (λ r. (fault : _) → r.0 ≡ OpenFault.Store fault → DeclaresSome (R.known rules) declarations.now) }
         // Those of the database are in force, and those handed in over an empty one.
         ensures in_force { IfOk result (λ e. IsInForce (state S.Store connection)
             (stock_state S.Store e.machine.records) declarations.now e.text) }
-        ensures frame { MatchResult result (λ e. Frame (state S.Store connection) (stock_state S.Store e.machine.records))
+        ensures frame { MatchResult result
+            (λ e. Frame (state S.Store connection) (stock_state S.Store e.machine.records)
+            × IsLive (stock_state S.Store e.machine.records))
             (λ r. Frame (state S.Store connection) (state S.Store r.1)) }
-        ensures open { IfOk result (λ e. IsLive (stock_state S.Store e.machine.records)) }
         // The records are those that the database handed over, whatever engine kept them there under the same text.
         ensures opened { IfOk result (λ e. (known : _) (ds : _) (m : _) → Declares known e.text (Ok ds)
             → Opens (state S.Store connection) declarations.now (contents e.text ds m)
             → Keeps (stock_state S.Store) e m) }
-        // Whatever is not of version 1 is left as it was.
-        ensures still { IfOk result (λ e. (IsBlank (state S.Store connection).now → ⊥)
-            → Stays (state S.Store connection) (stock_state S.Store e.machine.records)
-            ⊎ (HasCleanDisk (stock_state S.Store e.machine.records) → MayBeFirst (state S.Store connection).now)) }
-        // One of version 1 is opened only where the text of each row is a bundle by its form, whatever texts they are.
-        ensures upgraded { IfOk result (λ e. IsUpgraded (state S.Store connection) (stock_state S.Store e.machine.records)) }
+        // Whatever is not of version 1 is left as it was; one of version 1 is opened only where the text of each row
+        // is a bundle by its form, whatever texts they are.
+        ensures kept { IfOk result (λ e. IsKept (state S.Store connection) (stock_state S.Store e.machine.records)) }
         // Declarations are told by their first fault; those handed in come first, and nothing is migrated then.
         ensures refused { IfErr result (λ r. (fault : _) → r.0 ≡ OpenFault.Declarations fault
             → IsMisdeclared (R.known rules) (state S.Store connection) (state S.Store r.1) declarations.now fault) }
-        ensures after { IfErr result (λ r. (fault : _) → r.0 ≡ OpenFault.Store fault
-            → DeclaresSome (R.known rules) declarations.now) }
+        // What `about` tells against an opening, as it tells it.
         ensures cause { IfErr result (λ r. (fault : _) → r.0 ≡ OpenFault.Store fault → IsAboutFault fault
             → HasCleanDisk (state S.Store r.1) → (version : _) (d : _)
             → TellsAbout version d (state S.Store connection).now → about_fault version ≡ Some fault) }
@@ -190,20 +192,13 @@ impl<R: RuleSet + Drop, S: Alter + Drop> Engine<R, S> {
         // Want of memory below is told as such.
         ensures memory { IfErr result (λ r. r.0 ≢ OpenFault.Store OpenStoreFault.Memory) }
         // The store fails with a cause, over tables of either version and over an empty database.
-        ensures store_known { IfErr result (λ r. r.0 ≡ OpenFault.Store OpenStoreFault.Store
-            → HasCleanDisk (state S.Store r.1) → connection.in_transaction ≡ false → (version : _) (d : _)
-            → TellsAbout version d (state S.Store connection).now → (version ≡ first_version → ⊥)
-            → HasFailed (state S.Store connection) (state S.Store r.1)) }
-        ensures store_first { IfErr result (λ r. r.0 ≡ OpenFault.Store OpenStoreFault.Store
-            → HasCleanDisk (state S.Store r.1) → connection.in_transaction ≡ false → (d : List ℕ) (m : Olds)
-            → KeepsFirst (state S.Store connection) d m → AllUpgrade m → IsShortAbout d → AllShort (upgraded m) → HasFew m
-            → HasFailed (state S.Store connection) (state S.Store r.1)) }
-        ensures store_blank { IfErr result (λ r. r.0 ≡ OpenFault.Store OpenStoreFault.Store
+        ensures store { IfErr result (λ r. r.0 ≡ OpenFault.Store OpenStoreFault.Store
             → HasCleanDisk (state S.Store r.1) → connection.in_transaction ≡ false
-            → IsBlank (state S.Store connection).now → IsShortAbout declarations.now
+            → CanBeOpened (state S.Store connection) declarations.now
             → HasFailed (state S.Store connection) (state S.Store r.1)) }
         // A refusal hands the database back as it was, or migrated.
-        ensures left { IfErr result (λ r. IsLeft (R.known rules) declarations.now (state S.Store connection) (state S.Store r.1) r.0) }
+        ensures left { IfErr result (λ r. IsLeft (R.known rules) declarations.now
+            (state S.Store connection) (state S.Store r.1) r.0) }
         ensures stays { IfErr result (λ r. (c : _) → has_deep c.types ≡ false
             → Opens (state S.Store connection) declarations.now c → Opens (state S.Store r.1) declarations.now c) }
     {
@@ -250,7 +245,8 @@ impl<R: RuleSet + Drop, S: Alter> Engine<R, S> {
         ensures step { GoesOn (stock_state S.Store) self.old self.new
             (λ x y. Turned x.known R.meaning (reign_of x) line.now now result (reign_of y)) }
         // The same step, with what the connection to the database has to do with it.
-        ensures causes { GoesOn (stock_state S.Store) self.old self.new (λ x y. Responds R.meaning x line.now now result y) }
+        ensures causes { GoesOn (stock_state S.Store) self.old self.new
+            (λ x y. Responds R.meaning x line.now now result y) }
         // What a taken put stored is what a get on the next line shows.
         ensures shows { GoesOn (stock_state S.Store) self.old self.new
             (λ x y. ShowsWhatWasPut R.meaning x.machine.declared line.now result y.machine.records) }
@@ -261,12 +257,14 @@ impl<R: RuleSet + Drop, S: Alter> Engine<R, S> {
         ensures lists { GoesOn (stock_state S.Store) self.old self.new (λ x y. ListsSome result) }
         // Two taken puts of different ids may change places.
         ensures places { GoesOn (stock_state S.Store) self.old self.new
-            (λ x y. MayChangePlaces R.meaning x.machine.declared line.now now result x.machine.records y.machine.records) }
+            (λ x y. MayChangePlaces R.meaning x.machine.declared line.now now result
+            x.machine.records y.machine.records) }
         // A taken command leaves nothing to list, of what it put or set.
         ensures nothing { GoesOn (stock_state S.Store) self.old self.new
             (λ x y. LeavesNothingToList R.meaning x.machine.declared line.now now result y.machine.records) }
         // A command that looks for the record of an id fails over a connection that is shut.
-        ensures shut { GoesOn (stock_state S.Store) self.old self.new (λ x y. FailsWhereShut line.now result x.machine) }
+        ensures shut { GoesOn (stock_state S.Store) self.old self.new
+            (λ x y. FailsWhereShut line.now result x.machine) }
         // Over an open connection whose disk doesn't fail, as in memory, the store fails for want of room alone.
         ensures room { GoesOn (stock_state S.Store) self.old self.new
             (λ x y. FailsForRoomAlone R.meaning line.now now result x.machine y.machine) }

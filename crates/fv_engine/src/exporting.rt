@@ -326,8 +326,10 @@ impl<R: RuleSet + Drop, S: Alter> Engine<R, S> {
     /// pages of ids, if the database keeps records. After a refusal a front of the same text was written.
     pub fn export<W: Write>(&mut self, alloc: Global, out: &mut W) -> Result<(), ExportFault>
         ensures same { IsSameService self.old self.new }
-        ensures frame { Frame (stock_state S.Store self.old.machine.records) (stock_state S.Store self.new.machine.records) }
-        ensures keeps { (m : Records) → Keeps (stock_state S.Store) self.old m → Keeps (stock_state S.Store) self.new m }
+        ensures frame { Frame (stock_state S.Store self.old.machine.records)
+            (stock_state S.Store self.new.machine.records) }
+        ensures keeps { (m : Records) → Keeps (stock_state S.Store) self.old m
+            → Keeps (stock_state S.Store) self.new m }
         // The database is as it was.
         ensures untouched { (m : Records) → Keeps (stock_state S.Store) self.old m
             → Stays (stock_state S.Store self.old.machine.records) (stock_state S.Store self.new.machine.records) }

@@ -53,7 +53,8 @@ impl<R: RuleSet + Drop> Responder for LineJudge<R> {
     type Reply = Reply;
 
     // Nothing is kept for the next line.
-    ghost step = { λ old line moment text new. (new ≡ old) × Judges (R.known old.rules) R.meaning old.book line moment text };
+    ghost step = { λ old line moment text new. (new ≡ old)
+        × Judges (R.known old.rules) R.meaning old.book line moment text };
 
     fn answer_line(&mut self, alloc: Global, line: &[u8], now: i64) -> Reply {
         self.judge(alloc, line, now)

@@ -16,20 +16,23 @@ use Rattle.fv_engine.proofs.engine.Engine.open.Goals as goal
 pub returns-in-Err-open-clause-other_version : goal.returns-in-Err-open-clause-other_version
 returns-in-Err-open-clause-other_version g c = λ is. c.in-Err-open.ensures.other_version (store_cause c.in-Err-open.fault _ _ c.store_fault.ensures.memory c.store_fault.ensures.other is)
 
-pub returns-in-Err-open-clause-store_known : goal.returns-in-Err-open-clause-store_known
-returns-in-Err-open-clause-store_known g c = λ is. c.in-Err-open.ensures.store_known (store_cause c.in-Err-open.fault _ _ c.store_fault.ensures.memory c.store_fault.ensures.other is)
+pub returns-in-Err-open-clause-store : goal.returns-in-Err-open-clause-store
+returns-in-Err-open-clause-store g c = λ is clean outside able.
+    let fails = store_cause c.in-Err-open.fault _ _ c.store_fault.ensures.memory c.store_fault.ensures.other is in
+    elim able [
+      | inl tells ↦ c.in-Err-open.ensures.store_known fails clean outside tells.0 tells.1 tells.2 tells.3
+      | inr (inl first) ↦ c.in-Err-open.ensures.store_first fails clean outside first.0 first.1 first.2 first.3 first.4 first.5 first.6
+      | inr (inr blank) ↦ c.in-Err-open.ensures.store_blank fails clean outside blank.0 blank.1
+    ]
 
-pub returns-in-Err-open-clause-store_first : goal.returns-in-Err-open-clause-store_first
-returns-in-Err-open-clause-store_first g c = λ is. c.in-Err-open.ensures.store_first (store_cause c.in-Err-open.fault _ _ c.store_fault.ensures.memory c.store_fault.ensures.other is)
+pub returns-in-Ok-in_force-clause-kept : goal.returns-in-Ok-in_force-clause-kept
+returns-in-Ok-in_force-clause-kept g c = record { still = c.in-Ok-open.ensures.still; upgraded = c.in-Ok-open.ensures.upgraded }
 
 pub returns-in-Err-open-clause-left : goal.returns-in-Err-open-clause-left
 returns-in-Err-open-clause-left g c = inl c.in-Err-open.ensures.untouched
 
 pub returns-in-Err-open-clause-stays : goal.returns-in-Err-open-clause-stays
 returns-in-Err-open-clause-stays g c = λ k shallow opens. c.in-Err-open.ensures.stays k opens
-
-pub returns-in-Err-open-clause-store_blank : goal.returns-in-Err-open-clause-store_blank
-returns-in-Err-open-clause-store_blank g c = λ is. c.in-Err-open.ensures.store_blank (store_cause c.in-Err-open.fault _ _ c.store_fault.ensures.memory c.store_fault.ensures.other is)
 
 pub returns-in-Err-open-clause-refused : goal.returns-in-Err-open-clause-refused
 returns-in-Err-open-clause-refused g c = λ fault is. absurd (store_alone c.in-Err-open.fault fault _ c.store_fault.ensures.memory c.store_fault.ensures.other is)
