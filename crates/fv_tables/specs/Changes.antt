@@ -5,7 +5,7 @@ use Rattle.std.specs.List.Sorted.{IsStrictlySortedBy}
 use Rattle.std.specs.Ordering.{nat_cmp}
 use Rattle.fv_tables.specs.Stands.{Head, Part, Maps, Entry, Entries, NumberedThing, IsOwned, without_parts, put, added, dropped, removed}
 use Rattle.fv_tables.specs.declared.entry.FoundRow.{FoundRow}
-use Rattle.fv_tables.specs.declared.text.ObjectText.{ObjectText}
+use Rattle.fv_tables.specs.declared.entry.ObjectRow.{ObjectRow}
 
 -- an object with its name
 abbrev pub Thing : Type 0
@@ -97,24 +97,20 @@ with_part_of id name p m other = if bytes_eq other id then changed name p (m oth
 -- ---- as the code has them
 
 -- an object with its name
-abbrev pub object_view : ObjectText → List ℕ × Part
-object_view o = (o.name.now, record { kind = o.kind.now; fields = string_bytes o.fields })
+abbrev pub object_view : ObjectRow → List ℕ × Part
+object_view o = (string_bytes o.name, record { kind = string_bytes o.kind; fields = string_bytes o.fields })
 
 -- objects with their names
-abbrev pub objects_view : List ObjectText → Things
+abbrev pub objects_view : List ObjectRow → Things
 objects_view os = map object_view os
 
--- an object that was found, with its name
-abbrev pub found_object : FoundRow → List ℕ × Part
-found_object r = (r.name.now, record { kind = r.kind.now; fields = r.fields.now })
-
--- the same with the rowid of its row
+-- an object with the rowid under which it was found
 abbrev pub found_view : FoundRow → NumberedThing
-found_view r = (r.rowid, found_object r)
+found_view r = (r.rowid, object_view r.object)
 
 -- the objects that were found
 abbrev pub found_objects : List FoundRow → Things
-found_objects rows = map found_object rows
+found_objects rows = map (λ r. object_view r.object) rows
 
 -- the objects of each record are named
 abbrev pub AllNamed : Entries → Type 0

@@ -9,8 +9,9 @@ ghost use Rattle.fv_tables.specs.Inserting.{insert_of, object_values, row_values
 ghost use Rattle.fv_tables.specs.Stands.{Frame, Spells, IsOwned};
 ghost use Rattle.fv_tables.specs.Steps.{Advances, Inside, Makes};
 
-use crate::text::ObjectText;
-use sqlite::{Alter, Error, Transaction, types::ValueRef};
+use crate::entry::ObjectRow;
+use sqlite::types::ValueRef;
+use sqlite::{Alter, Error, Transaction};
 use std::alloc::{AllocError, Global};
 
 const INSERT_OBJECT: &str = "INSERT INTO object (rec, name, kind, fields) VALUES (?1, ?2, ?3, ?4)";
@@ -19,16 +20,20 @@ const INSERT_TWO: &str =
     "INSERT INTO object (rec, name, kind, fields) VALUES (?1, ?2, ?3, ?4), (?1, ?5, ?6, ?7)";
 
 const INSERT_FOUR: &str =
-    "INSERT INTO object (rec, name, kind, fields) VALUES (?1, ?2, ?3, ?4), (?1, ?5, ?6, ?7), (?1, ?8, ?9, ?10), (?1, ?11, ?12, ?13)";
+    "INSERT INTO object (rec, name, kind, fields) VALUES (?1, ?2, ?3, ?4), (?1, ?5, ?6, ?7), \
+    (?1, ?8, ?9, ?10), (?1, ?11, ?12, ?13)";
 
 const INSERT_EIGHT: &str =
-    "INSERT INTO object (rec, name, kind, fields) VALUES (?1, ?2, ?3, ?4), (?1, ?5, ?6, ?7), (?1, ?8, ?9, ?10), (?1, ?11, ?12, ?13), \
-    (?1, ?14, ?15, ?16), (?1, ?17, ?18, ?19), (?1, ?20, ?21, ?22), (?1, ?23, ?24, ?25)";
+    "INSERT INTO object (rec, name, kind, fields) VALUES (?1, ?2, ?3, ?4), (?1, ?5, ?6, ?7), \
+    (?1, ?8, ?9, ?10), (?1, ?11, ?12, ?13), (?1, ?14, ?15, ?16), (?1, ?17, ?18, ?19), \
+    (?1, ?20, ?21, ?22), (?1, ?23, ?24, ?25)";
 
 const INSERT_SIXTEEN: &str =
-    "INSERT INTO object (rec, name, kind, fields) VALUES (?1, ?2, ?3, ?4), (?1, ?5, ?6, ?7), (?1, ?8, ?9, ?10), (?1, ?11, ?12, ?13), \
-    (?1, ?14, ?15, ?16), (?1, ?17, ?18, ?19), (?1, ?20, ?21, ?22), (?1, ?23, ?24, ?25), (?1, ?26, ?27, ?28), (?1, ?29, ?30, ?31), \
-    (?1, ?32, ?33, ?34), (?1, ?35, ?36, ?37), (?1, ?38, ?39, ?40), (?1, ?41, ?42, ?43), (?1, ?44, ?45, ?46), (?1, ?47, ?48, ?49)";
+    "INSERT INTO object (rec, name, kind, fields) VALUES (?1, ?2, ?3, ?4), (?1, ?5, ?6, ?7), \
+    (?1, ?8, ?9, ?10), (?1, ?11, ?12, ?13), (?1, ?14, ?15, ?16), (?1, ?17, ?18, ?19), \
+    (?1, ?20, ?21, ?22), (?1, ?23, ?24, ?25), (?1, ?26, ?27, ?28), (?1, ?29, ?30, ?31), \
+    (?1, ?32, ?33, ?34), (?1, ?35, ?36, ?37), (?1, ?38, ?39, ?40), (?1, ?41, ?42, ?43), \
+    (?1, ?44, ?45, ?46), (?1, ?47, ?48, ?49)";
 
 /// As many parameters as the longest of these statements has.
 const MOST_VALUES: usize = 49;
@@ -63,7 +68,7 @@ fn insert_text(rows: usize) -> &'static str
 }
 
 /// Behind these values those of an object.
-fn push_object<'a>(values: &mut Vec<ValueRef<'a>>, object: &'a ObjectText<'a>) -> Result<(), AllocError>
+fn push_object<'a>(values: &mut Vec<ValueRef<'a>>, object: &'a ObjectRow) -> Result<(), AllocError>
     ensures { OnOk result (bound values.new.items ≡ bound values.old.items ++ object_values (object_view object.now ∷ [])) }
 {
     values.push(ValueRef::Text(object.name.as_bytes()))?;
@@ -76,7 +81,7 @@ fn push_object<'a>(values: &mut Vec<ValueRef<'a>>, object: &'a ObjectText<'a>) -
 fn values_of<'a>(
     alloc: Global,
     id: &'a str,
-    objects: &'a [ObjectText<'a>],
+    objects: &'a [ObjectRow],
 ) -> Result<Vec<ValueRef<'a>>, AllocError>
     ensures { IfOk result (λ v. bound v.items ≡ row_values id.now (objects_view objects.now)) }
 {
@@ -92,7 +97,7 @@ fn values_of<'a>(
 pub(crate) fn insert_run<S: Alter>(
     tx: &mut Transaction<'_, S>,
     id: &str,
-    objects: &[ObjectText],
+    objects: &[ObjectRow],
 ) -> Result<usize, Error>
     requires { IsRun (length objects.now) }
     ensures same_reference { tx.new.conn.ghost_name ≡ tx.old.conn.ghost_name }
@@ -107,7 +112,7 @@ pub(crate) fn insert_run<S: Alter>(
         → IsSome (t.heads id.now) → HasRooms (length objects.now) old.now → AreShort id.now (objects_view objects.now)
         → IsExcused old new e)) }
 {
-    let alloc = *objects[0].fields.allocator();
+    let alloc = *objects[0].name.allocator();
     let values = values_of(alloc, id, objects)?;
     tx.execute(insert_text(objects.len()), &values)
 }
@@ -116,7 +121,7 @@ pub(crate) fn insert_run<S: Alter>(
 pub(crate) fn insert_objects<S: Alter>(
     tx: &mut Transaction<'_, S>,
     id: &str,
-    objects: &[ObjectText],
+    objects: &[ObjectRow],
 ) -> Result<(), Error>
     ensures same_reference { tx.new.conn.ghost_name ≡ tx.old.conn.ghost_name }
     ensures frame { Frame (state S.Store tx.old.conn.now) (state S.Store tx.new.conn.now) }
@@ -130,12 +135,11 @@ pub(crate) fn insert_objects<S: Alter>(
         → IsSome (t.heads id.now) → HasRooms (length objects.now) old.now → AreShort id.now (objects_view objects.now)
         → IsExcused old new e)) }
 {
-    let mut done = 0;
-    'runs: while done < objects.len() {
-        let (_, rest) = objects.split_at(done);
-        let (run, _) = rest.split_at(longest_run(rest.len()));
+    let mut rest = objects;
+    'runs: while !rest.is_empty() {
+        let (run, behind) = rest.split_at(longest_run(rest.len()));
         insert_run(tx, id, run)?;
-        done += run.len();
+        rest = behind;
     }
     Ok(())
 }

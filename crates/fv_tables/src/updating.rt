@@ -9,10 +9,10 @@ ghost use Rattle.fv_tables.specs.Stands.{Frame, Spells, IsOwned};
 ghost use Rattle.fv_tables.specs.Steps.{Advances, ArePartsOf, AreRowsOf, Inside};
 ghost use Rattle.fv_tables.specs.Updating.{place_values, places_of, range_values, things_of, Follow, IsRange, UpdatesRange};
 
-use crate::entry::FoundRow;
+use crate::entry::{FoundRow, ObjectRow};
 use crate::rows::is_same;
-use crate::text::ObjectText;
-use sqlite::{Alter, Error, Transaction, types::ValueRef};
+use sqlite::types::ValueRef;
+use sqlite::{Alter, Error, Transaction};
 use std::alloc::{AllocError, Global};
 
 /// Sixteen places in the order of their rowids, each with three parameters: its rowid, and the type's name and the fields that its row shall have.
@@ -37,36 +37,30 @@ const FEWEST: usize = 3;
 /// As many parameters as the statement has.
 const MOST_VALUES: usize = 49;
 
-/// The rowid of a row.
-fn rowid_of(row: &FoundRow) -> i64
-    ensures { result ≡ row.now.rowid }
-{
-    row.rowid
-}
-
 /// Whether the rowids rise, and the rows have the names of the objects in their places.
-fn are_in_step(rows: &[FoundRow], objects: &[ObjectText]) -> bool
+fn are_in_step(rows: &[FoundRow], objects: &[ObjectRow]) -> bool
     requires { length rows.now ≡ length objects.now }
     ensures { result ≡ true → (n : ℤ) × Follow n (map found_view rows.now) (objects_view objects.now) }
 {
     let mut last = i64::MIN;
     for at in 0..rows.len() {
-        let rowid = rowid_of(&rows[at]);
-        if rowid <= last || rows[at].name != objects[at].name.as_bytes() {
+        let row = &rows[at];
+        let object = &objects[at];
+        if row.rowid <= last || row.object.name.as_str() != object.name.as_str() {
             return false;
         }
-        last = rowid;
+        last = row.rowid;
     }
     true
 }
 
 /// Whether more than half of the rows have something else than the objects in their places.
-fn most_differ(rows: &[FoundRow], objects: &[ObjectText]) -> bool
+fn most_differ(rows: &[FoundRow], objects: &[ObjectRow]) -> bool
     requires { length rows.now ≡ length objects.now }
 {
     let mut same = 0;
     for at in 0..rows.len() {
-        if is_same(&rows[at], &objects[at]) {
+        if is_same(&rows[at].object, &objects[at]) {
             same += 1;
         }
     }
@@ -75,7 +69,7 @@ fn most_differ(rows: &[FoundRow], objects: &[ObjectText]) -> bool
 
 /// Whether one statement shall write these objects over these rows: where most of them differ, and at most half of the rowids between are those of others.
 /// Only speed rests on it where it answers `false`.
-pub(crate) fn is_range(rows: &[FoundRow], objects: &[ObjectText]) -> bool
+pub(crate) fn is_range(rows: &[FoundRow], objects: &[ObjectRow]) -> bool
     ensures { result ≡ true → IsRange (map found_view rows.now) (objects_view objects.now) }
 {
     let count = rows.len();
@@ -90,7 +84,7 @@ pub(crate) fn is_range(rows: &[FoundRow], objects: &[ObjectText]) -> bool
 fn push_place<'a>(
     values: &mut Vec<ValueRef<'a>>,
     row: &FoundRow,
-    object: &'a ObjectText<'a>,
+    object: &'a ObjectRow,
 ) -> Result<(), AllocError>
     ensures { OnOk result (bound values.new.items ≡ bound values.old.items ++ place_values ((row.now.rowid, object_view object.now) ∷ [])) }
 {
@@ -105,7 +99,7 @@ fn values_of<'a>(
     alloc: Global,
     id: &'a str,
     rows: &[FoundRow],
-    objects: &'a [ObjectText<'a>],
+    objects: &'a [ObjectRow],
 ) -> Result<Vec<ValueRef<'a>>, AllocError>
     requires { IsRange (map found_view rows.now) (objects_view objects.now) }
     ensures { IfOk result (λ v. bound v.items ≡ range_values id.now (places_of (map found_view rows.now) (objects_view objects.now))) }
@@ -128,7 +122,7 @@ pub(crate) fn update_range<S: Alter>(
     tx: &mut Transaction<'_, S>,
     id: &str,
     rows: &[FoundRow],
-    objects: &[ObjectText],
+    objects: &[ObjectRow],
 ) -> Result<usize, Error>
     requires { IsRange (map found_view rows.now) (objects_view objects.now) }
     ensures same_reference { tx.new.conn.ghost_name ≡ tx.old.conn.ghost_name }
@@ -142,7 +136,7 @@ pub(crate) fn update_range<S: Alter>(
         → ArePartsOf id.now (things_of (map found_view rows.now)) t → AreApart (objects_view objects.now) → IsOwned t
         → IsSome (t.heads id.now) → HasRooms 0 old.now → AreShort id.now (objects_view objects.now) → IsExcused old new e)) }
 {
-    let alloc = *objects[0].fields.allocator();
+    let alloc = *objects[0].name.allocator();
     let values = values_of(alloc, id, rows, objects)?;
     tx.execute(UPDATE_RANGE, &values)
 }
