@@ -1,5 +1,5 @@
 -- An object is found by its name where a search among objects meets it.
-use Rattle.std.proofs.Common.{◌≡◌, ◌<◌, ◌||◌, inl, inr, zero, suc, ℕ, Bool, true, false, length, take, get_or, bytes_eq, List, [], ◌∷◌, Ordering, Equal, is_eq, nat_cmp, string_bytes, Result, Ok, Err, is_ok, true≢false, refl, sym, ap, subst, ◌∙◌, arith}
+use Rattle.std.proofs.Common.{◌≡◌, ◌<◌, ◌||◌, inl, inr, zero, suc, ℕ, Bool, true, false, length, take, get_or, bytes_eq, List, [], ◌∷◌, Ordering, Equal, is_eq, nat_cmp, string_bytes, Result, Ok, Err, is_ok, true≢false, refl, sym, ap, ◌∙◌, arith}
 use Rattle.std.specs.Cmp.Lexicographic.{slice_cmp}
 use Rattle.std.specs.List.{HoldsAt}
 use Rattle.std.specs.List.Sorted.{IsSearchInRange, IsBinarySearchResult}
@@ -15,21 +15,31 @@ use Rattle.fv_tables.specs.Changes.{has_name, objects_view}
 abbrev pub beside : List ℕ → ObjectRow → Ordering
 beside name o = slice_cmp nat_cmp (string_bytes o.name) name
 
+-- the same of a row
+abbrev pub row_beside : List ℕ → FoundRow → Ordering
+row_beside name r = slice_cmp nat_cmp r.name.now name
+
 -- the text that a search is handed
 pub handed : (name : List ℕ) → take (length name) name ≡ name
 handed name = take_all (length name) name (omega arith)
 
--- an element that stands somewhere
-pub at_has : {X : Type 0} (xs : List X) (i : ℕ) (x : X) → i < length xs → x ≡ get_or xs i x → Has xs x
-at_has [] i x below is = absurd (omega arith)
-at_has (y ∷ xs) zero x below is = inl is
-at_has (y ∷ xs) (suc i) x below is = inr (at_has xs i x (omega arith) is)
+-- the element at a place
+pub element : {X : Type 0} (xs : List X) (i : ℕ) (d e : X) → i < length xs → get_or xs i d ≡ get_or xs i e
+element [] i d e below = absurd (omega arith)
+element (x ∷ xs) zero d e below = refl
+element (x ∷ xs) (suc i) d e below = element xs i d e (omega arith)
+
+pub at_has : {X : Type 0} (xs : List X) (i : ℕ) (d : X) → i < length xs → Has xs (get_or xs i d)
+at_has [] i d below = absurd (omega arith)
+at_has (x ∷ xs) zero d below = inl refl
+at_has (x ∷ xs) (suc i) d below = inr (at_has xs i d (omega arith))
 
 -- the row there is of the name
-pub row_met : (name : List ℕ) (rows : List FoundRow) (i : ℕ) (r : FoundRow) → i < length rows → r ≡ get_or rows i r → HoldsAt (λ x. beside name x.object ≡ Equal) rows i → Has rows r × (string_bytes r.object.name ≡ name)
-row_met name rows i r below is met =
-    let same : beside name r.object ≡ Equal = subst (λ (x : FoundRow). beside name x.object ≡ Equal) (sym is) (met r) in
-    (at_has rows i r below is, (bytes_eq-Decides (string_bytes r.object.name) name).0 (sym (is_eq-slice_cmp (string_bytes r.object.name) name) ∙ ap is_eq same))
+pub row_met : (name : List ℕ) (rows : List FoundRow) (i : ℕ) (d : FoundRow) → i < length rows → HoldsAt (λ x. row_beside name x ≡ Equal) rows i → Has rows (get_or rows i d) × ((get_or rows i d).name.now ≡ name)
+row_met name rows i d below met =
+    let r = get_or rows i d in
+    let same : row_beside name r ≡ Equal = met d in
+    (at_has rows i d below, (bytes_eq-Decides r.name.now name).0 (sym (is_eq-slice_cmp r.name.now name) ∙ ap is_eq same))
 
 -- an object of the name is among these
 object_there : (name : List ℕ) (os : List ObjectRow) (i : ℕ) → i < length os → HoldsAt (λ o. beside name o ≡ Equal) os i → true ≡ has_name name (objects_view os)

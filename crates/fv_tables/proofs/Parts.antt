@@ -22,7 +22,7 @@ use Rattle.fv_tables.specs.declared.entry.FoundRow.{FoundRow}
 use Rattle.fv_tables.specs.Tables.{store_schema}
 use Rattle.fv_tables.specs.Rows.{HasRows}
 use Rattle.fv_tables.specs.Stands.{Part, Place, Maps, NumberedThing, part_row, shown_row, IsTextPart, IsTextRow, Spells}
-use Rattle.fv_tables.specs.Changes.{found_objects, found_view, object_view}
+use Rattle.fv_tables.specs.Changes.{found_objects, found_object, found_view}
 use Rattle.fv_tables.specs.Causes.{IsExcused, IsRefusal}
 use Rattle.fv_tables.specs.Steps.{ArePartsOf, AreRowsOf, ShowsParts}
 use Rattle.fv_tables.proofs.Texts.{objects_text, objects_terms, objects_query, objects_names, objects_is, objects_plain, objects_whole, objects_unlisted, by_first, by_name}
@@ -103,7 +103,7 @@ parts_shown old new id (Ok rows) h = λ d t spelled.
 
 objects_of : (rows : List FoundRow) → map (λ (r : ℤ × (List ℕ × Part)). r.1) (map found_view rows) ≡ found_objects rows
 objects_of [] = refl
-objects_of (r ∷ rows) = ap (λ os. object_view r.object ∷ os) (objects_of rows)
+objects_of (r ∷ rows) = ap (λ os. found_object r ∷ os) (objects_of rows)
 
 pub parts_found : (old : State) (id : List ℕ) (rows v : List Row) (r : Result (Vec FoundRow Global) Error) → v ≡ rows → ((d : List Row) (t : Maps) → Spells old.now d t → ShowsParts id rows old.now t)
     → IfOk r (λ x. (rs : List NumberedThing) → v ≡ map shown_row rs → map found_view x.items ≡ rs)

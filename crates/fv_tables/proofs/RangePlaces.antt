@@ -19,6 +19,7 @@ use Rattle.sqlite_value.proofs.OrderLemmas.{value_cmp-Int}
 use Rattle.sqlite_rules.specs.Lists.{Has}
 use Rattle.sqlite_rules.proofs.ListLemmas.{all_has, all_from, has_left, has_right, has_either}
 use Rattle.sqlite_trees.proofs.ListLemmas.{all_weaker}
+use Rattle.fv_tables.proofs.Named.{element}
 use Rattle.fv_tables.specs.declared.entry.FoundRow.{FoundRow}
 use Rattle.fv_tables.specs.declared.entry.ObjectRow.{ObjectRow}
 use Rattle.fv_tables.specs.Stands.{NumberedThing}
@@ -261,7 +262,7 @@ same_names a b r is none = (bytes_eq-Decides a b).0 (go (bytes_eq a b) (sym is �
 
 -- a row more
 pub follow_more : (last : ℤ) (rs : List FoundRow) (os : List ObjectRow) (at : ℕ) (r : FoundRow) (o : ObjectRow) → drop at rs ≡ r ∷ drop (at + 1) rs → drop at os ≡ o ∷ drop (at + 1) os → last <ℤ r.rowid
-    → string_bytes r.object.name ≡ string_bytes o.name → Follow r.rowid (map found_view (drop (at + 1) rs)) (objects_view (drop (at + 1) os)) → Follow last (map found_view (drop at rs)) (objects_view (drop at os))
+    → r.name.now ≡ string_bytes o.name → Follow r.rowid (map found_view (drop (at + 1) rs)) (objects_view (drop (at + 1) os)) → Follow last (map found_view (drop at rs)) (objects_view (drop at os))
 follow_more last rs os at r o one two up same rest = subst₂ (λ (xs : List FoundRow) (ys : List ObjectRow). Follow last (map found_view xs) (objects_view ys)) (sym one) (sym two) (up, same, rest)
 
 -- ---- its parameters
@@ -305,3 +306,11 @@ values_more n id rs os follow k at r o below which row object =
     let more : k + 1 ≡ suc k = omega arith in
     let where_it_is : (at ≡ k) ⊎ ((length ps ≤ k) × (at + 1 ≡ length ps)) = elim which [ inl same ↦ inl same | inr past ↦ inr (omega (arith, past.0, long), past.1 ∙ sym long) ] in
     ap (λ (l : Row). Text id ∷ l) (ap (λ (n : ℕ). place_values (filled n ps)) more ∙ ap place_values (filled_more k at ps place.0 where_it_is (r.rowid, object_view o) place.1) ∙ place_values-append (filled k ps) ((r.rowid, object_view o) ∷ []))
+
+-- the same, as the code has it
+pub place_pushed : (n : ℤ) (id : List ℕ) (rs : List FoundRow) (os : List ObjectRow) → Follow n (map found_view rs) (objects_view os) → (k at : ℕ) (d : FoundRow) (o : ObjectRow) → at < length rs
+    → (at ≡ k) ⊎ ((length rs ≤ k) × (at + 1 ≡ length rs)) → o ≡ get_or os at o → (before after : Row) → before ≡ range_values id (filled k (under_rowids (map found_view rs) (objects_view os)))
+    → after ≡ before ++ place_values (((get_or rs at d).rowid, object_view o) ∷ []) → after ≡ range_values id (filled (k + 1) (under_rowids (map found_view rs) (objects_view os)))
+place_pushed n id rs os follow k at d o below which object before after was pushed =
+    let r = get_or rs at d in
+    pushed ∙ ap (λ (l : Row). l ++ place_values ((r.rowid, object_view o) ∷ [])) was ∙ sym (values_more n id rs os follow k at r o below which (element rs at d r below) object)

@@ -13,7 +13,7 @@ use Rattle.sqlite_rules.proofs.ProbeLemmas.{mapped_has}
 use Rattle.fv_tables.specs.declared.entry.FoundRow.{FoundRow}
 use Rattle.fv_tables.specs.declared.entry.ObjectRow.{ObjectRow}
 use Rattle.fv_tables.specs.Stands.{Head, Part, Place, Maps, Spells, Frame, IsOwned, same_place, put, added, dropped, removed, without_parts}
-use Rattle.fv_tables.specs.Changes.{Things, AreApart, names_of, same_object, has_object, all_added, others_dropped, has_name, replaced, dropped_unless_kept, written, found_objects, object_view, objects_view, IsFree, IsNew}
+use Rattle.fv_tables.specs.Changes.{Things, AreApart, names_of, same_object, has_object, all_added, others_dropped, has_name, replaced, dropped_unless_kept, written, found_object, found_objects, object_view, objects_view, IsFree, IsNew}
 use Rattle.fv_tables.specs.Causes.{HasRooms, IsExcused, IsShortHead, IsShortPart, AreShort}
 use Rattle.fv_tables.specs.Steps.{Advances, Anyhow, Makes, Lacks, LacksPart, ArePartsOf, IsThere, AreThere, UpdatesPart, UpdatesRow}
 use Rattle.fv_tables.proofs.Removes.{zero_is_not_one}
@@ -132,21 +132,21 @@ pub anyhow : {X : Type 0} (a b : State) (at : Place) (p : Part) (Applies : Maps 
 anyhow a b at p Applies r = led_on_ok a b r (λ x y made d t spelled _. made d t spelled tt)
 
 -- the same as a row that was found is the same as one of the rows
-same_among : (there : List FoundRow) (r : FoundRow) → Has there r → (o : List ℕ × Part) → has_object o (object_view r.object ∷ []) ≡ true → has_object o (found_objects there) ≡ true
+same_among : (there : List FoundRow) (r : FoundRow) → Has there r → (o : List ℕ × Part) → has_object o (found_object r ∷ []) ≡ true → has_object o (found_objects there) ≡ true
 same_among [] r h o is = absurd h
-same_among (x ∷ there) r (inl same) o is = go (same_object (object_view x.object) o) (subst (λ (e : FoundRow). has_object o (object_view e.object ∷ []) ≡ true) same is)
+same_among (x ∷ there) r (inl same) o is = go (same_object (found_object x) o) (subst (λ (e : FoundRow). has_object o (found_object e ∷ []) ≡ true) same is)
   where
     go : (b : Bool) → (b || false) ≡ true → (b || has_object o (found_objects there)) ≡ true
     go true is = refl
     go false is = absurd cc
-same_among (x ∷ there) r (inr later) o is = rw (same_among there r later o is) (go (same_object (object_view x.object) o))
+same_among (x ∷ there) r (inr later) o is = rw (same_among there r later o is) (go (same_object (found_object x) o))
   where
     go : (b : Bool) → (b || true) ≡ true
     go true = refl
     go false = refl
 
 pub part_over : {X : Type 0} (a b : State) (id : List ℕ) (there : List FoundRow) (r : FoundRow) → Has there r → (o : List ℕ × Part) (answer : Result X Error)
-    → OnOk answer (Advances a b (Makes 1 (IsThere id (object_view r.object ∷ []) o) (added (id, o.0) o.1))) → OnOk answer (Advances a b (Makes 1 (IsThere id (found_objects there) o) (added (id, o.0) o.1)))
+    → OnOk answer (Advances a b (Makes 1 (IsThere id (found_object r ∷ []) o) (added (id, o.0) o.1))) → OnOk answer (Advances a b (Makes 1 (IsThere id (found_objects there) o) (added (id, o.0) o.1)))
 part_over a b id there r among o answer = led_on_ok a b answer (λ x y made d t spelled is. made d t spelled (λ same. is (same_among there r among o same)))
 
 -- no change yet
@@ -189,15 +189,15 @@ others_dropped-push id os (n ∷ names) name t = others_dropped-push id os names
 
 -- a name more
 pub dropped_more : (id : List ℕ) (os : Things) (there : List FoundRow) (i : ℕ) (r : FoundRow) → take (i + 1) there ≡ take i there ++ r ∷ [] → (x y z : Database)
-    → Makes 0 Anyhow (others_dropped id os (names_of (found_objects (take i there)))) x y → Makes 0 Anyhow (dropped_unless_kept id os (object_view r.object).0) y z → Makes 0 Anyhow (others_dropped id os (names_of (found_objects (take (i + 1) there)))) x z
+    → Makes 0 Anyhow (others_dropped id os (names_of (found_objects (take i there)))) x y → Makes 0 Anyhow (dropped_unless_kept id os (found_object r).0) y z → Makes 0 Anyhow (others_dropped id os (names_of (found_objects (take (i + 1) there)))) x z
 dropped_more id os there i r more x y z p q d t spelled _ =
     let before = found_objects (take i there) in
     let names = names_of before in
-    let pushed : names_of (found_objects (take (i + 1) there)) ≡ names ++ (object_view r.object).0 ∷ [] =
-    ap (λ l. names_of (found_objects l)) more ∙ ap names_of (map-append (λ (e : FoundRow). object_view e.object) (take i there) (r ∷ [])) ∙ map-append (λ (e : List ℕ × Part). e.0) before (object_view r.object ∷ []) in
+    let pushed : names_of (found_objects (take (i + 1) there)) ≡ names ++ (found_object r).0 ∷ [] =
+    ap (λ l. names_of (found_objects l)) more ∙ ap names_of (map-append found_object (take i there) (r ∷ [])) ∙ map-append (λ (e : List ℕ × Part). e.0) before (found_object r ∷ []) in
     let one = p d t spelled tt in
     let two = q d (others_dropped id os names t) one.0 tt in
-    (subst (Spells z d) (sym (ap (λ ns. others_dropped id os ns t) pushed ∙ others_dropped-push id os names (object_view r.object).0 t)) two.0, both_rooms 0 0 0 x y z refl one.1 two.1)
+    (subst (Spells z d) (sym (ap (λ ns. others_dropped id os ns t) pushed ∙ others_dropped-push id os names (found_object r).0 t)) two.0, both_rooms 0 0 0 x y z refl one.1 two.1)
 
 owned_unless_kept : (id : List ℕ) (os : Things) (name : List ℕ) (t : Maps) → IsOwned t → IsOwned (dropped_unless_kept id os name t)
 owned_unless_kept id os name t owned = go (has_name name os)

@@ -104,13 +104,17 @@ object_view o = (string_bytes o.name, record { kind = string_bytes o.kind; field
 abbrev pub objects_view : List ObjectRow → Things
 objects_view os = map object_view os
 
--- an object with the rowid under which it was found
+-- an object that was found, with its name
+abbrev pub found_object : FoundRow → List ℕ × Part
+found_object r = (r.name.now, record { kind = r.kind.now; fields = r.fields.now })
+
+-- the same with the rowid of its row
 abbrev pub found_view : FoundRow → NumberedThing
-found_view r = (r.rowid, object_view r.object)
+found_view r = (r.rowid, found_object r)
 
 -- the objects that were found
 abbrev pub found_objects : List FoundRow → Things
-found_objects rows = map (λ r. object_view r.object) rows
+found_objects rows = map found_object rows
 
 -- the objects of each record are named
 abbrev pub AllNamed : Entries → Type 0

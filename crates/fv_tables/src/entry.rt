@@ -1,14 +1,16 @@
 //! What the rows of a record keep, as it is written and handed out.
-ghost use Rattle.std.specs.Prelude.{◌≡◌, IfErr, IfOk, map, option_map, ◌++◌, ◌∷◌, [], List, OnOk, Option};
+ghost use Rattle.std.specs.Prelude.{◌≡◌, ◌<◌, ℕ, IfErr, IfOk, length, map, option_map, ◌++◌, List, Option};
 ghost use Rattle.std.specs.List.{AllByRecursion};
-ghost use Rattle.sqlite.specs.Order.{Row as Values};
+ghost use Rattle.sqlite.specs.Order.{Row as Values, column};
+ghost use Rattle.sqlite.specs.declared.types.Value.TheVariants.{Text as Words};
 ghost use Rattle.fv_tables.specs.Causes.{IsRefusal};
 ghost use Rattle.fv_tables.specs.Changes.{Thing, Things, found_view, object_view, objects_view};
 ghost use Rattle.fv_tables.specs.Stands.{Head, NumberedThing, ShowsHead, shown_head, shown_part, shown_row, IsTextOfHead, IsTextObject, IsTextRow};
 ghost use Rattle.fv_tables.specs.Stored.{head_view, front, front_four};
 
+use sqlite::types::{Type, ValueRef};
 use sqlite::{Error, Row};
-use std::alloc::{AllocError, Global};
+use std::alloc::Global;
 
 /// What the row of an object keeps beside its record's id: its name, its type's name, and its fields' text.
 #[derive(Debug, Drop)]
@@ -20,8 +22,10 @@ pub struct ObjectRow {
 
 /// The row of an object as it was found, with its rowid.
 #[derive(Debug, Drop)]
-pub(crate) struct FoundRow {
-    pub(crate) object: ObjectRow,
+pub(crate) struct FoundRow<'a> {
+    pub(crate) name: &'a [u8],
+    pub(crate) kind: &'a [u8],
+    pub(crate) fields: &'a [u8],
     pub(crate) rowid: i64,
 }
 
@@ -73,22 +77,28 @@ fn read_object(row: &Row) -> Result<ObjectRow, Error>
     Ok(ObjectRow { name, kind, fields })
 }
 
+/// Reads a column that shows text, which stays in the row.
+fn text_at(row: &Row, at: usize) -> Result<&[u8], Error>
+    ensures shown { IfOk result (λ t. column row.now at ≡ Words t.now) }
+    ensures cause { IfErr result (λ e. (t : List ℕ) → at < length row.now → column row.now at ≡ Words t → ¬ IsRefusal e) }
+{
+    match row.get_ref(at)? {
+        ValueRef::Text(text) => Ok(text),
+        other => Err(Error::InvalidColumnType(at, Type::of(other))),
+    }
+}
+
 /// Reads the row that shows an object and its rowid.
-fn read_found(row: &Row) -> Result<FoundRow, Error>
+fn read_found(row: &Row) -> Result<FoundRow<'_>, Error>
     ensures shown { IfOk result (λ r. front_four row.now ≡ shown_row (found_view r)) }
     ensures cause { IfErr result (λ e. (r : NumberedThing) → row.now ≡ shown_row r → IsTextRow r → ¬ IsRefusal e) }
 {
-    let object = read_object(row)?;
-    let rowid = row.get(3)?;
-    Ok(FoundRow { object, rowid })
-}
-
-/// The objects with one more, at the end.
-fn add(objects: &mut Vec<ObjectRow>, object: ObjectRow) -> Result<(), AllocError>
-    ensures { OnOk result (objects.new.items ≡ objects.old.items ++ object ∷ []) }
-{
-    objects.push(object)?;
-    Ok(())
+    Ok(FoundRow {
+        name: text_at(row, 0)?,
+        kind: text_at(row, 1)?,
+        fields: text_at(row, 2)?,
+        rowid: row.get(3)?,
+    })
 }
 
 /// The objects that rows show.
@@ -99,22 +109,20 @@ pub(crate) fn objects_in(alloc: Global, rows: &[Row]) -> Result<Vec<ObjectRow>, 
 {
     let mut objects = Vec::with_capacity(alloc, rows.len())?;
     for row in rows {
-        let object = read_object(row)?;
-        add(&mut objects, object)?;
+        objects.push(read_object(row)?)?;
     }
     Ok(objects)
 }
 
 /// The objects that rows show, with their rowids.
-pub(crate) fn found_in(alloc: Global, rows: &[Row]) -> Result<Vec<FoundRow>, Error>
+pub(crate) fn found_in(alloc: Global, rows: &[Row]) -> Result<Vec<FoundRow<'_>>, Error>
     ensures shown { IfOk result (λ v. (rs : List NumberedThing) → rows.now ≡ map shown_row rs → map found_view v.items ≡ rs) }
     ensures cause { IfErr result (λ e. (rs : List NumberedThing) → rows.now ≡ map shown_row rs → AllByRecursion IsTextRow rs
         → ¬ IsRefusal e) }
 {
     let mut found = Vec::with_capacity(alloc, rows.len())?;
     for row in rows {
-        let one = read_found(row)?;
-        found.push(one)?;
+        found.push(read_found(row)?)?;
     }
     Ok(found)
 }

@@ -1,21 +1,20 @@
 //! The statements on the rows of the two tables.
-ghost use Rattle.std.specs.Prelude.{◌≡◌, ◌+◌, ◌∷◌, [], false, length, map, option_map, string_bytes, IfErr, IfOk, IsSome, MatchOption, None, OnOk, Some};
+ghost use Rattle.std.specs.Prelude.{◌≡◌, ◌+◌, ◌∷◌, [], false, length, option_map, IfErr, IfOk, IsSome, MatchOption, None, OnOk, Some};
 ghost use Rattle.sqlite.specs.State.{KeepsCommit};
 ghost use Rattle.sqlite.specs.Held.{state};
 ghost use Rattle.sqlite_rules.specs.Lists.{Has};
 ghost use Rattle.fv_tables.specs.Changes.{all_added, others_dropped, has_name as has, names_of, replaced, same_object, dropped_unless_kept, written};
-ghost use Rattle.fv_tables.specs.Changes.{found_objects, found_view, object_view, objects_view, AreApart, IsNew, IsReady};
+ghost use Rattle.fv_tables.specs.Changes.{found_object, found_objects, object_view, objects_view, AreApart, IsNew, IsReady};
 ghost use Rattle.fv_tables.specs.Causes.{AreShort, HasRooms, IsExcused, IsShortHead, IsShortPart};
 ghost use Rattle.fv_tables.specs.Stands.{Frame, ShowsHead, Spells, IsOwned, removed, put, added, dropped};
-ghost use Rattle.fv_tables.specs.Steps.{Advances, Anyhow, ArePartsOf, AreRowsOf, AreThere, HasHead, Inside, IsThere, Makes, Lacks, LacksPart, ShowsParts};
-ghost use Rattle.fv_tables.specs.Steps.{UpdatesHead, UpdatesPart, UpdatesRow};
+ghost use Rattle.fv_tables.specs.Steps.{Advances, Anyhow, AreThere, HasHead, Inside, IsThere, Makes, ShowsParts, UpdatesPart, UpdatesRow};
 ghost use Rattle.fv_tables.specs.Stored.{head_view};
 
 use crate::entry::{FoundRow, HeadRow, ObjectRow, found_in, head_in};
 use crate::finding::FIND_RECORD;
 use crate::inserting::{insert_objects, insert_run};
 use crate::updating::{is_range, update_range};
-use sqlite::{Alter, Error, Transaction, params};
+use sqlite::{Alter, Error, Row, Transaction, params, types::ValueRef};
 use std::slice::from_ref;
 
 const DELETE_RECORD: &str = "DELETE FROM record WHERE id = ?1";
@@ -93,20 +92,19 @@ fn update_row<S: Alter>(
     )
 }
 
-/// The objects of a record with the rowids of their rows. The query has them ascend by their names, on which no clause rests.
-fn find_parts<S: Alter>(tx: &mut Transaction<'_, S>, id: &str) -> Result<Vec<FoundRow>, Error>
+/// The rows that show the objects of a record and their rowids. The query has them ascend by their names, on which no clause rests.
+fn find_parts<S: Alter>(tx: &mut Transaction<'_, S>, id: &str) -> Result<Vec<Row>, Error>
     ensures same_reference { tx.new.conn.ghost_name ≡ tx.old.conn.ghost_name }
     ensures frame { Frame (state S.Store tx.old.conn.now) (state S.Store tx.new.conn.now) }
     ensures limit { tx.new.conn.now.step_limit ≡ tx.old.conn.now.step_limit }
     ensures kept { Inside S.Store tx.old.conn.now tx.new.conn.now KeepsCommit }
     ensures done { Inside S.Store tx.old.conn.now tx.new.conn.now (λ old new. OnOk result (Advances old new (λ was is. is ≡ was))) }
-    ensures found { Inside S.Store tx.old.conn.now tx.new.conn.now (λ old new. IfOk result (λ v. (d : _) (t : _)
-        → Spells old.now d t → AreRowsOf id.now (map found_view v.items) old.now × ArePartsOf id.now (found_objects v.items) t)) }
+    ensures shown { Inside S.Store tx.old.conn.now tx.new.conn.now (λ old new. IfOk result (λ v. (d : _) (t : _)
+        → Spells old.now d t → ShowsParts id.now v.items old.now t)) }
     ensures cause { Inside S.Store tx.old.conn.now tx.new.conn.now (λ old new. tx.old.conn.now.step_limit ≡ None
         → IfErr result (λ e. (d : _) (t : _) → Spells old.now d t → IsExcused old new e)) }
 {
-    let rows = tx.query_all(FIND_PARTS, params![id])?;
-    found_in(*rows.allocator(), &rows)
+    tx.query_all(FIND_PARTS, params![id])
 }
 
 /// Writes the row of an object of a record that is there, in place of that of its name, if there is one.
@@ -125,37 +123,31 @@ fn put_object<S: Alter>(
         → IfErr result (λ e. (d : _) (t : _) → Spells old.now d t → IsOwned t → IsSome (t.heads id.now)
         → HasRooms 1 old.now → IsShortPart (id.now, (object_view object.now).0) (object_view object.now).1 → IsExcused old new e)) }
 {
-    match update_object(
-        tx,
-        id,
-        object.name.as_str(),
-        object.kind.as_str(),
-        object.fields.as_str(),
-    )? {
+    match update_object(tx, id, &object.name, &object.kind, &object.fields)? {
         0 => insert_run(tx, id, from_ref(object)),
         changed => Ok(changed),
     }
 }
 
-/// Whether two objects have the same name, the same type's name and the same fields.
-pub(crate) fn is_same(one: &ObjectRow, other: &ObjectRow) -> bool
-    ensures { result ≡ same_object (object_view one.now) (object_view other.now) }
+/// Whether a row and an object have the same name, the same type's name and the same fields.
+pub(crate) fn is_same(row: &FoundRow, object: &ObjectRow) -> bool
+    ensures { result ≡ same_object (found_object row.now) (object_view object.now) }
 {
-    one.name.as_str() == other.name.as_str()
-        && one.kind.as_str() == other.kind.as_str()
-        && one.fields.as_str() == other.fields.as_str()
+    row.name == object.name.as_bytes()
+        && row.kind == object.kind.as_bytes()
+        && row.fields == object.fields.as_bytes()
 }
 
 /// The row of the object of the name, if it is among these. Where they ascend by their names, it is soon found.
-fn row_named<'a>(rows: &'a [FoundRow], name: &str) -> Option<&'a FoundRow>
+fn row_named<'a>(rows: &'a [FoundRow<'a>], name: &[u8]) -> Option<&'a FoundRow<'a>>
     ensures { MatchOption result (has name.now (found_objects rows.now) ≡ false)
-        (λ row. Has rows.now row.now × (string_bytes row.now.object.name ≡ name.now)) }
+        (λ row. Has rows.now row.now × (row.now.name.now ≡ name.now)) }
 {
-    if let Ok(at) = rows.binary_search_by(|row| row.object.name.as_str().cmp(name)) {
+    if let Ok(at) = rows.binary_search_by(|row| row.name.cmp(&name)) {
         return Some(&rows[at]);
     }
     for row in rows {
-        if row.object.name.as_str() == name {
+        if row.name == name {
             return Some(row);
         }
     }
@@ -163,17 +155,15 @@ fn row_named<'a>(rows: &'a [FoundRow], name: &str) -> Option<&'a FoundRow>
 }
 
 /// Whether an object of the name is among these. Where they ascend by their names, it is soon found.
-fn has_name(objects: &[ObjectRow], name: &str) -> bool
+fn has_name(objects: &[ObjectRow], name: &[u8]) -> bool
     ensures { result ≡ has name.now (objects_view objects.now) }
 {
-    if objects
-        .binary_search_by(|object| object.name.as_str().cmp(name))
-        .is_ok()
-    {
+    let found = objects.binary_search_by(|object| object.name.as_bytes().cmp(&name));
+    if found.is_ok() {
         return true;
     }
     for object in objects {
-        if object.name.as_str() == name {
+        if object.name.as_bytes() == name {
             return true;
         }
     }
@@ -192,13 +182,13 @@ fn put_changed<S: Alter>(
     ensures limit { tx.new.conn.now.step_limit ≡ tx.old.conn.now.step_limit }
     ensures kept { Inside S.Store tx.old.conn.now tx.new.conn.now KeepsCommit }
     ensures done { Inside S.Store tx.old.conn.now tx.new.conn.now (λ old new. OnOk result (Advances old new
-        (Makes 1 (IsThere id.now (object_view row.now.object ∷ []) (object_view object.now))
+        (Makes 1 (IsThere id.now (found_object row.now ∷ []) (object_view object.now))
         (added (id.now, (object_view object.now).0) (object_view object.now).1)))) }
     ensures cause { Inside S.Store tx.old.conn.now tx.new.conn.now (λ old new. tx.old.conn.now.step_limit ≡ None
         → IfErr result (λ e. (d : _) (t : _) → Spells old.now d t → IsOwned t → IsSome (t.heads id.now)
         → HasRooms 1 old.now → IsShortPart (id.now, (object_view object.now).0) (object_view object.now).1 → IsExcused old new e)) }
 {
-    if is_same(&row.object, object) {
+    if is_same(row, object) {
         return Ok(0);
     }
     match update_row(tx, id, row, object)? {
@@ -225,7 +215,7 @@ fn put_among<S: Alter>(
         → IfErr result (λ e. (d : _) (t : _) → Spells old.now d t → IsOwned t → IsSome (t.heads id.now)
         → HasRooms 1 old.now → IsShortPart (id.now, (object_view object.now).0) (object_view object.now).1 → IsExcused old new e)) }
 {
-    match row_named(there, object.name.as_str()) {
+    match row_named(there, object.name.as_bytes()) {
         Some(row) => put_changed(tx, id, row, object),
         None => put_object(tx, id, object),
     }
@@ -260,7 +250,7 @@ fn put_objects<S: Alter>(
 fn drop_unless_kept<S: Alter>(
     tx: &mut Transaction<'_, S>,
     id: &str,
-    object: &ObjectRow,
+    name: &[u8],
     objects: &[ObjectRow],
 ) -> Result<usize, Error>
     ensures same_reference { tx.new.conn.ghost_name ≡ tx.old.conn.ghost_name }
@@ -268,14 +258,15 @@ fn drop_unless_kept<S: Alter>(
     ensures limit { tx.new.conn.now.step_limit ≡ tx.old.conn.now.step_limit }
     ensures kept { Inside S.Store tx.old.conn.now tx.new.conn.now KeepsCommit }
     ensures done { Inside S.Store tx.old.conn.now tx.new.conn.now (λ old new. OnOk result (Advances old new
-        (Makes 0 Anyhow (dropped_unless_kept id.now (objects_view objects.now) (object_view object.now).0)))) }
+        (Makes 0 Anyhow (dropped_unless_kept id.now (objects_view objects.now) name.now)))) }
     ensures cause { Inside S.Store tx.old.conn.now tx.new.conn.now (λ old new. tx.old.conn.now.step_limit ≡ None
         → IfErr result (λ e. (d : _) (t : _) → Spells old.now d t → IsOwned t → IsExcused old new e)) }
 {
-    if has_name(objects, object.name.as_str()) {
+    if has_name(objects, name) {
         return Ok(0);
     }
-    tx.execute(DELETE_OBJECT, params![id, &object.name])
+    let values = [ValueRef::Text(id.as_bytes()), ValueRef::Text(name)];
+    tx.execute(DELETE_OBJECT, &values)
 }
 
 /// Takes the objects of a record out whose names are not among these.
@@ -295,7 +286,7 @@ fn drop_others<S: Alter>(
         → IfErr result (λ e. (d : _) (t : _) → Spells old.now d t → IsOwned t → IsExcused old new e)) }
 {
     'there: for row in there {
-        drop_unless_kept(tx, id, &row.object, objects)?;
+        drop_unless_kept(tx, id, row.name, objects)?;
     }
     Ok(())
 }
@@ -316,7 +307,8 @@ fn replace_objects<S: Alter>(
         → IfErr result (λ e. (d : _) (t : _) → Spells old.now d t → AreApart (objects_view objects.now) → IsOwned t → IsSome (t.heads id.now)
         → HasRooms (length objects.now) old.now → AreShort id.now (objects_view objects.now) → IsExcused old new e)) }
 {
-    let there = find_parts(tx, id)?;
+    let rows = find_parts(tx, id)?;
+    let there = found_in(*rows.allocator(), &rows)?;
     if is_range(&there, objects) {
         update_range(tx, id, &there, objects)?;
         return Ok(());

@@ -11,8 +11,7 @@ ghost use Rattle.fv_tables.specs.Updating.{place_values, places_of, range_values
 
 use crate::entry::{FoundRow, ObjectRow};
 use crate::rows::is_same;
-use sqlite::types::ValueRef;
-use sqlite::{Alter, Error, Transaction};
+use sqlite::{Alter, Error, Transaction, types::ValueRef};
 use std::alloc::{AllocError, Global};
 
 /// Sixteen places in the order of their rowids, each with three parameters: its rowid, and the type's name and the fields that its row shall have.
@@ -37,6 +36,13 @@ const FEWEST: usize = 3;
 /// As many parameters as the statement has.
 const MOST_VALUES: usize = 49;
 
+/// The rowid of a row.
+fn rowid_of(row: &FoundRow) -> i64
+    ensures { result ≡ row.now.rowid }
+{
+    row.rowid
+}
+
 /// Whether the rowids rise, and the rows have the names of the objects in their places.
 fn are_in_step(rows: &[FoundRow], objects: &[ObjectRow]) -> bool
     requires { length rows.now ≡ length objects.now }
@@ -44,12 +50,11 @@ fn are_in_step(rows: &[FoundRow], objects: &[ObjectRow]) -> bool
 {
     let mut last = i64::MIN;
     for at in 0..rows.len() {
-        let row = &rows[at];
-        let object = &objects[at];
-        if row.rowid <= last || row.object.name.as_str() != object.name.as_str() {
+        let rowid = rowid_of(&rows[at]);
+        if rowid <= last || rows[at].name != objects[at].name.as_bytes() {
             return false;
         }
-        last = row.rowid;
+        last = rowid;
     }
     true
 }
@@ -60,7 +65,7 @@ fn most_differ(rows: &[FoundRow], objects: &[ObjectRow]) -> bool
 {
     let mut same = 0;
     for at in 0..rows.len() {
-        if is_same(&rows[at].object, &objects[at]) {
+        if is_same(&rows[at], &objects[at]) {
             same += 1;
         }
     }

@@ -14,9 +14,9 @@ returns-clause-shown c rs shows =
     let all : take c.loop-row.row-index rows ≡ rows = take_all c.loop-row.row-index rows c.loop-row-test.false in
     same_shown shown_row row_in (λ r. refl) found_view rs c.loop-row.found.items (sym (fronts shown_row front_four (λ r. refl) rs) ∙ ap (map front_four) (sym shows) ∙ ap (map front_four) (sym all) ∙ c.loop-row.invariant)
 
-pub returns-in_err-one-clause-cause : goal.returns-in_err-one-clause-cause
-returns-in_err-one-clause-cause c =
-    handed_on _ c.from_residual-in_err-one.result c.in_err-one.field-0.0 c.from_residual-in_err-one.ensures.1
+pub returns-in_err-read_found-clause-cause : goal.returns-in_err-read_found-clause-cause
+returns-in_err-read_found-clause-cause c =
+    handed_on _ c.from_residual-in_err-read_found.result c.in_err-read_found.field-0.0 c.from_residual-in_err-read_found.ensures.1
     (λ rs shows texts refused.
     let it = one_shown shown_row IsTextRow c.args.rows.now rs c.loop-row.row-index c.row-item.result c.loop-row-test.true c.row-item.is shows texts in
-    c.in_err-one.ensures.cause it.0 it.1 it.2 refused)
+    c.in_err-read_found.ensures.cause it.0 it.1 it.2 refused)

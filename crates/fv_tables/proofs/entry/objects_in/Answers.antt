@@ -14,9 +14,9 @@ returns-clause-shown c os shows =
     let all : take c.loop-row.row-index rows ≡ rows = take_all c.loop-row.row-index rows c.loop-row-test.false in
     same_shown shown_part thing_in (λ o. refl) object_view os c.loop-row.objects.items (sym (fronts shown_part front (λ o. refl) os) ∙ ap (map front) (sym shows) ∙ ap (map front) (sym all) ∙ c.loop-row.invariant)
 
-pub returns-in_err-object-clause-cause : goal.returns-in_err-object-clause-cause
-returns-in_err-object-clause-cause c =
-    handed_on _ c.from_residual-in_err-object.result c.in_err-object.field-0.0 c.from_residual-in_err-object.ensures.1
+pub returns-in_err-read_object-clause-cause : goal.returns-in_err-read_object-clause-cause
+returns-in_err-read_object-clause-cause c =
+    handed_on _ c.from_residual-in_err-read_object.result c.in_err-read_object.field-0.0 c.from_residual-in_err-read_object.ensures.1
     (λ os shows texts refused.
     let it = one_shown shown_part IsTextObject c.args.rows.now os c.loop-row.row-index c.row-item.result c.loop-row-test.true c.row-item.is shows texts in
-    c.in_err-object.ensures.cause it.0 [] it.1 it.2 refused)
+    c.in_err-read_object.ensures.cause it.0 [] it.1 it.2 refused)

@@ -1,4 +1,4 @@
-use Rattle.std.proofs.Common.{take, subst, sym, ap, ◌∷◌, ◌++◌, [], ◌∙◌}
+use Rattle.std.proofs.Common.{take, subst, ◌∙◌}
 use Rattle.std.proofs.lemmas.List.{take_more, take_all}
 use Rattle.sqlite.specs.Held.{state}
 use Rattle.fv_tables.specs.Changes.{others_dropped, names_of, found_objects, objects_view}
@@ -14,7 +14,6 @@ there-preserved g c =
     let begin = state g.S.Store c.args.tx.now.conn.now in
     let mid = state g.S.Store c.there.tx.conn.now in
     let new = state g.S.Store c.drop_unless_kept.new.tx.conn.now in
-    let more = take_more c.args.there.now c.there.row-index c.row-item.result c.there-test.true ∙ ap (λ x. take c.there.row-index c.args.there.now ++ x ∷ []) (sym c.row-item.is) in
     record {
       same = c.drop_unless_kept.ensures.same_reference ∙ was.same;
       frame = frame_then begin mid new was.frame c.drop_unless_kept.ensures.frame;
@@ -22,7 +21,7 @@ there-preserved g c =
       kept = λ now inside. let before = c.drop_unless_kept.ensures.frame.clean now in keeps_then begin mid new (was.kept before inside) (c.drop_unless_kept.ensures.kept now (was.done before inside).mode);
       done = λ now inside.
           let before = was.done (c.drop_unless_kept.ensures.frame.clean now) inside in
-          next_step begin mid new (dropped_more c.args.id.now (objects_view c.args.objects.now) c.args.there.now c.there.row-index c.row-item.result more) before (c.in_ok-drop_unless_kept.ensures.done now before.mode);
+          next_step begin mid new (dropped_more c.args.id.now (objects_view c.args.objects.now) c.args.there.now c.there.row-index _ (take_more c.args.there.now c.there.row-index _ c.there-test.true)) before (c.in_ok-drop_unless_kept.ensures.done now before.mode);
     }
 
 pub returns-clause-done : goal.returns-clause-done

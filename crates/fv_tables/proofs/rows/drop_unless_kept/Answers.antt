@@ -1,6 +1,6 @@
-use Rattle.std.proofs.Common.{◌≡◌, false, true, ap, string_bytes, sym, ◌∙◌}
+use Rattle.std.proofs.Common.{◌≡◌, false, true, sym, ◌∙◌}
 use Rattle.sqlite.specs.Held.{state}
-use Rattle.fv_tables.specs.Changes.{has_name, object_view, objects_view}
+use Rattle.fv_tables.specs.Changes.{has_name, objects_view}
 use Rattle.fv_tables.proofs.Drops.{drop_step, drop_cause}
 use Rattle.fv_tables.proofs.Replaces.{not_dropped, unkept_dropped}
 use Rattle.fv_tables.proofs.Steps.{inside_frame, inside_keeps}
@@ -9,17 +9,17 @@ use Rattle.fv_tables.proofs.rows.drop_unless_kept.Goals as goal
 pub returns-then-has_name-clause-done : goal.returns-then-has_name-clause-done
 returns-then-has_name-clause-done g c clean inside =
     let os = objects_view c.args.objects.now in
-    let name = (object_view c.args.object.now).0 in
-    let has : has_name name os ≡ true = ap (λ n. has_name n os) (sym c.as_str.ensures.value) ∙ sym c.has_name.ensures ∙ c.if-has_name.true in
+    let name = c.args.name.now in
+    let has : has_name name os ≡ true = sym c.has_name.ensures ∙ c.if-has_name.true in
     not_dropped (state g.S.Store c.args.tx.now.conn.now) c.args.id.now os name has inside
 
 pub returns-clause-done : goal.returns-clause-done
 returns-clause-done g c clean inside =
     let os = objects_view c.args.objects.now in
-    let name = (object_view c.args.object.now).0 in
-    let other : has_name name os ≡ false = ap (λ n. has_name n os) (sym c.as_str.ensures.value) ∙ sym c.has_name.ensures ∙ c.if-has_name.false in
+    let name = c.args.name.now in
+    let other : has_name name os ≡ false = sym c.has_name.ensures ∙ c.if-has_name.false in
     unkept_dropped (state g.S.Store c.args.tx.now.conn.now) (state g.S.Store c.execute.new.self.conn.now) c.args.id.now os name other c.execute.result
-    (drop_step (state g.S.Store c.args.tx.now.conn.now) (state g.S.Store c.execute.new.self.conn.now) (c.args.id.now, name) c.execute.result (rw (c.params-to_sql.ensures, c.params-to_sql-2.ensures) at (c.execute.ensures.runs clean inside)))
+    (drop_step (state g.S.Store c.args.tx.now.conn.now) (state g.S.Store c.execute.new.self.conn.now) (c.args.id.now, name) c.execute.result (rw c.as_bytes.ensures.value at (c.execute.ensures.runs clean inside)))
 
 pub returns-clause-kept : goal.returns-clause-kept
 returns-clause-kept g c clean inside = inside_keeps _ _ (state g.S.Store c.args.tx.now.conn.now) (state g.S.Store c.execute.new.self.conn.now) c.execute.result (c.execute.ensures.runs clean inside)
@@ -29,4 +29,4 @@ returns-clause-frame g c = inside_frame g.S.Store c.args.tx.now.conn.now c.execu
 
 pub returns-clause-cause : goal.returns-clause-cause
 returns-clause-cause g c clean inside none =
-    drop_cause (state g.S.Store c.args.tx.now.conn.now) (state g.S.Store c.execute.new.self.conn.now) none (c.args.id.now, string_bytes c.args.object.now.name) c.execute.result (rw (c.params-to_sql.ensures, c.params-to_sql-2.ensures) at (c.execute.ensures.runs clean inside))
+    drop_cause (state g.S.Store c.args.tx.now.conn.now) (state g.S.Store c.execute.new.self.conn.now) none (c.args.id.now, c.args.name.now) c.execute.result (rw c.as_bytes.ensures.value at (c.execute.ensures.runs clean inside))

@@ -1,6 +1,6 @@
 use Rattle.std.proofs.Common.{[], ◌∷◌, ◌≢◌, ◌∙◌, arith}
 use Rattle.sqlite.specs.Held.{state}
-use Rattle.fv_tables.specs.Changes.{object_view}
+use Rattle.fv_tables.specs.Changes.{found_object, object_view}
 use Rattle.fv_tables.specs.Stands.{Part, Place}
 use Rattle.fv_tables.specs.Steps.{IsThere}
 use Rattle.fv_tables.proofs.Composed.{fewer_rooms}
@@ -20,7 +20,7 @@ returns-in-0-clause-done g c clean inside =
     let at : Place = (c.args.id.now, (object_view c.args.object.now).0) in
     let p : Part = (object_view c.args.object.now).1 in
     let updated = rw c.in-0.is at (c.in_ok-changed.ensures.done (c.put_object.ensures.frame.clean clean) inside) in
-    anyhow (state g.S.Store c.args.tx.now.conn.now) (state g.S.Store c.put_object.new.tx.conn.now) at p (IsThere c.args.id.now (object_view c.args.row.now.object ∷ []) (object_view c.args.object.now)) c.put_object.result
+    anyhow (state g.S.Store c.args.tx.now.conn.now) (state g.S.Store c.put_object.new.tx.conn.now) at p (IsThere c.args.id.now (found_object c.args.row.now ∷ []) (object_view c.args.object.now)) c.put_object.result
     (then_on_ok (state g.S.Store c.args.tx.now.conn.now) (state g.S.Store c.update_row.new.tx.conn.now) (state g.S.Store c.put_object.new.tx.conn.now) c.put_object.result
     (row_missed c.args.row.now.rowid at p) updated (c.put_object.ensures.done clean updated.mode))
 
@@ -37,5 +37,5 @@ returns-in_default-clause-done g c clean inside =
     let at : Place = (c.args.id.now, (object_view c.args.object.now).0) in
     let p : Part = (object_view c.args.object.now).1 in
     let some : c.in_ok-changed.changed ≢ 0 = assumption c.in_default in
-    part_written (state g.S.Store c.args.tx.now.conn.now) (state g.S.Store c.update_row.new.tx.conn.now) at p (IsThere c.args.id.now (object_view c.args.row.now.object ∷ []) (object_view c.args.object.now))
+    part_written (state g.S.Store c.args.tx.now.conn.now) (state g.S.Store c.update_row.new.tx.conn.now) at p (IsThere c.args.id.now (found_object c.args.row.now ∷ []) (object_view c.args.object.now))
     (row_in_place (state g.S.Store c.args.tx.now.conn.now) (state g.S.Store c.update_row.new.tx.conn.now) c.args.row.now.rowid at p c.in_ok-changed.changed some (c.in_ok-changed.ensures.done clean inside))

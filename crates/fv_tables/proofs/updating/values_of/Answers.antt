@@ -1,8 +1,7 @@
-use Rattle.std.proofs.Common.{◌≡◌, ◌⊎◌, ◌<◌, ◌≤◌, ◌+◌, ◌++◌, ◌∷◌, [], inl, inr, length, arith, sym, ap, ◌∙◌}
+use Rattle.std.proofs.Common.{◌≡◌, ◌⊎◌, ◌<◌, ◌≤◌, ◌+◌, inl, inr, length, arith}
 use Rattle.std.proofs.lemmas.List.{length-map}
-use Rattle.fv_tables.specs.Changes.{found_view, object_view}
-use Rattle.fv_tables.specs.Updating.{place_values}
-use Rattle.fv_tables.proofs.RangePlaces.{same_length, values_more}
+use Rattle.fv_tables.specs.Changes.{found_view}
+use Rattle.fv_tables.proofs.RangePlaces.{same_length, place_pushed}
 use Rattle.fv_tables.proofs.updating.values_of.Goals.{then-place-rows, else-place-rows}
 use Rattle.fv_tables.proofs.updating.values_of.Goals as goal
 
@@ -28,5 +27,4 @@ loop-place-preserved c =
       | then-place-rows w ↦ omega (arith, w.if-place-rows.true, w.at-is)
       | else-place-rows w ↦ omega (arith, some, count, w.at-is)
     ] in
-    let more = values_more c.requires.follow.0 c.args.id.now c.args.rows.now c.args.objects.now c.requires.follow.1 c.loop-place.place c.if-place-rows.at c.index-rows-at.result c.index-objects-at.result below which c.index-rows-at.is c.index-objects-at.is in
-    c.in_ok-push_place.ensures ∙ ap (λ l. l ++ place_values ((c.index-rows-at.result.rowid, object_view c.index-objects-at.result) ∷ [])) c.loop-place.invariant ∙ sym more
+    place_pushed c.requires.follow.0 c.args.id.now c.args.rows.now c.args.objects.now c.requires.follow.1 c.loop-place.place c.if-place-rows.at _ c.index-objects-at.result below which c.index-objects-at.is _ _ c.loop-place.invariant c.in_ok-push_place.ensures
