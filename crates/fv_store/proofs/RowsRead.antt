@@ -23,24 +23,23 @@ use Rattle.fv_store.specs.declared.written.Written.{Written}
 use Rattle.fv_store.specs.Written.{fields_text, object_kept, written_of, entry_of}
 use Rattle.fv_store.proofs.Faults.{same_value}
 use Rattle.fv_store.proofs.ReadBack.{fields_back}
-use Rattle.fv_tables.specs.Changes.{object_view, objects_view}
 use Rattle.fv_tables.specs.Stands.{Entry}
-use Rattle.fv_tables.specs.Stored.{rows_view}
+use Rattle.fv_tables.specs.Stored.{row_view, rows_view, things_view}
 use Rattle.fv_tables.specs.declared.entry.ObjectRow.{ObjectRow}
 use Rattle.fv_tables.specs.declared.entry.RecordRows.{RecordRows}
 
 -- ---- one row after another
 
-rows_turn : (rs : List ObjectRow) (i : ℕ) (r : ObjectRow) → i < length rs → r ≡ get_or rs i r → objects_view (drop i rs) ≡ object_view r ∷ objects_view (drop (i + 1) rs)
+rows_turn : (rs : List ObjectRow) (i : ℕ) (r : ObjectRow) → i < length rs → r ≡ get_or rs i r → things_view (drop i rs) ≡ row_view r ∷ things_view (drop (i + 1) rs)
 rows_turn rs i r h is = rw (add-one, drop-cons rs i r h, ← is) refl
 
-pub row_more : (front : List (List ℕ × (List ℕ × json.Members))) (rs : List ObjectRow) (i : ℕ) (r : ObjectRow) (y : List ℕ × (List ℕ × json.Members)) → i < length rs → r ≡ get_or rs i r → row_read (object_view r) ≡ Some y
-    → with_front front (each_some row_read (objects_view (drop i rs))) ≡ with_front (front ++ y ∷ []) (each_some row_read (objects_view (drop (i + 1) rs)))
-row_more front rs i r y h is e = rw (rows_turn rs i r h is) (front_more row_read front (object_view r) (objects_view (drop (i + 1) rs)) y e)
+pub row_more : (front : List (List ℕ × (List ℕ × json.Members))) (rs : List ObjectRow) (i : ℕ) (r : ObjectRow) (y : List ℕ × (List ℕ × json.Members)) → i < length rs → r ≡ get_or rs i r → row_read (row_view r) ≡ Some y
+    → with_front front (each_some row_read (things_view (drop i rs))) ≡ with_front (front ++ y ∷ []) (each_some row_read (things_view (drop (i + 1) rs)))
+row_more front rs i r y h is e = rw (rows_turn rs i r h is) (front_more row_read front (row_view r) (things_view (drop (i + 1) rs)) y e)
 
-pub row_none : (front : List (List ℕ × (List ℕ × json.Members))) (rs : List ObjectRow) (i : ℕ) (r : ObjectRow) → i < length rs → r ≡ get_or rs i r → row_read (object_view r) ≡ None
-    → with_front front (each_some row_read (objects_view (drop i rs))) ≡ None
-row_none front rs i r h is e = rw (rows_turn rs i r h is) (front_none row_read front (object_view r) (objects_view (drop (i + 1) rs)) e)
+pub row_none : (front : List (List ℕ × (List ℕ × json.Members))) (rs : List ObjectRow) (i : ℕ) (r : ObjectRow) → i < length rs → r ≡ get_or rs i r → row_read (row_view r) ≡ None
+    → with_front front (each_some row_read (things_view (drop i rs))) ≡ None
+row_none front rs i r h is e = rw (rows_turn rs i r h is) (front_none row_read front (row_view r) (things_view (drop (i + 1) rs)) e)
 
 pub read_turn : {X : Type 0} (view : X → List ℕ × (List ℕ × json.Members)) (rs : List X) (i : ℕ) (r : X) → i < length rs → r ≡ get_or rs i r → map view (drop i rs) ≡ view r ∷ map view (drop (i + 1) rs)
 read_turn view rs i r h is = rw (add-one, drop-cons rs i r h, ← is) refl
@@ -85,7 +84,7 @@ pub root_back : (k : Kept) (rows : RecordRows) → rows_view rows ≡ entry_of (
 root_back k rows same = ap (λ (e : Entry). e.root) same
 
 pub record_back : (types : Declared) (k : Kept) (rows : RecordRows) → has_deep types ≡ false → IsWellTyped types k.bundle → rows_view rows ≡ entry_of (written_of k)
-    → each_some row_read (objects_view rows.objects.items) ≡ Some (map named_written k.bundle.objects)
+    → each_some row_read (things_view rows.objects.items) ≡ Some (map named_written k.bundle.objects)
 record_back types k rows few well same =
     ap (λ (e : Entry). each_some row_read e.objects) same ∙ rows_back types k.bundle.objects k.bundle.objects few well.typed
 

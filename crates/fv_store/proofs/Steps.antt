@@ -24,7 +24,7 @@ use Rattle.fv_tables.specs.Causes.{IsShortHead}
 use Rattle.fv_tables.specs.Causes as tables_short
 use Rattle.fv_tables.specs.Stands as tables
 use Rattle.fv_tables.specs.Stands.{Entry, Entries}
-use Rattle.fv_tables.specs.declared.entry.ObjectRow.{ObjectRow}
+use Rattle.fv_tables.specs.declared.text.ObjectText.{ObjectText}
 use Rattle.fv_tables.specs.Steps.{Always, Turns}
 use Rattle.fv_tables.proofs.Composed.{fewer_rooms}
 
@@ -34,11 +34,11 @@ short_rows : (id : List ℕ) (os : List (List ℕ × Thing)) → AllByRecursion 
 short_rows id [] short = tt
 short_rows id (o ∷ os) short = (short.0, short_rows id os short.1)
 
-so_many : (objects : List ObjectRow) (k : Kept) → objects_view objects ≡ (rows_kept k).objects → length objects ≡ length k.bundle.objects
+so_many : (objects : List ObjectText) (k : Kept) → objects_view objects ≡ (rows_kept k).objects → length objects ≡ length k.bundle.objects
 so_many objects k same =
     sym (length-map objects object_view) ∙ ap length same ∙ length-map (map named_written k.bundle.objects) object_kept ∙ length-map k.bundle.objects named_written
 
-module _ (id : List ℕ) (k : Kept) (objects : List ObjectRow) (same : objects_view objects ≡ (rows_kept k).objects) (apart : AreApart (objects_view objects)) where
+module _ (id : List ℕ) (k : Kept) (objects : List ObjectText) (same : objects_view objects ≡ (rows_kept k).objects) (apart : AreApart (objects_view objects)) where
   -- as the code gives it
   abbrev pub given : Entry
   given = record { form = k.form; root = k.bundle.root; objects = objects_view objects }

@@ -1,7 +1,7 @@
 //! The text of a bundle is put together from what its rows keep.
 ghost use Rattle.std.specs.Prelude.{◌≡◌, ◌++◌, [], IfOk, OnOk, string_bytes};
 ghost use Rattle.fv_store.specs.Texts.{object_text, objects_text, rows_text};
-ghost use Rattle.fv_tables.specs.Changes.{object_view, objects_view};
+ghost use Rattle.fv_tables.specs.Stored.{row_view, things_view};
 
 use fv_model_text::quoted;
 use fv_tables::{ObjectRow, RecordRows};
@@ -9,7 +9,7 @@ use std::alloc::{AllocError, Global};
 
 /// Adds an object to a text.
 fn add_object(text: &mut String, alloc: Global, object: &ObjectRow) -> Result<(), AllocError>
-    ensures { OnOk result (string_bytes text.new ≡ string_bytes text.old ++ object_text (object_view object.now)) }
+    ensures { OnOk result (string_bytes text.new ≡ string_bytes text.old ++ object_text (row_view object.now)) }
 {
     let name = quoted(alloc, object.name.as_str())?;
     let kind = quoted(alloc, object.kind.as_str())?;
@@ -23,7 +23,7 @@ fn add_object(text: &mut String, alloc: Global, object: &ObjectRow) -> Result<()
 
 /// Adds objects to a text, with commas between them.
 fn add_objects(text: &mut String, alloc: Global, objects: &[ObjectRow]) -> Result<(), AllocError>
-    ensures { OnOk result (string_bytes text.new ≡ string_bytes text.old ++ objects_text [] (objects_view objects.now)) }
+    ensures { OnOk result (string_bytes text.new ≡ string_bytes text.old ++ objects_text [] (things_view objects.now)) }
 {
     let mut comma = "";
     for object in objects {
@@ -36,7 +36,7 @@ fn add_objects(text: &mut String, alloc: Global, objects: &[ObjectRow]) -> Resul
 
 /// The text of the bundle whose root and objects rows keep.
 pub(crate) fn joined(alloc: Global, rows: &RecordRows) -> Result<String, AllocError>
-    ensures { IfOk result (λ s. string_bytes s ≡ rows_text (string_bytes rows.now.root) (objects_view rows.now.objects.items)) }
+    ensures { IfOk result (λ s. string_bytes s ≡ rows_text (string_bytes rows.now.root) (things_view rows.now.objects.items)) }
 {
     let root = quoted(alloc, rows.root.as_str())?;
     let mut text = String::from_str(alloc, "{\"objects\":{")?;

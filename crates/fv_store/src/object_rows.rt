@@ -6,7 +6,7 @@ ghost use Rattle.fv_store.specs.Written.{fields_text, object_kept};
 ghost use Rattle.fv_tables.specs.Changes.{AreApart, object_view as row_view, objects_view as rows_view};
 
 use fv_bundle::{Bundle, Object};
-use fv_tables::ObjectRow;
+use fv_tables::ObjectText;
 use std::alloc::{AllocError, Global};
 
 /// The text that an object's fields are kept as.
@@ -18,18 +18,25 @@ pub(crate) fn fields_of(alloc: Global, object: &Object) -> Result<String, AllocE
 }
 
 /// What the row of an object of that name keeps.
-fn object_row(alloc: Global, name: &str, object: &Object) -> Result<ObjectRow, AllocError>
+fn object_row<'a>(
+    alloc: Global,
+    name: &'a str,
+    object: &'a Object,
+) -> Result<ObjectText<'a>, AllocError>
     ensures { IfOk result (λ o. row_view o ≡ object_kept (named_written (name.now, object_view object.now))) }
 {
-    Ok(ObjectRow {
-        name: String::from_str(alloc, name)?,
-        kind: String::from_str(alloc, object.type_name())?,
+    Ok(ObjectText {
+        name,
+        kind: object.type_name(),
         fields: fields_of(alloc, object)?,
     })
 }
 
 /// What the rows of a bundle's objects keep, in the order of the objects.
-pub(crate) fn object_rows(alloc: Global, bundle: &Bundle) -> Result<Vec<ObjectRow>, AllocError>
+pub(crate) fn object_rows(
+    alloc: Global,
+    bundle: &Bundle,
+) -> Result<Vec<ObjectText<'_>>, AllocError>
     ensures rows { IfOk result (λ v. rows_view v.items ≡ map object_kept (map named_written (bundle_view bundle.now).objects)) }
     ensures apart { IfOk result (λ v. AreApart (rows_view v.items)) }
 {

@@ -10,7 +10,7 @@ ghost use Rattle.fv_model.specs.Views.{part_view};
 ghost use Rattle.fv_model.specs.Writing.{named_written};
 ghost use Rattle.fv_model_types.specs.TypesView.{types_view};
 ghost use Rattle.fv_store.specs.ReadRows.{read_view, row_read};
-ghost use Rattle.fv_tables.specs.Changes.{object_view as row_view, objects_view as rows_view};
+ghost use Rattle.fv_tables.specs.Stored.{row_view, things_view as rows_view};
 
 use crate::fault::StoreFault;
 use fv_bundle::Bundle;

@@ -1,7 +1,7 @@
 -- Why steps that follow one another are refused.
 use Rattle.std.proofs.Common.{◌++◌, ◌≤◌, zero, suc, take, ℕ, List, [], ◌∷◌, IsSome, Ok, Err, Result, IfErr}
 use Rattle.sqlite.specs.Effect.{Database}
-use Rattle.fv_tables.specs.declared.entry.ObjectRow.{ObjectRow}
+use Rattle.fv_tables.specs.declared.text.ObjectText.{ObjectText}
 use Rattle.fv_tables.specs.Stands.{Part, Maps, IsOwned, added}
 use Rattle.fv_tables.specs.Changes.{Things, all_added, objects_view}
 use Rattle.fv_tables.specs.Causes.{HasRooms, IsShortPart, AreShort}
@@ -20,7 +20,7 @@ pub owned_all : (id : List ℕ) (os : Things) (t : Maps) → IsOwned t → IsSom
 owned_all id [] t own has = own
 owned_all id (o ∷ os) t own has = owned_all id os (added (id, o.0) o.1 t) (owned_added (id, o.0) o.1 t own has) has
 
-pub short_taken : (id : List ℕ) (n : ℕ) (os : List ObjectRow) → AreShort id (objects_view os) → AreShort id (objects_view (take n os))
+pub short_taken : (id : List ℕ) (n : ℕ) (os : List ObjectText) → AreShort id (objects_view os) → AreShort id (objects_view (take n os))
 short_taken id zero os short = tt
 short_taken id (suc n) [] short = tt
 short_taken id (suc n) (o ∷ os) short = (short.0, short_taken id n os short.1)

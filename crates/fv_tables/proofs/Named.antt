@@ -1,5 +1,5 @@
 -- An object is found by its name where a search among objects meets it.
-use Rattle.std.proofs.Common.{◌≡◌, ◌<◌, ◌||◌, inl, inr, zero, suc, ℕ, Bool, true, false, length, take, get_or, bytes_eq, List, [], ◌∷◌, Ordering, Equal, is_eq, nat_cmp, string_bytes, Result, Ok, Err, is_ok, true≢false, refl, sym, ap, ◌∙◌, arith}
+use Rattle.std.proofs.Common.{◌≡◌, ◌<◌, ◌||◌, inl, inr, zero, suc, ℕ, Bool, true, false, length, take, get_or, bytes_eq, List, [], ◌∷◌, Ordering, Equal, is_eq, nat_cmp, Result, Ok, Err, is_ok, true≢false, refl, sym, ap, ◌∙◌, arith}
 use Rattle.std.specs.Cmp.Lexicographic.{slice_cmp}
 use Rattle.std.specs.List.{HoldsAt}
 use Rattle.std.specs.List.Sorted.{IsSearchInRange, IsBinarySearchResult}
@@ -8,12 +8,12 @@ use Rattle.std.proofs.lemmas.Map.Text.{is_eq-slice_cmp}
 use Rattle.std.proofs.lemmas.Slice.Eq.{bytes_eq-Decides}
 use Rattle.sqlite_rules.specs.Lists.{Has}
 use Rattle.fv_tables.specs.declared.entry.FoundRow.{FoundRow}
-use Rattle.fv_tables.specs.declared.entry.ObjectRow.{ObjectRow}
+use Rattle.fv_tables.specs.declared.text.ObjectText.{ObjectText}
 use Rattle.fv_tables.specs.Changes.{has_name, objects_view}
 
 -- how a name compares with the one that is looked for
-abbrev pub beside : List ℕ → ObjectRow → Ordering
-beside name o = slice_cmp nat_cmp (string_bytes o.name) name
+abbrev pub beside : List ℕ → ObjectText → Ordering
+beside name o = slice_cmp nat_cmp o.name.now name
 
 -- the same of a row
 abbrev pub row_beside : List ℕ → FoundRow → Ordering
@@ -42,15 +42,15 @@ row_met name rows i d below met =
     (at_has rows i d below, (bytes_eq-Decides r.name.now name).0 (sym (is_eq-slice_cmp r.name.now name) ∙ ap is_eq same))
 
 -- an object of the name is among these
-object_there : (name : List ℕ) (os : List ObjectRow) (i : ℕ) → i < length os → HoldsAt (λ o. beside name o ≡ Equal) os i → true ≡ has_name name (objects_view os)
+object_there : (name : List ℕ) (os : List ObjectText) (i : ℕ) → i < length os → HoldsAt (λ o. beside name o ≡ Equal) os i → true ≡ has_name name (objects_view os)
 object_there name [] i below met = absurd (omega arith)
-object_there name (o ∷ os) zero below met = let same = sym (is_eq-slice_cmp (string_bytes o.name) name) ∙ ap is_eq (met o) in rw same refl
-object_there name (o ∷ os) (suc i) below met = rw (← object_there name os i (omega arith) met) (sym (or_true (bytes_eq (string_bytes o.name) name)))
+object_there name (o ∷ os) zero below met = let same = sym (is_eq-slice_cmp o.name.now name) ∙ ap is_eq (met o) in rw same refl
+object_there name (o ∷ os) (suc i) below met = rw (← object_there name os i (omega arith) met) (sym (or_true (bytes_eq o.name.now name)))
   where
     or_true : (b : Bool) → (b || true) ≡ true
     or_true true = refl
     or_true false = refl
 
-pub object_met : (name : List ℕ) (os : List ObjectRow) (r : Result ℕ ℕ) → IsSearchInRange r (length os) → IsBinarySearchResult (beside name) os r → is_ok r ≡ true → true ≡ has_name name (objects_view os)
+pub object_met : (name : List ℕ) (os : List ObjectText) (r : Result ℕ ℕ) → IsSearchInRange r (length os) → IsBinarySearchResult (beside name) os r → is_ok r ≡ true → true ≡ has_name name (objects_view os)
 object_met name os (Ok i) bound met ok = object_there name os i bound met
 object_met name os (Err i) bound met ok = absurd (true≢false (sym ok))

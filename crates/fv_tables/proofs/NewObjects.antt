@@ -1,8 +1,7 @@
 -- The objects of a new record, run by run.
-use Rattle.std.proofs.Common.{◌≡◌, ◌≢◌, ◌++◌, ◌+◌, ◌<◌, ◌≤◌, ◌==◌, inl, inr, ℕ, true, false, length, length-append, take, drop, bytes_eq, List, [], ◌∷◌, Option, None, IsSome, IsTrue, IsUtf8, Result, OnOk, IfErr, refl, sym, ap, subst, subst₂, ◌∙◌, arith}
-use Rattle.std.proofs.lemmas.List.{append-nil, length-map, map-append, take-append-drop}
-use Rattle.std.proofs.lemmas.Bool.Decides.{nat_tests}
-use Rattle.std.proofs.lemmas.Str.{IsUtf8-string_bytes}
+use Rattle.std.proofs.Common.{◌≡◌, ◌≢◌, ◌++◌, ◌+◌, ◌<◌, ◌≤◌, inl, inr, ℕ, false, length, length-append, take, drop, bytes_eq, List, [], ◌∷◌, Option, None, IsSome, IsTrue, IsUtf8, Result, OnOk, IfErr, refl, sym, ap, subst, subst₂, ◌∙◌, arith}
+use Rattle.std.proofs.lemmas.List.{append_assoc, length-map, length-take-le, map-append, take_at, take-append-drop}
+use Rattle.std.proofs.lemmas.Str.{IsUtf8-had, IsUtf8-string_bytes}
 use Rattle.sqlite.specs.declared.types.Value.TheVariants.{Text}
 use Rattle.sqlite.specs.Order.{Row}
 use Rattle.sqlite.specs.Effect.{Database}
@@ -10,7 +9,7 @@ use Rattle.sqlite.specs.declared.error.Error.{Error}
 use Rattle.sqlite.specs.State.{State, HasCleanDisk, ExecutesInside}
 use Rattle.sqlite_rules.specs.Lists.{Has}
 use Rattle.sqlite_rules.proofs.ListLemmas.{has_left}
-use Rattle.fv_tables.specs.declared.entry.ObjectRow.{ObjectRow}
+use Rattle.fv_tables.specs.declared.text.ObjectText.{ObjectText}
 use Rattle.fv_tables.specs.Stands.{Head, Part, Maps, Spells, Frame, IsOwned, added}
 use Rattle.fv_tables.specs.Changes.{Things, AreApart, has_name, all_added, object_view, objects_view, IsFree}
 use Rattle.fv_tables.specs.Causes.{HasRooms, IsExcused, IsShortPart, AreShort}
@@ -66,10 +65,10 @@ run_new id done run behind t apart none = (
   λ o h. unseen id done o.0 t (λ x among. apart_across done (run ++ behind) apart x among o (has_left run behind o h)) (none o.0),
 )
 
-view_split : (done run behind : List ObjectRow) → objects_view (done ++ (run ++ behind)) ≡ objects_view done ++ (objects_view run ++ objects_view behind)
+view_split : (done run behind : List ObjectText) → objects_view (done ++ (run ++ behind)) ≡ objects_view done ++ (objects_view run ++ objects_view behind)
 view_split done run behind = map-append object_view done (run ++ behind) ∙ ap (λ l. objects_view done ++ l) (map-append object_view run behind)
 
-module _ (id : List ℕ) (all done run behind : List ObjectRow) (split : done ++ (run ++ behind) ≡ all) where
+module _ (id : List ℕ) (all done run behind : List ObjectText) (split : done ++ (run ++ behind) ≡ all) where
   whole : objects_view all ≡ objects_view done ++ (objects_view run ++ objects_view behind)
   whole = sym (ap objects_view split) ∙ view_split done run behind
 
@@ -100,13 +99,11 @@ module _ (id : List ℕ) (all done run behind : List ObjectRow) (split : done ++
 pub run_split : {X : Type 0} (all done rest run behind : List X) (n : ℕ) → run ≡ take n rest → behind ≡ drop n rest → done ++ rest ≡ all → done ++ (run ++ behind) ≡ all
 run_split all done rest run behind n front back is = rw (front, back, take-append-drop n rest) is
 
--- nothing is left
-zero_is : (n : ℕ) → (n == 0) ≡ true → n ≡ 0
-zero_is n h = grind (arith, nat_tests)
-
-pub all_put : {X : Type 0} (all done rest : List X) → done ++ rest ≡ all → (length rest == 0) ≡ true → done ≡ all
-all_put all done [] is none = sym (append-nil done) ∙ is
-all_put all done (x ∷ rest) is none = absurd (omega (arith, zero_is (length (x ∷ rest)) none))
+-- what has been put with the next run
+pub next_taken : {X : Type 0} (all run behind : List X) (i : ℕ) → i ≤ length all → take i all ++ (run ++ behind) ≡ all → take i all ++ run ≡ take (i + length run) all
+next_taken all run behind i within is =
+    let long : length (take i all ++ run) ≡ i + length run = length-append (take i all) run ∙ ap (λ n. n + length run) (length-take-le i all within) in
+    sym (take_at (take i all ++ run) behind (i + length run) long) ∙ ap (take (i + length run)) (append_assoc (take i all) run behind ∙ is)
 
 -- no object yet
 pub none_yet : (s : State) (id : List ℕ) (os : Things) → IsTrue s.in_transaction → Advances s s (Makes 0 (IsFree id os) (all_added id []))
@@ -120,11 +117,11 @@ none_yet s id os inside = record {
 -- ---- a run, as the code has it
 
 -- what is put is text
-pub texts_of : (id : List ℕ) → IsUtf8 id → (os : List ObjectRow) → AreTexts id (objects_view os)
+pub texts_of : (id : List ℕ) → IsUtf8 id → (os : List ObjectText) → AreTexts id (objects_view os)
 texts_of id good [] = tt
-texts_of id good (o ∷ os) = ((good, IsUtf8-string_bytes o.name, IsUtf8-string_bytes o.kind, IsUtf8-string_bytes o.fields), texts_of id good os)
+texts_of id good (o ∷ os) = ((good, IsUtf8-had _ o.name_text, IsUtf8-had _ o.kind_text, IsUtf8-string_bytes o.fields), texts_of id good os)
 
-module _ (old new : State) (id : List ℕ) (good : IsUtf8 id) (os : List ObjectRow) (run : IsRun (length os)) (text : List ℕ) (is : text ≡ insert_of (length os)) (params : Row) (given : params ≡ row_values id (objects_view os))
+module _ (old new : State) (id : List ℕ) (good : IsUtf8 id) (os : List ObjectText) (run : IsRun (length os)) (text : List ℕ) (is : text ≡ insert_of (length os)) (params : Row) (given : params ≡ row_values id (objects_view os))
     (r : Result ℕ Error) (ran : ExecutesInside 0 text params old new r) where
   abbrev things : Things
   things = objects_view os
@@ -164,7 +161,7 @@ object_values-append [] ys = refl
 object_values-append (x ∷ xs) ys = ap (λ (l : Row). Text x.0 ∷ Text x.1.kind ∷ Text x.1.fields ∷ l) (object_values-append xs ys)
 
 -- an object more
-pub values_more : (id : List ℕ) (os : List ObjectRow) (i : ℕ) (o : ObjectRow) → take (i + 1) os ≡ take i os ++ o ∷ []
+pub values_more : (id : List ℕ) (os : List ObjectText) (i : ℕ) (o : ObjectText) → take (i + 1) os ≡ take i os ++ o ∷ []
     → row_values id (objects_view (take (i + 1) os)) ≡ row_values id (objects_view (take i os)) ++ object_values (object_view o ∷ [])
 values_more id os i o more =
     ap (λ (l : Row). Text id ∷ l) (ap (λ l. object_values (objects_view l)) more ∙ ap object_values (map-append object_view (take i os) (o ∷ [])) ∙ object_values-append (objects_view (take i os)) (object_view o ∷ []))

@@ -1,12 +1,12 @@
 -- The objects of a record, one after another.
-use Rattle.std.proofs.Common.{◌≡◌, ◌⊎◌, ◌++◌, ◌&&◌, ◌||◌, ◌+◌, ◌≤◌, length, arith, zero, suc, take, map, ℕ, inl, inr, Bool, true, false, cond, bytes_eq, List, [], ◌∷◌, Option, Some, None, refl, sym, ap, ap₂, subst, ◌∙◌, Less, Equal, nat_cmp, string_bytes}
+use Rattle.std.proofs.Common.{◌≡◌, ◌⊎◌, ◌++◌, ◌&&◌, ◌||◌, ◌+◌, ◌≤◌, length, arith, zero, suc, take, map, ℕ, inl, inr, Bool, true, false, cond, bytes_eq, List, [], ◌∷◌, Option, Some, None, refl, sym, ap, ap₂, subst, ◌∙◌, Less, Equal, nat_cmp}
 use Rattle.std.specs.Cmp.Lexicographic.{slice_cmp}
 use Rattle.std.proofs.lemmas.Bool.{cases_Bool, false_from_ne_true}
 use Rattle.std.proofs.lemmas.Cmp.{nat_list_cmp_total, tied_itself}
 use Rattle.std.proofs.lemmas.Slice.Eq.{bytes_eq-Decides}
 use Rattle.sqlite.specs.Effect.{Database}
 use Rattle.sqlite_rules.specs.Lists.{Has}
-use Rattle.fv_tables.specs.declared.entry.ObjectRow.{ObjectRow}
+use Rattle.fv_tables.specs.declared.text.ObjectText.{ObjectText}
 use Rattle.fv_tables.specs.Stands.{Head, Part, Place, Maps, Entry, Entries, Spells, IsOwned, same_place, put, added, removed, part_at, head_of, part_of, tables_of, with_entry, without_entry}
 use Rattle.fv_tables.specs.Changes.{Things, AreApart, has_name, all_added, written, IsReady, with_object, changed, with_part_of, objects_view}
 use Rattle.fv_tables.specs.Causes.{HasRooms}
@@ -58,17 +58,17 @@ last_apart [] x apart o h = absurd h
 last_apart (y ∷ os) x apart o (inl is) = subst (λ (e : List ℕ × Part). bytes_eq x.0 e.0 ≡ false) (sym is) (last_other y.0 os x apart.0)
 last_apart (y ∷ os) x apart o (inr later) = last_apart os x apart.1 o later
 
-none_taken : (name : List ℕ) (n : ℕ) (os : List ObjectRow) → has_name name (objects_view os) ≡ false → has_name name (objects_view (take n os)) ≡ false
+none_taken : (name : List ℕ) (n : ℕ) (os : List ObjectText) → has_name name (objects_view os) ≡ false → has_name name (objects_view (take n os)) ≡ false
 none_taken name zero os none = refl
 none_taken name (suc n) [] none = refl
 none_taken name (suc n) (o ∷ os) none =
-    let it = neither (bytes_eq (string_bytes o.name) name) (has_name name (objects_view os)) none in
+    let it = neither (bytes_eq o.name.now name) (has_name name (objects_view os)) none in
     rw it.0 (none_taken name n os it.1)
 
-pub apart_taken : (n : ℕ) (os : List ObjectRow) → AreApart (objects_view os) → AreApart (objects_view (take n os))
+pub apart_taken : (n : ℕ) (os : List ObjectText) → AreApart (objects_view os) → AreApart (objects_view (take n os))
 apart_taken zero os apart = tt
 apart_taken (suc n) [] apart = tt
-apart_taken (suc n) (o ∷ os) apart = (none_taken (string_bytes o.name) n os apart.0, apart_taken n os apart.1)
+apart_taken (suc n) (o ∷ os) apart = (none_taken o.name.now n os apart.0, apart_taken n os apart.1)
 
 -- ---- steps
 

@@ -1,5 +1,5 @@
 -- Places in the order of their rowids, and what halving them finds.
-use Rattle.std.proofs.Common.{◌≡◌, ◌⊎◌, ◌++◌, ◌+◌, ◌^◌, ◌<◌, ◌≤◌, ◌<ℤ◌, ◌≤ℤ◌, inl, inr, zero, suc, ℕ, ℤ, Bool, true, false, cond, not, List, [], ◌∷◌, length, map, take, drop, get_or, bytes_eq, string_bytes, Some, refl, sym, ap, subst, subst₂, ◌∙◌, arith}
+use Rattle.std.proofs.Common.{◌≡◌, ◌⊎◌, ◌++◌, ◌+◌, ◌^◌, ◌<◌, ◌≤◌, ◌<ℤ◌, ◌≤ℤ◌, inl, inr, zero, suc, ℕ, ℤ, Bool, true, false, cond, not, List, [], ◌∷◌, length, map, take, drop, get_or, bytes_eq, Some, refl, sym, ap, subst, subst₂, ◌∙◌, arith}
 use Rattle.std.specs.List.{AllByRecursion}
 use Rattle.std.specs.Ordering.{is_lt, is_le, is_ge, int_cmp}
 use Rattle.std.proofs.lemmas.Int.{ints}
@@ -21,7 +21,7 @@ use Rattle.sqlite_rules.proofs.ListLemmas.{all_has, all_from, has_left, has_righ
 use Rattle.sqlite_trees.proofs.ListLemmas.{all_weaker}
 use Rattle.fv_tables.proofs.Named.{element}
 use Rattle.fv_tables.specs.declared.entry.FoundRow.{FoundRow}
-use Rattle.fv_tables.specs.declared.entry.ObjectRow.{ObjectRow}
+use Rattle.fv_tables.specs.declared.text.ObjectText.{ObjectText}
 use Rattle.fv_tables.specs.Stands.{NumberedThing}
 use Rattle.fv_tables.specs.Changes.{Thing, Things, found_view, object_view, objects_view}
 use Rattle.fv_tables.specs.Updating.{Follow, under_rowids, filled, place_values, range_values}
@@ -246,7 +246,7 @@ passed_is n rec id (p ∷ ps) passed = (bytes_eq-Decides rec id).0 (sym (equal_t
 
 -- ---- as the code has them
 
-pub same_length : (n : ℤ) (rs : List FoundRow) (os : List ObjectRow) → Follow n (map found_view rs) (objects_view os) → length rs ≡ length os
+pub same_length : (n : ℤ) (rs : List FoundRow) (os : List ObjectText) → Follow n (map found_view rs) (objects_view os) → length rs ≡ length os
 same_length n [] [] follow = refl
 same_length n [] (o ∷ os) follow = absurd follow
 same_length n (r ∷ rs) [] follow = absurd follow
@@ -261,9 +261,9 @@ same_names a b r is none = (bytes_eq-Decides a b).0 (go (bytes_eq a b) (sym is �
     go false e = sym e
 
 -- a row more
-pub follow_more : (last : ℤ) (rs : List FoundRow) (os : List ObjectRow) (at : ℕ) (r : FoundRow) (o : ObjectRow) → drop at rs ≡ r ∷ drop (at + 1) rs → drop at os ≡ o ∷ drop (at + 1) os → last <ℤ r.rowid
-    → r.name.now ≡ string_bytes o.name → Follow r.rowid (map found_view (drop (at + 1) rs)) (objects_view (drop (at + 1) os)) → Follow last (map found_view (drop at rs)) (objects_view (drop at os))
-follow_more last rs os at r o one two up same rest = subst₂ (λ (xs : List FoundRow) (ys : List ObjectRow). Follow last (map found_view xs) (objects_view ys)) (sym one) (sym two) (up, same, rest)
+pub follow_more : (last : ℤ) (rs : List FoundRow) (os : List ObjectText) (at : ℕ) (r : FoundRow) (o : ObjectText) → drop at rs ≡ r ∷ drop (at + 1) rs → drop at os ≡ o ∷ drop (at + 1) os → last <ℤ r.rowid
+    → r.name.now ≡ o.name.now → Follow r.rowid (map found_view (drop (at + 1) rs)) (objects_view (drop (at + 1) os)) → Follow last (map found_view (drop at rs)) (objects_view (drop at os))
+follow_more last rs os at r o one two up same rest = subst₂ (λ (xs : List FoundRow) (ys : List ObjectText). Follow last (map found_view xs) (objects_view ys)) (sym one) (sym two) (up, same, rest)
 
 -- ---- its parameters
 
@@ -285,7 +285,7 @@ filled_more (suc n) (suc at) (p ∷ q ∷ ps) below (inl same) z is = ap (λ (l 
 filled_more (suc n) (suc at) (p ∷ q ∷ ps) below (inr past) z is =
     ap (λ (l : List NumberedThing). p ∷ l) (filled_more n at (q ∷ ps) (omega (arith, below)) (inr (omega (arith, past.0), omega (arith, past.1))) z is)
 
-place_at : (rs : List FoundRow) (os : List ObjectRow) (at : ℕ) (r : FoundRow) (o : ObjectRow) → at < length rs → at < length os → r ≡ get_or rs at r → o ≡ get_or os at o
+place_at : (rs : List FoundRow) (os : List ObjectText) (at : ℕ) (r : FoundRow) (o : ObjectText) → at < length rs → at < length os → r ≡ get_or rs at r → o ≡ get_or os at o
     → (at < length (under_rowids (map found_view rs) (objects_view os))) × ((r.rowid, object_view o) ≡ get_or (under_rowids (map found_view rs) (objects_view os)) at (r.rowid, object_view o))
 place_at [] os at r o one two row object = absurd (omega (arith, one))
 place_at (x ∷ rs) [] at r o one two row object = absurd (omega (arith, two))
@@ -296,7 +296,7 @@ place_values-append : (xs ys : List NumberedThing) → place_values (xs ++ ys) �
 place_values-append [] ys = refl
 place_values-append (x ∷ xs) ys = ap (λ (l : Row). Int x.0 ∷ Text x.1.1.kind ∷ Text x.1.1.fields ∷ l) (place_values-append xs ys)
 
-pub values_more : (n : ℤ) (id : List ℕ) (rs : List FoundRow) (os : List ObjectRow) → Follow n (map found_view rs) (objects_view os) → (k at : ℕ) (r : FoundRow) (o : ObjectRow) → at < length rs
+pub values_more : (n : ℤ) (id : List ℕ) (rs : List FoundRow) (os : List ObjectText) → Follow n (map found_view rs) (objects_view os) → (k at : ℕ) (r : FoundRow) (o : ObjectText) → at < length rs
     → (at ≡ k) ⊎ ((length rs ≤ k) × (at + 1 ≡ length rs)) → r ≡ get_or rs at r → o ≡ get_or os at o
     → range_values id (filled (k + 1) (under_rowids (map found_view rs) (objects_view os))) ≡ range_values id (filled k (under_rowids (map found_view rs) (objects_view os))) ++ place_values ((r.rowid, object_view o) ∷ [])
 values_more n id rs os follow k at r o below which row object =
@@ -308,7 +308,7 @@ values_more n id rs os follow k at r o below which row object =
     ap (λ (l : Row). Text id ∷ l) (ap (λ (n : ℕ). place_values (filled n ps)) more ∙ ap place_values (filled_more k at ps place.0 where_it_is (r.rowid, object_view o) place.1) ∙ place_values-append (filled k ps) ((r.rowid, object_view o) ∷ []))
 
 -- the same, as the code has it
-pub place_pushed : (n : ℤ) (id : List ℕ) (rs : List FoundRow) (os : List ObjectRow) → Follow n (map found_view rs) (objects_view os) → (k at : ℕ) (d : FoundRow) (o : ObjectRow) → at < length rs
+pub place_pushed : (n : ℤ) (id : List ℕ) (rs : List FoundRow) (os : List ObjectText) → Follow n (map found_view rs) (objects_view os) → (k at : ℕ) (d : FoundRow) (o : ObjectText) → at < length rs
     → (at ≡ k) ⊎ ((length rs ≤ k) × (at + 1 ≡ length rs)) → o ≡ get_or os at o → (before after : Row) → before ≡ range_values id (filled k (under_rowids (map found_view rs) (objects_view os)))
     → after ≡ before ++ place_values (((get_or rs at d).rowid, object_view o) ∷ []) → after ≡ range_values id (filled (k + 1) (under_rowids (map found_view rs) (objects_view os)))
 place_pushed n id rs os follow k at d o below which object before after was pushed =

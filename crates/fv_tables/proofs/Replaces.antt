@@ -1,5 +1,5 @@
 -- The objects of a record that is there are replaced: what the statements make of the tables, one after another.
-use Rattle.std.proofs.Common.{◌≡◌, ◌≢◌, ◌⊎◌, ◌++◌, ◌&&◌, ◌||◌, ◌+◌, ◌<◌, length, arith, zero, suc, take, ℕ, ℤ, inl, inr, Bool, true, false, cond, bytes_eq, List, [], ◌∷◌, Option, Some, None, IsSome, Ok, Err, Result, OnOk, IfErr, IsTrue, refl, sym, ap, subst, ◌∙◌, string_bytes}
+use Rattle.std.proofs.Common.{◌≡◌, ◌≢◌, ◌⊎◌, ◌++◌, ◌&&◌, ◌||◌, ◌+◌, ◌<◌, length, arith, zero, suc, take, ℕ, ℤ, inl, inr, Bool, true, false, cond, bytes_eq, List, [], ◌∷◌, Option, Some, None, IsSome, Ok, Err, Result, OnOk, IfErr, IsTrue, refl, sym, ap, subst, ◌∙◌}
 use Rattle.std.proofs.lemmas.Bool.{cases_Bool}
 use Rattle.std.proofs.lemmas.List.{map-append}
 use Rattle.std.proofs.lemmas.Slice.Eq.{bytes_eq-Decides}
@@ -11,7 +11,7 @@ use Rattle.sqlite_rules.specs.Lists.{Has}
 use Rattle.sqlite_rules.proofs.ListLemmas.{has_right}
 use Rattle.sqlite_rules.proofs.ProbeLemmas.{mapped_has}
 use Rattle.fv_tables.specs.declared.entry.FoundRow.{FoundRow}
-use Rattle.fv_tables.specs.declared.entry.ObjectRow.{ObjectRow}
+use Rattle.fv_tables.specs.declared.text.ObjectText.{ObjectText}
 use Rattle.fv_tables.specs.Stands.{Head, Part, Place, Maps, Spells, Frame, IsOwned, same_place, put, added, dropped, removed, without_parts}
 use Rattle.fv_tables.specs.Changes.{Things, AreApart, names_of, same_object, has_object, all_added, others_dropped, has_name, replaced, dropped_unless_kept, written, found_object, found_objects, object_view, objects_view, IsFree, IsNew}
 use Rattle.fv_tables.specs.Causes.{HasRooms, IsExcused, IsShortHead, IsShortPart, AreShort}
@@ -105,16 +105,16 @@ taken_has (suc n) (y ∷ xs) x (inl is) = inl is
 taken_has (suc n) (y ∷ xs) x (inr later) = inr (taken_has n xs x later)
 
 -- the next object is still there, if it was
-there_next : (id : List ℕ) (there : Things) (all : List ObjectRow) (i : ℕ) (o : ObjectRow) → take (i + 1) all ≡ take i all ++ o ∷ [] → (t : Maps) → AreThere id there (objects_view all) t
+there_next : (id : List ℕ) (there : Things) (all : List ObjectText) (i : ℕ) (o : ObjectText) → take (i + 1) all ≡ take i all ++ o ∷ [] → (t : Maps) → AreThere id there (objects_view all) t
     → IsThere id there (object_view o) (all_added id (objects_view (take i all)) t)
 there_next id there all i o more t are has =
     let before = objects_view (take i all) in
     let pushed : objects_view (take (i + 1) all) ≡ before ++ object_view o ∷ [] = ap objects_view more ∙ map-append object_view (take i all) (o ∷ []) in
     let apart : AreApart (before ++ object_view o ∷ []) = subst AreApart pushed (apart_taken (i + 1) all are.0) in
     let among : Has all o = taken_has (i + 1) all o (subst (λ l. Has l o) (sym more) (has_right (take i all) (o ∷ []) o (inl refl))) in
-    unmoved id before (string_bytes o.name) t (last_apart before (object_view o) apart) ∙ are.1 (object_view o) (mapped_has object_view all o among) has
+    unmoved id before o.name.now t (last_apart before (object_view o) apart) ∙ are.1 (object_view o) (mapped_has object_view all o among) has
 
-pub part_more : (id : List ℕ) (there : Things) (all : List ObjectRow) (i : ℕ) (o : ObjectRow) → take (i + 1) all ≡ take i all ++ o ∷ [] → (x y z : Database)
+pub part_more : (id : List ℕ) (there : Things) (all : List ObjectText) (i : ℕ) (o : ObjectText) → take (i + 1) all ≡ take i all ++ o ∷ [] → (x y z : Database)
     → Makes i (AreThere id there (objects_view all)) (all_added id (objects_view (take i all))) x y → Makes 1 (IsThere id there (object_view o)) (added (id, (object_view o).0) (object_view o).1) y z
     → Makes (i + 1) (AreThere id there (objects_view all)) (all_added id (objects_view (take (i + 1) all))) x z
 part_more id there all i o more x y z p q d t spelled are =
@@ -168,7 +168,7 @@ pub unkept_dropped : {X : Type 0} (a b : State) (id : List ℕ) (os : Things) (n
 unkept_dropped a b id os name has r = led_on_ok a b r (λ x y p d t spelled _. let it = p d t spelled tt in let gone : dropped_unless_kept id os name t ≡ dropped (id, name) t = rw has refl in (subst (Spells y d) (sym gone) it.0, it.1))
 
 -- some objects were written and the next was refused
-pub parts_cause : (a b c : State) (id : List ℕ) (there : Things) (all : List ObjectRow) (i : ℕ) (o : ObjectRow) → i < length all → take (i + 1) all ≡ take i all ++ o ∷ [] → HasCleanDisk c → Frame a b → Frame b c
+pub parts_cause : (a b c : State) (id : List ℕ) (there : Things) (all : List ObjectText) (i : ℕ) (o : ObjectText) → i < length all → take (i + 1) all ≡ take i all ++ o ∷ [] → HasCleanDisk c → Frame a b → Frame b c
     → Advances a b (Makes i (AreThere id there (objects_view all)) (all_added id (objects_view (take i all)))) → (e : Error)
     → ((d : List Row) (t : Maps) → Spells b.now d t → IsOwned t → IsSome (t.heads id) → HasRooms 1 b.now → IsShortPart (id, (object_view o).0) (object_view o).1 → IsExcused b c e)
     → (d : List Row) (t : Maps) → Spells a.now d t → AreThere id there (objects_view all) t → IsOwned t → IsSome (t.heads id) → HasRooms (length all) a.now → AreShort id (objects_view all) → IsExcused a c e

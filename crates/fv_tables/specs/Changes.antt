@@ -5,7 +5,7 @@ use Rattle.std.specs.List.Sorted.{IsStrictlySortedBy}
 use Rattle.std.specs.Ordering.{nat_cmp}
 use Rattle.fv_tables.specs.Stands.{Head, Part, Maps, Entry, Entries, NumberedThing, IsOwned, without_parts, put, added, dropped, removed}
 use Rattle.fv_tables.specs.declared.entry.FoundRow.{FoundRow}
-use Rattle.fv_tables.specs.declared.entry.ObjectRow.{ObjectRow}
+use Rattle.fv_tables.specs.declared.text.ObjectText.{ObjectText}
 
 -- an object with its name
 abbrev pub Thing : Type 0
@@ -97,11 +97,11 @@ with_part_of id name p m other = if bytes_eq other id then changed name p (m oth
 -- ---- as the code has them
 
 -- an object with its name
-abbrev pub object_view : ObjectRow → List ℕ × Part
-object_view o = (string_bytes o.name, record { kind = string_bytes o.kind; fields = string_bytes o.fields })
+abbrev pub object_view : ObjectText → List ℕ × Part
+object_view o = (o.name.now, record { kind = o.kind.now; fields = string_bytes o.fields })
 
 -- objects with their names
-abbrev pub objects_view : List ObjectRow → Things
+abbrev pub objects_view : List ObjectText → Things
 objects_view os = map object_view os
 
 -- an object that was found, with its name

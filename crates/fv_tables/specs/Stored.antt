@@ -1,18 +1,27 @@
 -- A record as it is handed out.
-use Rattle.std.specs.Prelude.{[], ◌∷◌, string_bytes}
+use Rattle.std.specs.Prelude.{ℕ, List, [], ◌∷◌, map, string_bytes}
 use Rattle.sqlite.specs.Order.{Row, column}
 use Rattle.fv_tables.specs.declared.entry.RecordRows.{RecordRows}
 use Rattle.fv_tables.specs.declared.entry.HeadRow.{HeadRow}
-use Rattle.fv_tables.specs.Changes.{objects_view}
-use Rattle.fv_tables.specs.Stands.{Head, Entry}
+use Rattle.fv_tables.specs.declared.entry.ObjectRow.{ObjectRow}
+use Rattle.fv_tables.specs.Changes.{Things}
+use Rattle.fv_tables.specs.Stands.{Head, Part, Entry}
 
 -- what a row of `record` shows
 abbrev pub head_view : HeadRow → Head
 head_view s = record { form = string_bytes s.form; root = string_bytes s.root }
 
+-- an object with its name
+abbrev pub row_view : ObjectRow → List ℕ × Part
+row_view o = (string_bytes o.name, record { kind = string_bytes o.kind; fields = string_bytes o.fields })
+
+-- objects with their names
+abbrev pub things_view : List ObjectRow → Things
+things_view os = map row_view os
+
 -- what the rows of a record keep
 abbrev pub rows_view : RecordRows → Entry
-rows_view s = record { form = string_bytes s.form; root = string_bytes s.root; objects = objects_view s.objects.items }
+rows_view s = record { form = string_bytes s.form; root = string_bytes s.root; objects = things_view s.objects.items }
 
 -- the first three columns
 abbrev pub front : Row → Row

@@ -7,7 +7,7 @@ ghost use Rattle.fv_tables.specs.Causes.{AreShort, HasRooms, IsExcused, IsShortH
 ghost use Rattle.fv_tables.specs.Stands.{Frame, Stands, with_entry, without_entry};
 ghost use Rattle.fv_tables.specs.Steps.{Advances, Always, Inside, Turns};
 
-use crate::entry::ObjectRow;
+use crate::text::ObjectText;
 use crate::rows::{delete_record, update_object, write_record};
 use sqlite::{Alter, Error, Transaction};
 
@@ -18,7 +18,7 @@ pub fn put_record<S: Alter>(
     id: &str,
     form: &str,
     root: &str,
-    objects: &[ObjectRow],
+    objects: &[ObjectText],
 ) -> Result<(), Error>
     ensures same_reference { tx.new.conn.ghost_name ≡ tx.old.conn.ghost_name }
     ensures frame { Frame (state S.Store tx.old.conn.now) (state S.Store tx.new.conn.now) }

@@ -3,9 +3,9 @@ ghost use Rattle.std.specs.Prelude.{◌≡◌, false, IsTrue, IfErr, IfOk, None,
 ghost use Rattle.sqlite.specs.State.{HasCleanDisk};
 ghost use Rattle.sqlite.specs.Held.{state};
 ghost use Rattle.fv_tables.specs.Causes.{IsExcused};
-ghost use Rattle.fv_tables.specs.Changes.{IsNamed, AllNamed, objects_view};
+ghost use Rattle.fv_tables.specs.Changes.{IsNamed, AllNamed};
 ghost use Rattle.fv_tables.specs.Stands.{Frame, IsLive, IsSettled, Keeps, ShowsHead, Stays, head_of, shown_part};
-ghost use Rattle.fv_tables.specs.Stored.{head_view, rows_view};
+ghost use Rattle.fv_tables.specs.Stored.{head_view, rows_view, things_view};
 
 use crate::entry::{HeadRow, ObjectRow, RecordRows, head_in, objects_in};
 use sqlite::{Alter, Connection, Error, Row, params};
@@ -89,7 +89,7 @@ fn find_things<S: Alter>(
     ensures open { OnOk result (IsLive (state S.Store conn.new)) }
     ensures found { HasCleanDisk (state S.Store conn.new) → IfOk result (λ v. (d : _) (m : _)
         → Keeps (state S.Store conn.old) d m → (k : _) → m id.now ≡ Some k → IsNamed k.objects
-        → objects_view v.items ≡ k.objects) }
+        → things_view v.items ≡ k.objects) }
     ensures cause { HasCleanDisk (state S.Store conn.new) → conn.old.step_limit ≡ None → IfErr result (λ e.
         (d : _) (m : _) → Keeps (state S.Store conn.old) d m → (k : _) → m id.now ≡ Some k → IsNamed k.objects
         → IsExcused (state S.Store conn.old) (state S.Store conn.new) e) }

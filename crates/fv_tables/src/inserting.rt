@@ -9,7 +9,7 @@ ghost use Rattle.fv_tables.specs.Inserting.{insert_of, object_values, row_values
 ghost use Rattle.fv_tables.specs.Stands.{Frame, Spells, IsOwned};
 ghost use Rattle.fv_tables.specs.Steps.{Advances, Inside, Makes};
 
-use crate::entry::ObjectRow;
+use crate::text::ObjectText;
 use sqlite::{Alter, Error, Transaction, types::ValueRef};
 use std::alloc::{AllocError, Global};
 
@@ -63,7 +63,7 @@ fn insert_text(rows: usize) -> &'static str
 }
 
 /// Behind these values those of an object.
-fn push_object<'a>(values: &mut Vec<ValueRef<'a>>, object: &'a ObjectRow) -> Result<(), AllocError>
+fn push_object<'a>(values: &mut Vec<ValueRef<'a>>, object: &'a ObjectText<'a>) -> Result<(), AllocError>
     ensures { OnOk result (bound values.new.items ≡ bound values.old.items ++ object_values (object_view object.now ∷ [])) }
 {
     values.push(ValueRef::Text(object.name.as_bytes()))?;
@@ -76,7 +76,7 @@ fn push_object<'a>(values: &mut Vec<ValueRef<'a>>, object: &'a ObjectRow) -> Res
 fn values_of<'a>(
     alloc: Global,
     id: &'a str,
-    objects: &'a [ObjectRow],
+    objects: &'a [ObjectText<'a>],
 ) -> Result<Vec<ValueRef<'a>>, AllocError>
     ensures { IfOk result (λ v. bound v.items ≡ row_values id.now (objects_view objects.now)) }
 {
@@ -92,7 +92,7 @@ fn values_of<'a>(
 pub(crate) fn insert_run<S: Alter>(
     tx: &mut Transaction<'_, S>,
     id: &str,
-    objects: &[ObjectRow],
+    objects: &[ObjectText],
 ) -> Result<usize, Error>
     requires { IsRun (length objects.now) }
     ensures same_reference { tx.new.conn.ghost_name ≡ tx.old.conn.ghost_name }
@@ -107,7 +107,7 @@ pub(crate) fn insert_run<S: Alter>(
         → IsSome (t.heads id.now) → HasRooms (length objects.now) old.now → AreShort id.now (objects_view objects.now)
         → IsExcused old new e)) }
 {
-    let alloc = *objects[0].name.allocator();
+    let alloc = *objects[0].fields.allocator();
     let values = values_of(alloc, id, objects)?;
     tx.execute(insert_text(objects.len()), &values)
 }
@@ -116,7 +116,7 @@ pub(crate) fn insert_run<S: Alter>(
 pub(crate) fn insert_objects<S: Alter>(
     tx: &mut Transaction<'_, S>,
     id: &str,
-    objects: &[ObjectRow],
+    objects: &[ObjectText],
 ) -> Result<(), Error>
     ensures same_reference { tx.new.conn.ghost_name ≡ tx.old.conn.ghost_name }
     ensures frame { Frame (state S.Store tx.old.conn.now) (state S.Store tx.new.conn.now) }
@@ -130,11 +130,12 @@ pub(crate) fn insert_objects<S: Alter>(
         → IsSome (t.heads id.now) → HasRooms (length objects.now) old.now → AreShort id.now (objects_view objects.now)
         → IsExcused old new e)) }
 {
-    let mut rest = objects;
-    'runs: while !rest.is_empty() {
-        let (run, behind) = rest.split_at(longest_run(rest.len()));
+    let mut done = 0;
+    'runs: while done < objects.len() {
+        let (_, rest) = objects.split_at(done);
+        let (run, _) = rest.split_at(longest_run(rest.len()));
         insert_run(tx, id, run)?;
-        rest = behind;
+        done += run.len();
     }
     Ok(())
 }

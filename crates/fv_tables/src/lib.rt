@@ -11,6 +11,7 @@ mod inserting;
 mod listing;
 mod migrating;
 mod rows;
+mod text;
 mod updating;
 
 pub use about::{read_about, write_about};
@@ -20,3 +21,4 @@ pub use entry::{ObjectRow, RecordRows};
 pub use finding::find;
 pub use listing::{find_all_ids, find_ids};
 pub use migrating::{OldRow, find_old, replace_tables};
+pub use text::ObjectText;

@@ -1,5 +1,5 @@
 //! The ids of the records of a form, and of all records.
-ghost use Rattle.std.specs.Prelude.{◌≡◌, ◌++◌, ◌∷◌, [], List, ℕ, false, map, IsTrue, IsUtf8, IfErr, IfOk, OnOk, None, string_bytes};
+ghost use Rattle.std.specs.Prelude.{◌≡◌, List, ℕ, false, map, IsTrue, IsUtf8, IfErr, IfOk, OnOk, None, string_bytes};
 ghost use Rattle.std.specs.List.{AllByRecursion};
 ghost use Rattle.sqlite.specs.State.{HasCleanDisk};
 ghost use Rattle.sqlite.specs.Held.{state};
@@ -8,7 +8,7 @@ ghost use Rattle.fv_tables.specs.Lists.{HasForm, HasRecord, Lists, ShowsIds, id_
 ghost use Rattle.fv_tables.specs.Stands.{Frame, IsLive, IsSettled, Keeps, Stays};
 
 use sqlite::{Alter, Connection, Error, Row, params};
-use std::alloc::{AllocError, Global};
+use std::alloc::Global;
 
 const FIND_IDS: &str = "SELECT id FROM record WHERE form = ?1 AND id > ?2 ORDER BY id LIMIT ?3";
 
@@ -61,14 +61,6 @@ fn find_all_id_rows<S: Alter>(
     conn.query_all(FIND_ALL_IDS, params![above, limit])
 }
 
-/// The ids with one more, at the end.
-fn add(ids: &mut Vec<String>, id: String) -> Result<(), AllocError>
-    ensures { OnOk result (ids.new.items ≡ ids.old.items ++ id ∷ []) }
-{
-    ids.push(id)?;
-    Ok(())
-}
-
 /// The ids that rows show.
 fn ids_in(alloc: Global, rows: &[Row]) -> Result<Vec<String>, Error>
     ensures shown { IfOk result (λ v. (ids : List (List ℕ)) → rows.now ≡ map id_row ids
@@ -79,7 +71,7 @@ fn ids_in(alloc: Global, rows: &[Row]) -> Result<Vec<String>, Error>
     let mut ids = Vec::with_capacity(alloc, rows.len())?;
     for row in rows {
         let id: String = row.get(0)?;
-        add(&mut ids, id)?;
+        ids.push(id)?;
     }
     Ok(ids)
 }

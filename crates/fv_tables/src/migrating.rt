@@ -1,5 +1,5 @@
 //! The records of version 1 are read, and its tables are replaced by those of version 2, a statement each.
-ghost use Rattle.std.specs.Prelude.{◌≡◌, ◌++◌, ◌∷◌, [], false, map, IfErr, IfOk, List, None, OnOk, ℕ};
+ghost use Rattle.std.specs.Prelude.{◌≡◌, ◌∷◌, [], false, map, IfErr, IfOk, List, None, OnOk, ℕ};
 ghost use Rattle.std.specs.List.{AllByRecursion};
 ghost use Rattle.sqlite.specs.State.{HasCleanDisk, KeepsCommit};
 ghost use Rattle.sqlite.specs.Held.{state};
@@ -12,7 +12,7 @@ ghost use Rattle.fv_tables.specs.Stored.{front};
 
 use crate::creating::{create_object, create_record};
 use sqlite::{Alter, Connection, Error, Row, Transaction};
-use std::alloc::{AllocError, Global};
+use std::alloc::Global;
 
 const FIND_OLD: &str = "SELECT id, form, bundle FROM record";
 
@@ -58,14 +58,6 @@ fn read_old(row: &Row) -> Result<OldRow, Error>
     Ok(OldRow { id, form, bundle })
 }
 
-/// The records with one more, at the end.
-fn add(olds: &mut Vec<OldRow>, old: OldRow) -> Result<(), AllocError>
-    ensures { OnOk result (olds.new.items ≡ olds.old.items ++ old ∷ []) }
-{
-    olds.push(old)?;
-    Ok(())
-}
-
 /// The records of version 1 that rows show.
 fn olds_in(alloc: Global, rows: &[Row]) -> Result<Vec<OldRow>, Error>
     ensures shown { IfOk result (λ v. (os : List (List ℕ × Old)) → rows.now ≡ map shown_old os
@@ -75,8 +67,7 @@ fn olds_in(alloc: Global, rows: &[Row]) -> Result<Vec<OldRow>, Error>
 {
     let mut olds = Vec::with_capacity(alloc, rows.len())?;
     for row in rows {
-        let old = read_old(row)?;
-        add(&mut olds, old)?;
+        olds.push(read_old(row)?)?;
     }
     Ok(olds)
 }

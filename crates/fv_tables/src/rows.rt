@@ -10,9 +10,10 @@ ghost use Rattle.fv_tables.specs.Stands.{Frame, ShowsHead, Spells, IsOwned, remo
 ghost use Rattle.fv_tables.specs.Steps.{Advances, Anyhow, AreThere, HasHead, Inside, IsThere, Makes, ShowsParts, UpdatesPart, UpdatesRow};
 ghost use Rattle.fv_tables.specs.Stored.{head_view};
 
-use crate::entry::{FoundRow, HeadRow, ObjectRow, found_in, head_in};
+use crate::entry::{FoundRow, HeadRow, found_in, head_in};
 use crate::finding::FIND_RECORD;
 use crate::inserting::{insert_objects, insert_run};
+use crate::text::ObjectText;
 use crate::updating::{is_range, update_range};
 use sqlite::{Alter, Error, Row, Transaction, params, types::ValueRef};
 use std::slice::from_ref;
@@ -74,7 +75,7 @@ fn update_row<S: Alter>(
     tx: &mut Transaction<'_, S>,
     id: &str,
     row: &FoundRow,
-    object: &ObjectRow,
+    object: &ObjectText,
 ) -> Result<usize, Error>
     ensures same_reference { tx.new.conn.ghost_name ≡ tx.old.conn.ghost_name }
     ensures frame { Frame (state S.Store tx.old.conn.now) (state S.Store tx.new.conn.now) }
@@ -88,7 +89,7 @@ fn update_row<S: Alter>(
 {
     tx.execute(
         UPDATE_ROW,
-        params![&row.rowid, id, &object.name, &object.kind, &object.fields],
+        params![&row.rowid, id, object.name, object.kind, &object.fields],
     )
 }
 
@@ -111,7 +112,7 @@ fn find_parts<S: Alter>(tx: &mut Transaction<'_, S>, id: &str) -> Result<Vec<Row
 fn put_object<S: Alter>(
     tx: &mut Transaction<'_, S>,
     id: &str,
-    object: &ObjectRow,
+    object: &ObjectText,
 ) -> Result<usize, Error>
     ensures same_reference { tx.new.conn.ghost_name ≡ tx.old.conn.ghost_name }
     ensures frame { Frame (state S.Store tx.old.conn.now) (state S.Store tx.new.conn.now) }
@@ -123,14 +124,14 @@ fn put_object<S: Alter>(
         → IfErr result (λ e. (d : _) (t : _) → Spells old.now d t → IsOwned t → IsSome (t.heads id.now)
         → HasRooms 1 old.now → IsShortPart (id.now, (object_view object.now).0) (object_view object.now).1 → IsExcused old new e)) }
 {
-    match update_object(tx, id, &object.name, &object.kind, &object.fields)? {
+    match update_object(tx, id, object.name, object.kind, &object.fields)? {
         0 => insert_run(tx, id, from_ref(object)),
         changed => Ok(changed),
     }
 }
 
 /// Whether a row and an object have the same name, the same type's name and the same fields.
-pub(crate) fn is_same(row: &FoundRow, object: &ObjectRow) -> bool
+pub(crate) fn is_same(row: &FoundRow, object: &ObjectText) -> bool
     ensures { result ≡ same_object (found_object row.now) (object_view object.now) }
 {
     row.name == object.name.as_bytes()
@@ -155,7 +156,7 @@ fn row_named<'a>(rows: &'a [FoundRow<'a>], name: &[u8]) -> Option<&'a FoundRow<'
 }
 
 /// Whether an object of the name is among these. Where they ascend by their names, it is soon found.
-fn has_name(objects: &[ObjectRow], name: &[u8]) -> bool
+fn has_name(objects: &[ObjectText], name: &[u8]) -> bool
     ensures { result ≡ has name.now (objects_view objects.now) }
 {
     let found = objects.binary_search_by(|object| object.name.as_bytes().cmp(&name));
@@ -175,7 +176,7 @@ fn put_changed<S: Alter>(
     tx: &mut Transaction<'_, S>,
     id: &str,
     row: &FoundRow,
-    object: &ObjectRow,
+    object: &ObjectText,
 ) -> Result<usize, Error>
     ensures same_reference { tx.new.conn.ghost_name ≡ tx.old.conn.ghost_name }
     ensures frame { Frame (state S.Store tx.old.conn.now) (state S.Store tx.new.conn.now) }
@@ -202,7 +203,7 @@ fn put_among<S: Alter>(
     tx: &mut Transaction<'_, S>,
     id: &str,
     there: &[FoundRow],
-    object: &ObjectRow,
+    object: &ObjectText,
 ) -> Result<usize, Error>
     ensures same_reference { tx.new.conn.ghost_name ≡ tx.old.conn.ghost_name }
     ensures frame { Frame (state S.Store tx.old.conn.now) (state S.Store tx.new.conn.now) }
@@ -226,7 +227,7 @@ fn put_objects<S: Alter>(
     tx: &mut Transaction<'_, S>,
     id: &str,
     there: &[FoundRow],
-    objects: &[ObjectRow],
+    objects: &[ObjectText],
 ) -> Result<(), Error>
     ensures same_reference { tx.new.conn.ghost_name ≡ tx.old.conn.ghost_name }
     ensures frame { Frame (state S.Store tx.old.conn.now) (state S.Store tx.new.conn.now) }
@@ -251,7 +252,7 @@ fn drop_unless_kept<S: Alter>(
     tx: &mut Transaction<'_, S>,
     id: &str,
     name: &[u8],
-    objects: &[ObjectRow],
+    objects: &[ObjectText],
 ) -> Result<usize, Error>
     ensures same_reference { tx.new.conn.ghost_name ≡ tx.old.conn.ghost_name }
     ensures frame { Frame (state S.Store tx.old.conn.now) (state S.Store tx.new.conn.now) }
@@ -274,7 +275,7 @@ fn drop_others<S: Alter>(
     tx: &mut Transaction<'_, S>,
     id: &str,
     there: &[FoundRow],
-    objects: &[ObjectRow],
+    objects: &[ObjectText],
 ) -> Result<(), Error>
     ensures same_reference { tx.new.conn.ghost_name ≡ tx.old.conn.ghost_name }
     ensures frame { Frame (state S.Store tx.old.conn.now) (state S.Store tx.new.conn.now) }
@@ -295,7 +296,7 @@ fn drop_others<S: Alter>(
 fn replace_objects<S: Alter>(
     tx: &mut Transaction<'_, S>,
     id: &str,
-    objects: &[ObjectRow],
+    objects: &[ObjectText],
 ) -> Result<(), Error>
     ensures same_reference { tx.new.conn.ghost_name ≡ tx.old.conn.ghost_name }
     ensures frame { Frame (state S.Store tx.old.conn.now) (state S.Store tx.new.conn.now) }
@@ -323,7 +324,7 @@ fn write_new<S: Alter>(
     id: &str,
     form: &str,
     root: &str,
-    objects: &[ObjectRow],
+    objects: &[ObjectText],
 ) -> Result<(), Error>
     ensures same_reference { tx.new.conn.ghost_name ≡ tx.old.conn.ghost_name }
     ensures frame { Frame (state S.Store tx.old.conn.now) (state S.Store tx.new.conn.now) }
@@ -387,7 +388,7 @@ pub(crate) fn write_record<S: Alter>(
     id: &str,
     form: &str,
     root: &str,
-    objects: &[ObjectRow],
+    objects: &[ObjectText],
 ) -> Result<(), Error>
     ensures same_reference { tx.new.conn.ghost_name ≡ tx.old.conn.ghost_name }
     ensures frame { Frame (state S.Store tx.old.conn.now) (state S.Store tx.new.conn.now) }

@@ -9,8 +9,9 @@ ghost use Rattle.fv_tables.specs.Stands.{Frame, Spells, IsOwned};
 ghost use Rattle.fv_tables.specs.Steps.{Advances, ArePartsOf, AreRowsOf, Inside};
 ghost use Rattle.fv_tables.specs.Updating.{place_values, places_of, range_values, things_of, Follow, IsRange, UpdatesRange};
 
-use crate::entry::{FoundRow, ObjectRow};
+use crate::entry::FoundRow;
 use crate::rows::is_same;
+use crate::text::ObjectText;
 use sqlite::{Alter, Error, Transaction, types::ValueRef};
 use std::alloc::{AllocError, Global};
 
@@ -44,7 +45,7 @@ fn rowid_of(row: &FoundRow) -> i64
 }
 
 /// Whether the rowids rise, and the rows have the names of the objects in their places.
-fn are_in_step(rows: &[FoundRow], objects: &[ObjectRow]) -> bool
+fn are_in_step(rows: &[FoundRow], objects: &[ObjectText]) -> bool
     requires { length rows.now ≡ length objects.now }
     ensures { result ≡ true → (n : ℤ) × Follow n (map found_view rows.now) (objects_view objects.now) }
 {
@@ -60,7 +61,7 @@ fn are_in_step(rows: &[FoundRow], objects: &[ObjectRow]) -> bool
 }
 
 /// Whether more than half of the rows have something else than the objects in their places.
-fn most_differ(rows: &[FoundRow], objects: &[ObjectRow]) -> bool
+fn most_differ(rows: &[FoundRow], objects: &[ObjectText]) -> bool
     requires { length rows.now ≡ length objects.now }
 {
     let mut same = 0;
@@ -74,7 +75,7 @@ fn most_differ(rows: &[FoundRow], objects: &[ObjectRow]) -> bool
 
 /// Whether one statement shall write these objects over these rows: where most of them differ, and at most half of the rowids between are those of others.
 /// Only speed rests on it where it answers `false`.
-pub(crate) fn is_range(rows: &[FoundRow], objects: &[ObjectRow]) -> bool
+pub(crate) fn is_range(rows: &[FoundRow], objects: &[ObjectText]) -> bool
     ensures { result ≡ true → IsRange (map found_view rows.now) (objects_view objects.now) }
 {
     let count = rows.len();
@@ -89,7 +90,7 @@ pub(crate) fn is_range(rows: &[FoundRow], objects: &[ObjectRow]) -> bool
 fn push_place<'a>(
     values: &mut Vec<ValueRef<'a>>,
     row: &FoundRow,
-    object: &'a ObjectRow,
+    object: &'a ObjectText<'a>,
 ) -> Result<(), AllocError>
     ensures { OnOk result (bound values.new.items ≡ bound values.old.items ++ place_values ((row.now.rowid, object_view object.now) ∷ [])) }
 {
@@ -104,7 +105,7 @@ fn values_of<'a>(
     alloc: Global,
     id: &'a str,
     rows: &[FoundRow],
-    objects: &'a [ObjectRow],
+    objects: &'a [ObjectText<'a>],
 ) -> Result<Vec<ValueRef<'a>>, AllocError>
     requires { IsRange (map found_view rows.now) (objects_view objects.now) }
     ensures { IfOk result (λ v. bound v.items ≡ range_values id.now (places_of (map found_view rows.now) (objects_view objects.now))) }
@@ -127,7 +128,7 @@ pub(crate) fn update_range<S: Alter>(
     tx: &mut Transaction<'_, S>,
     id: &str,
     rows: &[FoundRow],
-    objects: &[ObjectRow],
+    objects: &[ObjectText],
 ) -> Result<usize, Error>
     requires { IsRange (map found_view rows.now) (objects_view objects.now) }
     ensures same_reference { tx.new.conn.ghost_name ≡ tx.old.conn.ghost_name }
@@ -141,7 +142,7 @@ pub(crate) fn update_range<S: Alter>(
         → ArePartsOf id.now (things_of (map found_view rows.now)) t → AreApart (objects_view objects.now) → IsOwned t
         → IsSome (t.heads id.now) → HasRooms 0 old.now → AreShort id.now (objects_view objects.now) → IsExcused old new e)) }
 {
-    let alloc = *objects[0].name.allocator();
+    let alloc = *objects[0].fields.allocator();
     let values = values_of(alloc, id, rows, objects)?;
     tx.execute(UPDATE_RANGE, &values)
 }

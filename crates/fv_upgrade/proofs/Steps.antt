@@ -5,7 +5,7 @@ use Rattle.sqlite.specs.Effect.{Database}
 use Rattle.sqlite.specs.Order.{Row}
 use Rattle.sqlite.specs.declared.error.Error.{Error}
 use Rattle.sqlite.specs.State.{State, HasCleanDisk}
-use Rattle.fv_tables.specs.declared.entry.ObjectRow.{ObjectRow}
+use Rattle.fv_tables.specs.declared.text.ObjectText.{ObjectText}
 use Rattle.fv_tables.specs.Causes.{AreShort, HasRooms, IsExcused, IsShortHead}
 use Rattle.fv_tables.specs.Changes.{AreApart, object_view, objects_view}
 use Rattle.fv_tables.specs.Stands.{Entry, Entries, Frame, Stands, with_entry}
@@ -17,7 +17,7 @@ use Rattle.fv_upgrade.specs.Steps.{AllApart, EachShort, Named, Puts, all_put, ne
 
 -- ---- one record
 
-module _ (id form root : List ℕ) (objects : List ObjectRow) where
+module _ (id form root : List ℕ) (objects : List ObjectText) where
   -- as the code gives it
   abbrev pub given : Entry
   given = record { form = form; root = root; objects = objects_view objects }

@@ -1,20 +1,44 @@
 //! The tables of version 1 are replaced by those of version 2, in one transaction.
-ghost use Rattle.std.specs.Prelude.{◌≡◌, ◌∷◌, [], ◌<◌, ◌^◌, false, IfErr, List, None, OnErr, OnOk, ℕ};
+ghost use Rattle.std.specs.Prelude.{◌≡◌, ◌∷◌, [], ◌<◌, ◌^◌, false, IfErr, IfOk, List, None, OnErr, OnOk, ℕ};
 ghost use Rattle.sqlite.specs.State.{HasCleanDisk, KeepsCommit};
 ghost use Rattle.sqlite.specs.Held.{state};
 ghost use Rattle.fv_tables.specs.Causes.{HasFailed, HasRooms, IsExcused, IsShortAbout};
+ghost use Rattle.fv_tables.specs.Changes.{object_view, objects_view};
 ghost use Rattle.fv_tables.specs.Creating.{no_entries};
 ghost use Rattle.fv_tables.specs.Olds.{IsFirst, KeepsFirst, Olds};
 ghost use Rattle.fv_tables.specs.Stands.{Frame, IsLive, IsSettled, Keeps, Stands, Stays, about_row};
 ghost use Rattle.fv_tables.specs.Steps.{Advances, Inside};
+ghost use Rattle.fv_tables.specs.Stored.{row_view, things_view};
 ghost use Rattle.fv_upgrade.specs.Steps.{AllApart, EachShort, Puts, all_put, new_view, news_view, rows_taken};
 ghost use Rattle.fv_upgrade.specs.Upgraded.{AllShort, AllUpgrade, HasFew, upgraded};
 
 use crate::fault::UpgradeFault;
 use crate::records::{NewRecord, records_of};
-use fv_tables::{find_old, put_record, replace_tables};
+use fv_tables::{ObjectRow, ObjectText, find_old, put_record, replace_tables};
 use sqlite::{Alter, Connection, Error, Transaction};
-use std::alloc::Global;
+use std::alloc::{AllocError, Global};
+
+/// What an object's row shall keep. Its name and its type's name aren't copied.
+fn text_of(row: &ObjectRow) -> Result<ObjectText<'_>, AllocError>
+    ensures { IfOk result (λ o. object_view o ≡ row_view row.now) }
+{
+    Ok(ObjectText {
+        name: row.name.as_str(),
+        kind: row.kind.as_str(),
+        fields: row.fields.clone()?,
+    })
+}
+
+/// The same of each row, in their order.
+fn texts_of(alloc: Global, rows: &[ObjectRow]) -> Result<Vec<ObjectText<'_>>, AllocError>
+    ensures { IfOk result (λ v. objects_view v.items ≡ things_view rows.now) }
+{
+    let mut texts = Vec::with_capacity(alloc, rows.len())?;
+    for row in rows {
+        texts.push(text_of(row)?)?;
+    }
+    Ok(texts)
+}
 
 /// Writes a record. No two of its objects may have one name.
 fn put<S: Alter>(tx: &mut Transaction<'_, S>, record: &NewRecord) -> Result<(), Error>
@@ -30,12 +54,13 @@ fn put<S: Alter>(tx: &mut Transaction<'_, S>, record: &NewRecord) -> Result<(), 
         → IsExcused old new e)) }
 {
     let rows = &record.rows;
+    let texts = texts_of(*rows.objects.allocator(), &rows.objects)?;
     put_record(
         tx,
         record.id.as_str(),
         rows.form.as_str(),
         rows.root.as_str(),
-        &rows.objects,
+        &texts,
     )
 }
 

@@ -4,9 +4,8 @@ ghost use Rattle.std.specs.Option.{ok_or};
 ghost use Rattle.serde_json.specs.View.{view as json_view, members_view};
 ghost use Rattle.fv_datum.specs.Members.{each_some, pairs};
 ghost use Rattle.fv_datum.specs.Outcomes.{Gives};
-ghost use Rattle.fv_tables.specs.Changes.{object_view, objects_view};
 ghost use Rattle.fv_tables.specs.Olds.{old_view, olds_view};
-ghost use Rattle.fv_tables.specs.Stored.{rows_view};
+ghost use Rattle.fv_tables.specs.Stored.{row_view, rows_view, things_view};
 ghost use Rattle.fv_upgrade.specs.Steps.{named_in, new_view, news_view};
 ghost use Rattle.fv_upgrade.specs.Upgraded.{bundle_in, entry_of, object_in};
 ghost use Rattle.fv_upgrade.specs.declared.fault.UpgradeFault.TheVariants.{Damaged};
@@ -27,7 +26,7 @@ pub(crate) struct NewRecord {
 
 /// The object of that name that a value is.
 fn object_row(alloc: Global, name: &str, value: &Value) -> Result<ObjectRow, UpgradeFault>
-    ensures { Gives UpgradeFault.Memory object_view result
+    ensures { Gives UpgradeFault.Memory row_view result
         (ok_or (object_in (name.now, json_view value.now)) Damaged) }
 {
     if !has_only(value, &["fields", "type"]) {
@@ -44,7 +43,7 @@ fn object_row(alloc: Global, name: &str, value: &Value) -> Result<ObjectRow, Upg
 
 /// The objects that members are, in the order of their names.
 fn object_rows(alloc: Global, objects: &Map<String, Value>) -> Result<Vec<ObjectRow>, UpgradeFault>
-    ensures { Gives UpgradeFault.Memory (λ v. objects_view v.items) result
+    ensures { Gives UpgradeFault.Memory (λ v. things_view v.items) result
         (ok_or (each_some object_in (pairs (members_view objects.now.entries))) Damaged) }
 {
     let mut rows = Vec::with_capacity(alloc, objects.len())?;

@@ -1,7 +1,6 @@
 use Rattle.std.proofs.Common.{refl, ◌≡◌, [], map, take, sym, ap, ◌∙◌}
 use Rattle.std.proofs.lemmas.List.{take_all}
-use Rattle.fv_tables.specs.Stored.{front}
-use Rattle.fv_tables.specs.Changes.{object_view}
+use Rattle.fv_tables.specs.Stored.{front, row_view}
 use Rattle.fv_tables.specs.Stands.{IsTextObject, shown_part}
 use Rattle.fv_tables.proofs.Queries.{thing_in}
 use Rattle.fv_tables.proofs.ShownRows.{fronts, one_shown, same_shown}
@@ -12,7 +11,7 @@ pub returns-clause-shown : goal.returns-clause-shown
 returns-clause-shown c os shows =
     let rows = c.args.rows.now in
     let all : take c.loop-row.row-index rows ≡ rows = take_all c.loop-row.row-index rows c.loop-row-test.false in
-    same_shown shown_part thing_in (λ o. refl) object_view os c.loop-row.objects.items (sym (fronts shown_part front (λ o. refl) os) ∙ ap (map front) (sym shows) ∙ ap (map front) (sym all) ∙ c.loop-row.invariant)
+    same_shown shown_part thing_in (λ o. refl) row_view os c.loop-row.objects.items (sym (fronts shown_part front (λ o. refl) os) ∙ ap (map front) (sym shows) ∙ ap (map front) (sym all) ∙ c.loop-row.invariant)
 
 pub returns-in_err-read_object-clause-cause : goal.returns-in_err-read_object-clause-cause
 returns-in_err-read_object-clause-cause c =

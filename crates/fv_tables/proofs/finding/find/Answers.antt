@@ -1,6 +1,6 @@
 use Rattle.std.proofs.Common.{Some, ap, sym, ◌∙◌, string_bytes}
 use Rattle.sqlite.specs.Held.{state}
-use Rattle.fv_tables.specs.Changes.{objects_view}
+use Rattle.fv_tables.specs.Stored.{things_view}
 use Rattle.fv_tables.proofs.Queries.{head_none, head_known, same_kept, stays_then}
 use Rattle.fv_tables.proofs.Refusals.{handed_on}
 use Rattle.fv_tables.proofs.Steps.{failed_then}
@@ -35,7 +35,7 @@ returns-in_ok-objects-in-Some-clause-found g c clean =
           let head = rw c.in-Some.is at (found.1 d m keeps) in
           let known = head_known (m c.args.id.now) _ head in
           let objects = c.in_ok-objects-in-Some.ensures.found clean d m (c.find_head.ensures.stays d m keeps) known.0 known.1 (named c.args.id.now known.0 known.1) in
-          ap Some (same_kept known.0 (string_bytes c.in-Some.shown.form) (string_bytes c.in-Some.shown.root) (objects_view c.in_ok-objects-in-Some.objects.items) known.2 known.3 objects) ∙ sym known.1,
+          ap Some (same_kept known.0 (string_bytes c.in-Some.shown.form) (string_bytes c.in-Some.shown.root) (things_view c.in_ok-objects-in-Some.objects.items) known.2 known.3 objects) ∙ sym known.1,
     )
 
 pub returns-in-None-clause-found : goal.returns-in-None-clause-found

@@ -1,7 +1,6 @@
-use Rattle.std.proofs.Common.{◌≡◌, ◌++◌, IsTrue, List, length}
+use Rattle.std.proofs.Common.{◌≡◌, ◌≤◌, ◌-◌, IsTrue, length, take}
 use Rattle.sqlite.specs.State.{HasCleanDisk, KeepsCommit}
 use Rattle.sqlite.specs.Held.{state}
-use Rattle.fv_tables.specs.declared.entry.ObjectRow.{ObjectRow}
 use Rattle.fv_tables.specs.Changes.{all_added, objects_view, IsFree}
 use Rattle.fv_tables.specs.Stands.{Frame}
 use Rattle.fv_tables.specs.Steps.{Advances, Makes}
@@ -12,11 +11,11 @@ invariant-runs g l = record {
   same : l.tx.conn.ghost_name ≡ l.fn.tx.conn.ghost_name;
   frame : Frame (state g.S.Store l.fn.tx.conn.now) (state g.S.Store l.tx.conn.now);
   limit : l.tx.conn.now.step_limit ≡ l.fn.tx.conn.now.step_limit;
+  within : l.done ≤ length l.objects;
   kept : HasCleanDisk (state g.S.Store l.tx.conn.now) → IsTrue (state g.S.Store l.fn.tx.conn.now).in_transaction → KeepsCommit (state g.S.Store l.fn.tx.conn.now) (state g.S.Store l.tx.conn.now);
-  done : (done : List ObjectRow) × (done ++ l.rest ≡ l.objects)
-      × (HasCleanDisk (state g.S.Store l.tx.conn.now) → IsTrue (state g.S.Store l.fn.tx.conn.now).in_transaction
-      → Advances (state g.S.Store l.fn.tx.conn.now) (state g.S.Store l.tx.conn.now) (Makes (length done) (IsFree l.id (objects_view l.objects)) (all_added l.id (objects_view done))));
+  done : HasCleanDisk (state g.S.Store l.tx.conn.now) → IsTrue (state g.S.Store l.fn.tx.conn.now).in_transaction
+      → Advances (state g.S.Store l.fn.tx.conn.now) (state g.S.Store l.tx.conn.now) (Makes (length (take l.done l.objects)) (IsFree l.id (objects_view l.objects)) (all_added l.id (objects_view (take l.done l.objects))));
 }
 
 abbrev pub decreases-runs : goal.decreases-runs
-decreases-runs g l = length l.rest
+decreases-runs g l = length l.objects - l.done

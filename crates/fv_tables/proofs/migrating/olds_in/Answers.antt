@@ -13,9 +13,9 @@ returns-clause-shown c os shows =
     let all : take c.loop-row.row-index rows ≡ rows = take_all c.loop-row.row-index rows c.loop-row-test.false in
     same_shown shown_old entry_in (λ e. refl) old_view os c.loop-row.olds.items (sym (fronts shown_old front (λ e. refl) os) ∙ ap (map front) (sym shows) ∙ ap (map front) (sym all) ∙ c.loop-row.invariant)
 
-pub returns-in_err-old-clause-cause : goal.returns-in_err-old-clause-cause
-returns-in_err-old-clause-cause c =
-    handed_on _ c.from_residual-in_err-old.result c.in_err-old.field-0.0 c.from_residual-in_err-old.ensures.1
+pub returns-in_err-read_old-clause-cause : goal.returns-in_err-read_old-clause-cause
+returns-in_err-read_old-clause-cause c =
+    handed_on _ c.from_residual-in_err-read_old.result c.in_err-read_old.field-0.0 c.from_residual-in_err-read_old.ensures.1
     (λ os shows texts refused.
     let it = one_shown shown_old IsTextRecord c.args.rows.now os c.loop-row.row-index c.row-item.result c.loop-row-test.true c.row-item.is shows texts in
-    c.in_err-old.ensures.cause it.0 it.1 it.2 refused)
+    c.in_err-read_old.ensures.cause it.0 it.1 it.2 refused)

@@ -1,8 +1,8 @@
-use Rattle.std.proofs.Common.{rules, ◌≡◌, ◌<ℤ◌, ◌+◌, ◌∷◌, [], ℤ, pos, get_or, FitsSigned, to_z, w64, string_bytes, map, drop, arith, sym, ap, subst, ◌∙◌}
+use Rattle.std.proofs.Common.{rules, ◌≡◌, ◌<ℤ◌, ◌+◌, ◌∷◌, [], ℤ, pos, get_or, FitsSigned, to_z, w64, map, drop, arith, sym, ap, subst, ◌∙◌}
 use Rattle.std.proofs.lemmas.Int.{ints, to_z-of_z}
 use Rattle.std.proofs.lemmas.List.{drop_more}
 use Rattle.fv_tables.specs.declared.entry.FoundRow.{FoundRow}
-use Rattle.fv_tables.specs.declared.entry.ObjectRow.{ObjectRow}
+use Rattle.fv_tables.specs.declared.text.ObjectText.{ObjectText}
 use Rattle.fv_tables.specs.Changes.{found_view, objects_view}
 use Rattle.fv_tables.specs.Updating.{Follow}
 use Rattle.fv_tables.proofs.RangePlaces.{follow_more, same_names}
@@ -24,7 +24,7 @@ loop-at-preserved c =
     let fits : FitsSigned w64 n = search rules in
     let above : to_z w64 c.loop-at.last-bits <ℤ n = grind (arith, ints, to_z-of_z, fits, c.if-rowid-last.false) in
     let up : to_z w64 c.loop-at.last-bits <ℤ r.rowid = subst (λ (m : ℤ). to_z w64 c.loop-at.last-bits <ℤ m) is above in
-    let same = same_names r.name.now c.as_bytes.result.now c.ne.result c.ne.ensures c.if-ne.false ∙ c.as_bytes.ensures.value ∙ ap (λ (x : ObjectRow). string_bytes x.name) (sym c.index-objects-at.is) in
+    let same = same_names r.name.now c.as_bytes.result.now c.ne.result c.ne.ensures c.if-ne.false ∙ c.as_bytes.ensures.value ∙ ap (λ (x : ObjectText). x.name.now) (sym c.index-objects-at.is) in
     let one = drop_more rs at blank c.loop-at-test.true in
     let two = drop_more os at o (omega (arith, c.loop-at-test.true, c.requires)) ∙ ap (λ x. x ∷ drop (at + 1) os) (sym c.index-objects-at.is) in
     λ rest. c.loop-at.invariant (follow_more (to_z w64 c.loop-at.last-bits) rs os at r o one two up same
