@@ -4,7 +4,7 @@ use crate::telling::schema_of;
 use fv_datum::{JsonFault, read_json};
 use fv_declare::{DeclFault, Schema};
 use fv_explain_over::{Declared, OverFault, tell_over};
-use fv_model_types::TypeNames;
+use fv_bundle::TypeNames;
 use fv_registry::RuleSet;
 use indexmap::IndexMap;
 use serde_json::Value;

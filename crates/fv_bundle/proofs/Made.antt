@@ -7,11 +7,11 @@ use Rattle.std.proofs.lemmas.List.Elements.{All-nil, All-cons, All-head, All-tai
 use Rattle.fv_datum.specs.View.{view}
 use Rattle.fv_datum.specs.declared.datum.Datum.{Datum}
 use Rattle.fv_bundle.specs.Bundles.{Thing}
-use Rattle.fv_model_types.specs.Types.{use_view, fields_at}
+use Rattle.fv_bundle.specs.Types.{use_view, fields_at}
 use Rattle.fv_bundle.specs.Views.{types_view, named_view}
-use Rattle.fv_model_types.specs.Writing.{IsWritten}
+use Rattle.fv_bundle.specs.Writing.{IsWritten}
 use Rattle.fv_bundle.specs.declared.bundle.Object.{Object}
-use Rattle.fv_model_types.specs.declared.type_use.TypeUse.{TypeUse}
+use Rattle.fv_bundle.specs.declared.type_use.TypeUse.{TypeUse}
 
 -- the names of fields, as they are declared and as they are seen
 pub field_names : (es : List (String Global × TypeUse)) → map string_bytes (keys_of es) ≡ keys_of (map use_view es)

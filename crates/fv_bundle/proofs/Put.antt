@@ -6,8 +6,8 @@ use Rattle.std.specs.Map.{lookup, set_value, keys_of}
 use Rattle.std.specs.declared.alloc.Global.{Global}
 use Rattle.fv_datum.specs.View.{view}
 use Rattle.fv_datum.specs.declared.datum.Datum.{Datum}
-use Rattle.fv_model_types.specs.Types.{use_view}
-use Rattle.fv_model_types.specs.declared.type_use.TypeUse.{TypeUse}
+use Rattle.fv_bundle.specs.Types.{use_view}
+use Rattle.fv_bundle.specs.declared.type_use.TypeUse.{TypeUse}
 use Rattle.fv_bundle.specs.Bundles.{Thing}
 use Rattle.fv_bundle.specs.Replaced.{changed_at}
 use Rattle.fv_bundle.specs.Views.{object_view, named_view}

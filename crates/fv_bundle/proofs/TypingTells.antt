@@ -17,9 +17,9 @@ use Rattle.fv_datum.specs.Json.{is_of_64_bits}
 use Rattle.fv_datum.specs.Lookup.{at_name}
 use Rattle.fv_datum.specs.Name.{names}
 use Rattle.fv_datum.specs.Written.{keys_fit, key_of, is_text, below_first}
-use Rattle.fv_model_types.specs.Held.{target}
-use Rattle.fv_model_types.specs.Fits.{Referring, Fits}
-use Rattle.fv_model_types.specs.Types.{TypeUse, texts, integers, decimals, booleans, dates, instants, references, lists, maps, optionals, DeclaredFields, Declared}
+use Rattle.fv_bundle.specs.Held.{target}
+use Rattle.fv_bundle.specs.Fits.{Referring, Fits}
+use Rattle.fv_bundle.specs.Types.{TypeUse, texts, integers, decimals, booleans, dates, instants, references, lists, maps, optionals, DeclaredFields, Declared}
 use Rattle.fv_bundle.specs.Bundles.{Thing, Things, Bundled}
 use Rattle.fv_bundle.specs.Typing.{Naming, naming, items_count, entries_count, fits_use, items_fit, entries_fit, fields_fit, thing_fits, ascend_behind, is_named_thing, is_well_typed}
 use Rattle.fv_bundle.specs.WellTyped.{NamesObject, AnyName, FieldsAre, FitsType, IsOfType, IsWellTyped}

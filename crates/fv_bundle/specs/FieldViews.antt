@@ -1,5 +1,5 @@
 -- The values of declared types and of a field.
-pub use Rattle.fv_model_types.specs.TypesView.{types_view}
+pub use Rattle.fv_bundle.specs.TypesView.{types_view}
 use Rattle.std.specs.Prelude.{ℕ, List, map, zip, string_bytes}
 use Rattle.std.specs.Borrow.{Bor}
 use Rattle.std.specs.Slice.Iter.{iter_rest}

@@ -14,9 +14,9 @@ use Rattle.fv_datum.specs.Lookup.{at_name}
 use Rattle.fv_datum.specs.Moments.{is_moment}
 use Rattle.fv_datum.specs.Name.{names}
 use Rattle.fv_datum.specs.Written.{key_of, keys_fit}
-use Rattle.fv_model_types.specs.Held.{target, items, values, content}
-use Rattle.fv_model_types.specs.Limits.{longest_text, most_entries}
-use Rattle.fv_model_types.specs.Types.{TypeUse, texts, integers, decimals, booleans, dates, instants, DeclaredFields, Declared}
+use Rattle.fv_bundle.specs.Held.{target, items, values, content}
+use Rattle.fv_bundle.specs.TypeLimits.{longest_text, most_entries}
+use Rattle.fv_bundle.specs.Types.{TypeUse, texts, integers, decimals, booleans, dates, instants, DeclaredFields, Declared}
 use Rattle.fv_bundle.specs.Bundles.{Thing, Things, Bundled}
 use Rattle.fv_bundle.specs.Limits.{most_objects}
 

@@ -5,7 +5,7 @@ use Rattle.std.specs.Map.{keys_of}
 use Rattle.fv_datum.specs.Data.{Data}
 use Rattle.fv_datum.specs.View.{view}
 use Rattle.std.specs.declared.alloc.Global.{Global}
-use Rattle.fv_model_types.specs.Types.{Declared, TextMap, name_at, fields_at}
+use Rattle.fv_bundle.specs.Types.{Declared, TextMap, name_at, fields_at}
 use Rattle.fv_bundle.specs.Bundles.{Thing, Things, Bundled}
 use Rattle.fv_bundle.specs.declared.bundle.Object.{Object}
 use Rattle.fv_bundle.specs.declared.bundle.Bundle.{Bundle}

@@ -5,8 +5,8 @@ use Rattle.std.specs.Map.{keys_of}
 use Rattle.fv_datum.specs.Data.{Data}
 use Rattle.fv_datum.specs.Lookup.{at_name}
 use Rattle.fv_datum.specs.Name.{names}
-use Rattle.fv_model_types.specs.Fits.{Referring, Fits}
-use Rattle.fv_model_types.specs.Types.{TypeUse, DeclaredFields, Declared}
+use Rattle.fv_bundle.specs.Fits.{Referring, Fits}
+use Rattle.fv_bundle.specs.Types.{TypeUse, DeclaredFields, Declared}
 use Rattle.fv_bundle.specs.Limits.{most_objects}
 use Rattle.fv_bundle.specs.Bundles.{IsAscending, Thing, Things, Bundled}
 

@@ -3,14 +3,14 @@ ghost use Rattle.std.proofs.Props.{props};
 ghost use Rattle.fv_datum.specs.Lookup.{at_name};
 ghost use Rattle.fv_datum.specs.View.{view};
 ghost use Rattle.fv_bundle.specs.FieldViews.{types_view, field_view, fields_left};
-ghost use Rattle.fv_model_types.specs.Types.{fields_view, fields_at};
+ghost use Rattle.fv_bundle.specs.Types.{fields_view, fields_at};
 ghost use Rattle.fv_bundle.specs.Replaced.{thing_with, bundle_with};
-ghost use Rattle.fv_model_types.specs.Writing.{IsWritten};
+ghost use Rattle.fv_bundle.specs.Writing.{IsWritten};
 
 use crate::fields::ObjectFields;
 use crate::typing::object_in;
 use fv_datum::Datum;
-use fv_model_types::{Fields, TypeId, Types};
+use crate::types::{Fields, TypeId, Types};
 use indexmap::IndexMap;
 use std::alloc::{AllocError, Global};
 

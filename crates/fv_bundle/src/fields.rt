@@ -4,11 +4,12 @@ ghost use Rattle.std.specs.Iterator.{at_most};
 ghost use Rattle.std.specs.Map.{keys_of};
 ghost use Rattle.std.specs.Map.Iter.{TakesFirst};
 ghost use Rattle.fv_datum.specs.View.{view};
-ghost use Rattle.fv_model_types.specs.Types.{fields_view};
+ghost use Rattle.fv_bundle.specs.Types.{fields_view};
 ghost use Rattle.fv_bundle.specs.FieldViews.{field_view, fields_left};
 
 use fv_datum::Datum;
-use fv_model_types::{Fields, TypeUse};
+use crate::type_use::TypeUse;
+use crate::types::Fields;
 use indexmap::map::Keys;
 use std::slice;
 

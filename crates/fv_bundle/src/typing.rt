@@ -9,13 +9,14 @@ ghost use Rattle.fv_bundle.specs.Typing.{naming, fits_use, items_fit, entries_fi
 ghost use Rattle.fv_bundle.specs.Views.{types_view, object_view, objects_view, bundle_view};
 ghost use Rattle.fv_bundle.specs.WellTyped.{AnyName, IsOfType, IsWellTyped};
 ghost use Rattle.fv_datum.specs.Written.{keys_fit};
-ghost use Rattle.fv_model_types.specs.Fits.{Fits};
-ghost use Rattle.fv_model_types.specs.Limits.{most_entries};
-ghost use Rattle.fv_model_types.specs.Types.{type_use_view, fields_view};
+ghost use Rattle.fv_bundle.specs.Fits.{Fits};
+ghost use Rattle.fv_bundle.specs.TypeLimits.{most_entries};
+ghost use Rattle.fv_bundle.specs.Types.{type_use_view, fields_view};
 
 use crate::bundle::{Bundle, Object, Objects};
 use fv_datum::{Datum, day_of, decimal_units, is_name, key_of, keys_fit, moment_ok};
-use fv_model_types::{Fields, TypeUse, Types};
+use crate::type_use::TypeUse;
+use crate::types::{Fields, Types};
 
 /// The most bytes of a text or a map's key.
 const LONGEST: usize = 65536;

@@ -10,7 +10,7 @@ use Rattle.fv_command_fault.specs.declared.place.CommandPlace.TheVariants.{Objec
 use Rattle.fv_datum.specs.Lookup.{at_name}
 use Rattle.fv_declare_schema.specs.Declarations.{Declarations}
 use Rattle.fv_engine_command.specs.Commands.{Request, check_field}
-use Rattle.fv_model_types.specs.Types.{Declared, TypeUse}
+use Rattle.fv_bundle.specs.Types.{Declared, TypeUse}
 use Rattle.fv_store.specs.Records.{Kept, Records}
 
 -- ---- an object, or a field of it

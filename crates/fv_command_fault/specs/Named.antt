@@ -3,7 +3,7 @@ use Rattle.std.specs.Prelude.{◌≡◌, ℕ, List, [], IfSome, Option, Some, No
 use Rattle.fv_bundle.specs.Bundles.{Bundled}
 use Rattle.fv_engine_command.specs.Commands.{Request, put, set, remove, alone, get, check, check_field, check_value, list}
 use Rattle.fv_datum.specs.Lookup.{at_name}
-use Rattle.fv_model_types.specs.Types.{Declared, TypeUse}
+use Rattle.fv_bundle.specs.Types.{Declared, TypeUse}
 use Rattle.fv_store.specs.Records.{Records}
 
 -- the form of a put by itself and of a list

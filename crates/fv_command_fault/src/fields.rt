@@ -6,14 +6,13 @@ ghost use Rattle.fv_command_fault.specs.Named.{IsStored, field_in};
 ghost use Rattle.fv_command_fault.specs.Whereabouts.{IsAt};
 ghost use Rattle.fv_datum.specs.Lookup.{at_name};
 ghost use Rattle.fv_engine_command.specs.CommandView.{command_view};
-ghost use Rattle.fv_model_types.specs.TypesView.{types_view};
+ghost use Rattle.fv_bundle.specs.TypesView.{types_view};
 ghost use Rattle.fv_store.specs.Records.{Records};
 
 use crate::place::{Absence, CommandPlace};
-use fv_bundle::Bundle;
+use fv_bundle::{Bundle, Types, use_in};
 use fv_declare_schema::Schema;
 use fv_engine_command::Command;
-use fv_model_types::{Types, use_in};
 
 /// Whether the type of that name is declared, and has a field of that name.
 fn has_field(types: &Types, type_name: &str, field: &str) -> bool

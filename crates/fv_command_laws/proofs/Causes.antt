@@ -11,7 +11,7 @@ use Rattle.fv_engine_reply.specs.declared.answer.Refusal.{Refusal}
 use Rattle.fv_engine_reply.specs.declared.answer.Refusal.TheVariants as why
 use Rattle.fv_model.specs.Reading.{value_read}
 use Rattle.fv_model.specs.declared.fault.BundleFault.{BundleFault}
-use Rattle.fv_model_types.specs.Types.{TypeUse}
+use Rattle.fv_bundle.specs.Types.{TypeUse}
 use Rattle.fv_store.specs.Records.{Records}
 use Rattle.fv_validate.specs.Values.{field_use}
 

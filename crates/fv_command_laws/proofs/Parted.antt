@@ -17,7 +17,7 @@ use Rattle.fv_engine_reply.specs.declared.answer.Refusal.{Refusal}
 use Rattle.fv_engine_reply.specs.declared.answer.Refusal.TheVariants as why
 use Rattle.fv_model.specs.declared.fault.BundleFault.{BundleFault}
 use Rattle.fv_store.specs.Records.{Records, Roots}
-use Rattle.fv_model_types.specs.Types.{Declared}
+use Rattle.fv_bundle.specs.Types.{Declared}
 
 -- parts of which the one of that number, counted from the first, can't be made of what those before it leave
 pub record StopsAt (types : Declared) (forms : Roots) (k : ℕ) (ps : List Part) (m : Records) (n : ℕ) (e : PartFault) : Type 0 where

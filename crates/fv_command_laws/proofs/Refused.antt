@@ -29,7 +29,7 @@ use Rattle.fv_groups.specs.Judged.{unknown_in}
 use Rattle.fv_groups.specs.Whereabouts.{first_unknown}
 use Rattle.fv_model.specs.Setting.{bundle_set}
 use Rattle.fv_model.specs.declared.fault.BundleFault.{BundleFault}
-use Rattle.fv_model_types.specs.Types.{Declared, DeclaredFields, TypeUse}
+use Rattle.fv_bundle.specs.Types.{Declared, DeclaredFields, TypeUse}
 use Rattle.fv_store.specs.Records.{Kept, Records, without_record}
 use Rattle.fv_validate.specs.Values.{field_use}
 use Rattle.fv_walk.specs.Properties.{field_number}

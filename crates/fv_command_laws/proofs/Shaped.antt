@@ -20,7 +20,7 @@ use Rattle.fv_model.specs.Draft.{Drafted, draft_of}
 use Rattle.fv_model.specs.Reading.{conditions, bundle_of, bundle_read}
 use Rattle.fv_model.specs.declared.fault.BundleFault.{BundleFault}
 use Rattle.fv_model.specs.declared.fault.BundleFault.TheVariants as fault
-use Rattle.fv_model_types.specs.Types.{Declared}
+use Rattle.fv_bundle.specs.Types.{Declared}
 use Rattle.fv_store.specs.Records.{Records}
 
 -- ---- a bundle is of the form of one exactly where it isn't refused for its form

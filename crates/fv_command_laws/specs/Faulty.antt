@@ -7,7 +7,7 @@ use Rattle.fv_model.specs.Reading.{bundle_read, value_read}
 use Rattle.fv_model.specs.Setting.{bundle_set}
 use Rattle.fv_model.specs.declared.fault.BundleFault.{BundleFault}
 use Rattle.fv_model.specs.declared.fault.BundleFault.TheVariants.{Shape}
-use Rattle.fv_model_types.specs.Types.{TypeUse}
+use Rattle.fv_bundle.specs.Types.{TypeUse}
 use Rattle.fv_store.specs.Records.{Kept, Records}
 use Rattle.fv_validate.specs.Values.{field_use}
 

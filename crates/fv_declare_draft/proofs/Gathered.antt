@@ -2,7 +2,7 @@
 use Rattle.std.proofs.Common.{◌≡◌, ℕ, List, [], ◌∷◌, ◌++◌, map, Option, Some, None, option_map, refl}
 use Rattle.fv_datum.specs.Forms.{map2, map3}
 use Rattle.fv_extract.specs.Places.{Step, element, key, value, content}
-use Rattle.fv_model_types.specs.Types.{texts, lists, maps, optionals, kind_of}
+use Rattle.fv_bundle.specs.Types.{texts, lists, maps, optionals, kind_of}
 use Rattle.fv_declare_draft.specs.Cascades.{CascadeDraft}
 use Rattle.fv_declare_draft.specs.Gathering.{Gathered, gathered, inside}
 use Rattle.fv_declare_draft.specs.Places.{Holding, PlaceDraft, place, list, optional, a_map, use_there, cascade_there, type_at, uses_at, cascades_at}

@@ -1,7 +1,7 @@
 -- What the reader of places gathers, for private clauses.
 use Rattle.std.specs.Prelude.{List}
 use Rattle.fv_extract.specs.Places.{Step}
-use Rattle.fv_model_types.specs.Types.{TypeUse}
+use Rattle.fv_bundle.specs.Types.{TypeUse}
 use Rattle.fv_declare_draft.specs.Places.{Holding, PlaceDraft, PlacedUse, PlacedCascade, type_at, type_held, uses_at, uses_inside, cascades_at, cascades_inside}
 
 -- what a place holds, with uses and cascades in order

@@ -9,7 +9,7 @@ use Rattle.fv_datum.specs.Lookup.{at_name}
 use Rattle.fv_datum.specs.Members.{has_only}
 use Rattle.fv_datum.specs.declared.kind.Kind.{Kind}
 use Rattle.fv_extract.specs.Places.{Step, element, key, value, content}
-use Rattle.fv_model_types.specs.Types.{TypeUse, texts, integers, decimals, booleans, dates, instants, references, lists, maps, optionals, kind_of}
+use Rattle.fv_bundle.specs.Types.{TypeUse, texts, integers, decimals, booleans, dates, instants, references, lists, maps, optionals, kind_of}
 use Rattle.fv_declare_draft.specs.Cascades.{CascadeDraft, cascade_of}
 use Rattle.fv_declare_draft.specs.Uses.{UseDraft, uses_of}
 

@@ -6,7 +6,7 @@ ghost use Rattle.fv_datum.specs.Ascending.{IsAscending};
 use fv_datum::{Attrs, Kind};
 use fv_declare_definition::Definition;
 use fv_extract::Step;
-use fv_model_types::TypeUse;
+use fv_bundle::TypeUse;
 use std::collections::BTreeMap;
 
 /// A use of a constraint.

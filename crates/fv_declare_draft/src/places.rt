@@ -5,7 +5,7 @@ ghost use Rattle.serde_json.specs.View.{view as json_view};
 ghost use Rattle.fv_datum.specs.Forms.{map2};
 ghost use Rattle.fv_datum.specs.Lookup.{at_name};
 ghost use Rattle.fv_extract.specs.Views.{step_view};
-ghost use Rattle.fv_model_types.specs.Types.{type_use_view};
+ghost use Rattle.fv_bundle.specs.Types.{type_use_view};
 ghost use Rattle.fv_declare_draft.specs.DraftViews.{use_view, placed_use_view, cascade_view, placed_cascade_view, held_view};
 ghost use Rattle.fv_declare_draft.specs.Gathering.{gathered, inside};
 ghost use Rattle.fv_declare_draft.specs.Places.{plain_kinds, place_of as spec_place, held_of as spec_held, reference_of as spec_reference, plain, list as spec_list, optional as spec_optional, a_map, use_there, cascade_there};
@@ -16,7 +16,7 @@ use crate::draft::{CascadeDraft, PlacedCascade, PlacedUse, UseDraft};
 use crate::uses::uses_of;
 use fv_datum::{Kind, has_only, text_at};
 use fv_extract::Step;
-use fv_model_types::TypeUse;
+use fv_bundle::TypeUse;
 use serde_json::Value;
 use std::alloc::{AllocError, Global};
 

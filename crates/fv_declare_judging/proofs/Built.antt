@@ -21,8 +21,8 @@ use Rattle.fv_declare_schema.specs.SchemaView.{declared_by}
 use Rattle.fv_groups.specs.Groups.{Groups}
 use Rattle.fv_message.specs.Table.{Messages, all_messages}
 use Rattle.fv_declare_judging.specs.declared.placed.PlacedWording.{PlacedWording}
-use Rattle.fv_model_types.specs.TypesView.{types_view}
-use Rattle.fv_model_types.specs.declared.types.Types.{Types}
+use Rattle.fv_bundle.specs.TypesView.{types_view}
+use Rattle.fv_bundle.specs.declared.types.Types.{Types}
 use Rattle.fv_registry.specs.Rules.{Known}
 use Rattle.fv_declare_judging.specs.Conditions.{used_in}
 use Rattle.fv_declare_judging.specs.Judging.{placed_from}

@@ -6,7 +6,7 @@ use Rattle.fv_datum.specs.declared.kind.Kind.{Kind}
 use Rattle.fv_declare_draft.specs.Cascades.{CascadeDraft}
 use Rattle.fv_declare_draft.specs.Places.{PlaceDraft, Holding, PlacedCascade, place, plain, list, optional, a_map, cascade_there, type_held, cascades_at, cascades_inside}
 use Rattle.fv_extract.specs.Places.{Step, element, value, content}
-use Rattle.fv_model_types.specs.Types.{kind_of}
+use Rattle.fv_bundle.specs.Types.{kind_of}
 use Rattle.fv_datum.proofs.Lists.{each_of}
 use Rattle.fv_declare_judging.specs.Judging.{AreDeepening}
 

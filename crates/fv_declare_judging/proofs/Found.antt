@@ -7,7 +7,7 @@ use Rattle.std.proofs.lemmas.Map.Made.{is_some-lookup}
 use Rattle.std.proofs.lemmas.Option.{unwrap_or-slice_get}
 use Rattle.std.proofs.lemmas.Slice.Eq.{bytes_eq-Decides}
 use Rattle.fv_datum.specs.Lookup.{at_name}
-use Rattle.fv_model_types.specs.Types.{DeclaredFields, Declared, number_of, name_at, has_unknown}
+use Rattle.fv_bundle.specs.Types.{DeclaredFields, Declared, number_of, name_at, has_unknown}
 use Rattle.fv_constraint.specs.Meanings.{composes_unknown}
 use Rattle.fv_datum.specs.Outcomes.{first}
 use Rattle.fv_declare_draft.specs.Drafts as spec

@@ -16,12 +16,12 @@ use Rattle.fv_constraint.specs.declared.at.ConstraintAt.{ConstraintAt}
 use Rattle.fv_flatten.specs.declared.fault.FlattenFault.{FlattenFault}
 use Rattle.fv_flatten.specs.declared.fault.FlattenFault.TheVariants as flattening
 use Rattle.fv_datum.specs.Outcomes.{first}
-use Rattle.fv_model_types.specs.declared.fault.TypesAt.{TypesAt}
+use Rattle.fv_bundle.specs.declared.fault.TypesAt.{TypesAt}
 use Rattle.fv_message.specs.declared.fault.MessageFault.{MessageFault}
 use Rattle.fv_message.specs.declared.fault.MessageFault.TheVariants as message
 use Rattle.fv_constraint_tree.specs.TargetFits.{tree_fits}
-use Rattle.fv_model_types.specs.Types.{too_many}
-use Rattle.fv_model_types.specs.declared.types.Types.{Types}
+use Rattle.fv_bundle.specs.Types.{too_many}
+use Rattle.fv_bundle.specs.declared.types.Types.{Types}
 use Rattle.fv_constraint_tree.specs.Nodes.{Node}
 use Rattle.fv_constraint_tree.specs.Trees.{Tree}
 use Rattle.fv_registry.specs.Rules.{Known}

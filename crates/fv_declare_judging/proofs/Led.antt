@@ -14,7 +14,7 @@ use Rattle.fv_declare_draft.specs.Places.{PlaceDraft, Holding, PlacedUse, Placed
 use Rattle.fv_declare_draft.specs.Uses.{UseDraft, uses_of}
 use Rattle.fv_extract.specs.Places.{Step, element, key, value, content}
 use Rattle.fv_groups.specs.Groups.{Groups}
-use Rattle.fv_model_types.specs.Types.{TypeUse, texts, lists, maps, optionals, kind_of}
+use Rattle.fv_bundle.specs.Types.{TypeUse, texts, lists, maps, optionals, kind_of}
 use Rattle.fv_declare_judging.specs.Judging.{IsLed, AreLed}
 use Rattle.fv_declare_schema.specs.Ordered.{held_after, held_inside}
 use Rattle.fv_datum.proofs.Lists.{each_of}

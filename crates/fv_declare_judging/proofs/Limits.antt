@@ -12,8 +12,8 @@ use Rattle.fv_groups.proofs.Placed.{limit_told}
 use Rattle.fv_message.specs.Table.{Messages, all_messages}
 use Rattle.fv_message.specs.declared.fault.MessageFault.{MessageFault}
 use Rattle.fv_message.specs.declared.fault.MessageFault.TheVariants as message
-use Rattle.fv_model_types.specs.Types.{too_many}
-use Rattle.fv_model_types.specs.declared.fault.TypesAt.{TypesAt}
+use Rattle.fv_bundle.specs.Types.{too_many}
+use Rattle.fv_bundle.specs.declared.fault.TypesAt.{TypesAt}
 use Rattle.fv_declare_judging.specs.Conditions.{has_many, too_large}
 use Rattle.fv_declare_judging.specs.Judging.{lacks_memory}
 use Rattle.fv_declare_judging.specs.LimitPlaces.{declared_limit, crowded_from, first_limit}

@@ -9,8 +9,8 @@ use Rattle.fv_declare_draft.specs.AllUses.{Use, uses_in}
 use Rattle.fv_declare_draft.specs.Drafts.{FieldDraft, TypeDraft, FormDraft, Drafted}
 use Rattle.fv_first.specs.First.{first_in, first_of}
 use Rattle.fv_first.proofs.Laws.{map_told, when_told, where_told, first_told, inner_told}
-use Rattle.fv_model_types.specs.Types.{Declared, DeclaredFields, TypeUse, has_unknown, is_unknown, types_fault}
-use Rattle.fv_model_types.specs.declared.fault.TypesFault.TheVariants as types
+use Rattle.fv_bundle.specs.Types.{Declared, DeclaredFields, TypeUse, has_unknown, is_unknown, types_fault}
+use Rattle.fv_bundle.specs.declared.fault.TypesFault.TheVariants as types
 use Rattle.fv_declare_judging.specs.Conditions as condition
 use Rattle.fv_declare_judging.specs.Judging.{name_conditions}
 use Rattle.fv_declare_judging.specs.NamePlaces as place

@@ -3,7 +3,7 @@ use Rattle.std.proofs.Common.{◌≡◌, ℕ, suc, ◌+◌, List, [], ◌∷◌,
 use Rattle.std.specs.List.{AllByRecursion, flat_map, enumerate_from}
 use Rattle.fv_declare_draft.specs.Drafts.{FieldDraft, TypeDraft}
 use Rattle.fv_datum.proofs.Lists.{each_of}
-use Rattle.fv_model_types.specs.Types.{DeclaredFields, Declared, kind_of}
+use Rattle.fv_bundle.specs.Types.{DeclaredFields, Declared, kind_of}
 use Rattle.fv_declare_draft.specs.AllCascades.{Cascade, cascade_in, field_cascades, type_cascades}
 use Rattle.fv_declare_schema.specs.Places.{whole, field}
 use Rattle.fv_declare_draft.specs.AllUses.{Use, use_at, use_in, field_uses, type_uses}

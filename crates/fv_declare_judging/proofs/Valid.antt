@@ -11,7 +11,7 @@ use Rattle.fv_declare_groups.specs.Numbered.{valid_place, valid_places}
 use Rattle.fv_declare_groups.specs.declared.fault.GroupingFault.{GroupingFault}
 use Rattle.fv_groups.specs.Groups.{Groups}
 use Rattle.fv_datum.proofs.Bools.{not_false, or_left, or_right}
-use Rattle.fv_model_types.specs.Types.{Declared}
+use Rattle.fv_bundle.specs.Types.{Declared}
 use Rattle.fv_declare_draft.specs.AllCascades.{Cascade, cascades_in}
 use Rattle.fv_declare_schema.specs.Places.{field}
 use Rattle.fv_declare_schema.specs.Ordered.{IsAmong, IsValidIn}

@@ -2,7 +2,7 @@
 use Rattle.std.specs.Prelude.{◌||◌, List, length, map, zip, Bool, not, nat_lt, is_some}
 use Rattle.std.specs.List.{list_any, AllZip}
 use Rattle.fv_datum.specs.Lookup.{at_name}
-use Rattle.fv_model_types.specs.Types.{Declared, has_unknown, too_many}
+use Rattle.fv_bundle.specs.Types.{Declared, has_unknown, too_many}
 use Rattle.fv_constraint.specs.Composed.{Planned}
 use Rattle.fv_flatten.specs.Flattening as flat
 use Rattle.fv_constraint.specs.Meanings.{composes_unknown, meant_by}

@@ -12,7 +12,7 @@ use Rattle.fv_declare_judging.specs.Naming.{bad_name}
 use Rattle.fv_declare_judging.specs.Schemas.{IsDeclared}
 use Rattle.fv_declare_draft.specs.Drafts.{FieldDraft, Drafted}
 use Rattle.fv_declare_draft.specs.Places.{PlacedCascade}
-use Rattle.fv_model_types.specs.Types.{kind_of}
+use Rattle.fv_bundle.specs.Types.{kind_of}
 use Rattle.fv_constraint_tree.specs.Nodes.{Node}
 use Rattle.fv_constraint_tree.specs.Trees.{Tree, size}
 use Rattle.fv_declare_schema.specs.Declarations.{Placed, Declarations, count_nodes}

@@ -6,9 +6,9 @@ use Rattle.fv_declare_draft.specs.Drafts.{Drafted}
 use Rattle.fv_declare_groups.specs.Grouping.{groups_in, is_long}
 use Rattle.fv_first.specs.First.{first_where, first_of}
 use Rattle.fv_groups.specs.Whereabouts.{passed_limit}
-use Rattle.fv_model_types.specs.Types.{Declared, too_many}
-use Rattle.fv_model_types.specs.Whereabouts.{large_at}
-use Rattle.fv_model_types.specs.declared.fault.TypesAt.{TypesAt}
+use Rattle.fv_bundle.specs.Types.{Declared, too_many}
+use Rattle.fv_bundle.specs.Whereabouts.{large_at}
+use Rattle.fv_bundle.specs.declared.fault.TypesAt.{TypesAt}
 use Rattle.fv_declare_judging.specs.declared.placed.LimitAt.{LimitAt}
 use Rattle.fv_declare_judging.specs.declared.placed.LimitAt.TheVariants as at
 use Rattle.fv_declare_judging.specs.declared.placed.WordingAt.{WordingAt}

@@ -11,8 +11,8 @@ use Rattle.fv_declare_draft.specs.AllUses.{Use}
 use Rattle.fv_declare_draft.specs.Drafts.{FieldDraft, FormDraft, TypeDraft, Drafted}
 use Rattle.fv_first.specs.First.{first_in, first_where, first_of}
 use Rattle.fv_groups.specs.Groups.{Groups}
-use Rattle.fv_model_types.specs.Types.{Declared}
-use Rattle.fv_model_types.specs.Whereabouts.{unknown_reference_at}
+use Rattle.fv_bundle.specs.Types.{Declared}
+use Rattle.fv_bundle.specs.Whereabouts.{unknown_reference_at}
 use Rattle.fv_declare_judging.specs.Naming.{is_bad_group}
 use Rattle.fv_declare_judging.specs.declared.placed.At.{At}
 use Rattle.fv_declare_judging.specs.declared.placed.At.TheVariants.{Names, Constraints}

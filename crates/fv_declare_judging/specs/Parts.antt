@@ -13,13 +13,13 @@ use Rattle.fv_declare_schema.specs.SchemaView.{forms_view, form_groups_view}
 use Rattle.fv_constraint_tree.specs.Nodes.{Node}
 use Rattle.fv_constraint_tree.specs.Trees.{Tree}
 use Rattle.fv_groups.specs.Groups.{Groups}
-use Rattle.fv_model_types.specs.Types.{Declared, too_many}
+use Rattle.fv_bundle.specs.Types.{Declared, too_many}
 use Rattle.fv_message.specs.Table.{all_messages}
-use Rattle.fv_model_types.specs.TypesView.{types_view}
+use Rattle.fv_bundle.specs.TypesView.{types_view}
 use Rattle.fv_message.specs.declared.fault.MessageFault.TheVariants.{Memory}
-use Rattle.fv_model_types.specs.Whereabouts.{large_at}
-use Rattle.fv_model_types.specs.declared.fault.TypesAt.{TypesAt}
-use Rattle.fv_model_types.specs.declared.types.Types.{Types}
+use Rattle.fv_bundle.specs.Whereabouts.{large_at}
+use Rattle.fv_bundle.specs.declared.fault.TypesAt.{TypesAt}
+use Rattle.fv_bundle.specs.declared.types.Types.{Types}
 use Rattle.fv_declare_judging.specs.Judging.{AreLed, name_conditions, lacks_memory, placed_from}
 use Rattle.fv_declare_judging.specs.Types.{types_declared}
 use Rattle.fv_declare_judging.specs.Wording.{IsFirstFault}

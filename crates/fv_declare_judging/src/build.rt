@@ -7,7 +7,7 @@ ghost use Rattle.fv_declare_draft.specs.DraftViews.{form_view, draft_view};
 ghost use Rattle.fv_constraint_tree.specs.TargetFits.{tree_fits};
 ghost use Rattle.fv_flatten.specs.Read.{IsReadTree};
 ghost use Rattle.fv_datum.specs.Ascending.{IsAscending};
-ghost use Rattle.fv_model_types.specs.TypesView.{types_view};
+ghost use Rattle.fv_bundle.specs.TypesView.{types_view};
 ghost use Rattle.fv_constraint_tree.specs.Trees.{Tree};
 ghost use Rattle.fv_registry.specs.Rules.{Known};
 ghost use Rattle.fv_declare_schema.specs.Declarations.{count_nodes};
@@ -27,7 +27,7 @@ use fv_declare_draft::{Cascade, Draft, FormDraft, Use};
 use fv_declare_groups::{Grouping, groups_named, sequences_of, valid_places};
 use fv_declare_schema::{Form, Placed, Schema, ValidPlace};
 use fv_groups::{GroupId, Groups};
-use fv_model_types::{TypeId, Types};
+use fv_bundle::{TypeId, Types};
 use indexmap::IndexMap;
 use std::alloc::{AllocError, Global};
 

@@ -15,7 +15,7 @@ use crate::wording::wording;
 use fv_declare_draft::{Draft, Use};
 use fv_declare_groups::{Grouping, grouped};
 use fv_message::Messages;
-use fv_model_types::{Types, TypesAt};
+use fv_bundle::{Types, TypesAt};
 use std::alloc::Global;
 
 /// The types, groups and messages of declarations whose names are known and stand as they may.

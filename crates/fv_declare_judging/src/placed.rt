@@ -4,7 +4,7 @@ use fv_declare_groups::{GroupingAt, PlacedGroupingFault};
 use fv_flatten::PlacedFlattenFault;
 use fv_groups::GroupLimit;
 use fv_message::{MessageFault, MessagesAt};
-use fv_model_types::TypesAt;
+use fv_bundle::TypesAt;
 use std::alloc::AllocError;
 
 /// Where a declared name is at fault, or one that names what is declared, by numbers from 0 in the order of a

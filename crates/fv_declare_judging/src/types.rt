@@ -1,12 +1,12 @@
 //! The types of a draft by their names, before they are judged.
 ghost use Rattle.std.specs.Prelude.{◌≡◌, IfOk, map};
 ghost use Rattle.fv_datum.specs.Ascending.{IsAscending};
-ghost use Rattle.fv_model_types.specs.Types.{fields_view, declared_view};
+ghost use Rattle.fv_bundle.specs.Types.{fields_view, declared_view};
 ghost use Rattle.fv_declare_judging.specs.Types.{field_declared, type_declared};
 ghost use Rattle.fv_declare_draft.specs.DraftViews.{field_view, type_view};
 
 use fv_declare_draft::{FieldDraft, TypeDraft};
-use fv_model_types::Fields;
+use fv_bundle::Fields;
 use indexmap::IndexMap;
 use std::alloc::{AllocError, Global};
 

@@ -1,6 +1,6 @@
 -- What declarations declare.
 use Rattle.std.specs.Prelude.{◌≡◌, ℕ, ◌+◌, List, [], ◌∷◌, Option}
-use Rattle.fv_model_types.specs.Types.{Declared}
+use Rattle.fv_bundle.specs.Types.{Declared}
 use Rattle.fv_declare_schema.specs.ValidPlaces.{ValidPlace}
 use Rattle.fv_groups.specs.Groups.{Groups}
 use Rattle.fv_message.specs.Table.{Messages}

@@ -7,7 +7,7 @@ use Rattle.fv_declare_schema.specs.ValidPlaces.{ValidPlace}
 use Rattle.fv_groups.specs.Groups.{Groups}
 use Rattle.fv_datum.specs.Ascending.{IsAscending}
 use Rattle.fv_extract.specs.Places.{Step, element, key, value, content}
-use Rattle.fv_model_types.specs.Types.{TypeUse, texts, lists, maps, optionals, DeclaredFields, Declared, kind_of}
+use Rattle.fv_bundle.specs.Types.{TypeUse, texts, lists, maps, optionals, DeclaredFields, Declared, kind_of}
 use Rattle.fv_declare_schema.specs.Declarations.{Placed, Declarations, count_nodes, AreNumbered}
 use Rattle.fv_declare_schema.specs.Places.{Place, whole, field}
 

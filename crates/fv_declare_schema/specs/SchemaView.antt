@@ -1,15 +1,15 @@
 -- The declarations that a schema stands for.
 use Rattle.std.specs.Prelude.{ℕ, List, map, Option, String, Vec, string_bytes}
 use Rattle.std.specs.declared.alloc.Global.{Global}
-use Rattle.fv_model_types.specs.Types.{Declared, TextMap, name_at}
-use Rattle.fv_model_types.specs.TypesView.{types_view}
+use Rattle.fv_bundle.specs.Types.{Declared, TextMap, name_at}
+use Rattle.fv_bundle.specs.TypesView.{types_view}
 use Rattle.fv_declare_schema.specs.NumberViews.{sequences_view, valid_place_view}
 use Rattle.fv_declare_schema.specs.declared.valid_place.ValidPlace as places
 use Rattle.fv_groups.specs.Groups.{Groups}
 use Rattle.fv_groups.specs.Tables.{indices}
 use Rattle.fv_groups.specs.declared.declared.GroupId.{GroupId}
 use Rattle.fv_message.specs.Table.{Messages}
-use Rattle.fv_model_types.specs.declared.types.Types.{Types}
+use Rattle.fv_bundle.specs.declared.types.Types.{Types}
 use Rattle.fv_declare_schema.specs.Declarations.{Declarations}
 use Rattle.fv_declare_schema.specs.PlacedView.{placed_view}
 use Rattle.fv_declare_schema.specs.declared.placed.Placed.{Placed}

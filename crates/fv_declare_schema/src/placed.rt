@@ -6,7 +6,7 @@ ghost use Rattle.fv_declare_schema.specs.PlaceViews.{place_view};
 use crate::place::Place;
 use fv_constraint_tree::Occurrence;
 use fv_groups::GroupId;
-use fv_model_types::TypeId;
+use fv_bundle::TypeId;
 
 /// A use of a constraint where it stands: at the type itself, or at a field or inside it.
 #[derive(Drop)]

@@ -11,7 +11,7 @@ use Rattle.fv_engine_judging.specs.Passes.{OnlyReads}
 use Rattle.fv_engine_judging.specs.Rejudging.{HasFewIds}
 use Rattle.fv_engine_machine.specs.Machines.{contents}
 use Rattle.fv_engine_machine.specs.Services.{Keeps, Service, serving}
-use Rattle.fv_model_types.specs.Types.{has_deep}
+use Rattle.fv_bundle.specs.Types.{has_deep}
 use Rattle.fv_registry.specs.Rules.{Known}
 use Rattle.fv_store.specs.Causes.{HasFailed}
 use Rattle.fv_store.specs.Records.{Records}

@@ -17,9 +17,9 @@ use Rattle.fv_engine_command.specs.Commands.{alone, asks, asks_json, is_id, of_r
 use Rattle.fv_model.specs.Reading.{bundle_read}
 use Rattle.fv_model.specs.Writing.{bundle_json}
 use Rattle.fv_model.proofs.Law.{law_asked}
-pub use Rattle.fv_model_types.proofs.PlainJson.{IsPlain}
-use Rattle.fv_model_types.specs.Types.{Declared, DeclaredFields, FieldsApart, name_at}
-use Rattle.fv_model_types.specs.declared.types.TypeId.{TypeId}
+pub use Rattle.fv_bundle.proofs.PlainJson.{IsPlain}
+use Rattle.fv_bundle.specs.Types.{Declared, DeclaredFields, FieldsApart, name_at}
+use Rattle.fv_bundle.specs.declared.types.TypeId.{TypeId}
 use Rattle.fv_store.proofs.ReadBack.{text_back}
 use Rattle.fv_store.specs.Records.{Kept, Records, no_records, with_record}
 

@@ -28,7 +28,7 @@ use Rattle.fv_engine_reply.specs.declared.answer.Refusal.TheVariants.{LineTooLon
 use Rattle.fv_model.specs.Reading.{bundle_read}
 use Rattle.fv_model.specs.Writing.{bundle_json}
 use Rattle.fv_model.specs.declared.fault.BundleFault.{BundleFault}
-use Rattle.fv_model_types.specs.Types.{FieldsApart}
+use Rattle.fv_bundle.specs.Types.{FieldsApart}
 use Rattle.fv_registry.specs.Meanings.{Meanings}
 use Rattle.fv_registry.specs.Rules.{Known}
 use Rattle.fv_store.specs.Records.{Fits, Kept, Records, no_records, with_record}

@@ -26,7 +26,7 @@ use Rattle.fv_engine_lines.specs.Lines.{ended}
 use Rattle.fv_engine_lines.specs.Writes.{AppendsFront}
 use Rattle.fv_model.specs.Writing.{bundle_json}
 use Rattle.fv_model_text.proofs.NoFloats.{bundle_float}
-use Rattle.fv_model_types.specs.Types.{has_deep}
+use Rattle.fv_bundle.specs.Types.{has_deep}
 use Rattle.fv_store.proofs.Steps.{failed_then}
 use Rattle.fv_store.specs.Causes.{HasFailed}
 use Rattle.fv_store.specs.Records.{Contents, Kept, Records}

@@ -60,7 +60,7 @@ use Rattle.fv_walk_traces.specs.Finite.{AreSoMany}
 use Rattle.fv_walk_traces.specs.Traces.{IsVisit}
 use Rattle.fv_walk_traces.specs.Violations.{IsViolation}
 use Rattle.fv_walk_traces.proofs.Told.{one_number}
-use Rattle.fv_model_types.specs.Types.{TypeUse, FieldsApart}
+use Rattle.fv_bundle.specs.Types.{TypeUse, FieldsApart}
 use Rattle.fv_validate.specs.Values.{field_use, valued}
 use Rattle.fv_validate.specs.Violations.{Reported, AreListed, IsListing}
 use Rattle.fv_validate.proofs.Alike.{one_listing}

@@ -23,7 +23,7 @@ use Rattle.fv_engine_pending.specs.Again.{again}
 use Rattle.fv_engine_pending.specs.declared.fault.PartFault.{PartFault}
 use Rattle.fv_validate.specs.ViolationView.{judged_view}
 use Rattle.fv_validate.specs.Violations.{Judged}
-use Rattle.fv_model_types.specs.Types.{has_deep}
+use Rattle.fv_bundle.specs.Types.{has_deep}
 use Rattle.fv_registry.specs.Meanings.{Meanings}
 use Rattle.fv_store.specs.Again.{with_bundle}
 use Rattle.fv_store.specs.Causes.{HasFailed}

@@ -12,7 +12,7 @@ use Rattle.fv_engine_judging.specs.declared.rejudging.RejudgeFault.TheVariants.{
 use Rattle.fv_engine_pending.specs.Again.{AllReadAgain, again, all_again}
 use Rattle.fv_engine_pending.specs.declared.fault.PartFault.{PartFault}
 use Rattle.fv_bundle.specs.Bundles.{Bundled}
-use Rattle.fv_model_types.specs.Types.{Declared}
+use Rattle.fv_bundle.specs.Types.{Declared}
 use Rattle.fv_store.specs.Records.{Kept, Records, Roots}
 
 -- the first record by its id that can't be read, and why

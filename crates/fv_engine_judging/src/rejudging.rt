@@ -15,7 +15,7 @@ ghost use Rattle.fv_validate.specs.ViolationView.{judged_view};
 ghost use Rattle.fv_validate.specs.Violations.{Judged as Told};
 ghost use Rattle.fv_bundle.specs.Views.{bundle_view};
 ghost use Rattle.fv_bundle.specs.WellTyped.{IsWellTyped};
-ghost use Rattle.fv_model_types.specs.Types.{has_deep};
+ghost use Rattle.fv_bundle.specs.Types.{has_deep};
 ghost use Rattle.fv_store.specs.Causes.{HasFailed};
 ghost use Rattle.fv_store.specs.Records.{Contents, Kept};
 ghost use Rattle.fv_store.specs.Stands.{Frame, Holds, IsLive, Stays};

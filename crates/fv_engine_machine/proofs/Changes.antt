@@ -34,7 +34,7 @@ use Rattle.fv_store.specs.Changes.{after_all, changed, ChangesFit}
 use Rattle.fv_store.specs.Records.{Contents, Kept, Records, Roots}
 use Rattle.fv_store.specs.Stands.{Frame, Holds, Stays}
 use Rattle.fv_store.specs.declared.change.Change.{Change}
-use Rattle.fv_model_types.specs.Types.{Declared}
+use Rattle.fv_bundle.specs.Types.{Declared}
 use Rattle.fv_validate.specs.declared.fault.ValidateFault.{ValidateFault}
 use Rattle.fv_validate.specs.declared.fault.ValidateFault.TheVariants as validate
 

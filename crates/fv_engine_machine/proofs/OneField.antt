@@ -30,8 +30,8 @@ use Rattle.fv_engine_reply.specs.declared.answer.Refusal.TheVariants.{Bundle, No
 use Rattle.fv_store.specs.Records.{Kept, Records}
 use Rattle.fv_walk.specs.Properties.{field_number}
 use Rattle.fv_walk.specs.FieldVisits.{HasTooManyVisitsAt, HasFewVisitsAt}
-use Rattle.fv_model_types.specs.Fits.{Fits}
-use Rattle.fv_model_types.specs.Types.{TypeUse, DeclaredFields, Declared}
+use Rattle.fv_bundle.specs.Fits.{Fits}
+use Rattle.fv_bundle.specs.Types.{TypeUse, DeclaredFields, Declared}
 use Rattle.fv_validate.specs.Values.{FitsField, field_use, valued}
 use Rattle.fv_validate.specs.Violations.{Reported, IsListingOfField}
 use Rattle.fv_validate.specs.declared.fault.ValidateFault.{ValidateFault}

@@ -38,7 +38,7 @@ use Rattle.fv_registry.specs.Meanings.{Meanings}
 use Rattle.fv_registry.specs.Rules.{Known}
 use Rattle.fv_store.specs.Lists.{Lists}
 use Rattle.fv_store.specs.Records.{Kept, Records, Roots, no_records}
-use Rattle.fv_model_types.specs.Types.{Declared}
+use Rattle.fv_bundle.specs.Types.{Declared}
 use Rattle.fv_validate.specs.Violations.{Judged}
 use Rattle.fv_validate.specs.declared.fault.ValidateFault.{ValidateFault}
 use Rattle.fv_validate.specs.declared.fault.ValidateFault.TheVariants as validate

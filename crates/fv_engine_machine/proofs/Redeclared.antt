@@ -21,7 +21,7 @@ use Rattle.fv_engine_reply.specs.Answers.{Answer, redeclared, misdeclared, viola
 use Rattle.fv_validate.specs.Violations.{Judged}
 use Rattle.fv_engine_reply.specs.declared.answer.Refusal.{Refusal}
 use Rattle.fv_engine_reply.specs.declared.answer.Refusal.TheVariants.{LineTooLong, NotJson, Shape, UnknownForm, Bundle, NoRecord, UnknownGroup, NoSuchField, TooManyVisits, Store, Memory}
-use Rattle.fv_model_types.specs.Types.{FieldsApart}
+use Rattle.fv_bundle.specs.Types.{FieldsApart}
 use Rattle.fv_registry.specs.Meanings.{Meanings}
 use Rattle.fv_registry.specs.Rules.{Known}
 use Rattle.fv_store.specs.Causes.{HasFailed, IsShortAbout, LeavesRoom}

@@ -24,8 +24,8 @@ use Rattle.fv_groups.specs.Judged.{unknown_in}
 use Rattle.fv_bundle.specs.Bundles.{Thing, Bundled}
 use Rattle.fv_model.specs.Reading.{value_read}
 use Rattle.fv_bundle.specs.WellTyped.{AnyName}
-use Rattle.fv_model_types.specs.Fits.{Fits}
-use Rattle.fv_model_types.specs.Types.{TypeUse, Declared}
+use Rattle.fv_bundle.specs.Fits.{Fits}
+use Rattle.fv_bundle.specs.Types.{TypeUse, Declared}
 use Rattle.fv_validate.specs.Values.{field_use, valued}
 use Rattle.fv_model.specs.declared.fault.BundleFault.{BundleFault}
 use Rattle.fv_model.specs.declared.fault.BundleFault.TheVariants as fault

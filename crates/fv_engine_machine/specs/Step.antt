@@ -20,7 +20,7 @@ use Rattle.fv_engine_reply.specs.declared.answer.Done.TheVariants.{Put, Set, Rem
 use Rattle.fv_engine_reply.specs.declared.answer.Refusal.TheVariants.{TooManyVisits, Store, Memory}
 use Rattle.fv_store.specs.Lists.{Lists}
 use Rattle.fv_store.specs.Records.{Kept, Records}
-use Rattle.fv_model_types.specs.Types.{TypeUse}
+use Rattle.fv_bundle.specs.Types.{TypeUse}
 use Rattle.fv_validate.specs.Values.{field_use, valued}
 use Rattle.fv_walk.specs.FieldVisits.{HasTooManyVisitsAt, HasFewVisitsAt}
 use Rattle.fv_walk.specs.Visits.{HasTooManyVisits, HasFewVisits}

@@ -10,7 +10,7 @@ ghost use Rattle.fv_engine_command.specs.Commands.{alone, asks_json, batch, get,
 ghost use Rattle.fv_engine_machine.specs.Causes.{Handles};
 ghost use Rattle.fv_registry.specs.Meanings.{Meanings};
 ghost use Rattle.fv_engine_reply.specs.AnswerView.{answer_view};
-ghost use Rattle.fv_model_types.specs.TypesView.{types_view};
+ghost use Rattle.fv_bundle.specs.TypesView.{types_view};
 ghost use Rattle.serde_json.specs.View.{view as json_view};
 ghost use Rattle.fv_store.specs.Stock.{stock_state as state};
 
@@ -25,7 +25,7 @@ use fv_datum::{JsonFault, read_json};
 use fv_engine_command::{Command, Part, command_of, redeclare_of};
 use fv_engine_reply::{Answer, Done, Refusal, Reply};
 use fv_local::Rulebook;
-use fv_model_types::Types;
+use fv_bundle::Types;
 use fv_registry::RuleSet;
 use fv_store::Store;
 use serde_json::Value;

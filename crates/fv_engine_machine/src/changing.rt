@@ -11,7 +11,7 @@ ghost use Rattle.fv_engine_pending.specs.Fits.{AreFitting, AreShort, AreTyped};
 ghost use Rattle.fv_engine_pending.specs.Ways.{overlay, pending_view};
 ghost use Rattle.fv_engine_reply.specs.Answers.{refused};
 ghost use Rattle.fv_engine_reply.specs.AnswerView.{answer_view};
-ghost use Rattle.fv_model_types.specs.Types.{Declared};
+ghost use Rattle.fv_bundle.specs.Types.{Declared};
 ghost use Rattle.fv_store.specs.Causes.{AreShort as ChangesShort, rows_of_all};
 ghost use Rattle.fv_store.specs.Changes.{after_all, ChangesFit};
 ghost use Rattle.fv_store.specs.Records.{Records, Roots};

@@ -18,7 +18,7 @@ use Rattle.fv_store.proofs.Again.{all_read_fit, all_read_written}
 use Rattle.fv_store.specs.Again.{ReadsUnder}
 use Rattle.fv_store.specs.Written.{writings}
 use Rattle.fv_store.specs.Records.{Kept, Roots, Fits, Contents, AllFit}
-use Rattle.fv_model_types.specs.Types.{Declared, FieldsApart}
+use Rattle.fv_bundle.specs.Types.{Declared, FieldsApart}
 
 read_ok : (r : Result Bundled BundleFault) (b : Bundled) → if_read (faulty r) ≡ Some b → r ≡ Ok b
 read_ok (Ok x) b is = let same : x ≡ b = cc in ap (λ y. Ok y) same

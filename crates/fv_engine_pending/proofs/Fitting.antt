@@ -21,7 +21,7 @@ use Rattle.fv_engine_pending.proofs.Made.{at_left, at_without}
 use Rattle.fv_store.specs.Causes.{IsShort}
 use Rattle.fv_store.specs.Records.{Kept, Records, Roots, Fits}
 use Rattle.fv_datum.specs.Ascending.{IsAscending}
-use Rattle.fv_model_types.specs.Types.{Declared}
+use Rattle.fv_bundle.specs.Types.{Declared}
 
 -- ---- each entry is found at its id, where the ids ascend
 

@@ -17,7 +17,7 @@ use Rattle.fv_store.specs.Records.{Kept, Records}
 use Rattle.fv_store.specs.Stands.{Stays}
 use Rattle.fv_store.specs.Stored.{stored_view}
 use Rattle.fv_store.specs.declared.stored.Stored.{Stored}
-use Rattle.fv_model_types.specs.Types.{Declared}
+use Rattle.fv_bundle.specs.Types.{Declared}
 
 -- what follows from what a call makes sure of
 pub on_ok : {X E : Type 0} (P Q : Type 0) (r : Result X E) → (P → Q) → OnOk r P → OnOk r Q

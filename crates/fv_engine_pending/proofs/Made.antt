@@ -21,7 +21,7 @@ use Rattle.fv_engine_pending.specs.Ways.{Way, overlay, standing_at, IsOn, left_a
 use Rattle.fv_engine_pending.specs.declared.fault.PartFault.{PartFault}
 use Rattle.fv_engine_pending.specs.declared.fault.PartFault.TheVariants.{UnknownForm, NoRecord}
 use Rattle.fv_store.specs.Records.{Kept, Records, Roots, no_records, without_record}
-use Rattle.fv_model_types.specs.Types.{Declared}
+use Rattle.fv_bundle.specs.Types.{Declared}
 
 some_of : {X : Type 0} (o : Option X) → is_some o ≡ true → (x : X) × (o ≡ Some x)
 some_of (Some x) e = (x, refl)

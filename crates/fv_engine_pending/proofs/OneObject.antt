@@ -15,8 +15,8 @@ use Rattle.fv_model.specs.Setting.{bundle_set, conditions, datum_for}
 use Rattle.fv_bundle.specs.Views.{bundle_view}
 use Rattle.fv_model.specs.declared.fault.BundleFault.{BundleFault}
 use Rattle.fv_model.proofs.Typed.{head_false, unless_none}
-use Rattle.fv_model_types.specs.Names.{ObjectTypes}
-use Rattle.fv_model_types.specs.Types.{Declared}
+use Rattle.fv_bundle.specs.Names.{ObjectTypes}
+use Rattle.fv_bundle.specs.Types.{Declared}
 use Rattle.fv_engine_pending.specs.Altering.{Altered, sets, altered, IsOneObject}
 use Rattle.fv_engine_pending.specs.Fits.{Agrees, AreFitting, AreShort}
 use Rattle.fv_engine_pending.specs.Parts.{and_then}

@@ -13,7 +13,7 @@ use Rattle.fv_engine_pending.specs.declared.fault.PartFault.{PartFault}
 use Rattle.fv_engine_pending.specs.declared.fault.PartFault.TheVariants.{UnknownForm, Bundle}
 use Rattle.fv_engine_pending.specs.declared.step.Step.{Step}
 use Rattle.fv_store.specs.Records.{Roots}
-use Rattle.fv_model_types.specs.Types.{Declared}
+use Rattle.fv_bundle.specs.Types.{Declared}
 
 -- ---- one put
 

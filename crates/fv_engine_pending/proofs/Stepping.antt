@@ -8,7 +8,7 @@ use Rattle.fv_engine_pending.specs.Steps.{Staged, step_view, step_made, steps_ma
 use Rattle.fv_engine_pending.specs.Ways.{Way}
 use Rattle.fv_engine_pending.specs.declared.step.Step.{Step}
 use Rattle.fv_engine_pending.proofs.Fitting.{keeps_more}
-use Rattle.fv_model_types.specs.Types.{Declared}
+use Rattle.fv_bundle.specs.Types.{Declared}
 
 -- what follows where a call has made what is given
 pub where_made : {X E Y : Type 0} (memory : E) (new : Y) (r : Result X E) (given : Result Y E) (P : Type 0) → Gives memory (λ _. new) r given → (given ≡ Ok new → P) → OnOk r P

@@ -19,7 +19,7 @@ use Rattle.fv_engine_pending.specs.declared.fault.PartFault.{PartFault}
 use Rattle.fv_engine_pending.specs.declared.fault.PartFault.TheVariants.{UnknownForm}
 use Rattle.fv_engine_pending.proofs.Made.{Left, id_of, part_left, stays_on, is_on}
 use Rattle.fv_store.specs.Records.{Kept, Records, Roots}
-use Rattle.fv_model_types.specs.Types.{Declared}
+use Rattle.fv_bundle.specs.Types.{Declared}
 
 -- ---- what a part touches is on the way after it
 

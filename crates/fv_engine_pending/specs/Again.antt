@@ -10,7 +10,7 @@ use Rattle.fv_engine_pending.specs.declared.fault.PartFault.{PartFault}
 use Rattle.fv_engine_pending.specs.declared.fault.PartFault.TheVariants.{UnknownForm, Bundle}
 use Rattle.fv_store.specs.Again.{all_read}
 use Rattle.fv_store.specs.Records.{Kept, Records, Roots}
-use Rattle.fv_model_types.specs.Types.{Declared}
+use Rattle.fv_bundle.specs.Types.{Declared}
 
 -- a record's bundle, read again from what is written of it, as a put of it under its form; or why there is none
 abbrev pub again : Declared → Roots → Kept → Result Bundled PartFault

@@ -10,7 +10,7 @@ use Rattle.fv_engine_pending.specs.Touched.{needed_id, needs_at}
 use Rattle.fv_engine_pending.specs.Ways.{Way, IsOn}
 use Rattle.fv_store.specs.Causes.{IsShort}
 use Rattle.fv_store.specs.Records.{Kept, Records, Roots, Fits}
-use Rattle.fv_model_types.specs.Types.{Declared}
+use Rattle.fv_bundle.specs.Types.{Declared}
 
 -- each record on the way is well-typed
 abbrev pub AreTyped : Declared → Way → Type 0

@@ -14,7 +14,7 @@ use Rattle.fv_model.specs.declared.fault.BundleFault.TheVariants as fault
 use Rattle.fv_engine_pending.specs.declared.fault.PartFault.{PartFault}
 use Rattle.fv_engine_pending.specs.declared.fault.PartFault.TheVariants.{UnknownForm, Bundle, NoRecord}
 use Rattle.fv_store.specs.Records.{Records, Roots, with_record, without_record}
-use Rattle.fv_model_types.specs.Types.{Declared}
+use Rattle.fv_bundle.specs.Types.{Declared}
 
 -- the bundle that JSON spells under a form, or its first fault
 abbrev pub bundle_under : Declared → Roots → List ℕ → json.Data → Result Bundled BundleFault

@@ -16,7 +16,7 @@ use Rattle.fv_engine_pending.specs.declared.fault.PartFault.TheVariants.{Unknown
 use Rattle.fv_engine_pending.specs.declared.step.Step.{Step}
 use Rattle.fv_engine_pending.specs.declared.step.Step.TheVariants.{Put, Set, Remove}
 use Rattle.fv_store.specs.Records.{Kept, Roots, Fits}
-use Rattle.fv_model_types.specs.Types.{Declared}
+use Rattle.fv_bundle.specs.Types.{Declared}
 
 -- a part whose bundle was read
 pub data Staged : Type 0 where

@@ -6,16 +6,15 @@ ghost use Rattle.fv_engine_pending.specs.Fits.{Keeps};
 ghost use Rattle.fv_engine_pending.specs.Steps.{set_step, left_as, set_on, removed_on, step_view, step_made, steps_made};
 ghost use Rattle.fv_engine_pending.specs.Ways.{pending_view, standing_at, left_at};
 ghost use Rattle.fv_store.specs.Stored.{stored_view};
-ghost use Rattle.fv_model_types.specs.TypesView.{types_view};
+ghost use Rattle.fv_bundle.specs.TypesView.{types_view};
 ghost use Rattle.serde_json.specs.View.{view as json_view};
 ghost use Rattle.std.specs.Result.{result_map_both};
 
 use crate::fault::PartFault;
 use crate::pending::Pending;
 use crate::step::Step;
-use fv_bundle::Bundle;
+use fv_bundle::{Bundle, Types};
 use fv_model::{BundleFault, set_field};
-use fv_model_types::Types;
 use fv_store::Stored;
 use serde_json::Value;
 use std::alloc::Global;

@@ -9,11 +9,11 @@ ghost use Rattle.fv_engine_pending.specs.Ways.{pending_view, IsOn};
 ghost use Rattle.fv_store.specs.Causes.{HasFailed};
 ghost use Rattle.fv_store.specs.Stands.{Frame, Holds, IsLive, Stays};
 ghost use Rattle.fv_store.specs.Stock.{stock_state as state};
-ghost use Rattle.fv_model_types.specs.TypesView.{types_view};
+ghost use Rattle.fv_bundle.specs.TypesView.{types_view};
 
 use crate::pending::Pending;
 use fv_engine_command::Part;
-use fv_model_types::Types;
+use fv_bundle::Types;
 use fv_store::{Store, StoreFault};
 use sqlite::Alter;
 use std::alloc::Global;

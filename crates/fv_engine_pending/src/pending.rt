@@ -9,7 +9,7 @@ ghost use Rattle.fv_store.specs.Causes.{AreShort as ChangesShort, rows_of_all};
 ghost use Rattle.fv_store.specs.Changes.{after_all, ChangesFit};
 ghost use Rattle.fv_store.specs.Records.{Records, Roots};
 ghost use Rattle.fv_store.specs.Stored.{stored_view};
-ghost use Rattle.fv_model_types.specs.Types.{Declared};
+ghost use Rattle.fv_bundle.specs.Types.{Declared};
 
 use fv_bundle::Object;
 use fv_store::{Change, Stored};

@@ -12,11 +12,10 @@ ghost use Rattle.serde_json.specs.View.{view as json_view};
 use crate::applying::part_fault;
 use crate::fault::PartFault;
 use crate::step::Step;
-use fv_bundle::Bundle;
+use fv_bundle::{Bundle, TypeId};
 use fv_declare_schema::Schema;
 use fv_engine_command::Part;
 use fv_model::{BundleFault, read_bundle};
-use fv_model_types::TypeId;
 use serde_json::Value;
 use std::alloc::{AllocError, Global};
 

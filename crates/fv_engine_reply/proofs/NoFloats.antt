@@ -3,7 +3,7 @@ use Rattle.std.proofs.Common.{◌≡◌, ◌||◌, ℕ, Bool, false, List, [], �
 use Rattle.serde_json.specs.Data as json
 use Rattle.serde_json.specs.View.{items_of}
 use Rattle.serde_json.specs.Written.{has_float, items_have_float}
-use Rattle.fv_model_types.specs.Writing.{datum_json}
+use Rattle.fv_bundle.specs.Writing.{datum_json}
 use Rattle.fv_engine_reply.specs.Answers.{violated, ids}
 use Rattle.fv_validate.specs.Violations.{Judged}
 use Rattle.fv_engine_reply.specs.Texts.{violation_json, judged_json, listing_json, refused_json, answer_json}

@@ -6,7 +6,7 @@ use Rattle.serde_json.specs.View.{items_of}
 use Rattle.serde_json.specs.Written.{compact_text}
 use Rattle.fv_declare_judging.specs.FaultNames.{decl_fault_code}
 use Rattle.fv_model.specs.FaultNames.{bundle_fault_code}
-use Rattle.fv_model_types.specs.Writing.{datum_json}
+use Rattle.fv_bundle.specs.Writing.{datum_json}
 use Rattle.fv_model.specs.Writing.{bundle_json}
 use Rattle.fv_validate.specs.Violations.{Judged, Reported}
 use Rattle.fv_engine_reply.specs.Answers.{Answer, done, shown, violated, checked, field_checked, value_checked, ids, refused, part_refused, redeclared, misdeclared, unfit}

@@ -2,7 +2,7 @@
 ghost use Rattle.std.specs.Prelude.{◌≡◌, false, None, Some, IfOk, map, string_bytes, codes};
 ghost use Rattle.fv_datum.specs.View.{view};
 ghost use Rattle.fv_bundle.specs.Views.{bundle_view};
-ghost use Rattle.fv_model_types.specs.Writing.{datum_json};
+ghost use Rattle.fv_bundle.specs.Writing.{datum_json};
 ghost use Rattle.fv_engine_reply.specs.Answers.{violated, shown, ids as ids_told, misdeclared, unfit};
 ghost use Rattle.fv_engine_reply.specs.Texts.{violation_json, judged_json, listing_json, refused_json, answer_json, answer_text};
 ghost use Rattle.fv_validate.specs.ViolationView.{judged_view, violation_view};

@@ -9,7 +9,7 @@ use fv_explain_places::{Told, Untold, Written, built_in_key, find_message, repor
 use fv_explain_warnings::{inherits, reached, validated};
 use fv_groups::{GroupId, Groups};
 use fv_message::Messages;
-use fv_model_types::TypeId;
+use fv_bundle::TypeId;
 use indexmap::IndexMap;
 use std::alloc::Global;
 use std::collections::BTreeMap;

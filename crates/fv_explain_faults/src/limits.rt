@@ -7,7 +7,7 @@ use fv_explain_places::{
 };
 use fv_groups::GroupLimit;
 use fv_message::{MessagesAt, key_name};
-use fv_model_types::{TypeUse, TypesAt};
+use fv_bundle::{TypeUse, TypesAt};
 
 /// Goes to a text that is to be a template, and gives it.
 fn to_template<'a>(refused: &Refused<'a>, out: &mut Found, place: WordingAt) -> Told<&'a str> {

@@ -5,7 +5,7 @@ use fv_declare_judging::NamesAt;
 use fv_explain_places::{
     Found, Named, Refused, Told, Untold, Written, at, entry_at, say, to_field,
 };
-use fv_model_types::{TypeUse, TypesAt};
+use fv_bundle::{TypeUse, TypesAt};
 
 /// A type or a group that isn't declared.
 pub(crate) fn undeclared(out: &mut Found, sort: &str, name: &str) -> Written {

@@ -1,7 +1,7 @@
 //! What declarations narrow of others, in words.
 use crate::lines::{OverLine, OverLines, Written, place_of};
 use crate::telling::Declared;
-use fv_model_types::{TypeId, TypeUse, use_in};
+use fv_bundle::{TypeId, TypeUse, use_in};
 use fv_widening::Narrowed;
 
 /// What two type uses hold, as far as both are lists, maps or optionals alike.

@@ -1,13 +1,13 @@
 //! What declarations change over others, in lines.
 ghost use Rattle.std.specs.Prelude.{IsTrue, IfOk};
-ghost use Rattle.fv_model_types.specs.Names.{object_types_view};
-ghost use Rattle.fv_model_types.specs.TypesView.{types_view};
+ghost use Rattle.fv_bundle.specs.Names.{object_types_view};
+ghost use Rattle.fv_bundle.specs.TypesView.{types_view};
 ghost use Rattle.fv_widening.specs.Widens.{Widens};
 
 use crate::differing::add_changes;
 use crate::lines::{OverFault, OverLine, OverLines};
 use crate::narrowed::add_narrowed;
-use fv_model_types::{TypeNames, Types};
+use fv_bundle::{TypeNames, Types};
 use fv_widening::narrowings;
 use serde_json::Value;
 use std::alloc::Global;

@@ -2,7 +2,7 @@
 use fv_declare_schema::Schema;
 use fv_explain_places::Told;
 use fv_groups::{GroupId, Groups};
-use fv_model_types::{TypeId, TypeUse, Types};
+use fv_bundle::{TypeId, TypeUse, Types};
 use indexmap::IndexSet;
 use std::alloc::Global;
 

@@ -9,7 +9,7 @@ use fv_declare_schema::{Placed, Schema};
 use fv_explain_places::{
     Named, Told, Who, Written, built_in_key, find_message, kind_word, reported, say,
 };
-use fv_model_types::{TypeId, Types, use_in};
+use fv_bundle::{TypeId, Types, use_in};
 use fv_registry::RuleSet;
 use indexmap::IndexSet;
 use std::alloc::Global;

@@ -7,7 +7,7 @@ use fv_declare_draft::{Draft, MessageDraft};
 use fv_declare_schema::Schema;
 use fv_explain_places::{Found, Told, Written, built_in_key, say};
 use fv_groups::{GroupId, Groups};
-use fv_model_types::TypeId;
+use fv_bundle::TypeId;
 use fv_registry::RuleSet;
 use indexmap::IndexSet;
 use std::alloc::Global;

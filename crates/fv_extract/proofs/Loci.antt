@@ -10,7 +10,7 @@ use Rattle.std.specs.List.{AllByRecursion, AllPairs, flat_map}
 use Rattle.std.specs.Ordering.{is_lt}
 use Rattle.fv_datum.specs.Data.{Data, list, map, optional, Items, no_items, item, Entries, no_entries, entry}
 use Rattle.fv_datum.specs.Written.{is_text, key_of, below_first, keys_fit}
-use Rattle.fv_model_types.specs.Writing.{IsWritten}
+use Rattle.fv_bundle.specs.Writing.{IsWritten}
 use Rattle.fv_extract.specs.Parts.{at_index, at_key, Locus, items_from, keys_in, values_in, inside, below, parts_of, AreApart}
 use Rattle.fv_extract.specs.Places.{Step, element, key, value, content}
 use Rattle.fv_extract.proofs.Writable.{CanBeWritten, keys_of_written, inside_can}

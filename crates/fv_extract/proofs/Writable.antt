@@ -5,7 +5,7 @@ use Rattle.std.specs.List.{AllByRecursion}
 use Rattle.serde_json.specs.Data as json
 use Rattle.fv_datum.specs.Data.{Data, null, text, integer, decimal, boolean, date, instant, reference, list, map, optional, Items, no_items, item, Entries, no_entries, entry}
 use Rattle.fv_datum.specs.Written.{is_text, key_of, below_first, keys_fit, written, items_written, entries_written}
-use Rattle.fv_model_types.specs.Writing.{IsWritten}
+use Rattle.fv_bundle.specs.Writing.{IsWritten}
 use Rattle.fv_extract.specs.Parts.{Locus, items_from, keys_in, values_in, inside}
 use Rattle.fv_extract.specs.Places.{Step, element, key, value, content}
 

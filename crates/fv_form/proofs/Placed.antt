@@ -18,7 +18,7 @@ use Rattle.fv_declare_definition.specs.Written.{message_of}
 use Rattle.fv_declare_draft.specs.Cascades.{Conversion, CascadeDraft, conversion_of, cascade_of}
 use Rattle.fv_declare_draft.specs.Places.{Holding, PlaceDraft, place, plain, list as a_list, optional as an_optional, a_map, plain_kinds, place_members, place_of, type_in, held_of, place_in, reference_of}
 use Rattle.fv_declare_draft.specs.Uses.{UseDraft, use_of, uses_of}
-use Rattle.fv_model_types.specs.Types.{references}
+use Rattle.fv_bundle.specs.Types.{references}
 use Rattle.fv_form.specs.Asked.{asked}
 use Rattle.fv_form.specs.Declarations.{of_place, of_use}
 use Rattle.fv_form.specs.Entries.{must, may}

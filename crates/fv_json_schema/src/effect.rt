@@ -1,7 +1,7 @@
 //! The constraints by which the objects of a type are judged where groups are asked.
 use fv_declare_schema::{Placed, Schema};
 use fv_groups::{GroupId, Groups};
-use fv_model_types::TypeId;
+use fv_bundle::TypeId;
 use std::alloc::{AllocError, Global};
 
 /// Whether a plain group is another one or inherits it.

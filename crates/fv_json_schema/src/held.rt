@@ -4,7 +4,7 @@ use crate::bound::DECIMAL;
 use fv_datum::Kind;
 use fv_declare_schema::{Place, Schema};
 use fv_extract::Step;
-use fv_model_types::TypeUse;
+use fv_bundle::TypeUse;
 use serde_json::{Map, Value, json, put};
 use std::alloc::{AllocError, Global};
 

@@ -2,7 +2,7 @@
 use crate::held::{Field, Made, held};
 use fv_constraint_tree::{Occurrence, Test};
 use fv_declare_schema::{Place, Schema};
-use fv_model_types::{Fields, TypeId};
+use fv_bundle::{Fields, TypeId};
 use serde_json::{Map, Value, json, put};
 use std::alloc::Global;
 

@@ -16,7 +16,7 @@ use Rattle.fv_walk_traces.specs.OneField.{is_in_field, own_of_field}
 use Rattle.fv_walk_traces.specs.Requests.{Plain, InRanks}
 use Rattle.fv_walk_traces.specs.Turns.{LocalFailure}
 use Rattle.fv_graph.proofs.Images.{from_flat_map, from_map, from_filter}
-use Rattle.fv_model_types.specs.Types.{number_of}
+use Rattle.fv_bundle.specs.Types.{number_of}
 use Rattle.fv_declare_schema.specs.Places.{Place, whole, field}
 use Rattle.fv_local.specs.Failures.{Standing, standing_at, failures_of}
 use Rattle.fv_local.specs.Standings.{part_at, failures_at}

@@ -23,7 +23,7 @@ use Rattle.fv_walk_traces.specs.Turns.{LocalFailure}
 use Rattle.fv_walk_traces.proofs.Ends.{to_local_in, from_local_in}
 use Rattle.fv_graph.proofs.Images.{in_flat_map, from_flat_map, in_map, from_map, from_filter}
 use Rattle.fv_walk_traces.proofs.Lists.{or_else_left, or_else_right, or_else_cases}
-use Rattle.fv_model_types.specs.Types.{number_of}
+use Rattle.fv_bundle.specs.Types.{number_of}
 use Rattle.fv_declare_schema.specs.Places.{Place, whole, field}
 use Rattle.fv_local.specs.FailureView.{failure_view}
 use Rattle.fv_local.specs.Failures.{Standing, standing_at, failures_of}

@@ -20,7 +20,7 @@ use Rattle.fv_registry.specs.Rules.{Known}
 use Rattle.fv_walk_traces.specs.OneField.{own_of_field}
 use Rattle.fv_walk_traces.specs.OneObject.{IsLocalIn}
 use Rattle.fv_walk_traces.specs.Turns.{LocalFailure}
-use Rattle.fv_model_types.specs.Types.{number_of}
+use Rattle.fv_bundle.specs.Types.{number_of}
 use Rattle.fv_local.specs.FailureView.{failure_view, IsFoundIn}
 use Rattle.fv_local.specs.Fields.{stands_in}
 use Rattle.fv_local.specs.Own.{own_in}

@@ -6,7 +6,7 @@ use Rattle.fv_bundle.specs.Bundles.{Thing}
 use Rattle.fv_local.specs.Below.{below}
 use Rattle.fv_registry.specs.Meanings.{Meanings}
 use Rattle.fv_walk_traces.specs.Requests.{Own, Plain, InRanks}
-use Rattle.fv_model_types.specs.Types.{number_of}
+use Rattle.fv_bundle.specs.Types.{number_of}
 use Rattle.fv_local.specs.Failures.{failures_in}
 
 -- what fails in the ranks of a type's sequence. The type's own name is 0 there, the number of `Default`, and has the constraints in

@@ -7,7 +7,7 @@ use crate::reached::{of_groups, of_sequence};
 use crate::type_uses::uses_of;
 use fv_declare_schema::Schema;
 use fv_groups::GroupId;
-use fv_model_types::TypeId;
+use fv_bundle::TypeId;
 use std::alloc::{AllocError, Global};
 use std::marker::Model;
 

@@ -4,7 +4,7 @@ ghost use Rattle.fv_declare_schema.specs.Ordered.{AreOrdered};
 ghost use Rattle.fv_local.specs.Spans.{AreOfType};
 
 use fv_declare_schema::Schema;
-use fv_model_types::TypeId;
+use fv_bundle::TypeId;
 
 /// A type with its uses, which stand together: by their numbers among all, from the first to before
 /// the end.

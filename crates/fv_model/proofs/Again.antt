@@ -12,15 +12,15 @@ use Rattle.fv_datum.specs.Lookup.{at_name}
 use Rattle.fv_datum.specs.Members.{pairs}
 use Rattle.fv_datum.specs.Outcomes.{Gives}
 use Rattle.fv_datum.specs.Written.{is_null, written}
-use Rattle.fv_model_types.specs.Flaws.{undeclared, misfits}
-use Rattle.fv_model_types.specs.Spelled.{datum_of}
-use Rattle.fv_model_types.specs.Types.{TypeUse, DeclaredFields, Declared, AreApart, FieldsApart}
-use Rattle.fv_model_types.proofs.Again.{some_read, written_again}
-use Rattle.fv_model_types.proofs.Apart.{apart-head, apart-tail, found_apart}
-use Rattle.fv_model_types.proofs.Back.{not_null, fits_writable}
+use Rattle.fv_bundle.specs.Flaws.{undeclared, misfits}
+use Rattle.fv_bundle.specs.Spelled.{datum_of}
+use Rattle.fv_bundle.specs.Types.{TypeUse, DeclaredFields, Declared, AreApart, FieldsApart}
+use Rattle.fv_bundle.proofs.Again.{some_read, written_again}
+use Rattle.fv_bundle.proofs.Apart.{apart-head, apart-tail, found_apart}
+use Rattle.fv_bundle.proofs.Back.{not_null, fits_writable}
 use Rattle.fv_datum.proofs.Bools.{or_left, or_right}
-use Rattle.fv_model_types.proofs.Members.{AreAscending, ascending_put, same_members, each_found, each_put}
-use Rattle.fv_model_types.proofs.PlainJson.{IsPlain, fits_flat}
+use Rattle.fv_bundle.proofs.Members.{AreAscending, ascending_put, same_members, each_found, each_put}
+use Rattle.fv_bundle.proofs.PlainJson.{IsPlain, fits_flat}
 use Rattle.fv_bundle.specs.Bundles.{IsAscending, Thing, Things, Bundled}
 use Rattle.fv_model.specs.Draft.{Drafted}
 use Rattle.fv_model.specs.Reading.{has_flaw, datum_at, field_of, fields_of, object_of, bundle_of, bundle_read}

@@ -7,10 +7,10 @@ use Rattle.serde_json.specs.Data as json
 use Rattle.fv_datum.specs.Lookup.{at_name}
 use Rattle.fv_datum.specs.Name.{names}
 use Rattle.fv_datum.specs.Outcomes.{unless_fault}
-use Rattle.fv_model_types.specs.Flaws.{undeclared, misfits, dangles, strays, is_large}
-use Rattle.fv_model_types.specs.Names.{ObjectTypes}
-use Rattle.fv_model_types.specs.Types.{DeclaredFields, Declared, FieldsApart}
-use Rattle.fv_model_types.proofs.Apart.{found_apart}
+use Rattle.fv_bundle.specs.Flaws.{undeclared, misfits, dangles, strays, is_large}
+use Rattle.fv_bundle.specs.Names.{ObjectTypes}
+use Rattle.fv_bundle.specs.Types.{DeclaredFields, Declared, FieldsApart}
+use Rattle.fv_bundle.proofs.Apart.{found_apart}
 use Rattle.fv_datum.proofs.Bools.{or_false}
 use Rattle.fv_datum.proofs.Lists.{each_of, none_made}
 use Rattle.fv_bundle.specs.Bundles.{Thing, Things, Bundled}

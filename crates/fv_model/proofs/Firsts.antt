@@ -2,7 +2,7 @@
 use Rattle.std.proofs.Common.{◌≡◌, List, [], ◌∷◌, ◌++◌, cond, Bool, true, false, Option, Some, None, ℕ, refl, ◌∙◌}
 use Rattle.fv_datum.specs.Outcomes.{first}
 use Rattle.fv_model.specs.Draft.{Drafted}
-use Rattle.fv_model_types.specs.Types.{Declared}
+use Rattle.fv_bundle.specs.Types.{Declared}
 use Rattle.fv_model.specs.declared.fault.BundleFault.{BundleFault}
 use Rattle.fv_model.specs.declared.fault.BundleFault.TheVariants.{UnknownField, WrongKind}
 use Rattle.fv_model.proofs.Conditions.{unknown_field, wrong_kind, draft_fault, name_conditions, late_conditions}

@@ -15,11 +15,11 @@ use Rattle.fv_bundle.specs.Bundles.{IsAscending}
 use Rattle.fv_model.specs.Draft.{Part}
 use Rattle.fv_model.specs.Fitting.{misfits_given, field_misfits, part_misfits}
 use Rattle.fv_model.specs.Ascents.{AscendsFor, Ascends}
-use Rattle.fv_model_types.specs.Flaws.{misfits}
+use Rattle.fv_bundle.specs.Flaws.{misfits}
 use Rattle.fv_model.specs.Reading.{has_flaw}
 use Rattle.fv_model.proofs.Conditions.{wrong_kind, flaw_among}
-use Rattle.fv_model_types.specs.Types.{TypeUse, DeclaredFields, Declared, FieldsApart}
-use Rattle.fv_model_types.proofs.Apart.{found_apart}
+use Rattle.fv_bundle.specs.Types.{TypeUse, DeclaredFields, Declared, FieldsApart}
+use Rattle.fv_bundle.proofs.Apart.{found_apart}
 use Rattle.fv_datum.proofs.Bools.{or_false, or_left, or_right, same_bool}
 use Rattle.fv_model.proofs.Law.{found_each}
 use Rattle.fv_model.proofs.Typed.{none_at, chosen}

@@ -19,21 +19,21 @@ use Rattle.fv_datum.specs.Data.{Data, null}
 use Rattle.fv_datum.specs.Lookup.{at_name}
 use Rattle.fv_datum.specs.Name.{names}
 use Rattle.fv_datum.specs.Written.{is_null}
-use Rattle.fv_model_types.specs.Flaws.{Flaw, undeclared, misfits, dangles, is_other, strays, is_large}
-use Rattle.fv_model_types.specs.Names.{ObjectTypes}
-use Rattle.fv_model_types.proofs.Back.{read_back, none_large, none_refers}
+use Rattle.fv_bundle.specs.Flaws.{Flaw, undeclared, misfits, dangles, is_other, strays, is_large}
+use Rattle.fv_bundle.specs.Names.{ObjectTypes}
+use Rattle.fv_bundle.proofs.Back.{read_back, none_large, none_refers}
 use Rattle.fv_bundle.specs.Bundles.{IsAscending, Thing, Things, Bundled}
 use Rattle.fv_datum.specs.Members.{pairs, each_some}
 use Rattle.fv_model.specs.Draft.{Part, Drafted, part_of, draft_of}
 use Rattle.fv_model.specs.Reading.{object_types, has_flaw, conditions, datum_at, field_of, object_of, bundle_of, bundle_read}
-use Rattle.fv_model_types.specs.Types.{TypeUse, DeclaredFields, Declared, AreApart, FieldsApart, name_at}
+use Rattle.fv_bundle.specs.Types.{TypeUse, DeclaredFields, Declared, AreApart, FieldsApart, name_at}
 use Rattle.fv_bundle.specs.WellTyped.{NamesObject, FitsUse, FieldsAre, FitsType, IsWellTyped, HasRootType}
 use Rattle.fv_model.specs.Writing.{datum_json, thing_json, bundle_json}
 use Rattle.fv_model.proofs.Conditions.{root_missing, large_datum, root_type, draft_fault, judged, added, objects_added, flaw_among}
-use Rattle.fv_model_types.specs.declared.types.TypeId.{TypeId}
-use Rattle.fv_model_types.proofs.Apart.{apart-head, apart-tail, found_apart}
+use Rattle.fv_bundle.specs.declared.types.TypeId.{TypeId}
+use Rattle.fv_bundle.proofs.Apart.{apart-head, apart-tail, found_apart}
 use Rattle.fv_datum.proofs.Lists.{each_of, none_made}
-use Rattle.fv_model_types.proofs.Orders.{below_middle}
+use Rattle.fv_bundle.proofs.Orders.{below_middle}
 use Rattle.fv_datum.proofs.Bools.{or_false, or_left, or_right}
 
 -- ---- the fields

@@ -9,12 +9,12 @@ use Rattle.indexmap.specs.IndexMap.{insert_entry}
 use Rattle.serde_json.specs.Data as json
 use Rattle.fv_datum.specs.Ascending.{IsAscending}
 use Rattle.fv_datum.proofs.Lists.{both_some}
-use Rattle.fv_model_types.proofs.Orders.{below_middle}
+use Rattle.fv_bundle.proofs.Orders.{below_middle}
 use Rattle.fv_datum.specs.Forms.{map2}
 use Rattle.fv_datum.specs.Members.{each_some}
 use Rattle.fv_model.specs.Draft.{Part, part_of}
 use Rattle.fv_model.specs.Reading.{object_types, object_of}
-use Rattle.fv_model_types.specs.Types.{Declared}
+use Rattle.fv_bundle.specs.Types.{Declared}
 
 less_differs : (o : Ordering) → o ≡ Less → o ≡ Equal → true ≡ false
 less_differs o less equal = cc

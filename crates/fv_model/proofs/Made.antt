@@ -8,7 +8,7 @@ use Rattle.fv_bundle.specs.Bundles.{Thing}
 use Rattle.fv_model.specs.Draft.{Part}
 use Rattle.fv_model.specs.Fitting.{field_misfits, part_misfits, unless_wrong}
 use Rattle.fv_model.specs.Reading.{field_of, object_of}
-use Rattle.fv_model_types.specs.Types.{DeclaredFields, Declared, name_at, fields_at}
+use Rattle.fv_bundle.specs.Types.{DeclaredFields, Declared, name_at, fields_at}
 
 -- each element's images by two functions, side by side
 zip-maps : {X Y Z : Type 0} (f : X → Y) (g : X → Z) (xs : List X) → zip (map f xs) (map g xs) ≡ map (λ x. (f x, g x)) xs

@@ -9,8 +9,8 @@ use Rattle.std.proofs.lemmas.List.Kept.{AllPairs-cons}
 use Rattle.std.proofs.lemmas.Map.Keys.{IsDistinct-head, IsDistinct-tail}
 use Rattle.std.proofs.lemmas.Slice.Eq.{bytes_eq-Decides}
 use Rattle.indexmap.specs.IndexMap.{insert_entry}
-use Rattle.fv_model_types.specs.Types.{AreApart}
-use Rattle.fv_model_types.proofs.Apart.{apart-head, apart-tail}
+use Rattle.fv_bundle.specs.Types.{AreApart}
+use Rattle.fv_bundle.proofs.Apart.{apart-head, apart-tail}
 use Rattle.fv_model.specs.Views.{named_view}
 use Rattle.fv_bundle.specs.declared.bundle.Object.{Object}
 use Rattle.fv_model.proofs.Conditions.{types_of}

@@ -23,7 +23,7 @@ use Rattle.fv_model.specs.declared.fault.BundleFault.TheVariants.{Shape, Memory}
 use Rattle.fv_model.proofs.Conditions.{judged}
 use Rattle.fv_model.proofs.Law.{part_for, draft_for, drafted_back}
 use Rattle.fv_model.proofs.Typed.{judged_well_typed}
-use Rattle.fv_model_types.specs.Types.{Declared, FieldsApart}
+use Rattle.fv_bundle.specs.Types.{Declared, FieldsApart}
 
 -- ---- names in order
 

@@ -7,13 +7,13 @@ use Rattle.serde_json.specs.Find.{as_str}
 use Rattle.fv_datum.specs.Data.{Data}
 use Rattle.fv_datum.specs.Lookup.{at_name}
 use Rattle.fv_datum.specs.Outcomes.{first, unless_fault}
-use Rattle.fv_model_types.specs.Flaws.{misfits, referring, dangles, is_other, strays, is_large}
-use Rattle.fv_model_types.specs.Names.{ObjectTypes}
-use Rattle.fv_model_types.specs.Spelled.{datum_of}
-use Rattle.fv_model_types.specs.Types.{TypeUse, Declared}
-use Rattle.fv_model_types.specs.Writing.{IsWritten}
+use Rattle.fv_bundle.specs.Flaws.{misfits, referring, dangles, is_other, strays, is_large}
+use Rattle.fv_bundle.specs.Names.{ObjectTypes}
+use Rattle.fv_bundle.specs.Spelled.{datum_of}
+use Rattle.fv_bundle.specs.Types.{TypeUse, Declared}
+use Rattle.fv_bundle.specs.Writing.{IsWritten}
 use Rattle.fv_datum.proofs.Bools.{not_false}
-use Rattle.fv_model_types.proofs.Fitted.{IsFree, spelled_fits}
+use Rattle.fv_bundle.proofs.Fitted.{IsFree, spelled_fits}
 use Rattle.fv_bundle.specs.Bundles.{Thing, Things, Bundled}
 use Rattle.fv_model.specs.Fitting.{unless_wrong}
 use Rattle.fv_model.specs.Reading.{datum_at}

@@ -15,15 +15,15 @@ use Rattle.serde_json.specs.Find.{get_member, as_str}
 use Rattle.fv_datum.specs.Outcomes.{Gives, first, unless_fault}
 use Rattle.fv_datum.specs.Lookup.{at_name}
 use Rattle.fv_datum.specs.Name.{names}
-use Rattle.fv_model_types.specs.Flaws.{misfits, referring, dangles, is_other, strays, is_large}
-use Rattle.fv_model_types.specs.Names.{ObjectTypes}
-use Rattle.fv_model_types.specs.Spelled.{datum_of}
-use Rattle.fv_model_types.proofs.Fitted.{IsFree, spelled_fits}
+use Rattle.fv_bundle.specs.Flaws.{misfits, referring, dangles, is_other, strays, is_large}
+use Rattle.fv_bundle.specs.Names.{ObjectTypes}
+use Rattle.fv_bundle.specs.Spelled.{datum_of}
+use Rattle.fv_bundle.proofs.Fitted.{IsFree, spelled_fits}
 use Rattle.fv_bundle.specs.Bundles.{IsAscending, Bundled}
 use Rattle.fv_datum.specs.Members.{pairs}
 use Rattle.fv_model.specs.Draft.{Part, Drafted, draft_of}
 use Rattle.fv_model.specs.Reading.{has_flaw, object_types, conditions, datum_at, field_of, object_of, bundle_of, bundle_read}
-use Rattle.fv_model_types.specs.Types.{TypeUse, DeclaredFields, Declared, FieldsApart, name_at}
+use Rattle.fv_bundle.specs.Types.{TypeUse, DeclaredFields, Declared, FieldsApart, name_at}
 use Rattle.fv_model.specs.Views.{bundle_view}
 use Rattle.fv_bundle.specs.WellTyped.{NamesObject, FitsUse, FieldsAre, FitsType, IsWellTyped, HasRootType}
 use Rattle.fv_model.specs.Writing.{IsWritten}
@@ -32,8 +32,8 @@ use Rattle.fv_bundle.specs.declared.bundle.Bundle.{Bundle}
 use Rattle.fv_model.specs.declared.fault.BundleFault.{BundleFault}
 use Rattle.fv_model.specs.declared.fault.BundleFault.TheVariants.{Memory}
 use Rattle.fv_model.proofs.Conditions.{bad_name, root_missing, unknown_type, unknown_field, some_flawed, wrong_kind, dangling_ref, ref_type, large_datum, too_large, root_type, draft_fault, judged, flaw_among}
-use Rattle.fv_model_types.specs.declared.types.TypeId.{TypeId}
-use Rattle.fv_model_types.proofs.Apart.{found_apart}
+use Rattle.fv_bundle.specs.declared.types.TypeId.{TypeId}
+use Rattle.fv_bundle.proofs.Apart.{found_apart}
 use Rattle.fv_datum.proofs.Bools.{not_false, or_left, or_right}
 use Rattle.fv_model.proofs.Law.{found_each, flaw_known}
 

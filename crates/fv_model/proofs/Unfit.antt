@@ -10,11 +10,11 @@ use Rattle.fv_datum.specs.Members.{pairs}
 use Rattle.fv_datum.specs.Name.{names}
 use Rattle.fv_datum.specs.Outcomes.{unless_fault}
 use Rattle.fv_datum.specs.Written.{is_null}
-use Rattle.fv_model_types.specs.Flaws.{is_large}
-use Rattle.fv_model_types.specs.Types.{DeclaredFields, Declared}
+use Rattle.fv_bundle.specs.Flaws.{is_large}
+use Rattle.fv_bundle.specs.Types.{DeclaredFields, Declared}
 use Rattle.fv_datum.proofs.Bools.{or_false}
 use Rattle.fv_datum.proofs.Lists.{none_made}
-use Rattle.fv_model_types.proofs.Small.{IsSmall, fits_small, never_large}
+use Rattle.fv_bundle.proofs.Small.{IsSmall, fits_small, never_large}
 use Rattle.fv_bundle.specs.Bundles.{Thing, Things, Bundled}
 use Rattle.fv_model.specs.Draft.{Drafted}
 use Rattle.fv_model.specs.Reading.{has_flaw, bundle_of, bundle_read}

@@ -5,12 +5,12 @@ use Rattle.fv_datum.specs.Data.{Data}
 use Rattle.fv_datum.specs.Outcomes.{Gives, first, unless_fault}
 use Rattle.fv_datum.specs.View.{view}
 use Rattle.fv_datum.specs.declared.datum.Datum.{Datum}
-use Rattle.fv_model_types.specs.Fits.{Fits}
-use Rattle.fv_model_types.specs.Flaws.{misfits, is_large, is_over}
-use Rattle.fv_model_types.specs.Spelled.{datum_of}
-use Rattle.fv_model_types.specs.Types.{TypeUse}
-use Rattle.fv_model_types.proofs.Back as back
-use Rattle.fv_model_types.proofs.Fitted.{IsFree, spelled_fits}
+use Rattle.fv_bundle.specs.Fits.{Fits}
+use Rattle.fv_bundle.specs.Flaws.{misfits, is_large, is_over}
+use Rattle.fv_bundle.specs.Spelled.{datum_of}
+use Rattle.fv_bundle.specs.Types.{TypeUse}
+use Rattle.fv_bundle.proofs.Back as back
+use Rattle.fv_bundle.proofs.Fitted.{IsFree, spelled_fits}
 use Rattle.fv_model.specs.Reading.{datum_at, value_read}
 use Rattle.fv_bundle.specs.WellTyped.{AnyName}
 use Rattle.fv_model.specs.Writing.{IsWritten, datum_json}

@@ -5,7 +5,7 @@ use Rattle.serde_json.specs.Data as json
 use Rattle.fv_datum.specs.Lookup.{at_name}
 use Rattle.fv_datum.specs.Members.{pairs}
 use Rattle.fv_datum.specs.Ascending.{IsAscending}
-use Rattle.fv_model_types.specs.Types.{DeclaredFields, Declared}
+use Rattle.fv_bundle.specs.Types.{DeclaredFields, Declared}
 use Rattle.fv_model.specs.Draft.{Part}
 
 -- members of which each is below those after it, where there are fields for them

@@ -1,7 +1,7 @@
 -- Types to which others were added.
 use Rattle.std.specs.Prelude.{◌≡◌, ℕ, List, Some}
 use Rattle.fv_datum.specs.Lookup.{at_name}
-use Rattle.fv_model_types.specs.Types.{TypeUse, DeclaredFields, Declared}
+use Rattle.fv_bundle.specs.Types.{TypeUse, DeclaredFields, Declared}
 
 -- each field is there with what it holds
 abbrev pub HasFields : DeclaredFields → DeclaredFields → Type 0

@@ -4,8 +4,8 @@ use Rattle.std.specs.List.{list_any}
 use Rattle.serde_json.specs.Data as json
 use Rattle.serde_json.specs.Find.{get_member}
 use Rattle.fv_model.specs.Draft.{Part}
-use Rattle.fv_model_types.specs.Flaws.{misfits}
-use Rattle.fv_model_types.specs.Types.{TypeUse, Declared}
+use Rattle.fv_bundle.specs.Flaws.{misfits}
+use Rattle.fv_bundle.specs.Types.{TypeUse, Declared}
 use Rattle.fv_model.specs.Reading.{fields_of}
 use Rattle.fv_model.specs.declared.fault.BundleFault.{BundleFault}
 use Rattle.fv_model.specs.declared.fault.BundleFault.TheVariants.{WrongKind}

@@ -1,5 +1,5 @@
 -- The values of what a draft is made of.
-pub use Rattle.fv_model_types.specs.Names.{object_types_view}
+pub use Rattle.fv_bundle.specs.Names.{object_types_view}
 use Rattle.std.specs.Prelude.{String, Option, Some, None}
 use Rattle.std.specs.Borrow.{Bor}
 use Rattle.std.specs.BTreeMap.{BTreeMap}

@@ -9,10 +9,10 @@ use Rattle.fv_datum.specs.Outcomes.{first, unless_fault}
 use Rattle.fv_datum.specs.Data.{Data, null}
 use Rattle.fv_datum.specs.Lookup.{at_name}
 use Rattle.fv_datum.specs.Name.{names}
-use Rattle.fv_model_types.specs.Flaws.{Flaw, undeclared, misfits, dangles, strays, is_large, is_other}
-use Rattle.fv_model_types.specs.Names.{ObjectTypes}
-use Rattle.fv_model_types.specs.Spelled.{datum_of}
-use Rattle.fv_model_types.specs.Types.{TypeUse, DeclaredFields, Declared}
+use Rattle.fv_bundle.specs.Flaws.{Flaw, undeclared, misfits, dangles, strays, is_large, is_other}
+use Rattle.fv_bundle.specs.Names.{ObjectTypes}
+use Rattle.fv_bundle.specs.Spelled.{datum_of}
+use Rattle.fv_bundle.specs.Types.{TypeUse, DeclaredFields, Declared}
 use Rattle.fv_bundle.specs.Limits.{most_objects}
 use Rattle.fv_bundle.specs.Typing.{ascend_behind}
 use Rattle.fv_bundle.specs.Bundles.{Thing, Bundled}

@@ -5,9 +5,9 @@ use Rattle.serde_json.specs.Data as json
 use Rattle.fv_datum.specs.Data.{Data, null}
 use Rattle.fv_datum.specs.Lookup.{at_name}
 use Rattle.fv_datum.specs.Outcomes.{first, unless_fault}
-use Rattle.fv_model_types.specs.Flaws.{Flaw, undeclared, misfits, dangles, strays, is_large}
-use Rattle.fv_model_types.specs.Names.{ObjectTypes}
-use Rattle.fv_model_types.specs.Types.{TypeUse, Declared}
+use Rattle.fv_bundle.specs.Flaws.{Flaw, undeclared, misfits, dangles, strays, is_large}
+use Rattle.fv_bundle.specs.Names.{ObjectTypes}
+use Rattle.fv_bundle.specs.Types.{TypeUse, Declared}
 use Rattle.fv_bundle.specs.Bundles.{Thing, Bundled}
 use Rattle.fv_model.specs.Reading.{fields_of, datum_at}
 use Rattle.fv_bundle.specs.Replaced.{bundle_with}

@@ -4,7 +4,7 @@ use Rattle.std.specs.Str.{bytes_eq}
 use Rattle.fv_datum.specs.Data.{Data, null}
 use Rattle.fv_datum.specs.Lookup.{at_name}
 use Rattle.fv_datum.specs.Written.{written}
-use Rattle.fv_model_types.specs.Types.{TypeUse, Declared, name_at, fields_at}
+use Rattle.fv_bundle.specs.Types.{TypeUse, Declared, name_at, fields_at}
 use Rattle.fv_bundle.specs.Bundles.{Thing}
 
 -- a datum that can be written; null for another, which no object holds

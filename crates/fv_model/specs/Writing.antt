@@ -1,5 +1,5 @@
 -- The JSON that a bundle is written as.
-pub use Rattle.fv_model_types.specs.Writing.{IsWritten, datum_json}
+pub use Rattle.fv_bundle.specs.Writing.{IsWritten, datum_json}
 use Rattle.std.specs.Prelude.{ℕ, List, codes, map, if◌then◌else◌}
 use Rattle.std.specs.List.{fold}
 use Rattle.serde_json.specs.Data as json

@@ -15,7 +15,7 @@ ghost use Rattle.fv_model.specs.Views.{given_view, object_types_view, part_view,
 
 use crate::parts::{Draft, Part};
 use fv_datum::{has_only, object_at, text_at};
-use fv_model_types::TypeNames;
+use fv_bundle::TypeNames;
 use indexmap::IndexMap;
 use serde_json::{Map, Value};
 use std::alloc::{AllocError, Global};

@@ -5,16 +5,16 @@ ghost use Rattle.std.specs.List.{list_any};
 ghost use Rattle.fv_datum.specs.Outcomes.{first};
 ghost use Rattle.fv_datum.specs.Lookup.{at_name};
 ghost use Rattle.fv_datum.specs.Name.{names};
-ghost use Rattle.fv_model_types.specs.Flaws.{is_other};
-ghost use Rattle.fv_model_types.specs.Types.{name_at};
+ghost use Rattle.fv_bundle.specs.Flaws.{is_other};
+ghost use Rattle.fv_bundle.specs.Types.{name_at};
 ghost use Rattle.fv_model.specs.Views.{types_view, part_view, draft_view};
-ghost use Rattle.fv_model_types.specs.Tells.{Tells};
+ghost use Rattle.fv_bundle.specs.Tells.{Tells};
 ghost use Rattle.fv_model.specs.Reading.{has_flaw, object_types, conditions};
 
 use crate::fault::BundleFault;
 use crate::parts::{Draft, Part};
 use fv_datum::is_name;
-use fv_model_types::{Flaws, TypeId, Types, is_other};
+use fv_bundle::{Flaws, TypeId, Types, is_other};
 
 /// The most objects.
 const MOST_OBJECTS: usize = 256;

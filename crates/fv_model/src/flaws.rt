@@ -1,12 +1,12 @@
 //! What can be wrong with the data of a draft's objects, in one pass.
 ghost use Rattle.std.specs.List.{list_any, AllByRecursion};
-ghost use Rattle.fv_model_types.specs.Tells.{Tells};
+ghost use Rattle.fv_bundle.specs.Tells.{Tells};
 ghost use Rattle.fv_model.specs.Ascents.{Ascends};
 ghost use Rattle.fv_model.specs.Reading.{has_flaw, object_types};
 ghost use Rattle.fv_model.specs.Views.{types_view, part_view, draft_view};
 
 use crate::parts::{Draft, Part};
-use fv_model_types::{Flaws, Types, flaws_among};
+use fv_bundle::{Flaws, Types, flaws_among};
 
 /// What is wrong with an object's data.
 #[tactic(auto, unfolding(crate::specs::Reading::has_flaw))]

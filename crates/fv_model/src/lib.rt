@@ -18,7 +18,7 @@ mod writable;
 
 pub use fault::BundleFault;
 pub use fv_bundle::{Bundle, Object, ObjectFields, Objects, is_of_use};
-pub use fv_model_types::{Fields, TypeId, TypeUse, Types, TypesFault};
+pub use fv_bundle::{Fields, TypeId, TypeUse, Types, TypesFault};
 pub use objects::read_objects;
 pub use parts::Part;
 pub use reading::read_bundle;

@@ -1,10 +1,9 @@
 //! The objects of a bundle by their types' names.
 ghost use Rattle.std.specs.Prelude.{◌≡◌, map, IfOk};
-ghost use Rattle.fv_model_types.specs.Names.{object_types_view};
+ghost use Rattle.fv_bundle.specs.Names.{object_types_view};
 ghost use Rattle.fv_model.specs.Views.{objects_view};
 
-use fv_bundle::Objects;
-use fv_model_types::TypeNames;
+use fv_bundle::{Objects, TypeNames};
 use indexmap::IndexMap;
 use std::alloc::{AllocError, Global};
 

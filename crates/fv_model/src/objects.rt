@@ -14,8 +14,7 @@ use crate::draft::object_types_of;
 use crate::fault::BundleFault;
 use crate::parts::{Draft, Part};
 use crate::reading::judged;
-use fv_bundle::Bundle;
-use fv_model_types::Types;
+use fv_bundle::{Bundle, Types};
 use std::alloc::Global;
 
 /// Whether the names of objects ascend.

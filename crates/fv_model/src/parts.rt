@@ -4,11 +4,11 @@ ghost use Rattle.std.specs.Map.{keys_of};
 ghost use Rattle.std.proofs.Props.{props};
 ghost use Rattle.fv_datum.specs.Lookup.{at_name};
 ghost use Rattle.fv_datum.specs.Ascending.{IsAscending};
-ghost use Rattle.fv_model_types.specs.Names.{object_types_view};
+ghost use Rattle.fv_bundle.specs.Names.{object_types_view};
 ghost use Rattle.fv_model.specs.Reading.{object_types};
 ghost use Rattle.fv_model.specs.PartViews.{part_view};
 
-use fv_model_types::{TypeNames, type_at};
+use fv_bundle::{TypeNames, type_at};
 use serde_json::{Map, Value};
 
 /// An object as it is given.

@@ -2,7 +2,7 @@ ghost use Rattle.std.specs.Prelude.{◌≡◌, option_map, IfOk, Ok};
 ghost use Rattle.std.specs.Option.{ForSome};
 ghost use Rattle.serde_json.specs.View.{view as json_view};
 ghost use Rattle.fv_datum.specs.Outcomes.{Gives, first, unless_fault};
-ghost use Rattle.fv_model_types.specs.Types.{Declared, name_at};
+ghost use Rattle.fv_bundle.specs.Types.{Declared, name_at};
 ghost use Rattle.fv_model.specs.Views.{types_view, draft_view, bundle_view};
 ghost use Rattle.fv_model.specs.Reading.{conditions, bundle_of, bundle_read};
 ghost use Rattle.std.specs.Map.{keys_of};
@@ -16,8 +16,7 @@ use crate::fault::BundleFault;
 use crate::faults::{late_fault, name_fault};
 use crate::flaws::draft_flaws;
 use crate::parts::Draft;
-use fv_bundle::Bundle;
-use fv_model_types::{TypeId, Types};
+use fv_bundle::{Bundle, TypeId, Types};
 use serde_json::Value;
 use std::alloc::Global;
 

@@ -7,8 +7,7 @@ ghost use Rattle.fv_model.specs.Setting.{bundle_set};
 
 use crate::fault::BundleFault;
 use crate::given_datum::given_datum;
-use fv_bundle::Bundle;
-use fv_model_types::Types;
+use fv_bundle::{Bundle, Types};
 use serde_json::Value;
 use std::alloc::Global;
 

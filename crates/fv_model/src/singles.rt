@@ -6,12 +6,11 @@ ghost use Rattle.fv_datum.specs.View.{view};
 ghost use Rattle.fv_model.specs.Single.{kept, single_field, single_of};
 ghost use Rattle.fv_model.specs.Views.{types_view, object_view};
 ghost use Rattle.fv_model.specs.Writing.{IsWritten};
-ghost use Rattle.fv_model_types.specs.Types.{fields_view};
+ghost use Rattle.fv_bundle.specs.Types.{fields_view};
 
 use crate::writable::is_writable;
-use fv_bundle::Object;
+use fv_bundle::{Fields, Object, TypeId, Types, use_in};
 use fv_datum::Datum;
-use fv_model_types::{Fields, TypeId, Types, use_in};
 use std::alloc::{AllocError, Global};
 
 /// A copy of a datum where the names are the same, and null elsewhere.

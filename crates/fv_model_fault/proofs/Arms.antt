@@ -7,9 +7,9 @@ use Rattle.fv_datum.specs.Lookup.{at_name}
 use Rattle.fv_model.specs.Reading.{bundle_read}
 use Rattle.fv_model.specs.declared.fault.BundleFault.{BundleFault}
 use Rattle.fv_model.specs.declared.fault.BundleFault.TheVariants.{Shape, UnknownField, WrongKind, DanglingRef, RefType}
-use Rattle.fv_model_types.specs.Flaws.{Flaw}
-use Rattle.fv_model_types.specs.Names.{ObjectTypes}
-use Rattle.fv_model_types.specs.Types.{DeclaredFields, Declared}
+use Rattle.fv_bundle.specs.Flaws.{Flaw}
+use Rattle.fv_bundle.specs.Names.{ObjectTypes}
+use Rattle.fv_bundle.specs.Types.{DeclaredFields, Declared}
 use Rattle.fv_model_fault.specs.Faults.{is_flawed, has_flawed, IsFirstObject, IsInFirst, IsFirstFlaw, HasFault}
 use Rattle.fv_model_fault.specs.Given.{objects_in, type_in, fields_in, types_in}
 use Rattle.fv_model_fault.specs.Places.{Place, of_object}

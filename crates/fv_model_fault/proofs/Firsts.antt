@@ -12,9 +12,9 @@ use Rattle.fv_bundle.specs.Limits.{most_objects}
 use Rattle.fv_model.specs.Reading.{conditions, has_flaw, object_types, bundle_of, bundle_read}
 use Rattle.fv_model.specs.declared.fault.BundleFault.{BundleFault}
 use Rattle.fv_model.specs.declared.fault.BundleFault.TheVariants.{Shape, TooLarge}
-use Rattle.fv_model_types.specs.Flaws.{Flaw, undeclared, misfits, dangles, strays, is_large, is_other}
-use Rattle.fv_model_types.specs.Names.{ObjectTypes}
-use Rattle.fv_model_types.specs.Types.{Declared}
+use Rattle.fv_bundle.specs.Flaws.{Flaw, undeclared, misfits, dangles, strays, is_large, is_other}
+use Rattle.fv_bundle.specs.Names.{ObjectTypes}
+use Rattle.fv_bundle.specs.Types.{Declared}
 use Rattle.fv_model_fault.specs.Faults.{is_badly_named, is_untyped, has_flawed, lacks_root, has_other_root}
 use Rattle.fv_model_fault.specs.Given.{objects_in, type_in, types_in}
 use Rattle.fv_model_fault.specs.Told.{has_fault}

@@ -1,8 +1,8 @@
 -- Steps that lead further.
 use Rattle.std.proofs.Common.{◌≡◌, List, [], ◌∷◌, ◌++◌, Option, Some, None, refl, subst}
 use Rattle.serde_json.specs.Data as json
-use Rattle.fv_model_types.specs.Flaws.{Flaw}
-use Rattle.fv_model_types.specs.Types.{TypeUse}
+use Rattle.fv_bundle.specs.Flaws.{Flaw}
+use Rattle.fv_bundle.specs.Types.{TypeUse}
 use Rattle.fv_model_fault.specs.Places.{Inner}
 use Rattle.fv_model_fault.specs.Sought.{IsFirstInside, LeadsTo}
 

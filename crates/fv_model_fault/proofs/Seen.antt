@@ -4,10 +4,10 @@ use Rattle.std.specs.Map.{keys_of}
 use Rattle.serde_json.specs.Data as json
 use Rattle.fv_bundle.specs.Bundles.{Thing}
 use Rattle.fv_datum.specs.Ascending.{IsAscending}
-use Rattle.fv_model_types.specs.Names.{ObjectTypes}
-use Rattle.fv_model_types.specs.Types.{maps, type_use_view}
-use Rattle.fv_model_types.specs.declared.type_use.TypeUse.{TypeUse, the_lemmas}
-use Rattle.fv_model_types.specs.declared.type_use.TypeUse.TheVariants.{Map as map_use}
+use Rattle.fv_bundle.specs.Names.{ObjectTypes}
+use Rattle.fv_bundle.specs.Types.{maps, type_use_view}
+use Rattle.fv_bundle.specs.declared.type_use.TypeUse.{TypeUse, the_lemmas}
+use Rattle.fv_bundle.specs.declared.type_use.TypeUse.TheVariants.{Map as map_use}
 use Rattle.fv_model_fault.specs.Given.{objects_in, type_in, types_in}
 
 types_named : (os : List (List ℕ × json.Data)) → keys_of os ≡ keys_of (map (λ o. (o.0, type_in o.1)) os)

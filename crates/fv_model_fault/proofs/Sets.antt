@@ -8,8 +8,8 @@ use Rattle.fv_datum.specs.Outcomes.{first}
 use Rattle.fv_model.specs.Setting.{use_of, is_flawed, conditions, datum_for, bundle_set}
 use Rattle.fv_model.specs.declared.fault.BundleFault.{BundleFault}
 use Rattle.fv_model.specs.declared.fault.BundleFault.TheVariants.{Shape, BadName, RootMissing, UnknownType, UnknownField, WrongKind, DanglingRef, RefType, TooLarge, RootType, NoObject, Memory}
-use Rattle.fv_model_types.specs.Names.{ObjectTypes}
-use Rattle.fv_model_types.specs.Types.{TypeUse, Declared}
+use Rattle.fv_bundle.specs.Names.{ObjectTypes}
+use Rattle.fv_bundle.specs.Types.{TypeUse, Declared}
 use Rattle.fv_model_fault.specs.SetPlaces.{types_of}
 use Rattle.fv_model_fault.specs.Sought.{flaw_of}
 use Rattle.fv_model_fault.proofs.Firsts.{holds, fault_of}

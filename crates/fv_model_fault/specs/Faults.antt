@@ -8,8 +8,8 @@ use Rattle.fv_datum.specs.Name.{names}
 use Rattle.fv_bundle.specs.Limits.{most_objects}
 use Rattle.fv_model.specs.declared.fault.BundleFault.{BundleFault}
 use Rattle.fv_model.specs.declared.fault.BundleFault.TheVariants.{BadName, RootMissing, UnknownType, UnknownField, WrongKind, DanglingRef, RefType, TooLarge, RootType}
-use Rattle.fv_model_types.specs.Flaws.{Flaw, is_other}
-use Rattle.fv_model_types.specs.Types.{DeclaredFields, Declared}
+use Rattle.fv_bundle.specs.Flaws.{Flaw, is_other}
+use Rattle.fv_bundle.specs.Types.{DeclaredFields, Declared}
 use Rattle.fv_model_fault.specs.Given.{objects_in, root_in, type_in, fields_in, types_in}
 use Rattle.fv_model_fault.specs.Places.{Place, of_bundle, of_object}
 use Rattle.fv_model_fault.specs.Sought.{flaw_of, HasFlaw}

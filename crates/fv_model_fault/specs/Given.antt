@@ -5,7 +5,7 @@ use Rattle.serde_json.specs.Data as json
 use Rattle.serde_json.specs.Find.{as_str, as_object}
 use Rattle.fv_datum.specs.Forms.{required}
 use Rattle.fv_datum.specs.Members.{pairs}
-use Rattle.fv_model_types.specs.Names.{ObjectTypes}
+use Rattle.fv_bundle.specs.Names.{ObjectTypes}
 
 -- the objects by their names, in order: none where they aren't given
 abbrev pub objects_in : json.Data → List (List ℕ × json.Data)

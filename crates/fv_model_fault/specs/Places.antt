@@ -1,7 +1,7 @@
 -- Places in the JSON of a bundle.
 use Rattle.std.specs.Prelude.{◌≡◌, ℕ, List, [], Option, Some, None}
 use Rattle.serde_json.specs.Data as json
-use Rattle.fv_model_types.specs.Types.{TypeUse, lists, optionals}
+use Rattle.fv_bundle.specs.Types.{TypeUse, lists, optionals}
 
 -- one step: to the item of an index, from 0, of an array, or to the value of an object at a key
 pub data Inner : Type 0 where

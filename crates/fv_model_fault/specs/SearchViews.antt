@@ -4,10 +4,10 @@ use Rattle.std.specs.Borrow.{Bor}
 use Rattle.serde_json.specs.Data as json
 use Rattle.serde_json.specs.View.{view as json_view}
 use Rattle.serde_json.specs.declared.value.Value.{Value}
-use Rattle.fv_model_types.specs.Flaws.{Flaw}
-use Rattle.fv_model_types.specs.Names.{object_types_view}
-use Rattle.fv_model_types.specs.Types.{TypeUse, type_use_view}
-use Rattle.fv_model_types.specs.declared.type_use.TypeUse as code
+use Rattle.fv_bundle.specs.Flaws.{Flaw}
+use Rattle.fv_bundle.specs.Names.{object_types_view}
+use Rattle.fv_bundle.specs.Types.{TypeUse, type_use_view}
+use Rattle.fv_bundle.specs.declared.type_use.TypeUse as code
 use Rattle.fv_model_fault.specs.Sought.{IsFirstInside, flaw_of}
 use Rattle.fv_model_fault.specs.Views.{inner_view}
 use Rattle.fv_model_fault.specs.declared.place.Inner.{Inner}

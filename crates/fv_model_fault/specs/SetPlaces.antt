@@ -6,8 +6,8 @@ use Rattle.fv_datum.specs.Lookup.{at_name}
 use Rattle.fv_model.specs.Setting.{use_of}
 use Rattle.fv_model.specs.declared.fault.BundleFault.{BundleFault}
 use Rattle.fv_model.specs.declared.fault.BundleFault.TheVariants.{UnknownField, NoObject}
-use Rattle.fv_model_types.specs.Names.{ObjectTypes}
-use Rattle.fv_model_types.specs.Types.{TypeUse, Declared}
+use Rattle.fv_bundle.specs.Names.{ObjectTypes}
+use Rattle.fv_bundle.specs.Types.{TypeUse, Declared}
 use Rattle.fv_model_fault.specs.Places.{Place, IsAlone}
 use Rattle.fv_model_fault.specs.Sought.{HasFlaw, flaw_of}
 

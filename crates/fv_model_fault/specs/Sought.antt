@@ -5,10 +5,10 @@ use Rattle.serde_json.specs.Data as json
 use Rattle.fv_first.specs.First.{first_where}
 use Rattle.fv_model.specs.declared.fault.BundleFault.{BundleFault}
 use Rattle.fv_model.specs.declared.fault.BundleFault.TheVariants.{UnknownField, WrongKind, DanglingRef, RefType, TooLarge}
-use Rattle.fv_model_types.specs.Flaws.{Flaw, undeclared, misfits, dangles, strays, is_large, items_in, members_in}
-use Rattle.fv_model_types.specs.Held.{values}
-use Rattle.fv_model_types.specs.Names.{ObjectTypes}
-use Rattle.fv_model_types.specs.Types.{TypeUse, lists, maps, optionals}
+use Rattle.fv_bundle.specs.Flaws.{Flaw, undeclared, misfits, dangles, strays, is_large, items_in, members_in}
+use Rattle.fv_bundle.specs.Held.{values}
+use Rattle.fv_bundle.specs.Names.{ObjectTypes}
+use Rattle.fv_bundle.specs.Types.{TypeUse, lists, maps, optionals}
 use Rattle.fv_model_fault.specs.Places.{Inner, item, member, Place, item_use}
 
 -- the flaw of a given datum that a fault is, among objects of these types: none has it where the fault is no flaw of a datum

@@ -5,7 +5,7 @@ use Rattle.serde_json.specs.Data as json
 use Rattle.fv_bundle.specs.Limits.{most_objects}
 use Rattle.fv_model.specs.declared.fault.BundleFault.{BundleFault}
 use Rattle.fv_model.specs.declared.fault.BundleFault.TheVariants.{BadName, RootMissing, UnknownType, UnknownField, WrongKind, DanglingRef, RefType, TooLarge, RootType}
-use Rattle.fv_model_types.specs.Types.{Declared}
+use Rattle.fv_bundle.specs.Types.{Declared}
 use Rattle.fv_model_fault.specs.Faults.{is_badly_named, is_untyped, has_flawed, lacks_root, has_other_root}
 use Rattle.fv_model_fault.specs.Given.{objects_in, types_in}
 use Rattle.fv_model_fault.specs.Sought.{flaw_of}

@@ -4,7 +4,7 @@ use Rattle.std.specs.Borrow.{Bor}
 use Rattle.serde_json.specs.Data as json
 use Rattle.serde_json.specs.View.{view as json_view}
 use Rattle.serde_json.specs.declared.value.Value.{Value}
-use Rattle.fv_model_types.specs.Types.{type_use_view}
+use Rattle.fv_bundle.specs.Types.{type_use_view}
 use Rattle.fv_model_fault.specs.Places as spec
 use Rattle.fv_model_fault.specs.declared.place.Inner.{Inner}
 use Rattle.fv_model_fault.specs.declared.place.Inner.TheVariants as code

@@ -1,7 +1,7 @@
 //! From a datum that has a flaw to the innermost value that has it.
 ghost use Rattle.std.specs.Prelude.{◌≡◌, true, IfOk, Some, option_map};
 ghost use Rattle.serde_json.specs.View.{view as json_view};
-ghost use Rattle.fv_model_types.specs.Types.{type_use_view};
+ghost use Rattle.fv_bundle.specs.Types.{type_use_view};
 ghost use Rattle.fv_model_fault.specs.Places.{IsAlone};
 ghost use Rattle.fv_model_fault.specs.SearchViews.{sought};
 ghost use Rattle.fv_model_fault.specs.Sought.{HasFlaw};
@@ -9,7 +9,7 @@ ghost use Rattle.fv_model_fault.specs.Views.{place_view};
 
 use crate::place::FaultPlace;
 use crate::search::Search;
-use fv_model_types::TypeUse;
+use fv_bundle::TypeUse;
 use serde_json::Value;
 use std::alloc::AllocError;
 

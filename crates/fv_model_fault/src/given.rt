@@ -2,11 +2,11 @@
 ghost use Rattle.std.specs.Prelude.{◌≡◌, map, IfOk};
 ghost use Rattle.serde_json.specs.View.{view as json_view, members_view};
 ghost use Rattle.fv_datum.specs.Members.{pairs};
-ghost use Rattle.fv_model_types.specs.Names.{object_types_view};
+ghost use Rattle.fv_bundle.specs.Names.{object_types_view};
 ghost use Rattle.fv_model_fault.specs.Given.{root_in, type_in};
 
 use fv_datum::text_at;
-use fv_model_types::TypeNames;
+use fv_bundle::TypeNames;
 use indexmap::IndexMap;
 use serde_json::{Map, Value};
 use std::alloc::{AllocError, Global};

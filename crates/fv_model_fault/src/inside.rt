@@ -2,16 +2,16 @@
 ghost use Rattle.std.specs.Prelude.{◌≡◌, IfOk, IfSome, Some, is_some};
 ghost use Rattle.std.specs.List.{list_any};
 ghost use Rattle.serde_json.specs.View.{view as json_view};
-ghost use Rattle.fv_model_types.specs.Flaws.{items_in, members_in};
-ghost use Rattle.fv_model_types.specs.Held.{values};
-ghost use Rattle.fv_model_types.specs.Types.{TypeUse as AnyUse, type_use_view};
+ghost use Rattle.fv_bundle.specs.Flaws.{items_in, members_in};
+ghost use Rattle.fv_bundle.specs.Held.{values};
+ghost use Rattle.fv_bundle.specs.Types.{TypeUse as AnyUse, type_use_view};
 ghost use Rattle.fv_model_fault.specs.Places.{item_use};
 ghost use Rattle.fv_model_fault.specs.SearchViews.{sought, IsNext};
 ghost use Rattle.fv_model_fault.specs.Sought.{has_inside};
 
 use crate::place::Inner;
 use crate::search::Search;
-use fv_model_types::TypeUse;
+use fv_bundle::TypeUse;
 use serde_json::Value;
 use std::alloc::AllocError;
 

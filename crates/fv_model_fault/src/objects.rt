@@ -3,8 +3,8 @@ ghost use Rattle.std.specs.Prelude.{◌≡◌, IfOk, IfSome, find, is_some, opti
 ghost use Rattle.std.specs.List.{list_any};
 ghost use Rattle.serde_json.specs.View.{view as json_view, members_view};
 ghost use Rattle.fv_datum.specs.Members.{pairs};
-ghost use Rattle.fv_model_types.specs.TypesView.{types_view};
-ghost use Rattle.fv_model_types.specs.Types.{fields_view};
+ghost use Rattle.fv_bundle.specs.TypesView.{types_view};
+ghost use Rattle.fv_bundle.specs.Types.{fields_view};
 ghost use Rattle.fv_model_fault.specs.Faults.{is_badly_named, is_untyped, is_flawed, has_flawed, IsInObject, IsInFirst};
 ghost use Rattle.fv_model_fault.specs.SearchViews.{sought};
 ghost use Rattle.fv_model_fault.specs.Views.{member_view, place_view};
@@ -13,7 +13,7 @@ use crate::given::type_of;
 use crate::place::FaultPlace;
 use crate::search::Search;
 use fv_datum::{is_name, object_at};
-use fv_model_types::{Fields, Types, use_in};
+use fv_bundle::{Fields, Types, use_in};
 use serde_json::{Map, Value};
 use std::alloc::AllocError;
 

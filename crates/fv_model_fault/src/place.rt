@@ -1,4 +1,4 @@
-use fv_model_types::TypeUse;
+use fv_bundle::TypeUse;
 use serde_json::Value;
 
 /// One step from a datum to one that stands in it.

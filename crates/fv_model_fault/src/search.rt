@@ -1,13 +1,13 @@
 //! Whether a datum has the flaw that is looked for.
 ghost use Rattle.std.specs.Prelude.{◌≡◌, Some, IfOk, option_map};
 ghost use Rattle.serde_json.specs.View.{view as json_view};
-ghost use Rattle.fv_model_types.specs.Flaws.{misfits};
-ghost use Rattle.fv_model_types.specs.Types.{type_use_view};
+ghost use Rattle.fv_bundle.specs.Flaws.{misfits};
+ghost use Rattle.fv_bundle.specs.Types.{type_use_view};
 ghost use Rattle.fv_model_fault.specs.SearchViews.{sought};
 
 use fv_datum::DatumFault;
 use fv_model::BundleFault;
-use fv_model_types::{TypeNames, TypeUse, flaws_of, read_use};
+use fv_bundle::{TypeNames, TypeUse, flaws_of, read_use};
 use serde_json::Value;
 use std::alloc::{AllocError, Global};
 

@@ -10,8 +10,8 @@ use Rattle.serde_json.specs.Written.{items_outline}
 use Rattle.fv_datum.specs.Data as datum
 use Rattle.fv_datum.specs.Data.{Data, items_of, entries_of}
 use Rattle.fv_datum.specs.Written.{key_of, keys_fit, written, entries_written}
-use Rattle.fv_model_types.specs.Writing.{IsWritten, datum_json}
-use Rattle.fv_model_types.proofs.Back.{some_json, items_json}
+use Rattle.fv_bundle.specs.Writing.{IsWritten, datum_json}
+use Rattle.fv_bundle.proofs.Back.{some_json, items_json}
 use Rattle.fv_model_text.proofs.InOrder.{Named, members_of, rises, put_all, put_all-first}
 
 -- ---- lists

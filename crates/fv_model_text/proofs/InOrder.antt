@@ -14,7 +14,7 @@ use Rattle.serde_json.specs.Written.{members_outline}
 use Rattle.fv_datum.specs.Data.{Data}
 use Rattle.fv_datum.specs.Written.{is_null}
 use Rattle.fv_bundle.specs.Bundles.{IsAscending, Thing, Things}
-use Rattle.fv_model_types.specs.Writing.{datum_json}
+use Rattle.fv_bundle.specs.Writing.{datum_json}
 use Rattle.fv_model.specs.Writing.{thing_json}
 
 abbrev pub Named : Type 0

@@ -11,7 +11,7 @@ use Rattle.serde_json.specs.Written.{has_float, items_have_float, members_have_f
 use Rattle.fv_datum.specs.Data.{Data, null, text, integer, decimal, boolean, date, instant, reference, list, map, optional, Items, no_items, item, Entries, no_entries, entry}
 use Rattle.fv_datum.specs.Written.{is_null, key_of, keys_fit, written, items_written, entries_written}
 use Rattle.fv_bundle.specs.Bundles.{Thing, Bundled}
-use Rattle.fv_model_types.specs.Writing.{datum_json}
+use Rattle.fv_bundle.specs.Writing.{datum_json}
 use Rattle.fv_model.specs.Writing.{thing_json, bundle_json}
 use Rattle.fv_model_text.proofs.InOrder.{added, objects_added}
 

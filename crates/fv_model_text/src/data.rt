@@ -2,7 +2,7 @@
 ghost use Rattle.std.specs.Prelude.{◌≡◌, OnOk};
 ghost use Rattle.fv_datum.specs.Data as datum;
 ghost use Rattle.fv_datum.specs.View.{view, items_view, entries_view};
-ghost use Rattle.fv_model_types.specs.Writing.{IsWritten, datum_json};
+ghost use Rattle.fv_bundle.specs.Writing.{IsWritten, datum_json};
 ghost use Rattle.fv_model_text.specs.Puts.{Puts};
 
 use crate::halt::Halt;

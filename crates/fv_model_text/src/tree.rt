@@ -5,7 +5,7 @@ ghost use Rattle.serde_json.specs.Data as json;
 ghost use Rattle.serde_json.specs.View.{view as json_view, members_view};
 ghost use Rattle.fv_datum.specs.View.{view};
 ghost use Rattle.fv_bundle.specs.Views.{object_view, objects_view, bundle_view};
-ghost use Rattle.fv_model_types.specs.Writing.{IsWritten, datum_json};
+ghost use Rattle.fv_bundle.specs.Writing.{IsWritten, datum_json};
 ghost use Rattle.fv_model.specs.Writing.{fields_json, thing_json, bundle_json};
 
 use fv_bundle::{Bundle, Object, Objects};

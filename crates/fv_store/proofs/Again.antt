@@ -2,7 +2,7 @@
 use Rattle.std.proofs.Common.{◌≡◌, ℕ, List, Bool, true, false, cond, Option, Some, None, Ok, bytes_eq, option_map, option_and_then, refl, ap, subst}
 use Rattle.std.proofs.Math.Path.{fun_ext}
 use Rattle.fv_datum.specs.Lookup.{at_name}
-use Rattle.fv_model_types.specs.Types.{Declared, FieldsApart}
+use Rattle.fv_bundle.specs.Types.{Declared, FieldsApart}
 use Rattle.fv_bundle.specs.Bundles.{Bundled}
 use Rattle.fv_model.specs.Reading.{bundle_read}
 use Rattle.fv_model.specs.Writing.{bundle_json, bundle_written}

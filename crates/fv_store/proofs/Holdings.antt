@@ -7,7 +7,7 @@ use Rattle.fv_bundle.specs.Views.{object_view}
 use Rattle.std.specs.Option.{ForSome}
 use Rattle.sqlite.specs.State.{State, HasCleanDisk}
 use Rattle.fv_datum.specs.Outcomes.{Gives}
-use Rattle.fv_model_types.specs.Types.{Declared, has_deep}
+use Rattle.fv_bundle.specs.Types.{Declared, has_deep}
 use Rattle.fv_bundle.specs.WellTyped.{IsWellTyped}
 use Rattle.fv_store.specs.declared.change.Change.{Change}
 use Rattle.fv_store.specs.declared.change.Change.TheVariants.{Put, Object, Remove}

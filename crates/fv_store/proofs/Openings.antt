@@ -16,7 +16,7 @@ use Rattle.fv_store.specs.Stands.{Frame, Stands, StandsFirst, Holds, HoldsFirst,
 use Rattle.fv_store.specs.Steps.{Keeps, IsTaken, IsTakenAs, IsCaused, IsRefusal, IsOpenExcused, IsUpgraded}
 use Rattle.fv_store.specs.Stored.{Told, told}
 use Rattle.fv_store.proofs.Upgraded.{upgraded_olds}
-use Rattle.fv_model_types.specs.Types.{has_deep}
+use Rattle.fv_bundle.specs.Types.{has_deep}
 use Rattle.fv_tables.specs.Stands as tables
 
 -- a frame says nothing of the limit on steps

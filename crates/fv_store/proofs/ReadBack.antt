@@ -19,14 +19,14 @@ use Rattle.serde_json.proofs.Texts.{print-outline}
 use Rattle.fv_datum.specs.Data as datum
 use Rattle.fv_datum.specs.Lookup.{at_name}
 use Rattle.fv_datum.specs.Written.{is_null}
-use Rattle.fv_model_types.specs.Types.{TypeUse, DeclaredFields, Declared, nested, deep_in, has_deep}
+use Rattle.fv_bundle.specs.Types.{TypeUse, DeclaredFields, Declared, nested, deep_in, has_deep}
 use Rattle.fv_datum.proofs.Bools.{or_left, or_right}
 use Rattle.fv_datum.proofs.Lists.{none_each}
-use Rattle.fv_model_types.proofs.Members.{all_put, ascending_put, put_again}
-use Rattle.fv_model_types.proofs.PlainJson.{IsWhole, IsPlain, ArePlainItems, ArePlain, IsFlat, Fields, no_fields, fits_flat}
+use Rattle.fv_bundle.proofs.Members.{all_put, ascending_put, put_again}
+use Rattle.fv_bundle.proofs.PlainJson.{IsWhole, IsPlain, ArePlainItems, ArePlain, IsFlat, Fields, no_fields, fits_flat}
 use Rattle.fv_bundle.specs.Bundles.{Thing, Things, Bundled}
 use Rattle.fv_bundle.specs.WellTyped.{NamesObject, FitsUse, FieldsAre, FitsType, IsWellTyped}
-use Rattle.fv_model_types.specs.Writing.{datum_json}
+use Rattle.fv_bundle.specs.Writing.{datum_json}
 use Rattle.fv_model.specs.Writing.{thing_json, bundle_json}
 use Rattle.fv_store.specs.Texts.{bundle_text}
 

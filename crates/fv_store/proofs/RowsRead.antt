@@ -15,7 +15,7 @@ use Rattle.fv_bundle.specs.WellTyped.{FitsType, IsWellTyped}
 use Rattle.fv_datum.proofs.Fronts.{with_front, front_more, front_none}
 use Rattle.fv_datum.specs.Members.{each_some}
 use Rattle.fv_model.specs.Writing.{named_written}
-use Rattle.fv_model_types.specs.Types.{Declared, has_deep}
+use Rattle.fv_bundle.specs.Types.{Declared, has_deep}
 use Rattle.fv_store.specs.ReadRows.{row_read}
 use Rattle.fv_store.specs.Records.{Kept}
 use Rattle.fv_store.specs.Stored.{text_of, text_view}

@@ -1,6 +1,6 @@
 -- What changes make of the records.
 use Rattle.std.specs.Prelude.{◌≡◌, List, [], ◌∷◌, Some, string_bytes}
-use Rattle.fv_model_types.specs.Types.{Declared}
+use Rattle.fv_bundle.specs.Types.{Declared}
 use Rattle.fv_bundle.specs.Views.{object_view}
 use Rattle.fv_store.specs.declared.change.Change.{Change}
 use Rattle.fv_store.specs.declared.change.Change.TheVariants.{Put, Object, Remove}

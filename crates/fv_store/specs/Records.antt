@@ -2,7 +2,7 @@
 use Rattle.std.specs.Prelude.{◌≡◌, ℕ, List, Option, Some, None, option_map, if◌then◌else◌}
 use Rattle.std.specs.Str.{bytes_eq}
 use Rattle.fv_datum.specs.Lookup.{at_name}
-use Rattle.fv_model_types.specs.Types.{Declared}
+use Rattle.fv_bundle.specs.Types.{Declared}
 use Rattle.fv_bundle.specs.Bundles.{Bundled, Thing}
 use Rattle.fv_bundle.specs.Replaced.{changed_at}
 use Rattle.fv_bundle.specs.WellTyped.{IsWellTyped, HasRootType}

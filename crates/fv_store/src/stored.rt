@@ -2,7 +2,7 @@
 ghost use Rattle.std.specs.Prelude.{◌≡◌, Ok, Option, option_map, IfOk, IfSome};
 ghost use Rattle.std.specs.Option.{ForSome};
 ghost use Rattle.fv_datum.specs.Outcomes.{Gives};
-ghost use Rattle.fv_model_types.specs.TypesView.{types_view};
+ghost use Rattle.fv_bundle.specs.TypesView.{types_view};
 ghost use Rattle.fv_bundle.specs.Views.{bundle_view};
 ghost use Rattle.fv_bundle.specs.WellTyped.{IsWellTyped};
 ghost use Rattle.fv_store.specs.Records.{Kept};
@@ -12,8 +12,7 @@ ghost use Rattle.fv_tables.specs.Stored.{rows_view};
 
 use crate::fault::StoreFault;
 use crate::reading::bundle_of;
-use fv_bundle::Bundle;
-use fv_model_types::Types;
+use fv_bundle::{Bundle, Types};
 use fv_tables::RecordRows;
 use std::alloc::Global;
 

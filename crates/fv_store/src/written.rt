@@ -1,7 +1,7 @@
 //! A record as its rows write it, with no types.
 ghost use Rattle.std.specs.Prelude.{◌≡◌, false, IfOk, Option, option_map};
 ghost use Rattle.std.specs.Option.{ForSome};
-ghost use Rattle.fv_model_types.specs.Types.{Declared, has_deep};
+ghost use Rattle.fv_bundle.specs.Types.{Declared, has_deep};
 ghost use Rattle.fv_bundle.specs.WellTyped.{IsWellTyped};
 ghost use Rattle.fv_store.specs.Records.{Kept};
 ghost use Rattle.fv_store.specs.Stored.{text_of, text_view, untyped, written_view};

@@ -12,9 +12,9 @@ use Rattle.fv_model.specs.Reading.{fields_of}
 use Rattle.fv_model.specs.Single.{kept, single_field, single_thing, single_of}
 use Rattle.fv_bundle.specs.WellTyped.{AnyName, AreOfFields, IsOfType}
 use Rattle.fv_walk.specs.Properties.{field_number}
-use Rattle.fv_model_types.specs.Fits.{Fits}
-use Rattle.fv_model_types.specs.Types.{TypeUse, DeclaredFields, Declared, AreApart, name_at, fields_at}
-use Rattle.fv_model_types.proofs.Back.{fits_writable}
+use Rattle.fv_bundle.specs.Fits.{Fits}
+use Rattle.fv_bundle.specs.Types.{TypeUse, DeclaredFields, Declared, AreApart, name_at, fields_at}
+use Rattle.fv_bundle.proofs.Back.{fits_writable}
 use Rattle.fv_validate.specs.Values.{FitsField, field_use, valued}
 
 module _ (ts : Declared) (type name : List ℕ) (d : Data) (fields : DeclaredFields) (declared : at_name type ts ≡ Some fields) where

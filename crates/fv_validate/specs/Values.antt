@@ -6,8 +6,8 @@ use Rattle.fv_bundle.specs.Bundles.{Thing}
 use Rattle.fv_model.specs.Reading.{fields_of}
 use Rattle.fv_model.specs.Single.{single_field}
 use Rattle.fv_bundle.specs.WellTyped.{AnyName}
-use Rattle.fv_model_types.specs.Fits.{Fits}
-use Rattle.fv_model_types.specs.Types.{TypeUse, Declared}
+use Rattle.fv_bundle.specs.Fits.{Fits}
+use Rattle.fv_bundle.specs.Types.{TypeUse, Declared}
 
 -- what the field of a name holds in the type of a name; none where the type isn't declared, or has no such field
 abbrev pub field_use : Declared → List ℕ → List ℕ → Option TypeUse

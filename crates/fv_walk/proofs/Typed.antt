@@ -6,9 +6,9 @@ use Rattle.fv_datum.specs.Lookup.{at_name}
 use Rattle.fv_datum.specs.Name.{names}
 use Rattle.fv_bundle.specs.Bundles.{Thing, Things, Bundled}
 use Rattle.fv_bundle.specs.WellTyped.{AnyName, NamesObject, FieldsAre, FitsType, IsWellTyped, AreOfFields, IsOfType}
-use Rattle.fv_model_types.specs.Fits.{Referring, OrNull, IsOfUse, Fits}
-use Rattle.fv_model_types.specs.Types.{TypeUse, texts, integers, decimals, booleans, dates, instants, references, lists, maps, optionals, DeclaredFields, Declared}
-use Rattle.fv_model_types.proofs.Back.{fits_writable}
+use Rattle.fv_bundle.specs.Fits.{Referring, OrNull, IsOfUse, Fits}
+use Rattle.fv_bundle.specs.Types.{TypeUse, texts, integers, decimals, booleans, dates, instants, references, lists, maps, optionals, DeclaredFields, Declared}
+use Rattle.fv_bundle.proofs.Back.{fits_writable}
 use Rattle.fv_declare_schema.specs.Declarations.{Declarations}
 use Rattle.fv_declare_schema.specs.Ordered.{AreOrdered}
 use Rattle.fv_walk_request.proofs.Objects.{found_all}

@@ -8,7 +8,7 @@ use Rattle.fv_registry.specs.Meanings.{Meanings}
 use Rattle.fv_walk_request.specs.Requests.{request_of}
 use Rattle.fv_walk_traces.specs.OneField.{IsViolationOfField}
 use Rattle.fv_walk_traces.specs.Violations.{Violation}
-use Rattle.fv_model_types.specs.Types.{Declared}
+use Rattle.fv_bundle.specs.Types.{Declared}
 
 -- the bundle of this object alone, which is its root, under the empty name: no path tells a root's name
 abbrev pub alone : Thing → Bundled

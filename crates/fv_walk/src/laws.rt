@@ -9,7 +9,7 @@ ghost use Rattle.fv_bundle.specs.WellTyped.{IsWellTyped, IsOfType};
 ghost use Rattle.fv_walk.specs.Properties.{IsViolationIn};
 ghost use Rattle.fv_registry.specs.Meanings.{Meanings};
 ghost use Rattle.fv_walk_traces.specs.Violations.{Violation};
-ghost use Rattle.fv_model_types.specs.Types.{Declared};
+ghost use Rattle.fv_bundle.specs.Types.{Declared};
 
 /// Each object of a well-typed bundle is of its type.
 pub fn objects_are_of_their_types()

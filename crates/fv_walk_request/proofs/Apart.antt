@@ -26,7 +26,7 @@ use Rattle.fv_walk_traces.specs.Requests.{Own, Plain, InRanks, Request}
 use Rattle.fv_walk_traces.specs.Turns as turn
 use Rattle.fv_walk_traces.specs.Turns.{Spot, LocalFailure, Way}
 use Rattle.fv_walk_traces.specs.Violations.{Violation, but_named, nodes_to, value_at, IsViolation}
-use Rattle.fv_model_types.specs.Types.{number_of}
+use Rattle.fv_bundle.specs.Types.{number_of}
 use Rattle.fv_declare_schema.specs.Places.{Place, whole, field}
 use Rattle.fv_walk_request.specs.Sound.{IsSound}
 use Rattle.fv_walk_request.specs.Requests.{object_at, request_of}

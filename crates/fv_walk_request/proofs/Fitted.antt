@@ -5,8 +5,8 @@ use Rattle.fv_datum.specs.Data.{Data, null, text, integer, decimal, boolean, dat
 use Rattle.fv_datum.specs.Name.{names}
 use Rattle.fv_bundle.specs.Bundles.{Things}
 use Rattle.fv_bundle.specs.WellTyped.{NamesObject, FieldsAre}
-use Rattle.fv_model_types.specs.Fits.{Referring, OrNull, Fits, IsOfUse}
-use Rattle.fv_model_types.specs.Types.{TypeUse, texts, integers, decimals, booleans, dates, instants, references, lists, maps, optionals, DeclaredFields}
+use Rattle.fv_bundle.specs.Fits.{Referring, OrNull, Fits, IsOfUse}
+use Rattle.fv_bundle.specs.Types.{TypeUse, texts, integers, decimals, booleans, dates, instants, references, lists, maps, optionals, DeclaredFields}
 use Rattle.fv_walk_request.specs.Loci.{IsIndexed, AreIndexed, EntriesIndexed}
 
 -- what holds of a datum, by what it is

@@ -7,7 +7,7 @@ use Rattle.fv_datum.specs.Written.{is_text, key_of, below_first, keys_fit}
 use Rattle.fv_extract.specs.Parts.{at_index, at_key, Locus, items_from, keys_in, values_in, inside, below, parts_of}
 use Rattle.fv_extract.specs.Places as to
 use Rattle.fv_extract.proofs.Writable.{CanBeWritten, keys_of_written, inside_can}
-use Rattle.fv_model_types.specs.Writing.{IsWritten}
+use Rattle.fv_bundle.specs.Writing.{IsWritten}
 use Rattle.fv_walk_request.specs.Loci.{leads, IsIndexed, AreIndexed, EntriesIndexed}
 
 -- the steps lead to a part

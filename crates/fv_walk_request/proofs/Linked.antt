@@ -12,7 +12,7 @@ use Rattle.fv_declare_schema.specs.ValidPlaces.{ValidPlace}
 use Rattle.fv_bundle.specs.Bundles.{Thing, Things, Bundled}
 use Rattle.fv_graph.proofs.Images.{from_flat_map, from_map}
 use Rattle.fv_walk_traces.specs.Turns as turn
-use Rattle.fv_model_types.specs.Types.{number_of}
+use Rattle.fv_bundle.specs.Types.{number_of}
 use Rattle.fv_walk_request.specs.declared.way.Way.{Way}
 use Rattle.fv_walk_request.specs.Conversions.{convert, converted_among, valid_places_of, valid_places_at}
 use Rattle.fv_walk_request.specs.Graphs.{Link, way_view, link_view, links_among, links_at, links_of, ways_view}

@@ -7,7 +7,7 @@ use Rattle.fv_extract.specs.Parts.{at_index, at_key, Locus, parts_of}
 use Rattle.fv_extract.specs.Places as to
 use Rattle.fv_extract.proofs.Loci.{parts_differ}
 use Rattle.fv_extract.specs.Pairs.{Pairwise, Differ}
-use Rattle.fv_model_types.specs.Writing.{IsWritten}
+use Rattle.fv_bundle.specs.Writing.{IsWritten}
 use Rattle.fv_path.specs.Nodes.{PathNode, index, key}
 use Rattle.fv_walk_request.specs.Loci.{leads, IsIndexed}
 use Rattle.fv_walk_request.specs.Paths.{nodes_of}

@@ -22,7 +22,7 @@ use Rattle.fv_graph.proofs.Images.{from_flat_map, from_filter_map}
 use Rattle.fv_walk_traces.specs.Turns.{Way}
 use Rattle.fv_walk_traces.specs.Violations.{but_named}
 use Rattle.fv_datum.specs.Ascending.{IsAscending}
-use Rattle.fv_model_types.specs.Types.{TypeUse, texts, integers, decimals, booleans, dates, instants, references, lists, maps, optionals, nested, kind_of, DeclaredFields, number_of}
+use Rattle.fv_bundle.specs.Types.{TypeUse, texts, integers, decimals, booleans, dates, instants, references, lists, maps, optionals, nested, kind_of, DeclaredFields, number_of}
 use Rattle.fv_walk_request.specs.Conversions.{valid_places_of, valid_places_at}
 use Rattle.fv_walk_request.specs.Requests.{object_at, datum_at}
 use Rattle.fv_walk_request.specs.Sound.{IsSound}

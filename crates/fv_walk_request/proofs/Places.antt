@@ -12,7 +12,7 @@ use Rattle.fv_graph.proofs.Lists.{eq_of, eq_same}
 use Rattle.fv_graph.specs.Graph.{IsIn}
 use Rattle.fv_declare_schema.specs.ValidPlaces.{ValidPlace}
 use Rattle.fv_bundle.specs.Bundles.{Thing}
-use Rattle.fv_model_types.specs.Types.{number_of}
+use Rattle.fv_bundle.specs.Types.{number_of}
 use Rattle.fv_walk_request.specs.Conversions.{convert, is_same_step, stands_at, converted_among, valid_places_of, valid_places_at}
 use Rattle.fv_walk_request.specs.Ways.{place_of}
 

@@ -6,7 +6,7 @@ use Rattle.fv_declare_schema.specs.Declarations.{Declarations}
 use Rattle.fv_extract.specs.Places.{Step, element, key, value, content, Place}
 use Rattle.fv_declare_schema.specs.ValidPlaces.{ValidPlace}
 use Rattle.fv_bundle.specs.Bundles.{Thing}
-use Rattle.fv_model_types.specs.Types.{number_of}
+use Rattle.fv_bundle.specs.Types.{number_of}
 
 -- the group that these conversions make of a group: that of the first of exactly this group, applied once; the group itself where none is
 -- of it

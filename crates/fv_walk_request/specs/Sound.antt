@@ -3,7 +3,7 @@ use Rattle.std.specs.Prelude.{◌≡◌, ℕ, List, true, Some, slice_get}
 use Rattle.fv_datum.specs.Data.{Data}
 use Rattle.fv_datum.specs.Name.{names}
 use Rattle.fv_bundle.specs.Bundles.{Thing}
-use Rattle.fv_model_types.specs.Writing.{IsWritten}
+use Rattle.fv_bundle.specs.Writing.{IsWritten}
 use Rattle.fv_walk_request.specs.Loci.{IsIndexed}
 
 -- each field of the object has a name, and holds a datum that can be written and whose indices are small

@@ -4,7 +4,7 @@ use Rattle.std.specs.List.{AllByRecursion}
 use Rattle.std.proofs.lemmas.List.Elements.{recursion_from_All}
 use Rattle.std.proofs.lemmas.Slice.Eq.{bytes_eq-Decides}
 use Rattle.fv_datum.specs.Lookup.{at_name}
-use Rattle.fv_model_types.specs.Types.{AreApart}
+use Rattle.fv_bundle.specs.Types.{AreApart}
 use Rattle.fv_widening.specs.Narrowed.{found_from}
 
 pub both_none : {P : Type 0} (xs ys : List P) → xs ++ ys ≡ [] → (xs ≡ []) × (ys ≡ [])

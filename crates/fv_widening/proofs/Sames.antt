@@ -1,7 +1,7 @@
 -- Type uses pass the test exactly where they are the same.
 use Rattle.std.proofs.Common.{◌≡◌, true, refl, ap}
 use Rattle.std.proofs.lemmas.Slice.Eq.{bytes_eq-Decides}
-use Rattle.fv_model_types.specs.Types.{TypeUse, texts, integers, decimals, booleans, dates, instants, references, lists, maps, optionals}
+use Rattle.fv_bundle.specs.Types.{TypeUse, texts, integers, decimals, booleans, dates, instants, references, lists, maps, optionals}
 use Rattle.fv_widening.specs.Same.{is_same}
 
 pub same_use : (u v : TypeUse) → is_same u v ≡ true → u ≡ v

@@ -5,7 +5,7 @@ use Rattle.std.proofs.lemmas.List.Elements.{recursion_from_All}
 use Rattle.std.proofs.lemmas.Slice.Eq.{bytes_eq-Decides}
 use Rattle.fv_datum.proofs.Lists.{each_of}
 use Rattle.fv_datum.specs.Lookup.{at_name}
-use Rattle.fv_model_types.specs.Types.{TypeUse, DeclaredFields, Declared, AreApart, FieldsApart}
+use Rattle.fv_bundle.specs.Types.{TypeUse, DeclaredFields, Declared, AreApart, FieldsApart}
 use Rattle.fv_widening.specs.Narrowed.{found_in, use_narrowed, field_narrowed, fields_narrowed, type_narrowed, named_narrowed, types_narrowed, root_narrowed, form_narrowed, forms_narrowed, narrowed}
 use Rattle.fv_widening.specs.Same.{is_same}
 use Rattle.fv_widening.specs.Widens.{HasAll, HasTypes, Forms, Widens}

@@ -3,7 +3,7 @@ use Rattle.std.specs.Prelude.{ℕ, suc, List, [], ◌∷◌, ◌++◌, slice_get
 use Rattle.std.specs.Option.{option_map_or}
 use Rattle.std.specs.Str.{bytes_eq}
 use Rattle.fv_datum.specs.Lookup.{at_name}
-use Rattle.fv_model_types.specs.Types.{TypeUse, DeclaredFields, Declared, name_at}
+use Rattle.fv_bundle.specs.Types.{TypeUse, DeclaredFields, Declared, name_at}
 use Rattle.fv_widening.specs.Same.{is_same}
 use Rattle.fv_widening.specs.Widens.{Forms}
 use Rattle.fv_widening.specs.declared.narrowing.Narrowed.{Narrowed}

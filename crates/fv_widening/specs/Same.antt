@@ -2,8 +2,8 @@
 use Rattle.std.specs.Prelude.{Bool, true, false}
 use Rattle.std.specs.Option.{option_map_or}
 use Rattle.std.specs.Str.{bytes_eq}
-use Rattle.fv_model_types.specs.Held.{target, items, values, content}
-use Rattle.fv_model_types.specs.Types.{TypeUse, texts, integers, decimals, booleans, dates, instants, references, lists, maps, optionals}
+use Rattle.fv_bundle.specs.Held.{target, items, values, content}
+use Rattle.fv_bundle.specs.Types.{TypeUse, texts, integers, decimals, booleans, dates, instants, references, lists, maps, optionals}
 
 -- both hold data of one kind: references to one type, and lists, maps and optionals of the same
 abbrev pub is_same : TypeUse → TypeUse → Bool

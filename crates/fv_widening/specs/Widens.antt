@@ -1,7 +1,7 @@
 -- Declarations that have all that others have.
 use Rattle.std.specs.Prelude.{◌≡◌, ℕ, List, Some}
 use Rattle.fv_datum.specs.Lookup.{at_name}
-use Rattle.fv_model_types.specs.Types.{DeclaredFields, Declared}
+use Rattle.fv_bundle.specs.Types.{DeclaredFields, Declared}
 
 -- each name is there, with the same
 abbrev pub HasAll : {X : Type 0} → List (List ℕ × X) → List (List ℕ × X) → Type 0

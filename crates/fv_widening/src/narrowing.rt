@@ -1,13 +1,13 @@
 //! What declarations narrow of others.
 ghost use Rattle.std.specs.Prelude.{◌≡◌, ◌++◌, [], IfOk, OnOk, option_map};
-ghost use Rattle.fv_model_types.specs.Names.{object_types_view};
-ghost use Rattle.fv_model_types.specs.Types.{AreApart, FieldsApart, type_use_view, fields_view};
-ghost use Rattle.fv_model_types.specs.TypesView.{types_view};
+ghost use Rattle.fv_bundle.specs.Names.{object_types_view};
+ghost use Rattle.fv_bundle.specs.Types.{AreApart, FieldsApart, type_use_view, fields_view};
+ghost use Rattle.fv_bundle.specs.TypesView.{types_view};
 ghost use Rattle.fv_widening.specs.Narrowed.{found_in, use_narrowed, fields_narrowed, type_narrowed, numbered_narrowed, types_narrowed, root_narrowed, forms_narrowed, narrowed};
 ghost use Rattle.fv_widening.specs.Widens.{Widens};
 
 use crate::same::are_same;
-use fv_model_types::{Fields, TypeId, TypeNames, TypeUse, Types, type_at, use_in};
+use fv_bundle::{Fields, TypeId, TypeNames, TypeUse, Types, type_at, use_in};
 use std::alloc::{AllocError, Global};
 
 /// What declarations narrow of others, by numbers from 0 in the order of the others.

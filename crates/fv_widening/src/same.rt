@@ -1,9 +1,9 @@
 //! Whether two type uses hold the same.
 ghost use Rattle.std.specs.Prelude.{◌≡◌, ◌↔◌, IsTrue};
-ghost use Rattle.fv_model_types.specs.Types.{type_use_view};
+ghost use Rattle.fv_bundle.specs.Types.{type_use_view};
 ghost use Rattle.fv_widening.specs.Same.{is_same};
 
-use fv_model_types::TypeUse;
+use fv_bundle::TypeUse;
 
 /// Whether both hold data of the same kind: references to the same type, and lists, maps and optionals of the
 /// same.

@@ -1,10 +1,9 @@
 //! What a store answers to a line.
 use anyhow::{Context, Result, bail};
-use fv_bundle::Bundle;
+use fv_bundle::{Bundle, Types};
 use fv_datum::read_text;
 use fv_model::read_bundle;
 use fv_model_text::write_bundle;
-use fv_model_types::Types;
 use fv_store::{Change, OpenStoreFault, Store, StoreFault, Stored};
 use sqlite::Alter;
 use std::alloc::Global;

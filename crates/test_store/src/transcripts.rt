@@ -10,7 +10,7 @@ use crate::store::{ask_store, tell_faults};
 use crate::texts::{expanded, filled};
 use crate::types::item_and_note;
 use anyhow::{Context, Result};
-use fv_model_types::Types;
+use fv_bundle::Types;
 use fv_store::Store;
 use sqlite::{Alter, Connection};
 use sqlite_disk::Memory;

@@ -1,6 +1,6 @@
 //! The declared types of the transcripts.
 use anyhow::Result;
-use fv_model_types::{Fields, TypeUse, Types};
+use fv_bundle::{Fields, TypeUse, Types};
 use indexmap::IndexMap;
 use std::alloc::Global;
 

@@ -1,9 +1,8 @@
 //! Tables of rows, and the types, data and attributes that rows give, written as texts.
-use fv_bundle::Bundle;
+use fv_bundle::{Bundle, Fields, TypeUse, Types};
 use fv_datum::{Attrs, Datum, read_text};
 use fv_declare_definition::attrs_of;
 use fv_model::{read_bundle, read_value};
-use fv_model_types::{Fields, TypeUse, Types};
 use indexmap::IndexMap;
 use std::alloc::Global;
 use std::process::Abort;

@@ -4,7 +4,7 @@ use fv_datum::{DatumFault, JsonFault};
 use fv_declare::DeclFault;
 use fv_groups::GroupFault;
 use fv_model::BundleFault;
-use fv_model_types::TypesFault;
+use fv_bundle::TypesFault;
 use fv_registry::RegistryFault;
 use fv_validate::ValidateFault;
 use fv_walk::{PropertyFault, WalkFault};

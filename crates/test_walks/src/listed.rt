@@ -4,12 +4,11 @@ ghost use Rattle.std.specs.Prelude.{◌<◌, length};
 
 use crate::judged::{book_of, bundle_of, check, names_of};
 use crate::ordered::Ordered;
-use fv_bundle::Object;
+use fv_bundle::{Fields, Object};
 use fv_datum::{Datum, read_text, write_datum};
 use fv_groups::GroupId;
 use fv_local::Rulebook;
 use fv_model::{read_value, single};
-use fv_model_types::Fields;
 use fv_validate::{ValidateFault, Violation, validate, validate_property, validate_value};
 use std::alloc::Global;
 use std::process::Abort;

@@ -2,9 +2,9 @@ use Rattle.std.proofs.Common.{◌≡◌, Some, length, map, sym, ap, ◌∙◌}
 use Rattle.std.proofs.lemmas.List.{length-map}
 use Rattle.fv_datum.specs.Data as datum
 use Rattle.fv_datum.specs.View.{view, pair_view, items_view, entries_view}
-use Rattle.fv_model_types.specs.Types.{type_use_view}
-use Rattle.fv_model_types.proofs.Seen.{view-DataList, view-DataMap}
-use Rattle.fv_model_types.specs.Held.{items, values}
+use Rattle.fv_bundle.specs.Types.{type_use_view}
+use Rattle.fv_bundle.proofs.Seen.{view-DataList, view-DataMap}
+use Rattle.fv_bundle.specs.Held.{items, values}
 use Rattle.fv_bundle.specs.Typing.{items_count, entries_count}
 use Rattle.fv_bundle.proofs.TypingTells.{items_counted, pairs_counted}
 use Rattle.fv_bundle.proofs.typing.+fits.Goals as goal

@@ -1,6 +1,6 @@
 use Rattle.std.proofs.Common.{◌≡◌, drop, option_map}
 use Rattle.fv_datum.specs.View.{items_view, entries_view}
-use Rattle.fv_model_types.specs.Types.{type_use_view}
+use Rattle.fv_bundle.specs.Types.{type_use_view}
 use Rattle.fv_bundle.specs.Typing.{naming, items_fit, entries_fit}
 use Rattle.fv_bundle.specs.Views.{objects_view}
 use Rattle.fv_bundle.proofs.typing.+fits.Given as goal

@@ -1,5 +1,5 @@
 use Rattle.std.proofs.Common.{◌≡◌, map, option_map}
-use Rattle.fv_model_types.specs.Types.{use_view, fields_view}
+use Rattle.fv_bundle.specs.Types.{use_view, fields_view}
 use Rattle.fv_bundle.specs.Typing.{naming, fields_fit}
 use Rattle.fv_bundle.specs.Views.{fields_left, object_view, objects_view}
 use Rattle.fv_bundle.proofs.typing.fields_fit.Given as goal

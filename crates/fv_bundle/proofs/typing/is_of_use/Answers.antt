@@ -1,5 +1,5 @@
 use Rattle.fv_datum.specs.View.{view}
-use Rattle.fv_model_types.specs.Types.{type_use_view}
+use Rattle.fv_bundle.specs.Types.{type_use_view}
 use Rattle.fv_bundle.proofs.TypingTells.{of_use}
 use Rattle.fv_bundle.proofs.typing.is_of_use.Goals as goal
 

@@ -1,7 +1,7 @@
 use Rattle.std.proofs.Common.{option_map, map, ap}
 use Rattle.fv_bundle.specs.Views.{bundle_view}
 use Rattle.fv_engine_command.specs.CommandView.{command_view}
-use Rattle.fv_model_types.specs.TypesView.{types_view}
+use Rattle.fv_bundle.specs.TypesView.{types_view}
 use Rattle.fv_command_fault.proofs.Told.{checked_told}
 use Rattle.fv_command_fault.proofs.fields.absent_field.Goals as goal
 

@@ -5,7 +5,7 @@ use Rattle.serde_json.specs.View.{view as json_view}
 use Rattle.fv_datum.specs.Members.{has_only}
 use Rattle.fv_extract.specs.Places.{element, content}
 use Rattle.fv_extract.specs.Views.{step_view}
-use Rattle.fv_model_types.specs.Types.{kind_of, type_use_view}
+use Rattle.fv_bundle.specs.Types.{kind_of, type_use_view}
 use Rattle.fv_declare_draft.specs.Cascades.{cascade_of}
 use Rattle.fv_declare_draft.specs.DraftViews.{use_view, cascade_view, placed_use_view, placed_cascade_view, held_view}
 use Rattle.fv_declare_draft.specs.Gathering.{gathered, inside}

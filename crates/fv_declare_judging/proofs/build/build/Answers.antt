@@ -6,10 +6,10 @@ use Rattle.fv_declare_draft.specs.UseViews.{use_view, cascade_view}
 use Rattle.fv_declare_schema.specs.Declarations.{Declarations}
 use Rattle.fv_declare_schema.specs.Fits.{fits}
 use Rattle.fv_message.specs.Table.{Messages, all_messages}
-use Rattle.fv_model_types.specs.Types.{Declared}
-use Rattle.fv_model_types.specs.TypesView.{types_view}
-use Rattle.fv_model_types.specs.declared.fault.TypesAt.{TypesAt}
-use Rattle.fv_model_types.specs.declared.types.Types.{Types}
+use Rattle.fv_bundle.specs.Types.{Declared}
+use Rattle.fv_bundle.specs.TypesView.{types_view}
+use Rattle.fv_bundle.specs.declared.fault.TypesAt.{TypesAt}
+use Rattle.fv_bundle.specs.declared.types.Types.{Types}
 use Rattle.fv_declare_judging.specs.Conditions.{unknown_root}
 use Rattle.fv_declare_judging.specs.Parts.{AreTypesOf}
 use Rattle.fv_declare_judging.specs.Schemas.{IsDeclared}

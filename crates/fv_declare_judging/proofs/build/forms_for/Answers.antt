@@ -1,6 +1,6 @@
 use Rattle.std.proofs.Common.{◌≡◌, map, Some, None, not, is_some, true, false, string_bytes, option_map, sym, ap, ◌∙◌, true≢false, arith}
-use Rattle.fv_model_types.specs.Types.{number_of, name_at}
-use Rattle.fv_model_types.specs.TypesView.{types_view}
+use Rattle.fv_bundle.specs.Types.{number_of, name_at}
+use Rattle.fv_bundle.specs.TypesView.{types_view}
 use Rattle.fv_declare_judging.specs.Schemas.{form_declared, form_grouped}
 use Rattle.fv_declare_draft.specs.DraftViews.{form_view}
 use Rattle.fv_declare_schema.specs.SchemaView.{form_entry, form_groups_entry}

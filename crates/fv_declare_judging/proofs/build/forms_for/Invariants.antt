@@ -1,5 +1,5 @@
 use Rattle.std.proofs.Common.{◌≡◌, ◌++◌, map, drop, false}
-use Rattle.fv_model_types.specs.TypesView.{types_view}
+use Rattle.fv_bundle.specs.TypesView.{types_view}
 use Rattle.fv_declare_judging.specs.Conditions.{unknown_root}
 use Rattle.fv_declare_judging.specs.Schemas.{form_declared, form_grouped}
 use Rattle.fv_declare_draft.specs.DraftViews.{form_view}

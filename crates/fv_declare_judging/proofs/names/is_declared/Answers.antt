@@ -1,5 +1,5 @@
 use Rattle.std.proofs.Common.{◌∙◌}
-use Rattle.fv_model_types.specs.Types.{fields_view}
+use Rattle.fv_bundle.specs.Types.{fields_view}
 use Rattle.fv_datum.proofs.Lookups.{has_name}
 use Rattle.fv_declare_judging.proofs.names.is_declared.Goals as goal
 

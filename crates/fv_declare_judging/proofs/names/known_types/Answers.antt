@@ -2,8 +2,8 @@ use Rattle.std.proofs.Common.{◌≡◌, List, false, Some, map, is_some, sym, a
 use Rattle.fv_declare_draft.specs.AllUses.{Use, uses_in}
 use Rattle.fv_declare_draft.specs.DraftViews.{type_view, form_view, draft_view}
 use Rattle.fv_declare_draft.specs.UseViews.{use_view}
-use Rattle.fv_model_types.specs.Types.{Declared, declared_view, types_fault}
-use Rattle.fv_model_types.specs.declared.fault.TypesFault.TheVariants.{UnknownType, TooLarge, Memory}
+use Rattle.fv_bundle.specs.Types.{Declared, declared_view, types_fault}
+use Rattle.fv_bundle.specs.declared.fault.TypesFault.TheVariants.{UnknownType, TooLarge, Memory}
 use Rattle.fv_declare_judging.specs.NamePlaces.{bad_name}
 use Rattle.fv_declare_judging.specs.Types.{type_declared, types_declared}
 use Rattle.fv_declare_judging.proofs.Named.{bad_first, outside, found_outside, all_named, named_large, unknown_type}

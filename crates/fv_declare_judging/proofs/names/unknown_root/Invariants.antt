@@ -2,7 +2,7 @@ use Rattle.std.proofs.Common.{◌≡◌, map, drop, not, is_some, if◌then◌el
 use Rattle.fv_datum.specs.Lookup.{at_name}
 use Rattle.fv_declare_draft.specs.DraftViews.{form_view}
 use Rattle.fv_first.specs.First.{first_from}
-use Rattle.fv_model_types.specs.Types.{declared_view}
+use Rattle.fv_bundle.specs.Types.{declared_view}
 use Rattle.fv_declare_judging.specs.NamePlaces.{unknown_root}
 use Rattle.fv_declare_judging.specs.declared.placed.At.TheVariants.{Names}
 use Rattle.fv_declare_judging.specs.declared.placed.NamesAt.TheVariants as at

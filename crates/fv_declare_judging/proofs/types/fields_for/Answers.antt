@@ -1,5 +1,5 @@
 use Rattle.std.proofs.Common.{◌≡◌, string_bytes, ap, ◌∙◌, arith}
-use Rattle.fv_model_types.specs.Types.{use_view, type_use_view}
+use Rattle.fv_bundle.specs.Types.{use_view, type_use_view}
 use Rattle.fv_declare_judging.specs.Types.{field_declared}
 use Rattle.fv_declare_draft.specs.DraftViews.{field_view}
 use Rattle.fv_datum.proofs.Inserted.{insert_names, insert_entries, all_made}

@@ -1,5 +1,5 @@
 use Rattle.std.proofs.Common.{◌≡◌, ◌++◌, map, drop}
-use Rattle.fv_model_types.specs.Types.{fields_view}
+use Rattle.fv_bundle.specs.Types.{fields_view}
 use Rattle.fv_declare_judging.specs.Types.{field_declared}
 use Rattle.fv_declare_draft.specs.DraftViews.{field_view}
 use Rattle.fv_datum.specs.EntryNames.{names_of}

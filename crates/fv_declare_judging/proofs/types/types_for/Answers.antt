@@ -1,5 +1,5 @@
 use Rattle.std.proofs.Common.{◌≡◌, map, string_bytes, ap, ◌∙◌, arith}
-use Rattle.fv_model_types.specs.Types.{type_view as entry_view, fields_view}
+use Rattle.fv_bundle.specs.Types.{type_view as entry_view, fields_view}
 use Rattle.fv_declare_judging.specs.Types.{field_declared, type_declared}
 use Rattle.fv_declare_draft.specs.DraftViews.{field_view, type_view}
 use Rattle.fv_datum.proofs.Inserted.{insert_names, insert_entries, all_made}

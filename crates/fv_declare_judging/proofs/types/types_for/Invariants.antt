@@ -1,5 +1,5 @@
 use Rattle.std.proofs.Common.{◌≡◌, ◌++◌, map, drop}
-use Rattle.fv_model_types.specs.Types.{declared_view}
+use Rattle.fv_bundle.specs.Types.{declared_view}
 use Rattle.fv_declare_judging.specs.Types.{type_declared}
 use Rattle.fv_declare_draft.specs.DraftViews.{type_view}
 use Rattle.fv_datum.specs.EntryNames.{names_of}

@@ -10,7 +10,7 @@ use Rattle.fv_engine_pending.specs.Fits.{AreTyped, Keeps}
 use Rattle.fv_engine_pending.specs.Steps.{staged, step_view, steps_made}
 use Rattle.fv_engine_pending.specs.Ways.{Way, pending_view}
 use Rattle.fv_engine_reply.specs.Answers.{Answer}
-use Rattle.fv_model_types.specs.TypesView.{types_view}
+use Rattle.fv_bundle.specs.TypesView.{types_view}
 use Rattle.fv_engine_machine.proofs.bare.judge_parts.Goals as goal
 
 pub returns-in-Err : goal.returns-in-Err

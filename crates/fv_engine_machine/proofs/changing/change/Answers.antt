@@ -15,7 +15,7 @@ use Rattle.fv_engine_pending.specs.Ways.{pending_view}
 use Rattle.fv_engine_reply.specs.Answers.{Answer}
 use Rattle.fv_engine_reply.specs.AnswerView.{answer_view}
 use Rattle.fv_store.specs.Records.{Records}
-use Rattle.fv_model_types.specs.TypesView.{types_view}
+use Rattle.fv_bundle.specs.TypesView.{types_view}
 use Rattle.fv_engine_machine.proofs.changing.change.Goals as goal
 
 pub returns-in-Err-clause-becomes : goal.returns-in-Err-clause-becomes

@@ -6,8 +6,8 @@ use Rattle.fv_declare_schema.specs.Declarations.{Declarations}
 use Rattle.fv_bundle.specs.Views.{bundle_view}
 use Rattle.fv_bundle.specs.WellTyped.{IsWellTyped}
 use Rattle.fv_store.specs.Stored.{stored_view}
-use Rattle.fv_model_types.specs.Types.{Declared}
-use Rattle.fv_model_types.specs.TypesView.{types_view}
+use Rattle.fv_bundle.specs.Types.{Declared}
+use Rattle.fv_bundle.specs.TypesView.{types_view}
 use Rattle.fv_engine_command.specs.Commands.{check}
 use Rattle.fv_engine_machine.specs.Machines.{contents}
 use Rattle.fv_engine_machine.proofs.Becoming.{unchanged, checked_none, checked_some, not_found, fails_so}

@@ -8,7 +8,7 @@ use Rattle.fv_declare_schema.specs.Declarations.{Declarations}
 use Rattle.fv_engine_machine.specs.Keeping.{ChecksField, IsReadAt, valued_by}
 use Rattle.fv_engine_reply.specs.Answers.{value_checked}
 use Rattle.fv_engine_reply.specs.AnswerView.{answer_view}
-use Rattle.fv_model_types.specs.Types.{Declared}
+use Rattle.fv_bundle.specs.Types.{Declared}
 use Rattle.fv_engine_machine.proofs.OneField.{lent, value_done}
 use Rattle.fv_engine_machine.proofs.fields.check_value.Goals as goal
 

@@ -10,7 +10,7 @@ use Rattle.fv_engine_machine.proofs.Becoming.{fails_so, no_items, some_items}
 use Rattle.fv_engine_machine.proofs.Redeclared.{is_redeclared, is_undone, is_unjudged, is_violated}
 use Rattle.fv_validate.specs.Violations.{Judged}
 use Rattle.fv_validate.specs.ViolationView.{judged_view}
-use Rattle.fv_model_types.specs.Types.{FieldsApart}
+use Rattle.fv_bundle.specs.Types.{FieldsApart}
 use Rattle.fv_store.specs.Stock.{stock_state}
 use Rattle.fv_engine_machine.proofs.redeclaring.put_in_force.Goals as goal
 

@@ -3,7 +3,7 @@ use Rattle.std.proofs.lemmas.Int.{to_z-of_z}
 use mir.Syntax.{w64}
 use Rattle.fv_declare_schema.specs.Declarations.{Declarations}
 use Rattle.fv_engine_machine.proofs.Redeclared.{is_decl_memory, is_misdeclared}
-use Rattle.fv_model_types.specs.Types.{Declared, has_deep}
+use Rattle.fv_bundle.specs.Types.{Declared, has_deep}
 use Rattle.fv_store.specs.Stock.{stock_state}
 use Rattle.fv_engine_machine.proofs.redeclaring.redeclare.Goals as goal
 

@@ -8,7 +8,7 @@ use Rattle.fv_engine_pending.specs.declared.fault.PartFault.TheVariants.{Memory}
 use Rattle.fv_engine_pending.specs.declared.step.Step.{Step}
 use Rattle.fv_engine_pending.proofs.Fitting.{keeps_put, keeps_remove}
 use Rattle.fv_engine_pending.proofs.Stepping.{where_made}
-use Rattle.fv_model_types.specs.TypesView.{types_view}
+use Rattle.fv_bundle.specs.TypesView.{types_view}
 use Rattle.fv_engine_pending.proofs.applying.apply.Goals as goal
 
 pub returns-in-Put-clause-keeps : goal.returns-in-Put-clause-keeps

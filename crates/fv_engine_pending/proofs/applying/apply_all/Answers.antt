@@ -4,7 +4,7 @@ use Rattle.fv_engine_pending.specs.Steps.{step_view, steps_made}
 use Rattle.fv_engine_pending.specs.Ways.{pending_view}
 use Rattle.fv_engine_pending.specs.declared.step.Step.{Step}
 use Rattle.fv_engine_pending.proofs.Stepping.{first_made, keeps_next, none_left, keeps_all}
-use Rattle.fv_model_types.specs.TypesView.{types_view}
+use Rattle.fv_bundle.specs.TypesView.{types_view}
 use Rattle.fv_engine_pending.proofs.applying.apply_all.Goals as goal
 
 pub loop-step-preserved : goal.loop-step-preserved

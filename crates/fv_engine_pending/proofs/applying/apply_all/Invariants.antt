@@ -3,7 +3,7 @@ use Rattle.std.specs.Vec.Iter.{into_iter_items, into_iter_len}
 use Rattle.fv_engine_pending.specs.Fits.{Keeps}
 use Rattle.fv_engine_pending.specs.Steps.{step_view, steps_made}
 use Rattle.fv_engine_pending.specs.Ways.{pending_view}
-use Rattle.fv_model_types.specs.TypesView.{types_view}
+use Rattle.fv_bundle.specs.TypesView.{types_view}
 use Rattle.fv_engine_pending.proofs.applying.apply_all.Given as goal
 
 abbrev pub invariant-loop-step : goal.invariant-loop-step

@@ -9,7 +9,7 @@ use Rattle.fv_engine_pending.proofs.Fitting.{keeps_set}
 use Rattle.fv_engine_pending.proofs.Stepping.{where_made, same_value}
 use Rattle.fv_store.specs.Records.{Kept}
 use Rattle.fv_store.specs.Stored.{stored_view}
-use Rattle.fv_model_types.specs.TypesView.{types_view}
+use Rattle.fv_bundle.specs.TypesView.{types_view}
 use Rattle.fv_engine_pending.proofs.applying.set.Goals as goal
 
 pub returns-in-Ok-clause-keeps : goal.returns-in-Ok-clause-keeps

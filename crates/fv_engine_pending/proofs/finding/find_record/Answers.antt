@@ -4,7 +4,7 @@ use Rattle.fv_engine_pending.specs.Ways.{Way, IsOn, pending_view}
 use Rattle.fv_engine_pending.proofs.Found.{agrees_left, there, stays_there, only_there, typed_left, few_left, typed_kept}
 use Rattle.fv_store.proofs.Refusals.{handed_on}
 use Rattle.fv_store.specs.Stored.{stored_view}
-use Rattle.fv_model_types.specs.TypesView.{types_view}
+use Rattle.fv_bundle.specs.TypesView.{types_view}
 use Rattle.fv_engine_pending.proofs.finding.find_record.Goals as goal
 
 pub returns-in_err-stored-clause-cause : goal.returns-in_err-stored-clause-cause

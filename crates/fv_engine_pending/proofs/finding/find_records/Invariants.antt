@@ -8,7 +8,7 @@ use Rattle.fv_engine_pending.specs.Ways.{pending_view}
 use Rattle.fv_store.specs.Records.{Contents}
 use Rattle.fv_store.specs.Stands.{Frame, Holds, IsLive, Stays}
 use Rattle.fv_store.specs.Stock.{stock_state as state}
-use Rattle.fv_model_types.specs.TypesView.{types_view}
+use Rattle.fv_bundle.specs.TypesView.{types_view}
 use Rattle.fv_engine_pending.proofs.finding.find_records.Given as goal
 
 abbrev pub invariant-loop-part : goal.invariant-loop-part

@@ -3,7 +3,7 @@ use Rattle.std.specs.Map.{keys_of}
 use Rattle.fv_datum.specs.View.{view}
 use Rattle.fv_bundle.specs.Views.{types_view, object_view}
 use Rattle.fv_bundle.proofs.Made.{written_fields}
-use Rattle.fv_model_types.specs.Types.{fields_at}
+use Rattle.fv_bundle.specs.Types.{fields_at}
 use Rattle.fv_extract.specs.FoundView.{found_view}
 use Rattle.fv_extract.specs.Views.{step_view}
 use Rattle.fv_extract.proofs.Loci.{field_written, found_apart}

@@ -5,11 +5,11 @@ use Rattle.std.proofs.lemmas.List.{map-append}
 use Rattle.serde_json.specs.View.{view as json_view}
 use Rattle.fv_datum.specs.Data.{Data}
 use Rattle.fv_datum.specs.View.{view}
-use Rattle.fv_model_types.specs.declared.type_use.TypeUse.{TypeUse}
+use Rattle.fv_bundle.specs.declared.type_use.TypeUse.{TypeUse}
 use Rattle.fv_model.specs.Fitting.{misfits_given, field_misfits}
 use Rattle.fv_model.specs.Reading.{datum_at, field_of}
 use Rattle.fv_model.specs.Types as spec
-use Rattle.fv_model_types.specs.Types.{type_use_view, use_view, fields_view}
+use Rattle.fv_bundle.specs.Types.{type_use_view, use_view, fields_view}
 use Rattle.fv_model.specs.Views.{given_view}
 use Rattle.fv_model.proofs.Wrong.{at_exit, right, or_here, made_more}
 use Rattle.fv_model.proofs.build.data_for.Goals as goal

@@ -1,7 +1,7 @@
 use Rattle.std.proofs.Common.{◌≡◌, ◌++◌, map}
 use Rattle.std.specs.List.{All, list_any}
 use Rattle.fv_datum.specs.View.{view}
-use Rattle.fv_model_types.specs.Types.{use_view, fields_view}
+use Rattle.fv_bundle.specs.Types.{use_view, fields_view}
 use Rattle.fv_model.specs.Views.{given_view}
 use Rattle.fv_model.specs.Reading.{field_of}
 use Rattle.fv_model.specs.Fitting.{field_misfits}

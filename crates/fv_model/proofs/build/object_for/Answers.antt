@@ -3,7 +3,7 @@ use Rattle.std.specs.List.{list_any}
 use Rattle.fv_datum.specs.View.{view}
 use Rattle.fv_model.specs.Fitting.{field_misfits}
 use Rattle.fv_model.specs.Reading.{field_of}
-use Rattle.fv_model_types.specs.Types.{fields_view}
+use Rattle.fv_bundle.specs.Types.{fields_view}
 use Rattle.fv_model.specs.Views.{types_view, given_view, part_view}
 use Rattle.fv_model.proofs.Made.{object_made}
 use Rattle.fv_model.proofs.Wrong.{right}

@@ -3,7 +3,7 @@ use Rattle.fv_model.specs.Ascents.{Ascends}
 use Rattle.fv_model.specs.Reading.{object_types, has_flaw}
 use Rattle.fv_model.specs.Views.{types_view, part_view}
 use Rattle.fv_model.proofs.Anys.{part_turn, each_turn}
-use Rattle.fv_model_types.proofs.Telling.{Joins, telling_more}
+use Rattle.fv_bundle.proofs.Telling.{Joins, telling_more}
 use Rattle.fv_model.proofs.flaws.draft_flaws.Goals as goal
 
 pub loop-part-preserved : goal.loop-part-preserved

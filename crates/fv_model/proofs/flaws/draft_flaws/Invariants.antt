@@ -4,7 +4,7 @@ use Rattle.fv_model.specs.Ascents.{Ascends}
 use Rattle.fv_model.specs.Views.{types_view, part_view}
 use Rattle.fv_model.specs.Reading.{object_types}
 use Rattle.fv_model.proofs.Conditions.{some_flawed}
-use Rattle.fv_model_types.proofs.Telling.{Telling}
+use Rattle.fv_bundle.proofs.Telling.{Telling}
 use Rattle.fv_model.proofs.flaws.draft_flaws.Given as goal
 
 abbrev pub invariant-loop-part : goal.invariant-loop-part

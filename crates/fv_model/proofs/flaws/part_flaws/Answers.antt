@@ -1,7 +1,7 @@
 use Rattle.std.proofs.Common.{◌≡◌, Some, option_map, sym, ap, ◌∙◌}
 use Rattle.std.specs.List.Sorted.{IsStrictlySortedBy}
 use Rattle.fv_datum.specs.Lookup.{at_name}
-use Rattle.fv_model_types.specs.Types.{fields_view}
+use Rattle.fv_bundle.specs.Types.{fields_view}
 use Rattle.fv_model.specs.Reading.{has_flaw}
 use Rattle.fv_model.specs.Views.{types_view}
 use Rattle.fv_model.proofs.flaws.part_flaws.Goals as goal

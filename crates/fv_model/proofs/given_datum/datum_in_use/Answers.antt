@@ -1,8 +1,8 @@
 use Rattle.std.proofs.Common.{◌≡◌, ◌∙◌, ap, sym}
 use Rattle.serde_json.specs.View.{view as json_view}
 use Rattle.fv_datum.specs.View.{view}
-use Rattle.fv_model_types.specs.Names.{object_types_view}
-use Rattle.fv_model_types.specs.Types.{type_use_view}
+use Rattle.fv_bundle.specs.Names.{object_types_view}
+use Rattle.fv_bundle.specs.Types.{type_use_view}
 use Rattle.fv_model.specs.Views.{bundle_view}
 use Rattle.fv_model.specs.Setting.{datum_in_use}
 use Rattle.fv_model.proofs.Conditions.{types_of}

@@ -1,5 +1,5 @@
 use Rattle.std.proofs.Common.{◌≡◌, ◌++◌, map}
-use Rattle.fv_model_types.specs.Names.{object_types_view}
+use Rattle.fv_bundle.specs.Names.{object_types_view}
 use Rattle.fv_model.specs.Views.{named_view, objects_view}
 use Rattle.fv_model.proofs.Conditions.{types_of}
 use Rattle.fv_model.proofs.naming.type_names.Given as goal

@@ -3,7 +3,7 @@ use Rattle.std.specs.List.{list_any}
 use Rattle.fv_datum.specs.Outcomes.{first, unless_fault}
 use Rattle.fv_model.specs.Fitting.{part_misfits}
 use Rattle.fv_model.specs.Reading.{bundle_of}
-use Rattle.fv_model_types.specs.Types.{name_at}
+use Rattle.fv_bundle.specs.Types.{name_at}
 use Rattle.fv_model.specs.Views.{types_view, draft_view, bundle_view}
 use Rattle.fv_model.proofs.Conditions.{unknown_field, draft_fault, name_conditions, late_conditions}
 use Rattle.fv_model.proofs.Firsts.{by_kind, by_rest}

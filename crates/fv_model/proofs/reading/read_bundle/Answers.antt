@@ -1,7 +1,7 @@
 use Rattle.std.proofs.Common.{◌≡◌, Ok, option_map}
 use Rattle.serde_json.specs.View.{view as json_view}
 use Rattle.fv_model.specs.Reading.{bundle_read}
-use Rattle.fv_model_types.specs.Types.{name_at}
+use Rattle.fv_bundle.specs.Types.{name_at}
 use Rattle.fv_model.specs.Views.{types_view}
 use Rattle.fv_model.proofs.Again.{gives_alike}
 use Rattle.fv_model.proofs.Law.{law_asked}

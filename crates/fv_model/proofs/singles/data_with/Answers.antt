@@ -3,9 +3,9 @@ use Rattle.std.specs.declared.alloc.Global.{Global}
 use Rattle.std.proofs.lemmas.List.{map-append}
 use Rattle.fv_datum.specs.Data.{Data}
 use Rattle.fv_datum.specs.View.{view}
-use Rattle.fv_model_types.specs.Types as spec
-use Rattle.fv_model_types.specs.Types.{use_view, fields_view}
-use Rattle.fv_model_types.specs.declared.type_use.TypeUse.{TypeUse}
+use Rattle.fv_bundle.specs.Types as spec
+use Rattle.fv_bundle.specs.Types.{use_view, fields_view}
+use Rattle.fv_bundle.specs.declared.type_use.TypeUse.{TypeUse}
 use Rattle.fv_model.specs.Single.{single_field}
 use Rattle.fv_model.proofs.Wrong.{made_more}
 use Rattle.fv_model.proofs.singles.data_with.Goals as goal

@@ -1,7 +1,7 @@
 use Rattle.std.proofs.Common.{◌≡◌, ◌++◌, map}
 use Rattle.std.specs.List.{All}
 use Rattle.fv_datum.specs.View.{view}
-use Rattle.fv_model_types.specs.Types.{use_view, fields_view}
+use Rattle.fv_bundle.specs.Types.{use_view, fields_view}
 use Rattle.fv_model.specs.Single.{single_field}
 use Rattle.fv_model.specs.Writing.{IsWritten}
 use Rattle.fv_model.proofs.singles.data_with.Given as goal

@@ -4,7 +4,7 @@ use Rattle.std.specs.Option.{unwrap_or}
 use Rattle.fv_datum.specs.Data.{Data}
 use Rattle.fv_datum.specs.Lookup.{at_name}
 use Rattle.fv_datum.specs.View.{view}
-use Rattle.fv_model_types.specs.Types.{TypeUse, DeclaredFields, Declared, type_use_view, name_at, fields_at, fields_view}
+use Rattle.fv_bundle.specs.Types.{TypeUse, DeclaredFields, Declared, type_use_view, name_at, fields_at, fields_view}
 use Rattle.fv_bundle.specs.Bundles.{Thing}
 use Rattle.fv_model.specs.Single.{single_field, single_thing, single_of}
 use Rattle.fv_model.specs.Views.{types_view}

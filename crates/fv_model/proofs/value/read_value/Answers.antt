@@ -1,7 +1,7 @@
 use Rattle.std.proofs.Common.{◌≡◌, Ok}
 use Rattle.serde_json.specs.View.{view as json_view}
 use Rattle.fv_model.specs.Reading.{value_read}
-use Rattle.fv_model_types.specs.Types.{type_use_view}
+use Rattle.fv_bundle.specs.Types.{type_use_view}
 use Rattle.fv_model.proofs.Values.{gives_fits, value_back}
 use Rattle.fv_model.proofs.value.read_value.Goals as goal
 

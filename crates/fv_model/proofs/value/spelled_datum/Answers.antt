@@ -5,8 +5,8 @@ use Rattle.fv_datum.specs.Data.{Data, null}
 use Rattle.fv_datum.specs.View.{view}
 use Rattle.fv_datum.specs.declared.fault.DatumFault.{DatumFault}
 use Rattle.fv_datum.specs.declared.fault.DatumFault.TheVariants.{WrongKind, Memory}
-use Rattle.fv_model_types.specs.Spelled.{datum_of}
-use Rattle.fv_model_types.specs.Types.{type_use_view}
+use Rattle.fv_bundle.specs.Spelled.{datum_of}
+use Rattle.fv_bundle.specs.Types.{type_use_view}
 use Rattle.fv_model.specs.Fitting.{unless_wrong}
 use Rattle.fv_model.specs.declared.fault.BundleFault.TheVariants as bundle
 use Rattle.fv_model.proofs.value.spelled_datum.Goals as goal

@@ -5,7 +5,7 @@ use Rattle.serde_json.specs.View.{members_view}
 use Rattle.fv_datum.specs.Ascending.{IsAscending}
 use Rattle.fv_datum.specs.Members.{pairs}
 use Rattle.fv_model.proofs.Listed.{insert_last}
-use Rattle.fv_model_types.specs.Names.{object_types_view}
+use Rattle.fv_bundle.specs.Names.{object_types_view}
 use Rattle.fv_model_fault.specs.Given.{type_in}
 use Rattle.fv_datum.proofs.Values.{members_ascend}
 use Rattle.fv_model_fault.proofs.Seen.{types_ascend}

@@ -1,7 +1,7 @@
 use Rattle.std.proofs.Common.{◌≡◌, ◌++◌, map}
 use Rattle.serde_json.specs.View.{members_view}
 use Rattle.fv_datum.specs.Members.{pairs}
-use Rattle.fv_model_types.specs.Names.{object_types_view}
+use Rattle.fv_bundle.specs.Names.{object_types_view}
 use Rattle.fv_model_fault.specs.Given.{type_in}
 use Rattle.fv_model_fault.proofs.given.type_names.Given as goal
 

@@ -2,10 +2,10 @@ use Rattle.std.proofs.Common.{◌≡◌, IfSome, is_some, option_map, sym, subst
 use Rattle.serde_json.specs.View.{view as json_view, members_view}
 use Rattle.fv_datum.specs.Members.{pairs}
 use Rattle.fv_model.specs.declared.fault.BundleFault.{BundleFault}
-use Rattle.fv_model_types.specs.Names.{object_types_view}
-use Rattle.fv_model_types.specs.Types.{name_at}
-use Rattle.fv_model_types.specs.TypesView.{types_view}
-use Rattle.fv_model_types.specs.declared.types.TypeId.{TypeId}
+use Rattle.fv_bundle.specs.Names.{object_types_view}
+use Rattle.fv_bundle.specs.Types.{name_at}
+use Rattle.fv_bundle.specs.TypesView.{types_view}
+use Rattle.fv_bundle.specs.declared.types.TypeId.{TypeId}
 use Rattle.fv_model_fault.specs.Faults.{is_badly_named, is_untyped, HasFault}
 use Rattle.fv_model_fault.specs.Told.{has_fault}
 use Rattle.fv_model_fault.specs.Views.{member_view, place_view}

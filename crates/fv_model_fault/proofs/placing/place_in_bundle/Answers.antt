@@ -1,8 +1,8 @@
 use Rattle.std.proofs.Common.{option_map}
 use Rattle.serde_json.specs.View.{view as json_view}
-use Rattle.fv_model_types.specs.Types.{name_at}
-use Rattle.fv_model_types.specs.TypesView.{types_view}
-use Rattle.fv_model_types.specs.declared.types.TypeId.{TypeId}
+use Rattle.fv_bundle.specs.Types.{name_at}
+use Rattle.fv_bundle.specs.TypesView.{types_view}
+use Rattle.fv_bundle.specs.declared.types.TypeId.{TypeId}
 use Rattle.fv_model_fault.proofs.Arms.{found_of}
 use Rattle.fv_model_fault.proofs.placing.place_in_bundle.Goals as goal
 

@@ -1,7 +1,7 @@
 use Rattle.std.proofs.Common.{◌≡◌, ◌∷◌, ◌++◌, ℕ, List, String, map, sym, subst, ◌∙◌}
 use Rattle.std.specs.declared.alloc.Global.{Global}
-use Rattle.fv_model_types.specs.Names.{object_types_view}
-use Rattle.fv_model_types.specs.Types.{AreApart}
+use Rattle.fv_bundle.specs.Names.{object_types_view}
+use Rattle.fv_bundle.specs.Types.{AreApart}
 use Rattle.fv_bundle.specs.Views.{named_view, objects_view}
 use Rattle.fv_bundle.specs.declared.bundle.Object.{Object}
 use Rattle.fv_model_fault.proofs.Seen.{types_of_all}

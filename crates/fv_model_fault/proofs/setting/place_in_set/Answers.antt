@@ -5,9 +5,9 @@ use Rattle.fv_bundle.specs.Views.{bundle_view, object_view}
 use Rattle.fv_datum.specs.Lookup.{at_name}
 use Rattle.fv_model.specs.Reading.{fields_of}
 use Rattle.fv_model.specs.Setting.{use_of}
-use Rattle.fv_model_types.specs.Names.{ObjectTypes, object_types_view}
-use Rattle.fv_model_types.specs.Types.{type_use_view}
-use Rattle.fv_model_types.specs.TypesView.{types_view}
+use Rattle.fv_bundle.specs.Names.{ObjectTypes, object_types_view}
+use Rattle.fv_bundle.specs.Types.{type_use_view}
+use Rattle.fv_bundle.specs.TypesView.{types_view}
 use Rattle.fv_model_fault.specs.SetPlaces.{types_of}
 use Rattle.fv_model_fault.specs.Sought.{flaw_of}
 use Rattle.fv_model_fault.proofs.Sets.{in_field}

@@ -5,7 +5,7 @@ use Rattle.fv_datum.specs.Data as datum
 use Rattle.fv_datum.specs.Data.{items_of, entries_of}
 use Rattle.fv_datum.specs.View.{view, pair_view, items_view, entries_view}
 use Rattle.fv_datum.specs.Written.{keys_fit}
-use Rattle.fv_model_types.specs.Writing.{IsWritten}
+use Rattle.fv_bundle.specs.Writing.{IsWritten}
 use Rattle.fv_model_text.proofs.Containers.{list_written, map_written, is_written, json_is, closes_array, entry_named}
 use Rattle.fv_model_text.proofs.InOrder.{closes}
 use Rattle.fv_model_text.proofs.data.+write.Goals as goal

@@ -1,7 +1,7 @@
 use Rattle.std.proofs.Common.{◌≡◌, ◌++◌, map, drop}
 use Rattle.std.specs.List.{AllByRecursion}
 use Rattle.fv_datum.specs.View.{view, pair_view}
-use Rattle.fv_model_types.specs.Writing.{IsWritten}
+use Rattle.fv_bundle.specs.Writing.{IsWritten}
 use Rattle.fv_model_text.proofs.Containers.{rest_tokens, entry_named}
 use Rattle.fv_model_text.proofs.InOrder.{member_tokens}
 use Rattle.fv_model_text.proofs.data.+write.Given as goal

@@ -2,9 +2,9 @@ use Rattle.std.proofs.Common.{◌≡◌, List, ℕ, refl, sym, ap, subst, ◌∙
 use Rattle.std.specs.List.{AllByRecursion}
 use Rattle.std.specs.Map.{keys_of}
 use Rattle.fv_datum.specs.Data.{Data}
-use Rattle.fv_model_types.specs.Types.{fields_at}
+use Rattle.fv_bundle.specs.Types.{fields_at}
 use Rattle.fv_bundle.specs.Views.{types_view, fields_left, object_view}
-use Rattle.fv_model_types.specs.Writing.{IsWritten}
+use Rattle.fv_bundle.specs.Writing.{IsWritten}
 use Rattle.fv_bundle.proofs.Made.{written_fields}
 use Rattle.fv_model_text.proofs.tree.write_fields.Goals as goal
 

@@ -3,7 +3,7 @@ use Rattle.std.specs.List.{AllByRecursion}
 use Rattle.serde_json.specs.Data as json
 use Rattle.serde_json.specs.View.{members_view}
 use Rattle.fv_bundle.specs.Views.{fields_left, object_view}
-use Rattle.fv_model_types.specs.Writing.{IsWritten}
+use Rattle.fv_bundle.specs.Writing.{IsWritten}
 use Rattle.fv_model_text.proofs.InOrder.{added}
 use Rattle.fv_model_text.proofs.tree.write_fields.Given as goal
 

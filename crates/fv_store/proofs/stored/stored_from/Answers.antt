@@ -1,6 +1,6 @@
 use Rattle.std.proofs.Common.{Ok, sym, ap, ap₂}
 use Rattle.fv_bundle.specs.Views.{bundle_view}
-use Rattle.fv_model_types.specs.TypesView.{types_view}
+use Rattle.fv_bundle.specs.TypesView.{types_view}
 use Rattle.fv_store.specs.Stored.{stored_view}
 use Rattle.fv_store.proofs.Faults.{gives_memory, same_ok, store_memory}
 use Rattle.fv_store.proofs.RowsRead.{record_back, root_back}

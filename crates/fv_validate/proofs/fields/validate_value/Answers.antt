@@ -12,7 +12,7 @@ use Rattle.fv_bundle.specs.Views.{types_view, object_view}
 use Rattle.fv_walk.specs.Properties.{field_number}
 use Rattle.fv_bundle.specs.WellTyped.{IsOfType}
 use Rattle.fv_datum.proofs.Lists.{all_get}
-use Rattle.fv_model_types.specs.Types.{DeclaredFields, Declared, AreApart, fields_view}
+use Rattle.fv_bundle.specs.Types.{DeclaredFields, Declared, AreApart, fields_view}
 use Rattle.fv_validate.specs.Values.{FitsField, valued}
 use Rattle.fv_validate.specs.ViolationView.{violation_view}
 use Rattle.fv_validate.specs.Violations.{Reported, IsListingOfField}

@@ -7,7 +7,7 @@ use Rattle.fv_groups.specs.Tables.{indices}
 use Rattle.fv_declare_schema.specs.Declarations.{Declarations}
 use Rattle.fv_bundle.specs.Views.{types_view, object_view}
 use Rattle.fv_bundle.specs.WellTyped.{IsOfType}
-use Rattle.fv_model_types.specs.Types.{Declared}
+use Rattle.fv_bundle.specs.Types.{Declared}
 use Rattle.fv_walk_request.specs.Requests.{asked_groups}
 use Rattle.fv_walk_traces.specs.Violations.{Violation}
 use Rattle.fv_walk.proofs.Asked.{asked_are, asked_within}

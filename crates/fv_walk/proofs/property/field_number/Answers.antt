@@ -4,8 +4,8 @@ use Rattle.std.specs.declared.alloc.Global.{Global}
 use Rattle.fv_datum.specs.Lookup.{at_name}
 use Rattle.fv_bundle.specs.Views.{types_view, object_view}
 use Rattle.fv_datum.proofs.Lookups.{position-map}
-use Rattle.fv_model_types.specs.Types.{TypeUse, use_view, fields_view}
-use Rattle.fv_model_types.specs.declared.type_use.TypeUse as code
+use Rattle.fv_bundle.specs.Types.{TypeUse, use_view, fields_view}
+use Rattle.fv_bundle.specs.declared.type_use.TypeUse as code
 use Rattle.fv_walk.proofs.property.field_number.Goals as goal
 
 pub returns : goal.returns

@@ -1,6 +1,6 @@
 use Rattle.std.proofs.Common.{◌+◌, ◌<◌, ◌≡◌, ◌++◌, map}
 use Prim.Native.Nat.{◌^◌}
-use Rattle.fv_model_types.specs.Types.{use_view, fields_view}
+use Rattle.fv_bundle.specs.Types.{use_view, fields_view}
 use Rattle.fv_widening.specs.Narrowed.{found_from, field_narrowed, fields_narrowed}
 use Rattle.fv_widening.proofs.narrowing.add_fields.Given as goal
 

@@ -1,6 +1,6 @@
 use Rattle.std.proofs.Common.{◌+◌, ◌<◌, ◌≡◌, ◌++◌, map}
 use Prim.Native.Nat.{◌^◌}
-use Rattle.fv_model_types.specs.Names.{object_types_view}
+use Rattle.fv_bundle.specs.Names.{object_types_view}
 use Rattle.fv_widening.specs.Narrowed.{found_from, form_narrowed, forms_narrowed}
 use Rattle.fv_widening.proofs.narrowing.add_forms.Given as goal
 

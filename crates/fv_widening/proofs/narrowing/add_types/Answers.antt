@@ -1,5 +1,5 @@
 use Rattle.std.proofs.Common.{arith}
-use Rattle.fv_model_types.specs.TypesView.{types_view}
+use Rattle.fv_bundle.specs.TypesView.{types_view}
 use Rattle.fv_widening.proofs.Turns.{after_turn, numbered_turn}
 use Rattle.fv_widening.proofs.narrowing.add_types.Goals as goal
 

@@ -1,5 +1,5 @@
 use Rattle.std.proofs.Common.{◌≡◌, ◌++◌, drop}
-use Rattle.fv_model_types.specs.TypesView.{types_view}
+use Rattle.fv_bundle.specs.TypesView.{types_view}
 use Rattle.fv_widening.specs.Narrowed.{found_from, named_narrowed, types_narrowed}
 use Rattle.fv_widening.proofs.narrowing.add_types.Given as goal
 

@@ -1,7 +1,7 @@
 use Rattle.std.proofs.Common.{◌≡◌, [], sym, ◌∙◌}
-use Rattle.fv_model_types.specs.Names.{object_types_view}
-use Rattle.fv_model_types.specs.Types.{AreApart, FieldsApart}
-use Rattle.fv_model_types.specs.TypesView.{types_view}
+use Rattle.fv_bundle.specs.Names.{object_types_view}
+use Rattle.fv_bundle.specs.Types.{AreApart, FieldsApart}
+use Rattle.fv_bundle.specs.TypesView.{types_view}
 use Rattle.fv_widening.specs.Narrowed.{narrowed}
 use Rattle.fv_widening.specs.Widens.{Widens}
 use Rattle.fv_widening.proofs.Widened.{if_ok, widened, none_narrowed}

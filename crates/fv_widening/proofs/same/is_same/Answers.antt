@@ -1,5 +1,5 @@
 use Rattle.std.proofs.Common.{◌≡◌, true, subst, sym, ◌∙◌}
-use Rattle.fv_model_types.specs.Types.{TypeUse, type_use_view}
+use Rattle.fv_bundle.specs.Types.{TypeUse, type_use_view}
 use Rattle.fv_widening.specs.Same.{is_same}
 use Rattle.fv_widening.proofs.Sames.{same_use, use_same}
 use Rattle.fv_widening.proofs.same.is_same.Goals as goal

@@ -1,9 +1,9 @@
 use Rattle.std.proofs.Common.{◌≡◌, ◌∙◌, Some, map, string_bytes, bytes_eq, position, sym}
 use Rattle.std.specs.Map.{keys_of}
 use Rattle.fv_datum.specs.View.{view}
-use Rattle.fv_model_types.specs.Types.{use_view}
+use Rattle.fv_bundle.specs.Types.{use_view}
 use Rattle.fv_datum.proofs.Lookups.{position-map, beside, seen_option}
-use Rattle.fv_model_types.proofs.Lookups.{none_beside}
+use Rattle.fv_bundle.proofs.Lookups.{none_beside}
 use Rattle.fv_bundle.proofs.bundle.Object.field.Goals as goal
 
 pub returns-in_err-index : goal.returns-in_err-index

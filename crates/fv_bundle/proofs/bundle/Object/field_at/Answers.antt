@@ -2,9 +2,9 @@ use Rattle.std.proofs.Common.{◌≡◌, ◌∙◌, Some, None, map, slice_get, 
 use Rattle.std.specs.Map.{keys_of}
 use Rattle.std.specs.Option.{option_zip}
 use Rattle.fv_datum.specs.View.{view}
-use Rattle.fv_model_types.specs.Types.{fields_view}
+use Rattle.fv_bundle.specs.Types.{fields_view}
 use Rattle.fv_datum.proofs.Lookups.{slice_get-zip, seen_at, seen_past}
-use Rattle.fv_model_types.proofs.Lookups.{name_placed}
+use Rattle.fv_bundle.proofs.Lookups.{name_placed}
 use Rattle.fv_bundle.proofs.bundle.Object.field_at.Goals as goal
 
 pub returns-in_err-name : goal.returns-in_err-name

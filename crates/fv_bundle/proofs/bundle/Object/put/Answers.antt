@@ -2,7 +2,7 @@ use Rattle.std.proofs.Common.{◌≡◌, ◌≤◌, ◌∙◌, ℕ, List, Some, 
 use Rattle.std.specs.Map.{keys_of}
 use Rattle.fv_datum.specs.Data.{Data}
 use Rattle.fv_datum.specs.View.{view}
-use Rattle.fv_model_types.specs.Types.{use_view, name_at}
+use Rattle.fv_bundle.specs.Types.{use_view, name_at}
 use Rattle.fv_datum.proofs.Lookups.{position-map}
 use Rattle.fv_bundle.specs.Bundles.{Thing}
 use Rattle.fv_bundle.specs.Views.{types_view}

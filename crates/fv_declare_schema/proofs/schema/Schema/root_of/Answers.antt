@@ -1,6 +1,6 @@
 use Rattle.std.proofs.Common.{Bor, option_map, sym, ap, ◌∙◌}
-use Rattle.fv_model_types.specs.Types.{name_at}
-use Rattle.fv_model_types.specs.TypesView.{types_view}
+use Rattle.fv_bundle.specs.Types.{name_at}
+use Rattle.fv_bundle.specs.TypesView.{types_view}
 use Rattle.fv_declare_schema.specs.declared.schema.Form.{Form}
 use Rattle.fv_datum.proofs.Lookups.{found_in}
 use Rattle.fv_declare_schema.proofs.schema.Schema.root_of.Goals as goal

@@ -1,7 +1,7 @@
 use Rattle.std.proofs.Common.{◌≡◌, false, subst, ap, ◌∙◌}
 use Rattle.fv_declare_schema.specs.Declarations.{Declarations}
 use Rattle.fv_engine.proofs.EngineExports.{export_cause, export_done, export_frame, export_front, export_keeps, export_same, export_untouched}
-use Rattle.fv_model_types.specs.Types.{Declared, has_deep}
+use Rattle.fv_bundle.specs.Types.{Declared, has_deep}
 use Rattle.fv_store.specs.Stock.{stock_state}
 use Rattle.fv_engine.proofs.engine.Engine.export.Goals as goal
 

@@ -2,7 +2,7 @@ use Rattle.std.proofs.Common.{◌≡◌, Some, false, inl, inr, ap, sym, subst, 
 use Rattle.sqlite.specs.Held.{state}
 use Rattle.sqlite.specs.State.{HasCleanDisk}
 use Rattle.fv_declare_schema.specs.Declarations.{Declarations}
-use Rattle.fv_model_types.specs.Types.{Declared, has_deep}
+use Rattle.fv_bundle.specs.Types.{Declared, has_deep}
 use Rattle.fv_store.specs.Faults.{IsAboutFault, about_fault}
 use Rattle.fv_store.specs.Records.{Contents}
 use Rattle.fv_store.specs.Stands.{Opens}

@@ -2,7 +2,7 @@ use Rattle.std.proofs.Common.{ap, subst, ◌∙◌}
 use Rattle.std.proofs.lemmas.Int.{to_z-of_z}
 use mir.Syntax.{w64}
 use Rattle.fv_declare_schema.specs.Declarations.{Declarations}
-use Rattle.fv_model_types.specs.Types.{FieldsApart}
+use Rattle.fv_bundle.specs.Types.{FieldsApart}
 use Rattle.fv_store.specs.Stock.{stock_state}
 use Rattle.fv_engine.proofs.Laws.{goes_turned, shows_what_was_put, changes_no_get, lists_some, may_change_places, fails_where_shut, leaves_nothing_to_list, fails_for_room_alone, shows_the_same, leaves_nothing_at_all, fits_where_added}
 use Rattle.fv_engine.proofs.Lifts.{long_goes, short_goes}

@@ -5,8 +5,8 @@ use Rattle.fv_bundle.specs.Views.{object_view}
 use Rattle.fv_local.specs.Below.{below}
 use Rattle.fv_local.specs.Reached.{plain_groups}
 use Rattle.fv_local.specs.TableView.{lists_view}
-use Rattle.fv_model_types.specs.Types.{Declared, number_of}
-use Rattle.fv_model_types.specs.TypesView.{types_view}
+use Rattle.fv_bundle.specs.Types.{Declared, number_of}
+use Rattle.fv_bundle.specs.TypesView.{types_view}
 use Rattle.fv_local.proofs.Reaching.{kept_within, ranks_within, local_all}
 use Rattle.fv_local.proofs.rulebook.Rulebook.local.Goals as goal
 

@@ -7,8 +7,8 @@ use Rattle.fv_bundle.specs.Views.{object_view}
 use Rattle.fv_local.specs.Below.{below}
 use Rattle.fv_local.specs.Reached.{plain_groups}
 use Rattle.fv_local.specs.TableView.{lists_view}
-use Rattle.fv_model_types.specs.Types.{Declared, number_of}
-use Rattle.fv_model_types.specs.TypesView.{types_view}
+use Rattle.fv_bundle.specs.Types.{Declared, number_of}
+use Rattle.fv_bundle.specs.TypesView.{types_view}
 use Rattle.fv_local.specs.Fields.{stands_in}
 use Rattle.fv_local.proofs.Fields.{reached_in_field, ranks_reached_in_field}
 use Rattle.fv_local.proofs.Reaching.{same_length, kept_within, ranks_within, field_all}

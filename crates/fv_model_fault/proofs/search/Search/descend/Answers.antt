@@ -1,7 +1,7 @@
 use Rattle.std.proofs.Common.{map, Some}
 use Rattle.std.proofs.lemmas.List.{map-append}
 use Rattle.serde_json.specs.View.{view as json_view}
-use Rattle.fv_model_types.specs.Types.{type_use_view}
+use Rattle.fv_bundle.specs.Types.{type_use_view}
 use Rattle.fv_model_fault.specs.SearchViews.{sought, IsNext}
 use Rattle.fv_model_fault.specs.Views.{inner_view}
 use Rattle.fv_model_fault.proofs.Leads.{leads_on}

@@ -1,6 +1,6 @@
 use Rattle.std.proofs.Common.{◌≡◌, map, Some, true}
 use Rattle.serde_json.specs.View.{view as json_view}
-use Rattle.fv_model_types.specs.Types.{nested, type_use_view}
+use Rattle.fv_bundle.specs.Types.{nested, type_use_view}
 use Rattle.fv_model_fault.specs.SearchViews.{sought}
 use Rattle.fv_model_fault.specs.Sought.{LeadsTo}
 use Rattle.fv_model_fault.specs.Views.{inner_view}

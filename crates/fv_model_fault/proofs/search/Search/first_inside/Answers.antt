@@ -1,5 +1,5 @@
 use Rattle.std.proofs.Common.{◌≡◌, ap, ◌∙◌}
-use Rattle.fv_model_types.specs.Types.{maps, type_use_view}
+use Rattle.fv_bundle.specs.Types.{maps, type_use_view}
 use Rattle.fv_model_fault.proofs.Seen.{map_view}
 use Rattle.fv_model_fault.proofs.search.Search.first_inside.Goals as goal
 

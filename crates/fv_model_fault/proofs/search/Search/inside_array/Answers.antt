@@ -4,8 +4,8 @@ use Rattle.serde_json.specs.View.{view as json_view, items_view}
 use Rattle.fv_datum.specs.Members.{listed}
 use Rattle.fv_datum.proofs.Fronts.{listed_turn}
 use Rattle.fv_first.specs.First.{first_where}
-use Rattle.fv_model_types.specs.Flaws.{items_in}
-use Rattle.fv_model_types.specs.Types.{type_use_view}
+use Rattle.fv_bundle.specs.Flaws.{items_in}
+use Rattle.fv_bundle.specs.Types.{type_use_view}
 use Rattle.fv_model_fault.specs.SearchViews.{sought}
 use Rattle.fv_model_fault.proofs.Finds.{any_past, at_front, drop_more, where_here, where_past}
 use Rattle.fv_model_fault.proofs.search.Search.inside_array.Goals as goal

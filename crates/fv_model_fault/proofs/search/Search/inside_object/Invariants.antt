@@ -2,8 +2,8 @@ use Rattle.std.proofs.Common.{◌≡◌, Some}
 use Rattle.std.specs.List.{find, list_any}
 use Rattle.serde_json.specs.View.{view as json_view, members_view}
 use Rattle.fv_datum.specs.Members.{pairs}
-use Rattle.fv_model_types.specs.Flaws.{members_in}
-use Rattle.fv_model_types.specs.Types.{type_use_view}
+use Rattle.fv_bundle.specs.Flaws.{members_in}
+use Rattle.fv_bundle.specs.Types.{type_use_view}
 use Rattle.fv_model_fault.specs.SearchViews.{sought}
 use Rattle.fv_model_fault.proofs.search.Search.inside_object.Given as goal
 

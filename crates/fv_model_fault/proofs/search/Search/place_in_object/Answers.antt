@@ -3,8 +3,8 @@ use Rattle.std.specs.Option.{option_map_or}
 use Rattle.serde_json.specs.View.{view as json_view, members_view}
 use Rattle.fv_datum.specs.Lookup.{at_name}
 use Rattle.fv_datum.specs.Members.{pairs}
-use Rattle.fv_model_types.specs.Types.{fields_view}
-use Rattle.fv_model_types.specs.TypesView.{types_view}
+use Rattle.fv_bundle.specs.Types.{fields_view}
+use Rattle.fv_bundle.specs.TypesView.{types_view}
 use Rattle.fv_model_fault.specs.Faults.{is_flawed}
 use Rattle.fv_model_fault.specs.Given.{type_in, fields_in}
 use Rattle.fv_model_fault.specs.SearchViews.{sought}

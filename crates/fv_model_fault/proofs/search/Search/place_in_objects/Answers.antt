@@ -1,7 +1,7 @@
 use Rattle.std.proofs.Common.{◌∷◌, find, sym, ap, ◌∙◌}
 use Rattle.serde_json.specs.View.{view as json_view, members_view}
 use Rattle.fv_datum.specs.Members.{pairs}
-use Rattle.fv_model_types.specs.TypesView.{types_view}
+use Rattle.fv_bundle.specs.TypesView.{types_view}
 use Rattle.fv_model_fault.specs.Faults.{has_flawed}
 use Rattle.fv_model_fault.specs.SearchViews.{sought}
 use Rattle.fv_model_fault.proofs.Finds.{find_here}

@@ -2,7 +2,7 @@ use Rattle.std.proofs.Common.{◌≡◌}
 use Rattle.std.specs.List.{find, list_any}
 use Rattle.serde_json.specs.View.{members_view}
 use Rattle.fv_datum.specs.Members.{pairs}
-use Rattle.fv_model_types.specs.TypesView.{types_view}
+use Rattle.fv_bundle.specs.TypesView.{types_view}
 use Rattle.fv_model_fault.specs.Faults.{has_flawed}
 use Rattle.fv_model_fault.specs.SearchViews.{sought}
 use Rattle.fv_model_fault.proofs.search.Search.place_in_objects.Given as goal

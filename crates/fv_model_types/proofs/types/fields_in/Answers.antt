@@ -1,7 +1,0 @@
-use Rattle.std.proofs.Common.{ap, ◌∙◌, option_map}
-use Rattle.fv_model_types.specs.Types.{fields_view}
-use Rattle.fv_datum.proofs.Lookups.{lookup-at_name, option_map-copied}
-use Rattle.fv_model_types.proofs.types.fields_in.Goals as goal
-
-pub returns : goal.returns
-returns c = option_map-copied fields_view c.get.result ∙ ap (option_map fields_view) c.get.ensures.value ∙ lookup-at_name fields_view c.args.name.now c.args.declared.now.entries
