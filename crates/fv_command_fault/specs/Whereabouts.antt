@@ -9,7 +9,7 @@ use Rattle.fv_command_fault.specs.declared.place.CommandPlace.TheVariants.{Form,
 use Rattle.fv_datum.specs.Lookup.{at_name}
 use Rattle.fv_declare_schema.specs.Declarations.{Declarations}
 use Rattle.fv_engine_command.specs.Commands.{Request, check_field, check_value}
-use Rattle.fv_groups.specs.Whereabouts.{first_unknown}
+use Rattle.fv_declare_schema.specs.Whereabouts.{first_unknown}
 use Rattle.fv_bundle.specs.Types.{DeclaredFields}
 use Rattle.fv_store.specs.Records.{Kept, Records}
 

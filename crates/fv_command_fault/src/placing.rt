@@ -5,16 +5,15 @@ ghost use Rattle.fv_command_fault.specs.Whereabouts.{IsAt};
 ghost use Rattle.fv_datum.specs.Lookup.{at_name};
 ghost use Rattle.fv_engine_command.specs.Commands as spec;
 ghost use Rattle.fv_engine_command.specs.CommandView.{command_view, part_view};
-ghost use Rattle.fv_groups.specs.Whereabouts.{first_unknown};
+ghost use Rattle.fv_declare_schema.specs.Whereabouts.{first_unknown};
 ghost use Rattle.fv_store.specs.Records.{Records};
 
 use crate::fields::absent_field;
 use crate::named::{form_of, names_of, needs_record};
 use crate::place::{Absence, CommandPlace};
 use fv_bundle::Bundle;
-use fv_declare_schema::Schema;
+use fv_declare_schema::{Groups, Schema};
 use fv_engine_command::{Command, Part};
-use fv_groups::Groups;
 
 /// The form of a command, where it isn't declared.
 fn absent_form(schema: &Schema, command: &Command) -> Option<CommandPlace>

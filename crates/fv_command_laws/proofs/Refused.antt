@@ -24,9 +24,9 @@ use Rattle.fv_engine_reply.specs.Answers.{Answer, refused, part_refused}
 use Rattle.fv_engine_reply.specs.declared.answer.Refusal.{Refusal}
 use Rattle.fv_engine_reply.specs.declared.answer.Refusal.TheVariants as why
 use Rattle.fv_first.proofs.Laws.{where_told}
-use Rattle.fv_groups.specs.Groups.{Groups, number_of}
-use Rattle.fv_groups.specs.Judged.{unknown_in}
-use Rattle.fv_groups.specs.Whereabouts.{first_unknown}
+use Rattle.fv_declare_schema.specs.Groups.{Groups, number_of}
+use Rattle.fv_declare_schema.specs.Judged.{unknown_in}
+use Rattle.fv_declare_schema.specs.Whereabouts.{first_unknown}
 use Rattle.fv_model.specs.Setting.{bundle_set}
 use Rattle.fv_model.specs.declared.fault.BundleFault.{BundleFault}
 use Rattle.fv_bundle.specs.Types.{Declared, DeclaredFields, TypeUse}

@@ -3,7 +3,7 @@ use Rattle.std.specs.Prelude.{ℕ, List, map, option_map}
 use Rattle.fv_declare_definition.specs.DefinitionViews.{definition_entry}
 use Rattle.fv_extract.specs.Views.{step_view}
 use Rattle.fv_bundle.specs.Types.{type_use_view}
-use Rattle.fv_groups.specs.Groups.{Form, inherits, sequence}
+use Rattle.fv_declare_schema.specs.Groups.{Form, inherits, sequence}
 use Rattle.fv_declare_draft.specs.Cascades as cascades
 use Rattle.fv_declare_draft.specs.Gathering.{Gathered}
 use Rattle.fv_declare_draft.specs.Places as places

@@ -10,7 +10,7 @@ use Rattle.fv_declare_draft.specs.Groups.{group_of}
 use Rattle.fv_declare_draft.specs.Messages.{message_of}
 use Rattle.fv_declare_draft.specs.Places.{PlacedUse, PlacedCascade, place_of, type_at, uses_at, cascades_at}
 use Rattle.fv_declare_draft.specs.Uses.{UseDraft, uses_of}
-use Rattle.fv_groups.specs.Groups.{Groups}
+use Rattle.fv_declare_schema.specs.Groups.{Groups}
 use Rattle.fv_bundle.specs.Types.{TypeUse}
 
 -- a field: its name, what it holds, the uses at it and inside it, and the cascades at it and at each place inside it

@@ -4,7 +4,7 @@ use Rattle.serde_json.specs.Data as json
 use Rattle.fv_datum.specs.Forms.{only, required}
 use Rattle.fv_datum.specs.Members.{has_only}
 use Rattle.fv_datum.specs.NameLists.{names_in, names_of}
-use Rattle.fv_groups.specs.Groups.{Form, inherits, sequence}
+use Rattle.fv_declare_schema.specs.Groups.{Form, inherits, sequence}
 
 -- a sequence, which has at least one member
 abbrev pub sequence_of : List (List ℕ) → Option Form

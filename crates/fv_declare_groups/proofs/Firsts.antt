@@ -2,18 +2,18 @@
 use Rattle.std.proofs.Common.{◌≡◌, inl, inr, List, [], ◌∷◌, Bool, true, false, IsTrue, ◌||◌, Option, Some, None, option_map, is_some, refl, ap, subst, true≢false, sym, ◌∙◌}
 use Rattle.std.specs.List.{list_any}
 use Rattle.fv_declare_draft.specs.Drafts.{TypeDraft, Drafted}
-use Rattle.fv_groups.specs.Groups.{Groups}
-use Rattle.fv_groups.specs.Judged.{has_unknown, has_inherited_sequence, sequence_in, AreSound}
+use Rattle.fv_declare_schema.specs.Groups.{Groups}
+use Rattle.fv_declare_schema.specs.Judged.{has_unknown, has_inherited_sequence, sequence_in, AreSound}
 use Rattle.fv_declare_draft.specs.AllCascades.{Cascade, cascades_in}
 use Rattle.fv_declare_draft.specs.AllUses.{Use, uses_in}
 use Rattle.fv_declare_groups.specs.First.{IsFirst, HasSome}
 use Rattle.fv_declare_groups.specs.Graphed.{IsFaultOf}
 use Rattle.fv_declare_groups.specs.Grouping.{groups_in, named_unknown, lacks_type, MembersMeet, is_misplaced, grouping_faults, Holds}
 use Rattle.std.specs.Option.{option_or}
-use Rattle.fv_groups.specs.Whereabouts.{unknown_name, inherited_sequence}
-use Rattle.fv_groups.specs.declared.fault.NameAt.{NameAt}
+use Rattle.fv_declare_schema.specs.Whereabouts.{unknown_name, inherited_sequence}
+use Rattle.fv_declare_schema.specs.declared.fault.NameAt.{NameAt}
 use Rattle.fv_first.proofs.Laws.{map_told}
-use Rattle.fv_groups.proofs.Placed.{unknown_told, inherited_told}
+use Rattle.fv_declare_schema.proofs.Placed.{unknown_told, inherited_told}
 use Rattle.fv_declare_groups.specs.Whereabouts.{group_at, unknown_in, misused_in, IsAt, IsAtGroup}
 use Rattle.fv_declare_groups.specs.declared.at.GroupingAt.{GroupingAt}
 use Rattle.fv_declare_groups.specs.declared.fault.GroupingFault.{GroupingFault}

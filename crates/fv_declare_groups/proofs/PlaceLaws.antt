@@ -6,9 +6,9 @@ use Rattle.fv_declare_draft.specs.AllCascades.{Cascade}
 use Rattle.fv_declare_draft.specs.AllUses.{Use}
 use Rattle.fv_declare_draft.specs.Cascades as drafts
 use Rattle.fv_declare_draft.specs.Drafts.{TypeDraft, FormDraft}
-use Rattle.fv_groups.specs.Groups.{Groups, number_of, is_sequence}
-use Rattle.fv_groups.specs.Judged as judged
-use Rattle.fv_groups.specs.Judged.{sequence_in}
+use Rattle.fv_declare_schema.specs.Groups.{Groups, number_of, is_sequence}
+use Rattle.fv_declare_schema.specs.Judged as judged
+use Rattle.fv_declare_schema.specs.Judged.{sequence_in}
 use Rattle.fv_declare_groups.specs.First.{HasSome}
 use Rattle.fv_first.specs.First.{first_where, IsFirstIn}
 use Rattle.fv_declare_groups.specs.Grouping.{named_unknown, member_unknown, members_unknown, conversion_unknown, conversions_unknown, sequence_members, lacks_type, MemberMeets, MembersMeet, is_reference, is_none, is_misplaced}

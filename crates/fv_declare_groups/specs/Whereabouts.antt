@@ -4,11 +4,11 @@ use Rattle.std.specs.Option.{option_or}
 use Rattle.fv_declare_draft.specs.AllCascades.{Cascade, cascades_in}
 use Rattle.fv_declare_draft.specs.AllUses.{Use, uses_in}
 use Rattle.fv_declare_draft.specs.Drafts.{TypeDraft, FormDraft, Drafted}
-use Rattle.fv_groups.specs.Groups.{Groups}
-use Rattle.fv_groups.specs.Judged.{sequence_in}
+use Rattle.fv_declare_schema.specs.Groups.{Groups}
+use Rattle.fv_declare_schema.specs.Judged.{sequence_in}
 use Rattle.fv_first.specs.First.{first_in, first_where, first_of, IsFirstIn}
-use Rattle.fv_groups.specs.Whereabouts.{first_unknown, first_sequence, unknown_name, inherited_sequence}
-use Rattle.fv_groups.specs.declared.fault.NameAt.{NameAt}
+use Rattle.fv_declare_schema.specs.Whereabouts.{first_unknown, first_sequence, unknown_name, inherited_sequence}
+use Rattle.fv_declare_schema.specs.declared.fault.NameAt.{NameAt}
 use Rattle.fv_declare_groups.specs.Grouping.{groups_in, sequence_members, member_unknown, conversion_unknown, lacks_type, MemberMeets, is_reference, is_none}
 use Rattle.fv_declare_groups.specs.declared.at.CascadeAt.{CascadeAt}
 use Rattle.fv_declare_groups.specs.declared.at.CascadeAt.TheVariants.{Valid, Convert, Conversion}

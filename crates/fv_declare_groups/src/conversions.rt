@@ -4,14 +4,14 @@ ghost use Rattle.fv_declare_draft.specs.DraftViews.{conversion_view};
 ghost use Rattle.fv_first.specs.First.{first_where};
 ghost use Rattle.fv_declare_groups.specs.Grouping.{is_reference};
 ghost use Rattle.fv_declare_groups.specs.Whereabouts.{misplaced_at, misplaced_in};
-ghost use Rattle.fv_groups.specs.Judged.{sequence_in};
+ghost use Rattle.fv_declare_schema.specs.Judged.{sequence_in};
 ghost use Rattle.fv_declare_draft.specs.UseViews.{cascade_view};
 
 use crate::at::{CascadeAt, GroupingAt};
 use crate::sequences::is_sequence;
 use fv_datum::Kind;
 use fv_declare_draft::{Cascade, Conversion};
-use fv_groups::GroupGraph;
+use fv_declare_schema::GroupGraph;
 
 /// Whether what stands there refers to objects.
 fn is_reference(kind: Kind) -> bool

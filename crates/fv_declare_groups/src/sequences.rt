@@ -7,14 +7,14 @@ ghost use Rattle.fv_declare_draft.specs.DraftViews.{type_view};
 ghost use Rattle.fv_first.specs.First.{first_where, IsFirstIn};
 ghost use Rattle.fv_declare_groups.specs.Grouping.{lacks_type, is_long, MemberMeets};
 ghost use Rattle.fv_declare_groups.specs.Whereabouts.{misused_in, lacking_in, IsMetAt, IsMetIn};
-ghost use Rattle.fv_groups.specs.Whereabouts.{first_sequence};
-ghost use Rattle.fv_groups.specs.Groups.{number_of, is_sequence};
+ghost use Rattle.fv_declare_schema.specs.Whereabouts.{first_sequence};
+ghost use Rattle.fv_declare_schema.specs.Groups.{number_of, is_sequence};
 ghost use Rattle.fv_declare_draft.specs.UseViews.{use_view};
 
 use crate::at::GroupingAt;
 use crate::declared::members_of;
 use fv_declare_draft::{TypeDraft, Use};
-use fv_groups::GroupGraph;
+use fv_declare_schema::GroupGraph;
 
 /// The most members of a type's sequence.
 const MOST_MEMBERS: usize = 32;

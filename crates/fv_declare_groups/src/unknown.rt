@@ -4,9 +4,9 @@ ghost use Rattle.fv_declare_draft.specs.DraftViews.{conversion_view, type_view, 
 ghost use Rattle.fv_first.specs.First.{first_where};
 ghost use Rattle.fv_declare_groups.specs.Grouping.{member_unknown, conversion_unknown};
 ghost use Rattle.fv_declare_groups.specs.Whereabouts.{unknown_use, unknown_member, unknown_conversion, unknown_form, unknown_in};
-ghost use Rattle.fv_groups.specs.Whereabouts.{first_unknown};
-ghost use Rattle.fv_groups.specs.GroupViews.{declared_view};
-ghost use Rattle.fv_groups.specs.Groups.{all_groups};
+ghost use Rattle.fv_declare_schema.specs.Whereabouts.{first_unknown};
+ghost use Rattle.fv_declare_schema.specs.GroupViews.{declared_view};
+ghost use Rattle.fv_declare_schema.specs.Groups.{all_groups};
 ghost use Rattle.fv_declare_draft.specs.UseViews.{use_view, cascade_view};
 
 use crate::at::{CascadeAt, GroupingAt};

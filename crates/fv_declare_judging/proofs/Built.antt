@@ -18,7 +18,7 @@ use Rattle.fv_declare_schema.specs.NumberViews.{valid_place_view}
 use Rattle.fv_declare_schema.specs.Ordered.{AreOrdered}
 use Rattle.fv_declare_schema.specs.PlacedView.{placed_view}
 use Rattle.fv_declare_schema.specs.SchemaView.{declared_by}
-use Rattle.fv_groups.specs.Groups.{Groups}
+use Rattle.fv_declare_schema.specs.Groups.{Groups}
 use Rattle.fv_message.specs.Table.{Messages, all_messages}
 use Rattle.fv_declare_judging.specs.declared.placed.PlacedWording.{PlacedWording}
 use Rattle.fv_bundle.specs.TypesView.{types_view}

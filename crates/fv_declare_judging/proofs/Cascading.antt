@@ -6,7 +6,7 @@ use Rattle.fv_declare_draft.specs.Places.{PlacedCascade}
 use Rattle.fv_extract.specs.Pairs.{Pairwise}
 use Rattle.fv_declare_schema.specs.ValidPlaces.{ValidPlace}
 use Rattle.fv_declare_groups.specs.Numbered.{valid_place, valid_places}
-use Rattle.fv_groups.specs.Groups.{Groups}
+use Rattle.fv_declare_schema.specs.Groups.{Groups}
 use Rattle.fv_declare_draft.specs.AllCascades.{Cascade, cascade_in, field_cascades, type_cascades, cascades_in}
 use Rattle.fv_declare_judging.specs.Judging.{AreDeepening, IsLed}
 use Rattle.fv_declare_schema.specs.Ordered.{PrecedesPlace, ArePlacesRising}

@@ -15,7 +15,7 @@ use Rattle.fv_declare_draft.specs.declared.draft.GroupDraft.{GroupDraft}
 use Rattle.fv_declare_draft.specs.declared.draft.TypeDraft.{TypeDraft}
 use Rattle.fv_first.specs.First.{first_from}
 use Rattle.fv_first.proofs.Turns.{first_turn}
-use Rattle.fv_groups.specs.Groups.{Form}
+use Rattle.fv_declare_schema.specs.Groups.{Form}
 
 pub field_turn : {P : Type 0} (f : ℕ → spec.FieldDraft → Option P) (xs : List FieldDraft) (i : ℕ) (x : FieldDraft) → i < length xs → x ≡ get_or xs i x
     → first_from f i (map field_view (drop i xs)) ≡ option_or (f i (field_view x)) (first_from f (i + 1) (map field_view (drop (i + 1) xs)))

@@ -16,7 +16,7 @@ use Rattle.fv_declare_draft.specs.Drafts.{Drafted, draft_of}
 use Rattle.fv_declare_groups.specs.Grouping.{groups_in, is_misplaced}
 use Rattle.fv_declare_schema.specs.Declarations.{Placed, Declarations, count_nodes}
 use Rattle.fv_declare_schema.specs.Ordered.{Precedes, IsRising, IsPlaced, AreGroups, AreOrdered}
-use Rattle.fv_groups.specs.Groups.{Groups}
+use Rattle.fv_declare_schema.specs.Groups.{Groups}
 use Rattle.fv_bundle.specs.Types.{too_many}
 use Rattle.fv_registry.specs.Rules.{Known}
 use Rattle.fv_declare_judging.specs.Conditions.{used_in, has_many, too_large}

@@ -13,7 +13,7 @@ use Rattle.fv_declare_draft.specs.Drafts.{FieldDraft, TypeDraft, FormDraft, Draf
 use Rattle.fv_declare_draft.specs.Places.{PlaceDraft, Holding, PlacedUse, PlacedCascade, place, plain, list, optional, a_map, place_of, use_there, cascade_there, type_at, type_held, uses_at, uses_inside, cascades_at, cascades_inside}
 use Rattle.fv_declare_draft.specs.Uses.{UseDraft, uses_of}
 use Rattle.fv_extract.specs.Places.{Step, element, key, value, content}
-use Rattle.fv_groups.specs.Groups.{Groups}
+use Rattle.fv_declare_schema.specs.Groups.{Groups}
 use Rattle.fv_bundle.specs.Types.{TypeUse, texts, lists, maps, optionals, kind_of}
 use Rattle.fv_declare_judging.specs.Judging.{IsLed, AreLed}
 use Rattle.fv_declare_schema.specs.Ordered.{held_after, held_inside}

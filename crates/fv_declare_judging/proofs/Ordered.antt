@@ -12,7 +12,7 @@ use Rattle.fv_declare_draft.specs.declared.draft.FormDraft.{FormDraft}
 use Rattle.fv_declare_draft.specs.declared.draft.Draft.{Draft}
 use Rattle.fv_declare_groups.specs.Grouping.{is_misplaced}
 use Rattle.fv_declare_groups.specs.Numbered.{groups_named, type_ranks, valid_places}
-use Rattle.fv_groups.specs.Groups.{Groups}
+use Rattle.fv_declare_schema.specs.Groups.{Groups}
 use Rattle.fv_constraint_tree.specs.TargetFits.{tree_fits}
 use Rattle.fv_flatten.specs.Read.{IsReadTree}
 use Rattle.fv_constraint_tree.specs.Nodes.{Node}

@@ -9,7 +9,7 @@ use Rattle.fv_declare_groups.specs.Grouping.{groups_in, is_reference, is_misplac
 use Rattle.fv_declare_schema.specs.ValidPlaces.{ValidPlace}
 use Rattle.fv_declare_groups.specs.Numbered.{valid_place, valid_places}
 use Rattle.fv_declare_groups.specs.declared.fault.GroupingFault.{GroupingFault}
-use Rattle.fv_groups.specs.Groups.{Groups}
+use Rattle.fv_declare_schema.specs.Groups.{Groups}
 use Rattle.fv_datum.proofs.Bools.{not_false, or_left, or_right}
 use Rattle.fv_bundle.specs.Types.{Declared}
 use Rattle.fv_declare_draft.specs.AllCascades.{Cascade, cascades_in}

@@ -7,10 +7,10 @@ use Rattle.fv_declare_draft.specs.Cascades.{Conversion}
 use Rattle.fv_declare_draft.specs.Drafts.{TypeDraft, FormDraft}
 use Rattle.fv_graph.specs.Graph.{mem, IsIn}
 use Rattle.fv_declare_groups.specs.Numbered.{groups_named, member_ranks, own_ranks, type_ranks, converted, valid_place, valid_places}
-use Rattle.fv_groups.specs.Groups.{Groups, number_of, numbers_of, ranks}
-use Rattle.fv_groups.specs.Once.{once_after}
-use Rattle.fv_groups.proofs.Edges.{numbers_below}
-use Rattle.fv_groups.proofs.Plain.{ranks_plain}
+use Rattle.fv_declare_schema.specs.Groups.{Groups, number_of, numbers_of, ranks}
+use Rattle.fv_declare_schema.specs.Once.{once_after}
+use Rattle.fv_declare_schema.proofs.Edges.{numbers_below}
+use Rattle.fv_declare_schema.proofs.Plain.{ranks_plain}
 use Rattle.fv_constraint_tree.specs.Nodes.{Node}
 use Rattle.fv_constraint_tree.specs.Trees.{Tree, size}
 use Rattle.fv_declare_draft.specs.AllCascades.{Cascade}

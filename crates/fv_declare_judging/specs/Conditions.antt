@@ -13,7 +13,7 @@ use Rattle.fv_declare_draft.specs.AllUses.{uses_in}
 use Rattle.fv_declare_draft.specs.Drafts.{FormDraft, Drafted}
 use Rattle.fv_declare_groups.specs.Grouping.{groups_in, is_long}
 use Rattle.fv_declare_schema.specs.Declarations.{count_nodes}
-use Rattle.fv_groups.specs.Judged.{is_large}
+use Rattle.fv_declare_schema.specs.Judged.{is_large}
 use Rattle.fv_declare_judging.specs.Types.{types_declared}
 use Rattle.fv_declare_judging.specs.Used.{used}
 

@@ -13,7 +13,7 @@ use Rattle.fv_declare_groups.specs.First.{HasSome}
 use Rattle.fv_declare_groups.specs.Grouping.{groups_in, unknown_group, misused, lacks_type, MembersMeet, is_misplaced}
 use Rattle.fv_declare_schema.specs.Declarations.{Declarations}
 use Rattle.fv_graph.specs.Graph.{IsCyclic}
-use Rattle.fv_groups.specs.Groups.{inherit_next, member_next}
+use Rattle.fv_declare_schema.specs.Groups.{inherit_next, member_next}
 use Rattle.fv_message.specs.Judged.{IsCircular}
 use Rattle.fv_message.specs.Table.{all_messages}
 use Rattle.fv_registry.specs.Rules.{Known}

@@ -18,7 +18,7 @@ use Rattle.fv_constraint_tree.specs.Trees.{Tree, size}
 use Rattle.fv_declare_schema.specs.Declarations.{Placed, Declarations, count_nodes}
 use Rattle.fv_declare_schema.specs.Ordered.{held_inside}
 use Rattle.fv_declare_groups.specs.Numbered.{groups_named}
-use Rattle.fv_groups.specs.Groups.{Groups}
+use Rattle.fv_declare_schema.specs.Groups.{Groups}
 use Rattle.fv_message.specs.declared.fault.MessageFault.{MessageFault}
 use Rattle.fv_message.specs.declared.fault.MessageFault.TheVariants as message
 use Rattle.fv_declare_draft.specs.AllUses.{Use, uses_in}

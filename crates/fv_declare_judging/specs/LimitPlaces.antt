@@ -5,7 +5,7 @@ use Rattle.fv_constraint_tree.specs.Trees.{Tree, size}
 use Rattle.fv_declare_draft.specs.Drafts.{Drafted}
 use Rattle.fv_declare_groups.specs.Grouping.{groups_in, is_long}
 use Rattle.fv_first.specs.First.{first_where, first_of}
-use Rattle.fv_groups.specs.Whereabouts.{passed_limit}
+use Rattle.fv_declare_schema.specs.Whereabouts.{passed_limit}
 use Rattle.fv_bundle.specs.Types.{Declared, too_many}
 use Rattle.fv_bundle.specs.Whereabouts.{large_at}
 use Rattle.fv_bundle.specs.declared.fault.TypesAt.{TypesAt}

@@ -10,7 +10,7 @@ use Rattle.fv_declare_definition.specs.Definitions.{AttributeDefinition, Definit
 use Rattle.fv_declare_draft.specs.AllUses.{Use}
 use Rattle.fv_declare_draft.specs.Drafts.{FieldDraft, FormDraft, TypeDraft, Drafted}
 use Rattle.fv_first.specs.First.{first_in, first_where, first_of}
-use Rattle.fv_groups.specs.Groups.{Groups}
+use Rattle.fv_declare_schema.specs.Groups.{Groups}
 use Rattle.fv_bundle.specs.Types.{Declared}
 use Rattle.fv_bundle.specs.Whereabouts.{unknown_reference_at}
 use Rattle.fv_declare_judging.specs.Naming.{is_bad_group}

@@ -12,7 +12,7 @@ use Rattle.fv_declare_schema.specs.PlacedView.{placed_view}
 use Rattle.fv_declare_schema.specs.SchemaView.{forms_view, form_groups_view}
 use Rattle.fv_constraint_tree.specs.Nodes.{Node}
 use Rattle.fv_constraint_tree.specs.Trees.{Tree}
-use Rattle.fv_groups.specs.Groups.{Groups}
+use Rattle.fv_declare_schema.specs.Groups.{Groups}
 use Rattle.fv_bundle.specs.Types.{Declared, too_many}
 use Rattle.fv_message.specs.Table.{all_messages}
 use Rattle.fv_bundle.specs.TypesView.{types_view}

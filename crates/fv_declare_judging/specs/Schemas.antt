@@ -12,7 +12,7 @@ use Rattle.fv_declare_groups.specs.Grouping.{groups_in}
 use Rattle.fv_declare_groups.specs.Numbered.{groups_named, type_ranks, valid_places}
 use Rattle.fv_declare_schema.specs.Declarations.{Placed, Declarations, AreNumbered}
 use Rattle.fv_declare_schema.specs.Places.{judged_at}
-use Rattle.fv_groups.specs.Groups.{Groups}
+use Rattle.fv_declare_schema.specs.Groups.{Groups}
 use Rattle.fv_message.specs.Table.{all_messages}
 use Rattle.fv_declare_judging.specs.Types.{types_declared}
 

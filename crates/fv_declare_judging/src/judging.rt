@@ -28,7 +28,7 @@ use fv_constraint_tree::Occurrence;
 use fv_declare_draft::{Draft, Use};
 use fv_declare_groups::long_sequence;
 use fv_flatten::{FlattenFault, PlacedFlattenFault, flatten_all, trees_are_unique};
-use fv_groups::GroupGraph;
+use fv_declare_schema::GroupGraph;
 use fv_message::{MessageFault, Messages};
 use fv_registry::RuleSet;
 use std::alloc::Global;

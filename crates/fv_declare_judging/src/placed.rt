@@ -2,7 +2,7 @@ use crate::fault::DeclFault;
 use fv_constraint::ConstraintAt;
 use fv_declare_groups::{GroupingAt, PlacedGroupingFault};
 use fv_flatten::PlacedFlattenFault;
-use fv_groups::GroupLimit;
+use fv_declare_schema::GroupLimit;
 use fv_message::{MessageFault, MessagesAt};
 use fv_bundle::TypesAt;
 use std::alloc::AllocError;

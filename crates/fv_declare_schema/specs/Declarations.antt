@@ -2,7 +2,7 @@
 use Rattle.std.specs.Prelude.{◌≡◌, ℕ, ◌+◌, List, [], ◌∷◌, Option}
 use Rattle.fv_bundle.specs.Types.{Declared}
 use Rattle.fv_declare_schema.specs.ValidPlaces.{ValidPlace}
-use Rattle.fv_groups.specs.Groups.{Groups}
+use Rattle.fv_declare_schema.specs.Groups.{Groups}
 use Rattle.fv_message.specs.Table.{Messages}
 use Rattle.fv_constraint_tree.specs.Nodes.{Node}
 use Rattle.fv_constraint_tree.specs.Trees.{Tree, size}

@@ -2,8 +2,8 @@
 use Rattle.std.specs.Prelude.{ℕ, List, map, Option, option_map, Vec}
 use Rattle.std.specs.declared.alloc.Global.{Global}
 use Rattle.fv_extract.specs.Views.{step_view}
-use Rattle.fv_groups.specs.Tables.{indices}
-use Rattle.fv_groups.specs.declared.declared.GroupId.{GroupId}
+use Rattle.fv_declare_schema.specs.Tables.{indices}
+use Rattle.fv_declare_schema.specs.declared.declared.GroupId.{GroupId}
 use Rattle.fv_declare_schema.specs.ValidPlaces as spec
 use Rattle.fv_declare_schema.specs.declared.valid_place.GroupConversion.{GroupConversion}
 use Rattle.fv_declare_schema.specs.declared.valid_place.ValidPlace.{ValidPlace}

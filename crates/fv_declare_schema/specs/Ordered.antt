@@ -4,7 +4,7 @@ use Rattle.std.specs.List.{AllByRecursion}
 use Rattle.fv_datum.specs.Name.{names}
 use Rattle.fv_datum.specs.declared.kind.Kind.TheVariants as kind
 use Rattle.fv_declare_schema.specs.ValidPlaces.{ValidPlace}
-use Rattle.fv_groups.specs.Groups.{Groups}
+use Rattle.fv_declare_schema.specs.Groups.{Groups}
 use Rattle.fv_datum.specs.Ascending.{IsAscending}
 use Rattle.fv_extract.specs.Places.{Step, element, key, value, content}
 use Rattle.fv_bundle.specs.Types.{TypeUse, texts, lists, maps, optionals, DeclaredFields, Declared, kind_of}

@@ -1,6 +1,6 @@
 -- The use that a placed occurrence is.
 use Rattle.fv_declare_schema.specs.Declarations as spec
-use Rattle.fv_groups.specs.Tables.{indices}
+use Rattle.fv_declare_schema.specs.Tables.{indices}
 use Rattle.fv_declare_schema.specs.PlaceViews.{place_view}
 use Rattle.fv_declare_schema.specs.declared.placed.Placed.{Placed}
 

@@ -5,9 +5,9 @@ use Rattle.fv_bundle.specs.Types.{Declared, TextMap, name_at}
 use Rattle.fv_bundle.specs.TypesView.{types_view}
 use Rattle.fv_declare_schema.specs.NumberViews.{sequences_view, valid_place_view}
 use Rattle.fv_declare_schema.specs.declared.valid_place.ValidPlace as places
-use Rattle.fv_groups.specs.Groups.{Groups}
-use Rattle.fv_groups.specs.Tables.{indices}
-use Rattle.fv_groups.specs.declared.declared.GroupId.{GroupId}
+use Rattle.fv_declare_schema.specs.Groups.{Groups}
+use Rattle.fv_declare_schema.specs.Tables.{indices}
+use Rattle.fv_declare_schema.specs.declared.declared.GroupId.{GroupId}
 use Rattle.fv_message.specs.Table.{Messages}
 use Rattle.fv_bundle.specs.declared.types.Types.{Types}
 use Rattle.fv_declare_schema.specs.Declarations.{Declarations}

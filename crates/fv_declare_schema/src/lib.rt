@@ -1,14 +1,34 @@
 //! What declarations declare: a schema has the types, each use of a constraint where it stands, with
 //! all that the constraint is composed of, the forms, the groups, the places whose objects are
 //! validated, and the messages.
+//! Groups of constraints: which groups a group inherits, and the plain groups that a sequence of
+//! groups stands for, in order.
 #![tactic(auto)]
 
+mod acyclic;
+mod declared;
+mod draft;
+mod fault;
+mod graph;
+mod groups;
+mod laws;
+mod marking;
 mod place;
 mod placed;
+mod ranking;
+mod rings;
 mod schema;
 mod valid_place;
 
+pub use declared::GroupId;
+pub use draft::GroupDraft;
+pub use fault::{GroupFault, GroupLimit, NameAt, PlacedGroupFault};
+pub use graph::GroupGraph;
+pub use groups::Groups;
+pub use laws::{ranks_are_plain, ranks_unfold};
 pub use place::Place;
 pub use placed::Placed;
+pub use ranking::add_new;
+pub use rings::{inheritance_ring, sequence_ring};
 pub use schema::{Form, Schema};
 pub use valid_place::{GroupConversion, ValidPlace};

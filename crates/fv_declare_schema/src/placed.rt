@@ -1,11 +1,11 @@
 ghost use Rattle.std.specs.Prelude.{◌≡◌};
 ghost use Rattle.fv_declare_schema.specs.PlacedView.{placed_view};
-ghost use Rattle.fv_groups.specs.Tables.{indices};
+ghost use Rattle.fv_declare_schema.specs.Tables.{indices};
 ghost use Rattle.fv_declare_schema.specs.PlaceViews.{place_view};
 
 use crate::place::Place;
 use fv_constraint_tree::Occurrence;
-use fv_groups::GroupId;
+use crate::declared::GroupId;
 use fv_bundle::TypeId;
 
 /// A use of a constraint where it stands: at the type itself, or at a field or inside it.

@@ -2,7 +2,7 @@ ghost use Rattle.std.specs.Prelude.{◌≡◌, IfSome, map, nat_eq, option_map, 
 ghost use Rattle.std.specs.List.{filter, list_all};
 ghost use Rattle.fv_datum.specs.Lookup.{at_name};
 ghost use Rattle.fv_declare_schema.specs.NumberViews.{valid_place_view};
-ghost use Rattle.fv_groups.specs.Tables.{indices};
+ghost use Rattle.fv_declare_schema.specs.Tables.{indices};
 ghost use Rattle.fv_bundle.specs.Types.{name_at};
 ghost use Rattle.fv_bundle.specs.TypesView.{types_view};
 ghost use Rattle.fv_declare_schema.specs.Fits.{placed_fits, fits};
@@ -17,7 +17,8 @@ use crate::place::Place;
 use crate::placed::Placed;
 use crate::valid_place::ValidPlace;
 use fv_constraint_tree::Test;
-use fv_groups::{GroupId, Groups};
+use crate::declared::GroupId;
+use crate::groups::Groups;
 use fv_message::Messages;
 use fv_bundle::{TypeId, Types};
 use fv_registry::RuleSet;

@@ -1,5 +1,5 @@
 use fv_extract::Step;
-use fv_groups::GroupId;
+use crate::declared::GroupId;
 
 /// A group, and the one that it is converted to.
 #[derive(Clone, Copy, Debug, PartialEq, Eq)]

@@ -24,8 +24,8 @@ use Rattle.fv_engine.proofs.Lifts.{follows, redeclare_rests, turned_of, weaker}
 use Rattle.fv_engine_machine.proofs.Changes.{by_itself, refusal_of}
 use Rattle.fv_engine_command.specs.Commands.{Part, put, set, remove, Request, too_long, not_json, shape, alone, batch, get, check, check_field, check_value, list, asked, Asked, redeclare, of_records, asks}
 use Rattle.fv_engine_command.proofs.Asking.{asks_inner, asks_shape}
-use Rattle.fv_groups.specs.Groups.{numbers_of}
-use Rattle.fv_groups.specs.Judged.{unknown_in}
+use Rattle.fv_declare_schema.specs.Groups.{numbers_of}
+use Rattle.fv_declare_schema.specs.Judged.{unknown_in}
 use Rattle.fv_engine_judging.specs.Judging.{groups_of, IsListingOf, AreListings, AreListingsOf}
 use Rattle.fv_bundle.specs.Bundles.{Thing, Bundled}
 use Rattle.fv_model.specs.Reading.{value_read}

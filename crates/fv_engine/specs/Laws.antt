@@ -14,8 +14,8 @@ use Rattle.fv_registry.specs.Rules.{Known}
 use Rattle.fv_store.specs.Causes.{IsShortAbout}
 use Rattle.fv_engine_machine.specs.Refusals.{parts_of}
 use Rattle.fv_engine_machine.specs.Step.{IsTaken, Told}
-use Rattle.fv_groups.specs.Groups.{numbers_of}
-use Rattle.fv_groups.specs.Judged.{unknown_in}
+use Rattle.fv_declare_schema.specs.Groups.{numbers_of}
+use Rattle.fv_declare_schema.specs.Judged.{unknown_in}
 use Rattle.fv_bundle.specs.Bundles.{Bundled}
 use Rattle.fv_engine_judging.specs.Judging.{groups_of}
 use Rattle.fv_engine_pending.specs.Parts.{bundle_under}

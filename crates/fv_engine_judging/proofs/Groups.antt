@@ -1,8 +1,8 @@
 -- Groups by their numbers.
 use Rattle.std.proofs.Common.{◌<◌, ℕ, zero, suc, List, [], ◌∷◌, arith}
 use Rattle.std.specs.List.{All, AllByRecursion}
-use Rattle.fv_groups.specs.Tables.{indices}
-use Rattle.fv_groups.specs.declared.declared.GroupId.{GroupId}
+use Rattle.fv_declare_schema.specs.Tables.{indices}
+use Rattle.fv_declare_schema.specs.declared.declared.GroupId.{GroupId}
 
 -- numbers that are below a bound, at the groups that have them
 pub all_below : (n : ℕ) (gs : List GroupId) → AllByRecursion (λ g. g < n) (indices gs) → All (λ h. h.index < n) gs

@@ -1,7 +1,7 @@
 //! A record is judged by the groups of its form, and so are all that a command leaves on the way.
 ghost use Rattle.std.specs.Prelude.{◌++◌, ◌∷◌, ◌<◌, ◌≡◌, [], All, MatchResult, OnOk, length, map};
 ghost use Rattle.fv_datum.specs.Moments.{IsMoment};
-ghost use Rattle.fv_groups.specs.Tables.{indices};
+ghost use Rattle.fv_declare_schema.specs.Tables.{indices};
 ghost use Rattle.fv_engine_judging.specs.Judging.{AreListingsOf, IsListingOf, IsOfJudging, IsOverVisited, IsStanding, OneIsOverAmong, groups_of};
 ghost use Rattle.fv_engine_judging.specs.Records.{some_of};
 ghost use Rattle.fv_bundle.specs.WellTyped.{IsWellTyped};
@@ -10,9 +10,8 @@ ghost use Rattle.fv_engine_pending.specs.Ways.{pending_view};
 ghost use Rattle.fv_store.specs.Stored.{stored_view};
 ghost use Rattle.fv_validate.specs.ViolationView.{judged_view, violation_view};
 
-use fv_declare_schema::Schema;
+use fv_declare_schema::{GroupId, Schema};
 use fv_engine_pending::Pending;
-use fv_groups::GroupId;
 use fv_local::Rulebook;
 use fv_registry::RuleSet;
 use fv_store::Stored;

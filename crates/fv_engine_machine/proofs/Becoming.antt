@@ -16,8 +16,8 @@ use Rattle.fv_engine_machine.specs.Machines.{Machine, over, with_map, contents, 
 use Rattle.fv_engine_machine.specs.Refusals.{when, first_of, is_too_long, parts_of, refusal}
 use Rattle.fv_engine_command.specs.Commands.{Part, Request, too_long, not_json, shape, alone, batch, get, check, check_field, check_value, list, id_in, id_at, put_of, set_of, remove_of, parts_in, batch_of, get_of, groups_at, check_of, check_field_of, check_value_of, limit_in, list_of, forms, command_of, of_json}
 use Rattle.fv_engine_machine.specs.Step.{done_by, Changes, Checked, Serves, Answers, IsTaken, looks_up, LooksUp, Step}
-use Rattle.fv_groups.specs.Groups.{numbers_of}
-use Rattle.fv_groups.specs.Judged.{unknown_in}
+use Rattle.fv_declare_schema.specs.Groups.{numbers_of}
+use Rattle.fv_declare_schema.specs.Judged.{unknown_in}
 use Rattle.fv_bundle.specs.Bundles.{Bundled}
 use Rattle.fv_model.specs.declared.fault.BundleFault.{BundleFault}
 use Rattle.fv_model.specs.declared.fault.BundleFault.TheVariants as fault

@@ -2,8 +2,8 @@
 use Rattle.std.proofs.Common.{◌≡◌, ℕ, List, [], ◌∷◌, Bool, true, false, not, ◌||◌, if◌then◌else◌, Option, Some, None, is_some, option_map, option_and_then, filter_map, refl, ap, ◌∙◌}
 use Rattle.std.specs.List.{list_any, cons_option}
 use Rattle.fv_datum.specs.Members.{each_some}
-use Rattle.fv_groups.specs.Groups.{Groups, number_of, numbers_of}
-use Rattle.fv_groups.specs.Judged.{unknown_in}
+use Rattle.fv_declare_schema.specs.Groups.{Groups, number_of, numbers_of}
+use Rattle.fv_declare_schema.specs.Judged.{unknown_in}
 
 module _ {X Y : Type 0} (f : X → Option Y) where
   known_more : (o : Option Y) (rest : Option (List Y)) (unknown : Bool) (ys : List Y) → rest ≡ (if unknown then None else Some ys)

@@ -16,8 +16,8 @@ use Rattle.fv_engine_machine.specs.Machines.{Machine}
 use Rattle.fv_engine_machine.specs.Refusals.{when, first_of, refusal}
 use Rattle.fv_engine_machine.specs.Step.{FieldChecked, Answers}
 use Rattle.fv_engine_machine.proofs.Becoming.{is_memory, stays_itself, IsOther, still, out_of_memory}
-use Rattle.fv_groups.specs.Groups.{numbers_of}
-use Rattle.fv_groups.specs.Judged.{unknown_in}
+use Rattle.fv_declare_schema.specs.Groups.{numbers_of}
+use Rattle.fv_declare_schema.specs.Judged.{unknown_in}
 use Rattle.fv_bundle.specs.Bundles.{Thing, Bundled}
 use Rattle.fv_bundle.specs.WellTyped.{AnyName, IsWellTyped, IsOfType}
 use Rattle.fv_model.specs.Reading.{value_read}

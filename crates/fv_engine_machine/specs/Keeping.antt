@@ -19,8 +19,8 @@ use Rattle.fv_engine_pending.specs.Fits.{AreFitting, AreShort}
 use Rattle.fv_engine_pending.specs.Parts.{are_misshapen}
 use Rattle.fv_engine_pending.specs.Touched.{needs_record}
 use Rattle.fv_engine_pending.specs.Ways.{Way, overlay, standing}
-use Rattle.fv_groups.specs.Groups.{numbers_of}
-use Rattle.fv_groups.specs.Judged.{unknown_in}
+use Rattle.fv_declare_schema.specs.Groups.{numbers_of}
+use Rattle.fv_declare_schema.specs.Judged.{unknown_in}
 use Rattle.fv_bundle.specs.Bundles.{Thing, Bundled}
 use Rattle.fv_model.specs.Reading.{value_read}
 use Rattle.fv_bundle.specs.WellTyped.{AnyName}

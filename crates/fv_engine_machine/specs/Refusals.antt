@@ -4,7 +4,7 @@ use Rattle.std.specs.Result.{result_err}
 use Rattle.fv_datum.specs.Lookup.{at_name}
 use Rattle.fv_declare_schema.specs.Declarations.{Declarations}
 use Rattle.fv_engine_command.specs.Commands.{Part, Request, too_long, not_json, shape, alone, batch, get, check, check_field, check_value, list}
-use Rattle.fv_groups.specs.Judged.{unknown_in}
+use Rattle.fv_declare_schema.specs.Judged.{unknown_in}
 use Rattle.fv_bundle.specs.Bundles.{Thing}
 use Rattle.fv_model.specs.Reading.{value_read}
 use Rattle.fv_engine_pending.specs.Parts.{parts_made, are_misshapen}

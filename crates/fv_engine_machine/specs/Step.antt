@@ -7,7 +7,7 @@ use Rattle.fv_declare_schema.specs.Declarations.{Declarations}
 use Rattle.fv_engine_machine.specs.Refusals.{is_misshapen, is_too_long, lacks_form, made, parts_of, refusal}
 use Rattle.fv_engine_command.specs.Commands.{Part, put, set, remove, Request, alone, batch, get, check, check_field, check_value, list, asked}
 use Rattle.fv_engine_pending.specs.Touched.{needed_id}
-use Rattle.fv_groups.specs.Groups.{numbers_of}
+use Rattle.fv_declare_schema.specs.Groups.{numbers_of}
 use Rattle.fv_bundle.specs.Bundles.{Thing, Bundled}
 use Rattle.fv_model.specs.Reading.{value_read}
 use Rattle.fv_engine_judging.specs.Judging.{OneIsOverVisited, AreListings}

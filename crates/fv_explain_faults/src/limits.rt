@@ -5,7 +5,7 @@ use fv_declare_judging::{LimitAt, WordingAt, user_messages};
 use fv_explain_places::{
     Found, Named, Refused, Told, Untold, Written, at, entry_at, find_message, say, to_field,
 };
-use fv_groups::GroupLimit;
+use fv_declare_schema::GroupLimit;
 use fv_message::{MessagesAt, key_name};
 use fv_bundle::{TypeUse, TypesAt};
 

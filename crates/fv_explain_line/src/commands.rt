@@ -5,9 +5,8 @@ use crate::bundles::{put_words, set_words, value_words};
 use fv_bundle::{Bundle, TypeId};
 use fv_command_fault::CommandPlace;
 use fv_datum::text_at;
-use fv_declare_schema::Schema;
+use fv_declare_schema::{GroupId, Schema};
 use fv_explain_places::{Found, Named, Told, Untold, Written, say};
-use fv_groups::GroupId;
 use fv_model::BundleFault;
 use serde_json::Value;
 

@@ -1,7 +1,6 @@
 //! The types that others lead to, and the groups that others inherit.
-use fv_declare_schema::Schema;
+use fv_declare_schema::{GroupId, Groups, Schema};
 use fv_explain_places::Told;
-use fv_groups::{GroupId, Groups};
 use fv_bundle::{TypeId, TypeUse, Types};
 use indexmap::IndexSet;
 use std::alloc::Global;

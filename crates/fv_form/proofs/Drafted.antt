@@ -12,7 +12,7 @@ use Rattle.fv_declare_draft.specs.Groups.{sequence_of, group_form_of, group_of}
 use Rattle.fv_declare_draft.specs.Messages as written
 use Rattle.fv_declare_draft.specs.Places.{type_at, uses_at, cascades_at, place_of}
 use Rattle.fv_declare_draft.specs.Uses.{UseDraft, use_of, uses_of}
-use Rattle.fv_groups.specs.Groups.{Form, Groups, inherits}
+use Rattle.fv_declare_schema.specs.Groups.{Form, Groups, inherits}
 use Rattle.fv_form.specs.Asked.{asked}
 use Rattle.fv_form.specs.Declarations.{declarations, of_type, of_form}
 use Rattle.fv_form.specs.Entries.{must, may}

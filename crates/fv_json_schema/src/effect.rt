@@ -1,6 +1,5 @@
 //! The constraints by which the objects of a type are judged where groups are asked.
-use fv_declare_schema::{Placed, Schema};
-use fv_groups::{GroupId, Groups};
+use fv_declare_schema::{GroupId, Groups, Placed, Schema};
 use fv_bundle::TypeId;
 use std::alloc::{AllocError, Global};
 

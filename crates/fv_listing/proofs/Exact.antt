@@ -3,7 +3,7 @@ use Rattle.std.proofs.Common.{◌≡◌, ◌<◌, ◌↔◌, ℕ, ℤ, zero, suc
 use Rattle.fv_datum.specs.Data.{Data}
 use Rattle.fv_declare_schema.specs.Declarations.{Declarations}
 use Rattle.fv_graph.specs.Graph.{IsIn}
-use Rattle.fv_groups.specs.Tables.{indices}
+use Rattle.fv_declare_schema.specs.Tables.{indices}
 use Rattle.fv_local.specs.Own.{own_in}
 use Rattle.fv_bundle.specs.Bundles.{Bundled}
 use Rattle.fv_path.specs.Nodes.{PathNode}

@@ -3,7 +3,7 @@ ghost use Rattle.std.specs.Prelude.{◌≡◌, ◌<◌, ◌↔◌, All, IsTrue, 
 ghost use Rattle.fv_datum.specs.Moments.{IsMoment};
 ghost use Rattle.fv_datum.specs.View.{view};
 ghost use Rattle.fv_graph.specs.Graph.{IsIn};
-ghost use Rattle.fv_groups.specs.Tables.{indices};
+ghost use Rattle.fv_declare_schema.specs.Tables.{indices};
 ghost use Rattle.fv_local.specs.FailureView as local;
 ghost use Rattle.fv_bundle.specs.Views.{bundle_view};
 ghost use Rattle.fv_bundle.specs.WellTyped.{IsWellTyped};
@@ -23,7 +23,7 @@ use crate::turn::{Turn, shadows};
 use crate::visit::{Visit, all_visits};
 use fv_bundle::Bundle;
 use fv_datum::{Datum, Name};
-use fv_groups::GroupId;
+use fv_declare_schema::GroupId;
 use fv_local::{LocalFailure, Rulebook, Spot};
 use fv_registry::RuleSet;
 use fv_walk::Failure;

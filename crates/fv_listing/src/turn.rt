@@ -7,9 +7,8 @@ ghost use Rattle.fv_walk_request.specs.Ways.{place_of};
 ghost use Rattle.fv_walk_traces.specs.Turns.{IsSmallerRank, ShadowsByRecursion};
 ghost use Rattle.fv_listing.specs.Turns.{turn_view};
 
-use fv_declare_schema::ValidPlace;
+use fv_declare_schema::{GroupId, ValidPlace};
 use fv_extract::Part;
-use fv_groups::GroupId;
 use fv_walk_request::Way;
 
 /// A turn of a visit.

@@ -3,13 +3,13 @@ use Rattle.std.proofs.Common.{◌≡◌, ◌<◌, ◌≤◌, ℕ, zero, suc, Lis
 use Rattle.std.specs.List.{AllByRecursion, IsDistinct, list_any, concat}
 use Rattle.std.proofs.lemmas.Map.Steps.{length-le_from_distinct_below}
 use Rattle.fv_graph.specs.Graph.{IsIn, AllDiffer, LeadsIn, IsBelow}
-use Rattle.fv_groups.specs.Once.{once}
+use Rattle.fv_declare_schema.specs.Once.{once}
 use Rattle.fv_graph.specs.Recursion.{value_in}
 use Rattle.fv_graph.proofs.Lists.{in_cases, eq_of, or_true}
-use Rattle.fv_groups.specs.Groups.{Groups, Inherits, inherit_next, inherited_by, numbers_of, form_at}
-use Rattle.fv_groups.specs.Marked.{Reaches}
-use Rattle.fv_groups.proofs.Edges.{numbers_below}
-use Rattle.fv_groups.proofs.Reaching.{reaches_on}
+use Rattle.fv_declare_schema.specs.Groups.{Groups, Inherits, inherit_next, inherited_by, numbers_of, form_at}
+use Rattle.fv_declare_schema.specs.Marked.{Reaches}
+use Rattle.fv_declare_schema.proofs.Edges.{numbers_below}
+use Rattle.fv_declare_schema.proofs.Reaching.{reaches_on}
 use Rattle.fv_local.specs.Below.{below}
 use Rattle.fv_local.proofs.Members.{in_once, once_differs, in_concat}
 

@@ -8,8 +8,8 @@ use Rattle.fv_declare_schema.specs.PlacedView.{placed_view}
 use Rattle.fv_declare_schema.specs.declared.placed.Placed.{Placed}
 use Rattle.fv_graph.specs.Graph.{mem, IsIn}
 use Rattle.fv_graph.proofs.Lists.{in_left, in_right, in_cases, eq_of, eq_same}
-use Rattle.fv_groups.specs.Tables.{indices}
-use Rattle.fv_groups.specs.declared.declared.GroupId.{GroupId}
+use Rattle.fv_declare_schema.specs.Tables.{indices}
+use Rattle.fv_declare_schema.specs.declared.declared.GroupId.{GroupId}
 use Rattle.fv_local.specs.Reached.{is_in, IsReached, AreReached}
 use Rattle.fv_local.specs.Spans.{AreOfType}
 use Rattle.fv_local.specs.declared.type_uses.TypeUses.{TypeUses}

@@ -2,7 +2,7 @@
 use Rattle.std.proofs.Common.{◌≡◌, ℕ, Bool, true, false, not, nat_eq, ◌↔◌, refl, subst}
 use Rattle.fv_graph.specs.Graph.{mem, IsIn}
 use Rattle.fv_graph.proofs.Lists.{eq_of, eq_same}
-use Rattle.fv_groups.specs.Groups.{Groups, Inherits}
+use Rattle.fv_declare_schema.specs.Groups.{Groups, Inherits}
 use Rattle.fv_local.specs.Below.{below, groups_at}
 use Rattle.fv_local.proofs.Below.{below_is}
 use Rattle.fv_local.proofs.Members.{in_mem, mem_in, in_filter, same_test}

@@ -3,7 +3,7 @@ use Rattle.std.proofs.Common.{◌≡◌, ℕ, List, [], ◌∷◌, map, filter, 
 use Rattle.std.specs.List.{concat, list_any}
 use Rattle.fv_graph.specs.Graph.{mem, IsIn, AllDiffer}
 use Rattle.fv_graph.proofs.Lists.{in_left, in_right, eq_of, eq_same, or_true}
-use Rattle.fv_groups.specs.Once.{once_after, once}
+use Rattle.fv_declare_schema.specs.Once.{once_after, once}
 
 -- ---- the test
 

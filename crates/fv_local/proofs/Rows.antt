@@ -5,7 +5,7 @@ use Rattle.std.specs.List.{AllByRecursion, AllZip}
 use Rattle.std.specs.Option.{IfSome}
 use Rattle.std.proofs.lemmas.List.{map-append}
 use Rattle.fv_declare_schema.specs.Ordered.{AreGroups}
-use Rattle.fv_groups.specs.Groups.{Groups}
+use Rattle.fv_declare_schema.specs.Groups.{Groups}
 
 -- ---- what stands in a row
 

@@ -2,8 +2,8 @@
 use Rattle.std.specs.Prelude.{ℕ, List, ◌∷◌, length, filter, Bool, cond, not, nat_eq}
 use Rattle.std.specs.List.{concat}
 use Rattle.fv_graph.specs.Recursion.{value}
-use Rattle.fv_groups.specs.Groups.{Groups, inherit_next}
-use Rattle.fv_groups.specs.Once.{once}
+use Rattle.fv_declare_schema.specs.Groups.{Groups, inherit_next}
+use Rattle.fv_declare_schema.specs.Once.{once}
 
 -- a group and those that it inherits, directly or through others, each once: itself, and what those stand for that it names
 abbrev pub below : Groups → ℕ → List ℕ

@@ -2,7 +2,7 @@
 //! cite.
 ghost use Rattle.std.specs.Prelude.{◌↔◌, ℕ};
 ghost use Rattle.fv_graph.specs.Graph.{IsIn, AllDiffer};
-ghost use Rattle.fv_groups.specs.Groups.{Groups, Inherits};
+ghost use Rattle.fv_declare_schema.specs.Groups.{Groups, Inherits};
 ghost use Rattle.fv_local.specs.Below.{below};
 
 /// A group stands for itself and those that it inherits, directly or through others.

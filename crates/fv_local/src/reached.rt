@@ -1,6 +1,6 @@
 //! The uses at a type that a group reaches.
 ghost use Rattle.std.specs.Prelude.{◌<◌, All, length, option_map, is_some, IfOk};
-ghost use Rattle.fv_groups.specs.Tables.{indices};
+ghost use Rattle.fv_declare_schema.specs.Tables.{indices};
 ghost use Rattle.fv_declare_schema.specs.Ordered.{AreOrdered};
 ghost use Rattle.fv_local.specs.Below.{groups_at};
 ghost use Rattle.fv_local.specs.Reached.{AreReached, AreOfGroups, AreOfRanks, IsRanked, ranks_of};
@@ -9,8 +9,7 @@ ghost use Rattle.fv_local.specs.TableView.{lists_view};
 
 use crate::standing::stands_for_any;
 use crate::type_uses::TypeUses;
-use fv_declare_schema::Schema;
-use fv_groups::GroupId;
+use fv_declare_schema::{GroupId, Schema};
 use std::alloc::{AllocError, Global};
 
 /// The uses at a type that a group reaches, by their numbers among all; where the type redefines

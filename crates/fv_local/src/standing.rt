@@ -2,10 +2,10 @@
 ghost use Rattle.std.specs.Prelude.{◌≡◌, ◌<◌, All, length};
 ghost use Rattle.std.specs.List.{list_any};
 ghost use Rattle.fv_graph.specs.Graph.{mem};
-ghost use Rattle.fv_groups.specs.Tables.{indices};
+ghost use Rattle.fv_declare_schema.specs.Tables.{indices};
 ghost use Rattle.fv_local.specs.Below.{groups_at};
 
-use fv_groups::{GroupId, Groups};
+use fv_declare_schema::{GroupId, Groups};
 
 /// The number of `Default`.
 const DEFAULT: usize = 0;

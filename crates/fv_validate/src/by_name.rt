@@ -2,8 +2,8 @@
 ghost use Rattle.std.specs.Prelude.{◌≡◌, ◌≢◌, None, true, false, is_some, map, string_bytes, IfOk, IfErr, OnOk};
 ghost use Rattle.fv_datum.specs.Moments.{IsMoment};
 ghost use Rattle.fv_datum.specs.View.{view};
-ghost use Rattle.fv_groups.specs.Groups.{numbers_of};
-ghost use Rattle.fv_groups.specs.Judged.{unknown_in};
+ghost use Rattle.fv_declare_schema.specs.Groups.{numbers_of};
+ghost use Rattle.fv_declare_schema.specs.Judged.{unknown_in};
 ghost use Rattle.fv_bundle.specs.Views.{object_view, bundle_view};
 ghost use Rattle.fv_bundle.specs.WellTyped.{IsOfType, IsWellTyped};
 ghost use Rattle.fv_validate.specs.Values.{FitsField, valued};

@@ -2,7 +2,7 @@
 ghost use Rattle.std.specs.Prelude.{◌≡◌, ◌≢◌, ◌<◌, All, None, true, map, length, is_some, IfOk, IfErr, OnOk};
 ghost use Rattle.fv_datum.specs.Moments.{IsMoment};
 ghost use Rattle.fv_datum.specs.View.{view};
-ghost use Rattle.fv_groups.specs.Tables.{indices};
+ghost use Rattle.fv_declare_schema.specs.Tables.{indices};
 ghost use Rattle.fv_bundle.specs.Views.{object_view};
 ghost use Rattle.fv_bundle.specs.WellTyped.{IsOfType};
 ghost use Rattle.fv_walk.specs.Properties.{field_number};
@@ -17,7 +17,7 @@ use crate::validating::listing_of;
 use crate::violation::Violation;
 use fv_bundle::Object;
 use fv_datum::Datum;
-use fv_groups::GroupId;
+use fv_declare_schema::GroupId;
 use fv_local::Rulebook;
 use fv_model::single;
 use fv_registry::RuleSet;

@@ -2,7 +2,7 @@
 use Rattle.std.proofs.Common.{◌≡◌, ℕ, ℤ, List, [], ◌∷◌, ◌++◌, filter, Bool, true, false, cond, Some, ◌↔◌, refl, sym, ap, subst, ◌∙◌, true≢false}
 use Rattle.fv_declare_schema.specs.Declarations.{Declarations}
 use Rattle.fv_graph.specs.Graph.{IsIn}
-use Rattle.fv_groups.specs.Groups.{is_sequence, ranks}
+use Rattle.fv_declare_schema.specs.Groups.{is_sequence, ranks}
 use Rattle.fv_graph.proofs.Images.{from_filter}
 use Rattle.fv_local.specs.Own.{own_in}
 use Rattle.fv_bundle.specs.Bundles.{Thing}

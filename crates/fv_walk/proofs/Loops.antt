@@ -6,7 +6,7 @@ use Rattle.std.proofs.lemmas.Option.{slice_get-get_or, slice_get_past}
 use Rattle.fv_declare_schema.specs.Declarations.{Declarations}
 use Rattle.fv_graph.proofs.Lists.{in_left, in_right, in_cases}
 use Rattle.fv_graph.specs.Graph.{IsIn}
-use Rattle.fv_groups.specs.Groups.{Groups, ranks}
+use Rattle.fv_declare_schema.specs.Groups.{Groups, ranks}
 use Rattle.fv_bundle.specs.Bundles.{Thing}
 use Rattle.fv_registry.specs.Meanings.{Meanings}
 use Rattle.fv_graph.proofs.Images.{in_map, from_map}

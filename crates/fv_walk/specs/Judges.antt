@@ -1,8 +1,8 @@
 -- What stands before a walk, in the words of its course and of its judge; for private clauses.
 use Rattle.std.specs.Prelude.{◌≡◌, ◌≤◌, ℕ, ◌+◌, List, ◌∷◌, All, Some, false, length, drop, slice_get}
 use Rattle.fv_graph.specs.Graph.{mem}
-use Rattle.fv_groups.specs.Tables.{indices}
-use Rattle.fv_groups.specs.declared.declared.GroupId.{GroupId}
+use Rattle.fv_declare_schema.specs.Tables.{indices}
+use Rattle.fv_declare_schema.specs.declared.declared.GroupId.{GroupId}
 use Rattle.fv_registry.specs.Meanings.{Meanings}
 use Rattle.fv_walk_traces.specs.Frames.{held, carried_at, own_log, asks_owe}
 use Rattle.fv_walk_traces.specs.Log.{Event, Entered, entries}

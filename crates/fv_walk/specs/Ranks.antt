@@ -3,7 +3,7 @@ use Rattle.std.specs.Prelude.{◌≡◌, ◌<◌, ℕ, ◌+◌, ℤ, List, [], �
 use Rattle.fv_datum.specs.Data.{Data, null}
 use Rattle.fv_declare_schema.specs.Declarations.{Declarations}
 use Rattle.fv_graph.specs.Graph.{IsIn}
-use Rattle.fv_groups.specs.Groups.{Groups, ranks}
+use Rattle.fv_declare_schema.specs.Groups.{Groups, ranks}
 use Rattle.fv_local.specs.Own.{own_in}
 use Rattle.fv_bundle.specs.Bundles.{Thing}
 use Rattle.fv_path.specs.Nodes.{PathNode}

@@ -8,8 +8,8 @@ use Rattle.fv_datum.specs.Data.{Data, null}
 use Rattle.fv_declare_schema.specs.Declarations.{Declarations}
 use Rattle.fv_extract.specs.Parts.{Part, at_index, at_key, Locus, parts_at}
 use Rattle.fv_extract.specs.Places.{Place}
-use Rattle.fv_groups.specs.Groups.{is_sequence, ranks}
-use Rattle.fv_groups.specs.Once.{once}
+use Rattle.fv_declare_schema.specs.Groups.{is_sequence, ranks}
+use Rattle.fv_declare_schema.specs.Once.{once}
 use Rattle.fv_local.specs.Own.{own_in}
 use Rattle.fv_bundle.specs.Bundles.{Thing, Bundled}
 use Rattle.fv_path.specs.Nodes.{PathNode, field}

@@ -3,8 +3,7 @@ ghost use Rattle.std.specs.Prelude.{◌≡◌, ◌<◌, All, length, map};
 ghost use Rattle.fv_declare_schema.specs.NumberViews.{conversion_numbers};
 ghost use Rattle.fv_walk_request.specs.Conversions.{convert};
 
-use fv_declare_schema::GroupConversion;
-use fv_groups::GroupId;
+use fv_declare_schema::{GroupConversion, GroupId};
 
 /// The group that these conversions make of a group: that of the first of exactly this group, applied
 /// once; the group itself where none is of it.

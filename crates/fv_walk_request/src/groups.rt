@@ -1,9 +1,9 @@
 //! The groups that are asked for.
 ghost use Rattle.std.specs.Prelude.{◌≡◌, IfOk};
-ghost use Rattle.fv_groups.specs.Tables.{indices};
+ghost use Rattle.fv_declare_schema.specs.Tables.{indices};
 ghost use Rattle.fv_walk_request.specs.Requests.{asked_or_default, asked_groups};
 
-use fv_groups::{GroupId, add_new};
+use fv_declare_schema::{GroupId, add_new};
 use std::alloc::{AllocError, Global};
 
 /// The group `Default`.

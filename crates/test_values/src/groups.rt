@@ -1,6 +1,6 @@
 //! Groups: what they inherit, and what sequences stand for.
 use crate::given::{Rows, check_rows};
-use fv_groups::{GroupDraft, GroupId, Groups};
+use fv_declare_schema::{GroupDraft, GroupId, Groups};
 use indexmap::IndexMap;
 use std::alloc::Global;
 use std::test::Fail;

@@ -2,7 +2,7 @@
 use crate::judged::check;
 use fv_datum::{DatumFault, JsonFault};
 use fv_declare::DeclFault;
-use fv_groups::GroupFault;
+use fv_declare_schema::GroupFault;
 use fv_model::BundleFault;
 use fv_bundle::TypesFault;
 use fv_registry::RegistryFault;

@@ -6,7 +6,7 @@ use crate::judged::{book_of, bundle_of, check, names_of};
 use crate::ordered::Ordered;
 use fv_bundle::{Fields, Object};
 use fv_datum::{Datum, read_text, write_datum};
-use fv_groups::GroupId;
+use fv_declare_schema::GroupId;
 use fv_local::Rulebook;
 use fv_model::{read_value, single};
 use fv_validate::{ValidateFault, Violation, validate, validate_property, validate_value};

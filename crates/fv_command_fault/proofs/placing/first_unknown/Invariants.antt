@@ -1,7 +1,7 @@
 use Rattle.std.proofs.Common.{◌≡◌, not, drop, map, is_some, if◌then◌else◌, Some, None}
 use Rattle.fv_first.specs.First.{first_from}
-use Rattle.fv_groups.specs.Groups.{number_of}
-use Rattle.fv_groups.specs.Whereabouts.{first_unknown}
+use Rattle.fv_declare_schema.specs.Groups.{number_of}
+use Rattle.fv_declare_schema.specs.Whereabouts.{first_unknown}
 use Rattle.fv_command_fault.proofs.placing.first_unknown.Given as goal
 
 abbrev pub invariant-loop-number : goal.invariant-loop-number

@@ -2,7 +2,7 @@ use Rattle.std.proofs.Common.{◌≡◌, map, drop, if◌then◌else◌, Some, N
 use Rattle.std.specs.Prelude.{◌∷◌, []}
 use Rattle.fv_first.specs.First.{first_from, first_where}
 use Rattle.fv_declare_draft.specs.DraftViews.{conversion_view}
-use Rattle.fv_groups.specs.Judged.{sequence_in}
+use Rattle.fv_declare_schema.specs.Judged.{sequence_in}
 use Rattle.fv_declare_groups.proofs.conversions.converted_sequence.Given as goal
 
 abbrev pub invariant-loop-number : goal.invariant-loop-number

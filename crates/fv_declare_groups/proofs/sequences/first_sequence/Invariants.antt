@@ -2,8 +2,8 @@ use Rattle.std.proofs.Common.{◌≡◌, map, drop, if◌then◌else◌, Some, N
 use Rattle.fv_first.specs.First.{first_from}
 use Rattle.std.specs.Prelude.{false}
 use Rattle.std.specs.Option.{option_map_or}
-use Rattle.fv_groups.specs.Groups.{number_of, is_sequence}
-use Rattle.fv_groups.specs.Whereabouts.{first_sequence}
+use Rattle.fv_declare_schema.specs.Groups.{number_of, is_sequence}
+use Rattle.fv_declare_schema.specs.Whereabouts.{first_sequence}
 use Rattle.fv_declare_groups.proofs.sequences.first_sequence.Given as goal
 
 abbrev pub invariant-loop-number : goal.invariant-loop-number

@@ -3,7 +3,7 @@ use Rattle.fv_first.specs.First.{first_from}
 use Rattle.fv_declare_groups.specs.declared.at.GroupingAt.TheVariants as at
 use Rattle.fv_declare_draft.specs.UseViews.{use_view}
 use Rattle.fv_declare_groups.specs.Whereabouts.{misused_in}
-use Rattle.fv_groups.specs.Whereabouts.{first_sequence}
+use Rattle.fv_declare_schema.specs.Whereabouts.{first_sequence}
 use Rattle.fv_declare_groups.proofs.sequences.misused_in.Given as goal
 
 abbrev pub invariant-loop-number : goal.invariant-loop-number

@@ -1,8 +1,8 @@
 use Rattle.std.proofs.Common.{◌≡◌, map, drop, not, is_some, if◌then◌else◌, Some, None}
 use Rattle.fv_first.specs.First.{first_from}
-use Rattle.fv_groups.specs.GroupViews.{declared_view}
-use Rattle.fv_groups.specs.Groups.{all_groups, number_of}
-use Rattle.fv_groups.specs.Whereabouts.{first_unknown}
+use Rattle.fv_declare_schema.specs.GroupViews.{declared_view}
+use Rattle.fv_declare_schema.specs.Groups.{all_groups, number_of}
+use Rattle.fv_declare_schema.specs.Whereabouts.{first_unknown}
 use Rattle.fv_declare_groups.proofs.unknown.first_unknown.Given as goal
 
 abbrev pub invariant-loop-number : goal.invariant-loop-number

@@ -1,7 +1,7 @@
 use Rattle.std.proofs.Common.{◌≡◌, map, drop, if◌then◌else◌, Some, None}
 use Rattle.fv_first.specs.First.{first_from, first_where}
-use Rattle.fv_groups.specs.GroupViews.{declared_view}
-use Rattle.fv_groups.specs.Groups.{all_groups}
+use Rattle.fv_declare_schema.specs.GroupViews.{declared_view}
+use Rattle.fv_declare_schema.specs.Groups.{all_groups}
 use Rattle.fv_declare_groups.specs.Grouping.{member_unknown}
 use Rattle.fv_declare_groups.proofs.unknown.unknown_among.Given as goal
 

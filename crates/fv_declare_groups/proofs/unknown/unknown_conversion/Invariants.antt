@@ -1,7 +1,7 @@
 use Rattle.std.proofs.Common.{◌≡◌, map, drop, option_map}
 use Rattle.fv_first.specs.First.{first_from, first_where}
-use Rattle.fv_groups.specs.GroupViews.{declared_view}
-use Rattle.fv_groups.specs.Groups.{all_groups}
+use Rattle.fv_declare_schema.specs.GroupViews.{declared_view}
+use Rattle.fv_declare_schema.specs.Groups.{all_groups}
 use Rattle.fv_declare_groups.specs.declared.at.GroupingAt.TheVariants as at
 use Rattle.fv_declare_groups.specs.declared.at.CascadeAt.TheVariants.{Conversion}
 use Rattle.fv_declare_draft.specs.UseViews.{cascade_view}

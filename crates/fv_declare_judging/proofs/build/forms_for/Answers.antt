@@ -6,7 +6,7 @@ use Rattle.fv_declare_draft.specs.DraftViews.{form_view}
 use Rattle.fv_declare_schema.specs.SchemaView.{form_entry, form_groups_entry}
 use Rattle.fv_declare_schema.specs.declared.schema.Form.{Form}
 use Rattle.fv_declare_groups.specs.Numbered.{groups_named}
-use Rattle.fv_groups.specs.Tables.{indices}
+use Rattle.fv_declare_schema.specs.Tables.{indices}
 use Rattle.fv_declare_judging.proofs.Found.{known_here, known_later, found_name}
 use Rattle.fv_datum.proofs.Inserted.{insert_names, insert_entries}
 use Rattle.fv_declare_judging.proofs.build.forms_for.Goals as goal

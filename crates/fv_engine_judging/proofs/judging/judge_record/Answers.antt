@@ -3,8 +3,8 @@ use Rattle.std.specs.List.{All}
 use Rattle.std.proofs.lemmas.Int.{to_z-of_z}
 use mir.Syntax.{w64}
 use Rattle.fv_declare_schema.specs.Declarations.{Declarations}
-use Rattle.fv_groups.specs.Tables.{indices}
-use Rattle.fv_groups.specs.declared.declared.GroupId.{GroupId}
+use Rattle.fv_declare_schema.specs.Tables.{indices}
+use Rattle.fv_declare_schema.specs.declared.declared.GroupId.{GroupId}
 use Rattle.fv_engine_judging.specs.Judging.{groups_of}
 use Rattle.fv_engine_judging.proofs.Judged.{for_groups}
 use Rattle.fv_store.specs.Stored.{stored_view}

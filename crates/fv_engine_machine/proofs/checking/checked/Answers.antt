@@ -3,9 +3,9 @@ use Rattle.std.proofs.lemmas.Int.{to_z-of_z}
 use mir.Syntax.{w64}
 use Rattle.fv_datum.specs.Members.{each_some}
 use Rattle.fv_declare_schema.specs.Declarations.{Declarations}
-use Rattle.fv_groups.specs.Groups.{Groups, number_of, numbers_of}
-use Rattle.fv_groups.specs.Judged.{unknown_in}
-use Rattle.fv_groups.specs.Tables.{indices}
+use Rattle.fv_declare_schema.specs.Groups.{Groups, number_of, numbers_of}
+use Rattle.fv_declare_schema.specs.Judged.{unknown_in}
+use Rattle.fv_declare_schema.specs.Tables.{indices}
 use Rattle.fv_bundle.specs.Views.{bundle_view}
 use Rattle.fv_validate.specs.ViolationView.{violation_view}
 use Rattle.fv_validate.specs.Violations.{IsListing}

@@ -2,8 +2,8 @@ use Rattle.std.proofs.Common.{◌≡◌, ◌<◌, map, length, drop}
 use Rattle.std.specs.List.{All}
 use Rattle.fv_datum.specs.Members.{each_some}
 use Rattle.fv_datum.proofs.Fronts.{with_front}
-use Rattle.fv_groups.specs.Groups.{number_of}
-use Rattle.fv_groups.specs.Tables.{indices}
+use Rattle.fv_declare_schema.specs.Groups.{number_of}
+use Rattle.fv_declare_schema.specs.Tables.{indices}
 use Rattle.fv_engine_machine.proofs.checking.groups_named.Given as goal
 
 abbrev pub invariant-loop-name : goal.invariant-loop-name

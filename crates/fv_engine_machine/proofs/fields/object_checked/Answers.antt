@@ -4,9 +4,9 @@ use mir.Syntax.{w64}
 use Rattle.fv_datum.specs.Members.{each_some}
 use Rattle.fv_declare_schema.specs.Declarations.{Declarations}
 use Rattle.fv_engine_machine.specs.Keeping.{ChecksField}
-use Rattle.fv_groups.specs.Groups.{Groups, number_of, numbers_of}
-use Rattle.fv_groups.specs.Judged.{unknown_in}
-use Rattle.fv_groups.specs.Tables.{indices}
+use Rattle.fv_declare_schema.specs.Groups.{Groups, number_of, numbers_of}
+use Rattle.fv_declare_schema.specs.Judged.{unknown_in}
+use Rattle.fv_declare_schema.specs.Tables.{indices}
 use Rattle.fv_walk.specs.Properties.{field_number}
 use Rattle.fv_walk.specs.FieldVisits.{HasTooManyVisitsAt, HasFewVisitsAt}
 use Rattle.fv_engine_reply.specs.Answers.{field_checked, refused}

@@ -2,8 +2,8 @@ use Rattle.std.proofs.Common.{◌<◌, ℤ, All, length, map, sym, subst}
 use Rattle.std.proofs.lemmas.Int.{to_z-of_z}
 use mir.Syntax.{w64}
 use Rattle.fv_declare_schema.specs.Declarations.{Declarations}
-use Rattle.fv_groups.specs.Tables.{indices}
-use Rattle.fv_groups.specs.declared.declared.GroupId.{GroupId}
+use Rattle.fv_declare_schema.specs.Tables.{indices}
+use Rattle.fv_declare_schema.specs.declared.declared.GroupId.{GroupId}
 use Rattle.fv_bundle.specs.Bundles.{Bundled}
 use Rattle.fv_bundle.specs.Views.{bundle_view}
 use Rattle.fv_bundle.specs.WellTyped.{IsWellTyped}

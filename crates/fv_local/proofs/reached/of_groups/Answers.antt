@@ -1,7 +1,7 @@
 use Rattle.std.proofs.Common.{◌≡◌, [], Bool, subst, ◌∙◌, is_some}
 use Rattle.std.specs.Option.{option_map_or}
 use Rattle.std.proofs.lemmas.List.{length-map}
-use Rattle.fv_groups.specs.Tables.{indices}
+use Rattle.fv_declare_schema.specs.Tables.{indices}
 use Rattle.fv_local.specs.Below.{groups_at}
 use Rattle.fv_local.specs.Reached.{AreReached, plain_groups, ranks_of}
 use Rattle.fv_local.specs.TableView.{lists_view}

@@ -1,7 +1,7 @@
 use Rattle.std.proofs.Common.{List, ℕ, [], ◌∷◌, ◌++◌, take, get_or, sym, subst, arith}
-use Rattle.fv_groups.proofs.Ranks.{indices_more}
-use Rattle.fv_groups.specs.Tables.{indices}
-use Rattle.fv_groups.specs.declared.declared.GroupId.{GroupId}
+use Rattle.fv_declare_schema.proofs.Ranks.{indices_more}
+use Rattle.fv_declare_schema.specs.Tables.{indices}
+use Rattle.fv_declare_schema.specs.declared.declared.GroupId.{GroupId}
 use Rattle.fv_local.specs.Below.{below}
 use Rattle.fv_local.specs.Reached.{AreReached, AreOfRanks}
 use Rattle.fv_local.specs.TableView.{lists_view}

@@ -1,5 +1,5 @@
 use Rattle.std.proofs.Common.{take}
-use Rattle.fv_groups.specs.Tables.{indices}
+use Rattle.fv_declare_schema.specs.Tables.{indices}
 use Rattle.fv_local.specs.Reached.{AreOfRanks}
 use Rattle.fv_local.specs.TableView.{lists_view}
 use Rattle.fv_local.proofs.reached.of_ranks.Given as goal

@@ -1,5 +1,5 @@
 use Rattle.std.proofs.Common.{length, sym}
-use Rattle.fv_groups.specs.Tables.{indices}
+use Rattle.fv_declare_schema.specs.Tables.{indices}
 use Rattle.fv_local.proofs.Finding.{all_indices}
 use Rattle.fv_local.proofs.Rows.{ranks_within}
 use Rattle.fv_local.proofs.reached.of_sequence.Goals as goal

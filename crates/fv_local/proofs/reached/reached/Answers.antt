@@ -4,9 +4,9 @@ use Rattle.std.specs.List.{list_any}
 use Rattle.fv_declare_schema.specs.Declarations as spec
 use Rattle.fv_declare_schema.specs.Ordered.{AreGroups}
 use Rattle.fv_declare_schema.specs.PlacedView.{placed_view}
-use Rattle.fv_groups.specs.Groups.{Groups}
+use Rattle.fv_declare_schema.specs.Groups.{Groups}
 use Rattle.fv_graph.specs.Graph.{mem}
-use Rattle.fv_groups.specs.Tables.{indices}
+use Rattle.fv_declare_schema.specs.Tables.{indices}
 use Rattle.fv_local.specs.Below.{groups_at}
 use Rattle.fv_local.proofs.Finding.{AreReachedBefore, at_use, each_use, all_indices, one_more, none_more}
 use Rattle.fv_local.proofs.reached.reached.Goals as goal

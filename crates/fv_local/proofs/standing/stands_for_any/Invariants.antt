@@ -1,7 +1,7 @@
 use Rattle.std.proofs.Common.{◌≡◌, drop}
 use Rattle.std.specs.List.{list_any}
 use Rattle.fv_graph.specs.Graph.{mem}
-use Rattle.fv_groups.specs.Tables.{indices}
+use Rattle.fv_declare_schema.specs.Tables.{indices}
 use Rattle.fv_local.specs.Below.{groups_at}
 use Rattle.fv_local.proofs.standing.stands_for_any.Given as goal
 

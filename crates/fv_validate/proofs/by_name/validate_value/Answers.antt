@@ -3,9 +3,9 @@ use Rattle.std.proofs.lemmas.Int.{to_z-of_z}
 use Rattle.std.proofs.lemmas.Result.{IfErr-weaker}
 use mir.Syntax.{w64}
 use Rattle.fv_declare_schema.specs.Declarations.{Declarations}
-use Rattle.fv_groups.specs.Groups.{Groups, numbers_of}
-use Rattle.fv_groups.specs.Judged.{unknown_in}
-use Rattle.fv_groups.specs.Tables.{indices}
+use Rattle.fv_declare_schema.specs.Groups.{Groups, numbers_of}
+use Rattle.fv_declare_schema.specs.Judged.{unknown_in}
+use Rattle.fv_declare_schema.specs.Tables.{indices}
 use Rattle.fv_validate.proofs.by_name.validate_value.Goals as goal
 
 pub returns-clause-listing : goal.returns-clause-listing

@@ -2,7 +2,7 @@ use Rattle.std.proofs.Common.{◌↔◌, List, map}
 use Rattle.std.proofs.lemmas.Int.{to_z-of_z}
 use mir.Syntax.{w64}
 use Rattle.fv_graph.specs.Graph.{IsIn}
-use Rattle.fv_groups.specs.Tables.{indices}
+use Rattle.fv_declare_schema.specs.Tables.{indices}
 use Rattle.fv_bundle.specs.Views.{object_view}
 use Rattle.fv_walk.specs.Properties.{IsViolationIn}
 use Rattle.fv_walk_traces.specs.Violations.{Violation}

@@ -5,7 +5,7 @@ use Rattle.std.proofs.lemmas.Result.{IfOk-weaker, IfErr-weaker, on_ok_weaker}
 use mir.Syntax.{w64}
 use Rattle.fv_datum.specs.View.{view}
 use Rattle.fv_declare_schema.specs.Declarations.{Declarations}
-use Rattle.fv_groups.specs.Tables.{indices}
+use Rattle.fv_declare_schema.specs.Tables.{indices}
 use Rattle.fv_bundle.specs.Bundles.{Thing}
 use Rattle.fv_model.specs.Single.{kept, single_of}
 use Rattle.fv_bundle.specs.Views.{types_view, object_view}

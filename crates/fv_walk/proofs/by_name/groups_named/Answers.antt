@@ -1,5 +1,5 @@
 use Rattle.std.proofs.Common.{map, string_bytes}
-use Rattle.fv_groups.specs.Tables.{indices}
+use Rattle.fv_declare_schema.specs.Tables.{indices}
 use Rattle.fv_walk.proofs.Named.{all_named, not_named}
 use Rattle.fv_walk.proofs.by_name.groups_named.Goals as goal
 

@@ -1,8 +1,8 @@
 use Rattle.std.proofs.Common.{◌≡◌, map, false, string_bytes, ap, ◌∙◌}
 use Rattle.std.proofs.lemmas.Result.{IfErr-weaker}
-use Rattle.fv_groups.specs.Groups.{Groups, numbers_of}
-use Rattle.fv_groups.specs.Judged.{unknown_in}
-use Rattle.fv_groups.specs.Tables.{indices}
+use Rattle.fv_declare_schema.specs.Groups.{Groups, numbers_of}
+use Rattle.fv_declare_schema.specs.Judged.{unknown_in}
+use Rattle.fv_declare_schema.specs.Tables.{indices}
 use Rattle.fv_walk.proofs.by_name.visits.Goals as goal
 
 pub returns-clause-few : goal.returns-clause-few

@@ -1,7 +1,7 @@
 use Rattle.std.proofs.Common.{◌≡◌, ◌<◌, ℕ, length, get_or, refl, sym, ap, ◌∙◌, arith}
-use Rattle.fv_groups.specs.Groups.{ranks}
-use Rattle.fv_groups.specs.Tables.{indices}
-use Rattle.fv_groups.specs.declared.declared.GroupId.{GroupId}
+use Rattle.fv_declare_schema.specs.Groups.{ranks}
+use Rattle.fv_declare_schema.specs.Tables.{indices}
+use Rattle.fv_declare_schema.specs.declared.declared.GroupId.{GroupId}
 use Rattle.fv_walk.proofs.Moves.{same_count, index_at}
 use Rattle.fv_walk.proofs.Loops.{ranks_more}
 use Rattle.fv_walk.proofs.property.are_too_many.Goals as goal

@@ -3,9 +3,9 @@ use Rattle.std.proofs.lemmas.Grind.{common_steps}
 use Rattle.std.proofs.lemmas.Int.{to_z-of_z}
 use mir.Syntax.{w64}
 use Rattle.fv_graph.specs.Graph.{IsIn}
-use Rattle.fv_groups.specs.Groups.{ranks}
-use Rattle.fv_groups.specs.Tables.{indices}
-use Rattle.fv_groups.specs.declared.declared.GroupId.{GroupId}
+use Rattle.fv_declare_schema.specs.Groups.{ranks}
+use Rattle.fv_declare_schema.specs.Tables.{indices}
+use Rattle.fv_declare_schema.specs.declared.declared.GroupId.{GroupId}
 use Rattle.fv_local.specs.FailureView.{failure_view}
 use Rattle.fv_bundle.specs.Views.{object_view}
 use Rattle.fv_walk_traces.specs.Turns.{LocalFailure}

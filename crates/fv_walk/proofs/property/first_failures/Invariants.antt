@@ -1,5 +1,5 @@
 use Rattle.std.proofs.Common.{◌≡◌, ◌<◌, ℕ, Some, slice_get}
-use Rattle.fv_groups.specs.Tables.{indices}
+use Rattle.fv_declare_schema.specs.Tables.{indices}
 use Rattle.fv_bundle.specs.Views.{object_view}
 use Rattle.fv_walk_traces.specs.Turns.{LocalFailure}
 use Rattle.fv_walk.specs.Ranks.{FailsIn}

@@ -1,6 +1,6 @@
 use Rattle.std.proofs.Common.{◌↔◌, map, take}
 use Rattle.fv_graph.specs.Graph.{IsIn}
-use Rattle.fv_groups.specs.Tables.{indices}
+use Rattle.fv_declare_schema.specs.Tables.{indices}
 use Rattle.fv_bundle.specs.Views.{object_view}
 use Rattle.fv_walk_traces.specs.Violations.{Violation}
 use Rattle.fv_walk.specs.FailureView.{failure_view}

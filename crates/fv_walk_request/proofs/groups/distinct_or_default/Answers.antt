@@ -1,6 +1,6 @@
 use Rattle.std.proofs.Common.{◌≡◌, ℕ, List, [], refl, ap, ◌∙◌}
-use Rattle.fv_groups.specs.Once.{once}
-use Rattle.fv_groups.specs.Tables.{indices}
+use Rattle.fv_declare_schema.specs.Once.{once}
+use Rattle.fv_declare_schema.specs.Tables.{indices}
 use Rattle.fv_walk_request.proofs.groups.distinct_or_default.Goals as goal
 
 pub returns : goal.returns

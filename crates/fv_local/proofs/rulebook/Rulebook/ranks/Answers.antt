@@ -2,7 +2,7 @@ use Rattle.std.proofs.Common.{◌≡◌, ◌<◌, inl, inr, length, true, refl, 
 use Rattle.std.proofs.lemmas.Grind.{common_steps}
 use Rattle.fv_declare_schema.specs.Declarations.{Declarations}
 use Rattle.fv_graph.specs.Graph.{IsIn}
-use Rattle.fv_groups.specs.Groups.{Groups, Inherits}
+use Rattle.fv_declare_schema.specs.Groups.{Groups, Inherits}
 use Rattle.fv_local.specs.Below.{below}
 use Rattle.fv_local.specs.Reached.{ranks_of}
 use Rattle.fv_local.specs.TableView.{lists_view}
