@@ -28,7 +28,7 @@ WENT = {
     "fv_draft": "fv_declare_draft", "fv_uses": "fv_declare_draft fv_declare_schema fv_declare",
     "fv_grouping": "fv_declare_groups fv_declare_schema", "fv_naming": "fv_declare_judging", "fv_wording": "fv_declare_judging",
     "fv_declare": "fv_declare fv_declare_judging fv_declare_schema", "fv_reach": "fv_local", "fv_property": "fv_walk",
-    "fv_request": "fv_walk_request", "fv_spot": "fv_walk_request", "fv_turns": "fv_walk_traces",
+    "fv_request": "fv_local", "fv_spot": "fv_local", "fv_turns": "fv_walk_traces",
 }
 # Types that have another name now.
 RENAMED = {("fv_flatten", "Place"): "Target", ("fv_draft", "Cascade"): "CascadeDraft"}

@@ -55,7 +55,7 @@ use Rattle.fv_engine_reply.proofs.Apart.{only_done, only_redeclared}
 use Rattle.fv_store.specs.Records.{Kept, Records, with_record}
 use Rattle.fv_store.specs.Written.{Written, written_of, writings}
 use Rattle.fv_walk.specs.Visits.{HasFewVisits}
-use Rattle.fv_walk_request.specs.Requests.{asked_groups, judging, request_of, unjudged, visiting}
+use Rattle.fv_local.specs.Requests.{asked_groups, judging, request_of, unjudged, visiting}
 use Rattle.fv_walk_traces.specs.Finite.{AreSoMany}
 use Rattle.fv_walk_traces.specs.Traces.{IsVisit}
 use Rattle.fv_walk_traces.specs.Violations.{IsViolation}

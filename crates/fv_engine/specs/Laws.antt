@@ -26,7 +26,7 @@ use Rattle.fv_engine_reply.specs.Texts.{answer_text}
 use Rattle.fv_engine_reply.specs.declared.answer.Done.{Done}
 use Rattle.fv_engine_reply.specs.declared.answer.Done.TheVariants.{Put}
 use Rattle.fv_engine_reply.specs.declared.answer.Refusal.TheVariants.{Store, Memory}
-use Rattle.fv_walk_request.specs.Requests.{asked_groups}
+use Rattle.fv_local.specs.Requests.{asked_groups}
 use Rattle.fv_widening.specs.Widens.{Widens}
 use Rattle.fv_store.specs.Records.{Kept, Records}
 

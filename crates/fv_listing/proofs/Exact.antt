@@ -8,9 +8,9 @@ use Rattle.fv_local.specs.Own.{own_in}
 use Rattle.fv_bundle.specs.Bundles.{Bundled}
 use Rattle.fv_path.specs.Nodes.{PathNode}
 use Rattle.fv_registry.specs.Meanings.{Meanings}
-use Rattle.fv_walk_request.specs.Requests.{object_at, asked_groups, request_for, request_of}
-use Rattle.fv_walk_request.specs.Requests as request
-use Rattle.fv_walk_request.proofs.Tidy.{judging_tidy, visiting_tidy}
+use Rattle.fv_local.specs.Requests.{object_at, asked_groups, request_for, request_of}
+use Rattle.fv_local.specs.Requests as request
+use Rattle.fv_local.proofs.Tidy.{judging_tidy, visiting_tidy}
 use Rattle.fv_walk_traces.specs.Listing.{IsFailing, IsListed, violation_at}
 use Rattle.fv_walk_traces.specs.Reaching.{at_object, violation}
 use Rattle.fv_walk_traces.specs.Requests.{Own, Plain, Request}

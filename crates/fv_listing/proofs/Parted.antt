@@ -14,10 +14,10 @@ use Rattle.fv_path.specs.Paths.{IsPath}
 use Rattle.fv_path.specs.Views.{node_view}
 use Rattle.fv_path.specs.declared.node.Node.{Node}
 use Rattle.fv_path.proofs.Chains.{path_front}
-use Rattle.fv_walk_request.proofs.Parts.{part_there}
-use Rattle.fv_walk_request.specs.Sound.{IsSound}
-use Rattle.fv_walk_request.specs.Loci.{leads}
-use Rattle.fv_walk_request.specs.Paths.{field_name, nodes_of}
+use Rattle.fv_local.proofs.Parts.{part_there}
+use Rattle.fv_local.specs.Sound.{IsSound}
+use Rattle.fv_local.specs.Loci.{leads}
+use Rattle.fv_local.specs.Paths.{field_name, nodes_of}
 use Rattle.fv_walk_traces.specs.Violations.{but_named}
 use Rattle.fv_walk.specs.Paths.{TakesField}
 use Rattle.fv_walk.proofs.Paths.{field_alone, last_dropped}

@@ -13,7 +13,7 @@ use Rattle.fv_bundle.specs.Bundles.{Thing}
 use Rattle.fv_path.specs.Nodes.{PathNode}
 use Rattle.fv_local.specs.Below.{below}
 use Rattle.fv_registry.specs.Meanings.{Meanings}
-use Rattle.fv_walk_request.specs.Requests.{object_at}
+use Rattle.fv_local.specs.Requests.{object_at}
 use Rattle.fv_graph.proofs.Images.{in_map, from_map}
 use Rattle.fv_walk_traces.specs.Listing.{violation_at}
 use Rattle.fv_walk_traces.specs.OneObject.{IsLocalIn}

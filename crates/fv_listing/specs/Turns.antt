@@ -2,7 +2,7 @@
 use Rattle.std.specs.Prelude.{ℕ, [], ◌∷◌, map, Vec}
 use Rattle.std.specs.declared.alloc.Global.{Global}
 use Rattle.fv_graph.specs.Graph.{IsIn}
-use Rattle.fv_walk_request.specs.Graphs.{way_view}
+use Rattle.fv_local.specs.Graphs.{way_view}
 use Rattle.fv_walk_traces.specs.Requests.{Request}
 use Rattle.fv_walk_traces.specs.Turns.{FreeTurn, Ask, Step, Group, Fail, Turn, Free, Rank, Turns}
 use Rattle.fv_listing.specs.declared.turn.Turn as code

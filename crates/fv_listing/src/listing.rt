@@ -7,7 +7,7 @@ ghost use Rattle.fv_declare_schema.specs.Tables.{indices};
 ghost use Rattle.fv_local.specs.FailureView as local;
 ghost use Rattle.fv_bundle.specs.Views.{bundle_view};
 ghost use Rattle.fv_bundle.specs.WellTyped.{IsWellTyped};
-ghost use Rattle.fv_walk_request.specs.Requests.{object_at, request_of};
+ghost use Rattle.fv_local.specs.Requests.{object_at, request_of};
 ghost use Rattle.fv_walk_traces.specs.Listing.{violation_at};
 ghost use Rattle.fv_walk_traces.specs.Violations.{Violation, IsViolation, value_at};
 ghost use Rattle.fv_walk.specs.FailureView.{failure_view};
@@ -24,10 +24,9 @@ use crate::visit::{Visit, all_visits};
 use fv_bundle::Bundle;
 use fv_datum::{Datum, Name};
 use fv_declare_schema::GroupId;
-use fv_local::{LocalFailure, Rulebook, Spot};
+use fv_local::{LocalFailure, ObjectGraph, Rulebook, Spot, distinct_or_default};
 use fv_registry::RuleSet;
 use fv_walk::Failure;
-use fv_walk_request::{ObjectGraph, distinct_or_default};
 use std::alloc::{AllocError, Global};
 
 /// What fails at the object of a visit in the group that is carried there.

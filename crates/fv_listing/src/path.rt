@@ -7,9 +7,9 @@ ghost use Rattle.fv_graph.specs.Graph.{IsIn};
 ghost use Rattle.fv_local.specs.FailureView.{IsFoundIn, spot_view};
 ghost use Rattle.fv_bundle.specs.Views.{object_view};
 ghost use Rattle.fv_path.specs.Paths.{IsPath};
-ghost use Rattle.fv_walk_request.specs.Graphs.{way_view};
-ghost use Rattle.fv_walk_request.specs.Requests.{nodes_at, object_at};
-ghost use Rattle.fv_walk_request.specs.Sound as parts;
+ghost use Rattle.fv_local.specs.Graphs.{way_view};
+ghost use Rattle.fv_local.specs.Requests.{nodes_at, object_at};
+ghost use Rattle.fv_local.specs.Sound as parts;
 ghost use Rattle.fv_walk_traces.specs.Violations.{but_named, nodes_to, onward};
 ghost use Rattle.fv_walk_traces.specs.Reaching.{at_object};
 ghost use Rattle.fv_walk.specs.Paths.{TakesField};
@@ -23,9 +23,8 @@ use crate::turn::Turn;
 use crate::visit::Visit;
 use fv_bundle::Object;
 use fv_extract::{Part, Step};
-use fv_local::Spot;
+use fv_local::{Spot, Way, push_spot as push_part_of};
 use fv_path::Path;
-use fv_walk_request::{Way, push_spot as push_part_of};
 use std::alloc::{AllocError, Global};
 
 /// Adds the nodes of a part of an object.

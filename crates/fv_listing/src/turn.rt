@@ -2,14 +2,14 @@
 ghost use Rattle.std.specs.Prelude.{◌≡◌, ◌↔◌, IsTrue, map};
 ghost use Rattle.fv_extract.specs.Views.{part_view};
 ghost use Rattle.fv_declare_schema.specs.NumberViews.{valid_place_view};
-ghost use Rattle.fv_walk_request.specs.Graphs.{way_view};
-ghost use Rattle.fv_walk_request.specs.Ways.{place_of};
+ghost use Rattle.fv_local.specs.Graphs.{way_view};
+ghost use Rattle.fv_local.specs.Ways.{place_of};
 ghost use Rattle.fv_walk_traces.specs.Turns.{IsSmallerRank, ShadowsByRecursion};
 ghost use Rattle.fv_listing.specs.Turns.{turn_view};
 
 use fv_declare_schema::{GroupId, ValidPlace};
 use fv_extract::Part;
-use fv_walk_request::Way;
+use fv_local::Way;
 
 /// A turn of a visit.
 #[derive(Clone, Copy)]

@@ -16,7 +16,7 @@ use Rattle.fv_path.specs.Texts.{text_of}
 use Rattle.fv_walk.specs.Properties.{IsViolationIn}
 use Rattle.fv_registry.specs.Meanings.{Meanings}
 use Rattle.fv_walk_traces.specs.Violations.{Violation, IsViolation}
-use Rattle.fv_walk_request.specs.Requests.{request_of}
+use Rattle.fv_local.specs.Requests.{request_of}
 
 -- a reported constraint: the path of the value, the constraint's name, its number over the whole declarations, the message and the value
 pub record Reported : Type 0 where

@@ -7,9 +7,9 @@ use Rattle.fv_graph.proofs.Images.{from_filter}
 use Rattle.fv_local.specs.Own.{own_in}
 use Rattle.fv_bundle.specs.Bundles.{Thing}
 use Rattle.fv_registry.specs.Meanings.{Meanings}
-use Rattle.fv_walk_request.proofs.Chains as own
-use Rattle.fv_walk_request.proofs.Tidy.{plain_ranks}
-use Rattle.fv_walk_request.specs.Requests.{asked_groups, judging}
+use Rattle.fv_local.proofs.Chains as own
+use Rattle.fv_local.proofs.Tidy.{plain_ranks}
+use Rattle.fv_local.specs.Requests.{asked_groups, judging}
 use Rattle.fv_walk_traces.proofs.Ends.{last_fail}
 use Rattle.fv_walk_traces.proofs.OneField.{field_violation}
 use Rattle.fv_datum.proofs.Lists.{map_get}

@@ -9,12 +9,12 @@ use Rattle.fv_bundle.specs.Bundles.{Thing}
 use Rattle.fv_constraint_tree.specs.Trees.{size}
 use Rattle.fv_path.specs.Nodes.{PathNode, field as field_node}
 use Rattle.fv_registry.specs.Meanings.{Meanings}
-use Rattle.fv_walk_request.proofs.Apart.{StandsIn, IsOfUse, of_use, stands}
-use Rattle.fv_walk_request.proofs.Numbers.{spots_within, one_use}
-use Rattle.fv_walk_request.proofs.Parts.{part_there}
-use Rattle.fv_walk_request.specs.Requests.{asked_groups}
-use Rattle.fv_walk_request.specs.Sound.{IsSound}
-use Rattle.fv_walk_request.proofs.NodesApart.{locus_same}
+use Rattle.fv_local.proofs.Apart.{StandsIn, IsOfUse, of_use, stands}
+use Rattle.fv_local.proofs.Numbers.{spots_within, one_use}
+use Rattle.fv_local.proofs.Parts.{part_there}
+use Rattle.fv_local.specs.Requests.{asked_groups}
+use Rattle.fv_local.specs.Sound.{IsSound}
+use Rattle.fv_local.proofs.NodesApart.{locus_same}
 use Rattle.fv_walk_traces.specs.Turns.{Spot, at, LocalFailure}
 use Rattle.fv_walk_traces.specs.Violations.{Violation}
 use Rattle.fv_declare_schema.specs.Places.{Place, whole, field}

@@ -6,8 +6,8 @@ use Rattle.fv_graph.specs.Graph.{IsIn}
 use Rattle.fv_bundle.specs.Bundles.{Thing, Bundled}
 use Rattle.fv_bundle.specs.WellTyped.{IsOfType, IsWellTyped}
 use Rattle.fv_registry.specs.Meanings.{Meanings}
-use Rattle.fv_walk_request.proofs.Apart.{told_apart}
-use Rattle.fv_walk_request.specs.Requests.{request_of}
+use Rattle.fv_local.proofs.Apart.{told_apart}
+use Rattle.fv_local.specs.Requests.{request_of}
 use Rattle.fv_walk_traces.specs.Violations.{Violation, IsViolation}
 use Rattle.fv_walk.specs.Apart.{AreApart}
 use Rattle.fv_walk.specs.Properties.{IsViolationIn}

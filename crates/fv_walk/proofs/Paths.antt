@@ -6,8 +6,8 @@ use Rattle.fv_extract.specs.Places.{Step, element, key as key_step, value, conte
 use Rattle.fv_path.specs.Nodes.{PathNode, field, index, key, list_element, map_key, map_value, is_part}
 use Rattle.fv_path.specs.Paths.{takes_field, may_stand, IsPath}
 use Rattle.fv_path.proofs.Chains.{last_of, path_push}
-use Rattle.fv_walk_request.specs.Loci.{leads}
-use Rattle.fv_walk_request.specs.Paths.{nodes_of}
+use Rattle.fv_local.specs.Loci.{leads}
+use Rattle.fv_local.specs.Paths.{nodes_of}
 use Rattle.fv_walk_traces.specs.Violations.{but_named}
 use Rattle.fv_walk.specs.Paths.{TakesField}
 

@@ -23,14 +23,14 @@ use Rattle.fv_path.specs.Nodes.{PathNode}
 use Rattle.fv_path.specs.Paths.{IsPath}
 use Rattle.fv_path.specs.Views.{node_view}
 use Rattle.fv_path.specs.declared.node.Node.{Node}
-pub use Rattle.fv_walk_request.proofs.Parts.{part_there}
-use Rattle.fv_walk_request.proofs.Ways.{way_is}
+pub use Rattle.fv_local.proofs.Parts.{part_there}
+use Rattle.fv_local.proofs.Ways.{way_is}
 use Rattle.fv_graph.proofs.Images.{from_filter_map, from_flat_map}
-use Rattle.fv_walk_request.specs.Conversions.{valid_places_at}
-use Rattle.fv_walk_request.specs.Requests.{nodes_at, object_at}
-use Rattle.fv_walk_request.specs.Sound.{IsSound}
-use Rattle.fv_walk_request.specs.Ways.{place_of, way_at, ways_at, ways_of}
-use Rattle.fv_walk_request.specs.Paths.{field_name}
+use Rattle.fv_local.specs.Conversions.{valid_places_at}
+use Rattle.fv_local.specs.Requests.{nodes_at, object_at}
+use Rattle.fv_local.specs.Sound.{IsSound}
+use Rattle.fv_local.specs.Ways.{place_of, way_at, ways_at, ways_of}
+use Rattle.fv_local.specs.Paths.{field_name}
 use Rattle.fv_walk_traces.specs.Requests.{Request}
 use Rattle.fv_walk_traces.specs.Turns.{Way}
 use Rattle.fv_walk_traces.specs.Violations.{Violation, but_named}

@@ -11,9 +11,9 @@ use Rattle.fv_bundle.specs.Types.{TypeUse, texts, integers, decimals, booleans, 
 use Rattle.fv_bundle.proofs.Back.{fits_writable}
 use Rattle.fv_declare_schema.specs.Declarations.{Declarations}
 use Rattle.fv_declare_schema.specs.Ordered.{AreOrdered}
-use Rattle.fv_walk_request.proofs.Objects.{found_all}
-use Rattle.fv_walk_request.specs.Sound.{IsSound}
-use Rattle.fv_walk_request.proofs.Fitted.{fits_indexed}
+use Rattle.fv_local.proofs.Objects.{found_all}
+use Rattle.fv_local.specs.Sound.{IsSound}
+use Rattle.fv_local.proofs.Fitted.{fits_indexed}
 
 -- ---- a datum that fits, whatever its references name
 

@@ -5,7 +5,7 @@ use Rattle.fv_datum.specs.Lookup.{at_name}
 use Rattle.fv_declare_schema.specs.Declarations.{Declarations}
 use Rattle.fv_bundle.specs.Bundles.{Thing, Bundled}
 use Rattle.fv_registry.specs.Meanings.{Meanings}
-use Rattle.fv_walk_request.specs.Requests.{request_of}
+use Rattle.fv_local.specs.Requests.{request_of}
 use Rattle.fv_walk_traces.specs.OneField.{IsViolationOfField}
 use Rattle.fv_walk_traces.specs.Violations.{Violation}
 use Rattle.fv_bundle.specs.Types.{Declared}

@@ -9,7 +9,7 @@ use Rattle.fv_bundle.specs.Bundles.{Thing}
 use Rattle.fv_path.specs.Nodes.{PathNode}
 use Rattle.fv_local.specs.Below.{below}
 use Rattle.fv_registry.specs.Meanings.{Meanings}
-use Rattle.fv_walk_request.specs.Requests.{nodes_at, datum_at}
+use Rattle.fv_local.specs.Requests.{nodes_at, datum_at}
 use Rattle.fv_walk_traces.specs.OneField.{own_of_field}
 use Rattle.fv_walk_traces.specs.OneObject.{IsLocalIn}
 use Rattle.fv_walk_traces.specs.Turns.{Spot, of_object, at, LocalFailure}

@@ -8,7 +8,7 @@ ghost use Rattle.fv_declare_schema.specs.Judged.{unknown_in};
 ghost use Rattle.fv_declare_schema.specs.Tables.{indices};
 ghost use Rattle.fv_bundle.specs.Views.{bundle_view};
 ghost use Rattle.fv_bundle.specs.WellTyped.{IsWellTyped};
-ghost use Rattle.fv_walk_request.specs.Requests.{request_of, unjudged};
+ghost use Rattle.fv_local.specs.Requests.{request_of, unjudged};
 ghost use Rattle.fv_walk_traces.specs.Finite.{AreSoMany};
 ghost use Rattle.fv_walk_traces.specs.Traces.{IsEntered, IsVisit};
 ghost use Rattle.fv_walk_traces.specs.Violations.{Violation, IsViolation};

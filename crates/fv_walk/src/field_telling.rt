@@ -4,15 +4,14 @@ ghost use Rattle.fv_local.specs.FailureView.{IsFoundIn};
 ghost use Rattle.fv_local.specs.FailureView as local;
 ghost use Rattle.fv_bundle.specs.Views.{object_view};
 ghost use Rattle.fv_walk.specs.Ranks.{violation_in};
-ghost use Rattle.fv_walk_request.specs.Sound.{IsSound};
+ghost use Rattle.fv_local.specs.Sound.{IsSound};
 ghost use Rattle.fv_walk_traces.specs.OneField.{is_in_field};
 ghost use Rattle.fv_walk.specs.FailureView.{failure_view};
 
 use crate::failure::Failure;
 use fv_bundle::Object;
-use fv_local::{LocalFailure, Spot};
+use fv_local::{LocalFailure, Spot, push_spot};
 use fv_path::Path;
-use fv_walk_request::push_spot;
 use std::alloc::{AllocError, Global};
 
 /// What a failure in a field is: its path begins at the field.

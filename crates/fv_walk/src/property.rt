@@ -14,7 +14,7 @@ ghost use Rattle.fv_walk.specs.Ranks.{FailsFirst, FailsIn, IsToldFor, count_rank
 ghost use Rattle.fv_bundle.specs.WellTyped.{IsOfType};
 ghost use Rattle.fv_walk.specs.FieldVisits.{HasFewVisitsAt, HasTooManyVisitsAt};
 ghost use Rattle.fv_walk.specs.declared.property_fault.PropertyFault.{PropertyFault};
-ghost use Rattle.fv_walk_request.specs.Sound.{IsSound};
+ghost use Rattle.fv_local.specs.Sound.{IsSound};
 ghost use Rattle.fv_walk_traces.specs.Turns as turn;
 ghost use Rattle.fv_walk_traces.specs.Violations.{Violation};
 ghost use Rattle.fv_walk.specs.FailureView.{failure_view};
@@ -24,9 +24,8 @@ use crate::field_telling::add_failures;
 use crate::property_fault::PropertyFault;
 use fv_bundle::{Object, Types};
 use fv_declare_schema::{GroupId, Groups, Schema};
-use fv_local::{LocalFailure, Rulebook};
+use fv_local::{LocalFailure, Rulebook, distinct_or_default};
 use fv_registry::RuleSet;
-use fv_walk_request::distinct_or_default;
 use std::alloc::{AllocError, Global};
 
 /// The most visits that a request may have.

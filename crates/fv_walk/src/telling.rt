@@ -7,9 +7,9 @@ ghost use Rattle.fv_graph.specs.Graph.{IsIn};
 ghost use Rattle.fv_local.specs.FailureView.{IsFoundIn};
 ghost use Rattle.fv_local.specs.FailureView as local;
 ghost use Rattle.fv_bundle.specs.Views.{object_view};
-ghost use Rattle.fv_walk_request.specs.Graphs.{way_view};
-ghost use Rattle.fv_walk_request.specs.Requests.{nodes_at, object_at};
-ghost use Rattle.fv_walk_request.specs.Sound as parts;
+ghost use Rattle.fv_local.specs.Graphs.{way_view};
+ghost use Rattle.fv_local.specs.Requests.{nodes_at, object_at};
+ghost use Rattle.fv_local.specs.Sound as parts;
 ghost use Rattle.fv_path.specs.Paths.{IsPath};
 ghost use Rattle.fv_walk_traces.specs.Violations.{but_named};
 ghost use Rattle.fv_walk.specs.Courses.{IsSound, visiting, bundle_in, objects_in};
@@ -25,9 +25,8 @@ use crate::frame::Frame;
 use fv_bundle::Object;
 use fv_datum::{Datum, Name};
 use fv_extract::{Part, Step};
-use fv_local::{LocalFailure, Spot};
+use fv_local::{LocalFailure, Spot, Way, push_spot};
 use fv_path::Path;
-use fv_walk_request::{Way, push_spot};
 use std::alloc::{AllocError, Global};
 
 /// The reference before a place.

@@ -7,7 +7,7 @@ use Rattle.fv_declare_schema.specs.declared.declared.GroupId.{GroupId}
 use Rattle.fv_bundle.specs.Bundles.{Bundled}
 use Rattle.fv_bundle.specs.Views.{bundle_view}
 use Rattle.fv_bundle.specs.WellTyped.{IsWellTyped}
-use Rattle.fv_walk_request.specs.Requests.{judging}
+use Rattle.fv_local.specs.Requests.{judging}
 use Rattle.fv_walk.specs.FailureView.{failure_view}
 use Rattle.fv_walk.proofs.Asked.{asked_are, asked_differ, asked_within}
 use Rattle.fv_listing.specs.Listed.{AreViolations}

@@ -1,9 +1,9 @@
 use Rattle.std.proofs.Common.{length, sym, ap, ◌∙◌}
 use Rattle.std.specs.Vec.{vec_len}
 use Rattle.fv_bundle.specs.Views.{object_view}
-use Rattle.fv_walk_request.proofs.Parts.{part_there}
-use Rattle.fv_walk_request.specs.Graphs.{way_view}
-use Rattle.fv_walk_request.specs.Paths.{field_name}
+use Rattle.fv_local.proofs.Parts.{part_there}
+use Rattle.fv_local.specs.Graphs.{way_view}
+use Rattle.fv_local.specs.Paths.{field_name}
 use Rattle.fv_listing.proofs.Parted.{way_alone, way_popped, is_some, is_none}
 use Rattle.fv_listing.proofs.path.push_way.Goals as goal
 

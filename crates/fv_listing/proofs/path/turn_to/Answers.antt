@@ -3,9 +3,9 @@ use Rattle.fv_datum.specs.Data.{Data}
 use Rattle.fv_extract.specs.Parts.{parts_at}
 use Rattle.fv_graph.specs.Graph.{IsIn}
 use Rattle.fv_bundle.specs.Bundles.{Thing}
-use Rattle.fv_walk_request.proofs.Ways.{ways_within}
-use Rattle.fv_walk_request.specs.Graphs.{way_view}
-use Rattle.fv_walk_request.specs.Requests.{object_at}
+use Rattle.fv_local.proofs.Ways.{ways_within}
+use Rattle.fv_local.specs.Graphs.{way_view}
+use Rattle.fv_local.specs.Requests.{object_at}
 use Rattle.fv_listing.specs.Courses.{bundle_in}
 use Rattle.fv_listing.proofs.Courses.{way_there}
 use Rattle.fv_listing.proofs.path.turn_to.Goals as goal

@@ -4,7 +4,7 @@ use mir.Syntax.{w64}
 use Rattle.fv_graph.specs.Graph.{IsIn}
 use Rattle.fv_declare_schema.specs.Tables.{indices}
 use Rattle.fv_bundle.specs.Views.{bundle_view}
-use Rattle.fv_walk_request.specs.Requests.{request_of}
+use Rattle.fv_local.specs.Requests.{request_of}
 use Rattle.fv_walk_traces.specs.Violations.{Violation, IsViolation}
 use Rattle.fv_validate.specs.ViolationView.{violation_view}
 use Rattle.fv_validate.specs.Violations.{Reported, AreListed, IsListing}

@@ -9,7 +9,7 @@ use Rattle.fv_local.specs.declared.failure.Spot.TheVariants as spot
 use Rattle.fv_bundle.specs.Views.{object_view}
 use Rattle.fv_path.specs.Nodes.{PathNode, field}
 use Rattle.fv_walk.proofs.Tellings.{part_there}
-use Rattle.fv_walk_request.specs.Paths.{nodes_of}
+use Rattle.fv_local.specs.Paths.{nodes_of}
 use Rattle.fv_walk_traces.specs.Violations.{Violation}
 use Rattle.fv_walk.proofs.Paths.{field_first}
 use Rattle.fv_walk.specs.Ranks.{violation_in}

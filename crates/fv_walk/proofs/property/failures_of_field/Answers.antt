@@ -8,7 +8,7 @@ use Rattle.fv_declare_schema.specs.Declarations.{Declarations}
 use Rattle.fv_bundle.specs.Views.{types_view, object_view}
 use Rattle.fv_bundle.specs.WellTyped.{IsOfType}
 use Rattle.fv_bundle.specs.Types.{Declared}
-use Rattle.fv_walk_request.specs.Requests.{asked_groups}
+use Rattle.fv_local.specs.Requests.{asked_groups}
 use Rattle.fv_walk_traces.specs.Violations.{Violation}
 use Rattle.fv_walk.proofs.Asked.{asked_are, asked_within}
 use Rattle.fv_walk.specs.FailureView.{failure_view}

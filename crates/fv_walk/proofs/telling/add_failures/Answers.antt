@@ -3,7 +3,7 @@ use Rattle.std.proofs.lemmas.List.{take_all}
 use Rattle.std.proofs.lemmas.List.Elements.{All-get_or}
 use Rattle.fv_local.specs.FailureView as local
 use Rattle.fv_local.specs.declared.failure.LocalFailure.{LocalFailure}
-use Rattle.fv_walk_request.specs.Requests.{object_at}
+use Rattle.fv_local.specs.Requests.{object_at}
 use Rattle.fv_walk.specs.Courses.{bundle_in, visiting}
 use Rattle.fv_walk.specs.FailureView.{failure_view}
 use Rattle.fv_walk.specs.Stacks.{path_on}

@@ -5,8 +5,8 @@ use Rattle.fv_extract.specs.declared.part.Part.{Part}
 use Rattle.fv_local.specs.FailureView.{IsFoundIn}
 use Rattle.fv_bundle.specs.Bundles.{Thing}
 use Rattle.fv_bundle.specs.Views.{object_view}
-use Rattle.fv_walk_request.specs.Requests.{nodes_at, object_at}
-use Rattle.fv_walk_request.specs.Sound.{IsSound}
+use Rattle.fv_local.specs.Requests.{nodes_at, object_at}
+use Rattle.fv_local.specs.Sound.{IsSound}
 use Rattle.fv_walk.specs.Courses.{bundle_in, visiting}
 use Rattle.fv_walk.specs.Stacks.{path_on}
 use Rattle.fv_walk.proofs.Tellings.{HasPart, told_part}

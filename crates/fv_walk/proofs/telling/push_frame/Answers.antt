@@ -1,8 +1,8 @@
 use Rattle.std.proofs.Common.{◌≡◌, List, ◌++◌, Some, None, OnOk, sym, ap, subst, ◌∙◌}
 use Rattle.fv_bundle.specs.Views.{object_view}
 use Rattle.fv_path.specs.Nodes.{PathNode}
-use Rattle.fv_walk_request.specs.Graphs.{way_view}
-use Rattle.fv_walk_request.specs.Sound.{IsSound}
+use Rattle.fv_local.specs.Graphs.{way_view}
+use Rattle.fv_local.specs.Sound.{IsSound}
 use Rattle.fv_walk_traces.specs.Turns.{Way}
 use Rattle.fv_walk.specs.Courses.{visiting}
 use Rattle.fv_walk.specs.Stacks.{way_before}

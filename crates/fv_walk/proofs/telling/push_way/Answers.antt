@@ -3,8 +3,8 @@ use Rattle.std.proofs.lemmas.Grind.{common_steps}
 use Rattle.std.specs.Vec.{vec_len}
 use Rattle.fv_extract.specs.Views.{part_view}
 use Rattle.fv_bundle.specs.Views.{object_view}
-use Rattle.fv_walk_request.specs.Graphs.{way_view}
-use Rattle.fv_walk_request.specs.Requests.{nodes_at}
+use Rattle.fv_local.specs.Graphs.{way_view}
+use Rattle.fv_local.specs.Requests.{nodes_at}
 use Rattle.fv_walk.proofs.Tellings.{LeadsOn, empty_seen, seen_empty, field_leads, popped_leads}
 use Rattle.fv_walk.proofs.telling.push_way.Goals as goal
 

@@ -1,6 +1,6 @@
 use Rattle.std.proofs.Common.{◌<◌, ◌-◌, map, sym, ◌∙◌, arith}
 use Rattle.std.proofs.lemmas.Bool.Decides.{nat_tests}
-use Rattle.fv_walk_request.specs.Graphs.{way_view}
+use Rattle.fv_local.specs.Graphs.{way_view}
 use Rattle.fv_datum.proofs.Lookups.{seen_option}
 use Rattle.fv_walk.proofs.Members.{before_is}
 use Rattle.fv_walk.proofs.telling.way_before.Goals as goal
