@@ -25,7 +25,7 @@ pub use Rattle.fv_engine_lines.proofs.Writes.{appends_kept, appends_none, append
 use Rattle.fv_engine_lines.specs.Lines.{ended}
 use Rattle.fv_engine_lines.specs.Writes.{AppendsFront}
 use Rattle.fv_model.specs.Writing.{bundle_json}
-use Rattle.fv_model_text.proofs.NoFloats.{bundle_float}
+use Rattle.fv_model.proofs.NoFloats.{bundle_float}
 use Rattle.fv_bundle.specs.Types.{has_deep}
 use Rattle.fv_store.proofs.Steps.{failed_then}
 use Rattle.fv_store.specs.Causes.{HasFailed}

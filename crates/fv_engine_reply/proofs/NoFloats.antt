@@ -9,7 +9,7 @@ use Rattle.fv_validate.specs.Violations.{Judged}
 use Rattle.fv_engine_reply.specs.Texts.{violation_json, judged_json, listing_json, refused_json, answer_json}
 use Rattle.fv_engine_reply.specs.declared.answer.Refusal.{Refusal}
 use Rattle.fv_engine_reply.specs.declared.answer.Refusal.TheVariants.{LineTooLong, NotJson, Shape, UnknownForm, Bundle, NoRecord, UnknownGroup, NoSuchField, TooManyVisits, Store, Memory}
-use Rattle.fv_model_text.proofs.NoFloats.{datum_json_float}
+use Rattle.fv_model.proofs.NoFloats.{datum_json_float}
 use Rattle.fv_validate.specs.Violations.{Reported}
 
 neither : (a b : Bool) → a ≡ false → b ≡ false → (a || b) ≡ false

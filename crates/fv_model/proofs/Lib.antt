@@ -1,14 +1,17 @@
 pub mod Again
 pub mod Anys
 pub mod Conditions
+pub mod Containers
 pub mod Extended
 pub mod Firsts
 pub mod Given
+pub mod InOrder
 pub mod Kept
 pub mod Law
 pub mod Listed
 pub mod Made
 pub mod Named
+pub mod NoFloats
 pub mod OfParts
 pub mod Sound
 pub mod Typed

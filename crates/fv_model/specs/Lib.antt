@@ -4,6 +4,7 @@ pub mod Extends
 pub mod FaultNames
 pub mod Fitting
 pub mod PartViews
+pub mod Puts
 pub mod Reading
 pub mod Setting
 pub mod Single

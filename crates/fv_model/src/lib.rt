@@ -1,27 +1,33 @@
 //! Bundles read from JSON, data by themselves, and one datum of a bundle changed.
+//! Bundles and the fields of objects as JSON, and as texts that are written straight from them.
 #![tactic(auto)]
 
 mod build;
+mod data;
 mod draft;
 mod fault;
 mod faults;
 mod flaws;
 mod given_datum;
+mod halt;
 mod naming;
 mod objects;
 mod parts;
 mod reading;
 mod setting;
 mod singles;
+mod text;
+mod tree;
 mod value;
 mod writable;
 
 pub use fault::BundleFault;
-pub use fv_bundle::{Bundle, Object, ObjectFields, Objects, is_of_use};
-pub use fv_bundle::{Fields, TypeId, TypeUse, Types, TypesFault};
+pub use fv_bundle::{Bundle, Fields, Object, ObjectFields, Objects, TypeId, TypeUse, Types, TypesFault, is_of_use};
 pub use objects::read_objects;
 pub use parts::Part;
 pub use reading::read_bundle;
 pub use setting::set_field;
 pub use singles::single;
+pub use text::{fields_text, quoted, write_text};
+pub use tree::{write_bundle, write_fields};
 pub use value::read_value;

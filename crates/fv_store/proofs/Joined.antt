@@ -7,7 +7,7 @@ use Rattle.serde_json.specs.Written.{comma_if, compact_text, members_text}
 use Rattle.fv_datum.specs.Ascending.{IsAscending}
 use Rattle.fv_bundle.specs.Bundles.{Thing, Bundled}
 use Rattle.fv_model.specs.Writing.{thing_json, named_written}
-use Rattle.fv_model_text.proofs.InOrder.{members_of, named, objects_in_order}
+use Rattle.fv_model.proofs.InOrder.{members_of, named, objects_in_order}
 use Rattle.fv_store.specs.Texts.{bundle_text, object_text, objects_text, rows_text}
 use Rattle.fv_store.specs.Written.{fields_text, object_kept}
 use Rattle.fv_store.specs.Records.{Kept}

@@ -12,7 +12,7 @@ use Rattle.fv_bundle.specs.Types.{Declared, has_deep}
 use Rattle.fv_bundle.specs.Bundles.{Thing, Things, Bundled}
 use Rattle.fv_bundle.specs.WellTyped.{FitsType, IsWellTyped}
 use Rattle.fv_model.specs.Writing.{fields_json, bundle_json, named_written}
-use Rattle.fv_model_text.proofs.InOrder.{members_of, named, Named, objects_in_order}
+use Rattle.fv_model.proofs.InOrder.{members_of, named, Named, objects_in_order}
 use Rattle.fv_store.proofs.ReadBack.{bundle_back, fields_plain}
 use Rattle.fv_store.specs.Records.{Kept, Records}
 use Rattle.fv_store.specs.Stands.{old_of, olds}

@@ -3,7 +3,7 @@ ghost use Rattle.std.specs.Prelude.{◌≡◌, ◌++◌, [], IfOk, OnOk, string_
 ghost use Rattle.fv_store.specs.Texts.{object_text, objects_text, rows_text};
 ghost use Rattle.fv_tables.specs.Stored.{row_view, things_view};
 
-use fv_model_text::quoted;
+use fv_model::quoted;
 use fv_tables::{ObjectRow, RecordRows};
 use std::alloc::{AllocError, Global};
 

@@ -14,7 +14,7 @@ use std::alloc::{AllocError, Global};
 pub(crate) fn fields_of(alloc: Global, object: &Object) -> Result<String, AllocError>
     ensures { IfOk result (λ s. string_bytes s ≡ fields_text (fields_json (object_view object.now).fields)) }
 {
-    fv_model_text::fields_text(alloc, object)
+    fv_model::fields_text(alloc, object)
 }
 
 /// What the row of an object of that name keeps.

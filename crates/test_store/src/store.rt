@@ -2,8 +2,7 @@
 use anyhow::{Context, Result, bail};
 use fv_bundle::{Bundle, Types};
 use fv_datum::read_text;
-use fv_model::read_bundle;
-use fv_model_text::write_bundle;
+use fv_model::{read_bundle, write_bundle};
 use fv_store::{Change, OpenStoreFault, Store, StoreFault, Stored};
 use sqlite::Alter;
 use std::alloc::Global;

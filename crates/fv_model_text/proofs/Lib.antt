@@ -1,3 +1,0 @@
-pub mod Containers
-pub mod InOrder
-pub mod NoFloats
