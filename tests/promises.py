@@ -21,7 +21,7 @@ from collections import defaultdict
 WENT = {
     "fv_lines": "fv_engine_lines", "fv_command": "fv_engine_command", "fv_reply": "fv_engine_reply",
     "fv_pending": "fv_engine_pending", "fv_machine": "fv_engine_machine",
-    "fv_judging": "fv_engine_judging fv_engine_machine fv_engine_pending", "fv_words": "formd_words",
+    "fv_judging": "fv_engine_pending fv_engine_machine fv_engine_pending", "fv_words": "formd_words",
     "fv_types": "fv_bundle", "fv_field": "fv_model", "fv_text": "fv_model", "fv_query": "fv_store",
     "fv_occurrence": "fv_constraint_tree", "fv_flatten": "fv_flatten fv_constraint fv_constraint_tree",
     "fv_constraint": "fv_constraint fv_flatten fv_declare_definition", "fv_definition": "fv_declare_definition fv_datum",

@@ -7,8 +7,8 @@ use Rattle.fv_engine.specs.ExportSteps.{StoreDone, StoreFails}
 use Rattle.fv_engine.specs.declared.exporting.ExportFault.{ExportFault}
 use Rattle.fv_engine.specs.declared.exporting.ExportFault.TheVariants.{Store}
 use Rattle.fv_engine.proofs.Exported.{engine_cause, engine_exports, engine_front}
-use Rattle.fv_engine_judging.specs.Passes.{OnlyReads}
-use Rattle.fv_engine_judging.specs.Rejudging.{HasFewIds}
+use Rattle.fv_engine_pending.specs.Passes.{OnlyReads}
+use Rattle.fv_engine_pending.specs.Rejudging.{HasFewIds}
 use Rattle.fv_engine_machine.specs.Machines.{contents}
 use Rattle.fv_engine_machine.specs.Services.{Keeps, Service, serving}
 use Rattle.fv_bundle.specs.Types.{has_deep}

@@ -13,7 +13,7 @@ use Rattle.fv_engine.specs.Exports.{AreAllOf, put_json, redeclare_json}
 use Rattle.fv_engine.proofs.ExportLaws.{IsPlain, all_put, bundle_again, declarations_ask, put_all, record_asks}
 use Rattle.fv_engine.proofs.Exported.{no_ids}
 use Rattle.fv_engine_command.specs.Commands.{Asked, alone, is_id, put}
-use Rattle.fv_engine_judging.specs.Judging.{IsListingOf, AreListings, AreListingsOf}
+use Rattle.fv_engine_pending.specs.Judging.{IsListingOf, AreListings, AreListingsOf}
 use Rattle.fv_engine_machine.specs.Redeclaring.{IsAgain, Reign}
 use Rattle.fv_engine_machine.specs.Refusals.{first_of, made, refusal, told_fault, when}
 use Rattle.fv_engine_machine.specs.Services.{Turned, Turns}

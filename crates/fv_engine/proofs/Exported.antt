@@ -16,10 +16,10 @@ use Rattle.fv_engine.specs.Exports.{put_json, record_line, record_lines, declara
 use Rattle.fv_engine.specs.ExportSteps.{all_kept, faultless, of_store, WritesLine, OneDone, OneFails, FirstDone, FirstFails, PageDone, PageFails, NextDone, NextFails, AllDone, AllFails, StoreDone, StoreFails}
 use Rattle.fv_engine.specs.declared.exporting.ExportFault.{ExportFault}
 use Rattle.fv_engine.specs.declared.exporting.ExportFault.TheVariants.{Store, Write, Memory}
-pub use Rattle.fv_engine_judging.proofs.Pages.{Below, IsAbove, Pages, all_append, all_done, all_has, has_right, keys_append, last_end, length_keys, page_known, reach_none, reach_only, reach_page, split_at, taken_one}
-pub use Rattle.fv_engine_judging.proofs.Passes.{pages_of, reads_none, reads_then}
-use Rattle.fv_engine_judging.specs.Passes.{AreAll, AreKnown, GoesOn, IsFull, OnlyReads, Reaches, Sure, last_of}
-use Rattle.fv_engine_judging.specs.Rejudging.{HasFewIds}
+pub use Rattle.fv_engine_pending.proofs.Pages.{Below, IsAbove, Pages, all_append, all_done, all_has, has_right, keys_append, last_end, length_keys, page_known, reach_none, reach_only, reach_page, split_at, taken_one}
+pub use Rattle.fv_engine_pending.proofs.Passes.{pages_of, reads_none, reads_then}
+use Rattle.fv_engine_pending.specs.Passes.{AreAll, AreKnown, GoesOn, IsFull, OnlyReads, Reaches, Sure, last_of}
+use Rattle.fv_engine_pending.specs.Rejudging.{HasFewIds}
 use Rattle.fv_bundle.specs.Bundles.{Bundled}
 pub use Rattle.fv_engine_lines.proofs.Writes.{appends_kept, appends_none, appends_then, wrote_front, wrote_on, wrote_some}
 use Rattle.fv_engine_lines.specs.Lines.{ended}

@@ -26,7 +26,7 @@ use Rattle.fv_engine_command.specs.Commands.{Part, put, set, remove, Request, to
 use Rattle.fv_engine_command.proofs.Asking.{asks_inner, asks_shape}
 use Rattle.fv_declare_schema.specs.Groups.{numbers_of}
 use Rattle.fv_declare_schema.specs.Judged.{unknown_in}
-use Rattle.fv_engine_judging.specs.Judging.{groups_of, IsListingOf, AreListings, AreListingsOf}
+use Rattle.fv_engine_pending.specs.Judging.{groups_of, IsListingOf, AreListings, AreListingsOf}
 use Rattle.fv_bundle.specs.Bundles.{Thing, Bundled}
 use Rattle.fv_model.specs.Reading.{value_read}
 use Rattle.fv_model.specs.declared.fault.BundleFault.{BundleFault}

@@ -9,8 +9,8 @@ use Rattle.fv_datum.specs.declared.parsing.JsonFault.TheVariants as json_fault
 use Rattle.fv_engine.specs.Exports.{record_line, record_lines, declarations_line, AreAllOf, AreFirstOf, Exports, ExportsFront}
 use Rattle.fv_engine.specs.declared.exporting.ExportFault.{ExportFault}
 use Rattle.fv_engine.specs.declared.exporting.ExportFault.TheVariants.{Store, Write, Memory}
-use Rattle.fv_engine_judging.specs.Passes.{AreKnown, GoesOn, IsFull, Reaches, Sure}
-use Rattle.fv_engine_judging.specs.Rejudging.{HasFewIds}
+use Rattle.fv_engine_pending.specs.Passes.{AreKnown, GoesOn, IsFull, Reaches, Sure}
+use Rattle.fv_engine_pending.specs.Rejudging.{HasFewIds}
 use Rattle.fv_engine_lines.specs.Writes.{AppendsFront}
 use Rattle.fv_store.specs.Causes.{HasFailed}
 use Rattle.fv_store.specs.Records.{Kept, Records}

@@ -9,7 +9,7 @@ use Rattle.fv_engine_machine.specs.Machines.{Machine}
 use Rattle.fv_engine_command.specs.Commands.{put, Request, alone, get, check, check_field, asked, redeclare, asks}
 use Rattle.fv_declare_judging.specs.Declares.{Declares}
 use Rattle.fv_engine_machine.specs.Redeclaring.{Reign}
-use Rattle.fv_engine_judging.specs.Rejudging.{HasFewIds}
+use Rattle.fv_engine_pending.specs.Rejudging.{HasFewIds}
 use Rattle.fv_registry.specs.Rules.{Known}
 use Rattle.fv_store.specs.Causes.{IsShortAbout}
 use Rattle.fv_engine_machine.specs.Refusals.{parts_of}
@@ -17,7 +17,7 @@ use Rattle.fv_engine_machine.specs.Step.{IsTaken, Told}
 use Rattle.fv_declare_schema.specs.Groups.{numbers_of}
 use Rattle.fv_declare_schema.specs.Judged.{unknown_in}
 use Rattle.fv_bundle.specs.Bundles.{Bundled}
-use Rattle.fv_engine_judging.specs.Judging.{groups_of}
+use Rattle.fv_engine_pending.specs.Judging.{groups_of}
 use Rattle.fv_engine_pending.specs.Parts.{bundle_under}
 use Rattle.fv_engine_pending.specs.Touched.{IsTouched, needed_id}
 use Rattle.fv_registry.specs.Meanings.{Meanings}

@@ -5,7 +5,7 @@ use Rattle.std.specs.declared.alloc.Global.{Global}
 use Rattle.sqlite.specs.State.{State, HasCleanDisk}
 use Rattle.fv_engine_command.specs.Commands.{Part, put, set, remove, Request, alone, batch}
 use Rattle.fv_declare_schema.specs.Declarations.{Declarations}
-use Rattle.fv_engine_judging.specs.Judging.{AreListings, AreListingsOf, IsOfJudging, IsStanding, OneIsOverAmong, OneIsOverVisited}
+use Rattle.fv_engine_pending.specs.Judging.{AreListings, AreListingsOf, IsOfJudging, IsStanding, OneIsOverAmong, OneIsOverVisited}
 use Rattle.fv_engine_machine.specs.Causes.{StoreHasFailed, HasRoomFor, Handles, rows_taken}
 use Rattle.fv_engine_machine.specs.Keeping.{Unchanged, Takes, TakesOrTells, Fails, Moves, FitsWhereHeld, HasRoomOn, IsOneSet, set_object, Keeps, Settles, told_part, IsCommand, ChangesSo, rows_on, unjudged}
 use Rattle.fv_engine_machine.specs.Machines.{Machine, over, with_map, contents, room_in}

@@ -12,7 +12,7 @@ use Rattle.fv_declare_judging.specs.declared.fault.DeclFault.{DeclFault}
 use Rattle.fv_declare_judging.specs.declared.fault.DeclFault.TheVariants as decl
 use Rattle.fv_declare_schema.specs.Declarations.{Declarations}
 use Rattle.fv_engine_command.specs.Commands.{Asked, Part, Request, alone, redeclare, of_records, get, check, check_field, check_value, list, too_long, not_json, shape, command_of, redeclare_of}
-use Rattle.fv_engine_judging.specs.Judging.{AreListingsOf, IsOfJudging, IsStanding, OneIsOverAmong}
+use Rattle.fv_engine_pending.specs.Judging.{AreListingsOf, IsOfJudging, IsStanding, OneIsOverAmong}
 use Rattle.fv_engine_machine.specs.Causes.{Handles, HasCause, StoreHasFailed}
 use Rattle.fv_engine_machine.specs.Judges.{AnswersBare, ChangesBare, DoneOrTold, JudgesWay, RepliesBare, ServesBare, bare}
 use Rattle.fv_engine_machine.specs.Keeping.{ChangesSo, Settles, Takes, told_part, unjudged}

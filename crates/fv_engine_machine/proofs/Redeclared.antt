@@ -6,14 +6,14 @@ use Rattle.fv_declare_judging.specs.declared.fault.DeclFault.{DeclFault}
 use Rattle.fv_declare_judging.specs.declared.fault.DeclFault.TheVariants as decl
 use Rattle.fv_declare_schema.specs.Declarations.{Declarations}
 use Rattle.fv_engine_command.specs.Commands.{redeclare}
-use Rattle.fv_engine_judging.specs.Judging.{AreListingsOf}
+use Rattle.fv_engine_pending.specs.Judging.{AreListingsOf}
 use Rattle.fv_engine_machine.specs.Keeping.{Fails, told_pass}
 use Rattle.fv_engine_machine.specs.Machines.{contents, room_in}
-use Rattle.fv_engine_judging.specs.Rejudging.{RejudgeFails, IsOfRecord, HasFewIds}
+use Rattle.fv_engine_pending.specs.Rejudging.{RejudgeFails, IsOfRecord, HasFewIds}
 use Rattle.fv_engine_machine.specs.Redeclaring.{IsAgain, RedeclareStep, Reign, under}
 use Rattle.fv_engine_machine.specs.Services.{Attends, GoesOn, TellsOfRecords, serving, text_after}
-use Rattle.fv_engine_judging.specs.declared.rejudging.RejudgeFault.{RejudgeFault}
-use Rattle.fv_engine_judging.specs.declared.rejudging.RejudgeFault.TheVariants as rejudge
+use Rattle.fv_engine_pending.specs.declared.rejudging.RejudgeFault.{RejudgeFault}
+use Rattle.fv_engine_pending.specs.declared.rejudging.RejudgeFault.TheVariants as rejudge
 use Rattle.fv_engine_machine.proofs.Rooms.{room_left}
 use Rattle.fv_engine_pending.specs.Again.{AllReadAgain}
 use Rattle.fv_engine_pending.proofs.Again.{again_fit, again_written}

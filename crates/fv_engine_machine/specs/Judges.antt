@@ -2,7 +2,7 @@
 use Rattle.std.specs.Prelude.{◌≡◌, ◌≢◌, ◌⊎◌, ℕ, ℤ, List, [], ◌∷◌}
 use Rattle.fv_declare_schema.specs.Declarations.{Declarations}
 use Rattle.fv_engine_command.specs.Commands.{Asked, Part, Request, asks}
-use Rattle.fv_engine_judging.specs.Judging.{AreListingsOf, IsStanding, OneIsOverAmong}
+use Rattle.fv_engine_pending.specs.Judging.{AreListingsOf, IsStanding, OneIsOverAmong}
 use Rattle.fv_engine_machine.specs.Keeping.{IsCommand}
 use Rattle.fv_engine_machine.specs.Redeclaring.{Reign}
 use Rattle.fv_engine_machine.specs.Services.{Turns}

@@ -10,10 +10,10 @@ use Rattle.fv_engine_machine.specs.Machines.{Machine, contents, over, with_map}
 use Rattle.fv_engine_command.specs.Commands.{Part, set, Request}
 use Rattle.fv_engine_machine.specs.Refusals.{first_of, is_too_long, made, parts_of, refusal, told_fault, when}
 use Rattle.fv_engine_machine.specs.Step.{Changes, Checked, FieldChecked, LooksUp, Serves}
-use Rattle.fv_engine_judging.specs.Judging.{AreListingsOf, IsStanding, OneIsOverAmong}
+use Rattle.fv_engine_pending.specs.Judging.{AreListingsOf, IsStanding, OneIsOverAmong}
 use Rattle.fv_engine_machine.specs.Redeclaring.{misfit}
-use Rattle.fv_engine_judging.specs.declared.rejudging.RejudgeFault.{RejudgeFault}
-use Rattle.fv_engine_judging.specs.declared.rejudging.RejudgeFault.TheVariants as rejudge
+use Rattle.fv_engine_pending.specs.declared.rejudging.RejudgeFault.{RejudgeFault}
+use Rattle.fv_engine_pending.specs.declared.rejudging.RejudgeFault.TheVariants as rejudge
 use Rattle.fv_engine_pending.specs.Altering.{IsOneObject, most_rows}
 use Rattle.fv_engine_pending.specs.Fits.{AreFitting, AreShort}
 use Rattle.fv_engine_pending.specs.Parts.{are_misshapen}

@@ -3,8 +3,8 @@ use Rattle.std.specs.Prelude.{◌≡◌, ◌≢◌, ◌⊎◌, ℕ, ℤ, List, [
 use Rattle.fv_declare_judging.specs.Declares.{Declares}
 use Rattle.fv_declare_judging.specs.declared.fault.DeclFault.{DeclFault}
 use Rattle.fv_declare_schema.specs.Declarations.{Declarations}
-use Rattle.fv_engine_judging.specs.Judging.{AreListingsOf, OneIsOverAmong}
-use Rattle.fv_engine_judging.specs.Rejudging.{IsFirstUnfit}
+use Rattle.fv_engine_pending.specs.Judging.{AreListingsOf, OneIsOverAmong}
+use Rattle.fv_engine_pending.specs.Rejudging.{IsFirstUnfit}
 use Rattle.fv_engine_pending.specs.Again.{all_again, AllReadAgain}
 use Rattle.fv_engine_pending.specs.declared.fault.PartFault.{PartFault}
 use Rattle.fv_engine_pending.specs.declared.fault.PartFault.TheVariants as part

@@ -8,7 +8,7 @@ use Rattle.fv_engine_command.specs.Commands.{Asked, redeclare, of_records, asks}
 use Rattle.fv_engine_machine.specs.Causes.{StoreHasFailed, Handles}
 use Rattle.fv_engine_machine.specs.Machines.{Machine, StandsFor, over, with_map}
 use Rattle.fv_engine_machine.specs.Redeclaring.{Reign, RedeclareStep}
-use Rattle.fv_engine_judging.specs.Rejudging.{HasFewIds}
+use Rattle.fv_engine_pending.specs.Rejudging.{HasFewIds}
 use Rattle.fv_engine_machine.specs.Step.{Step}
 use Rattle.fv_engine_reply.specs.Answers.{Answer, redeclared, unfit, violated, refused}
 use Rattle.fv_engine_reply.specs.Texts.{answer_text}

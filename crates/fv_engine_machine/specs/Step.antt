@@ -10,7 +10,7 @@ use Rattle.fv_engine_pending.specs.Touched.{needed_id}
 use Rattle.fv_declare_schema.specs.Groups.{numbers_of}
 use Rattle.fv_bundle.specs.Bundles.{Thing, Bundled}
 use Rattle.fv_model.specs.Reading.{value_read}
-use Rattle.fv_engine_judging.specs.Judging.{OneIsOverVisited, AreListings}
+use Rattle.fv_engine_pending.specs.Judging.{OneIsOverVisited, AreListings}
 use Rattle.fv_registry.specs.Meanings.{Meanings}
 use Rattle.fv_engine_reply.specs.Answers.{Answer, done, shown, violated, checked, field_checked, value_checked, ids, refused}
 use Rattle.fv_validate.specs.Violations.{Judged, Reported, IsListing, IsListingOfField}

@@ -20,8 +20,7 @@ ghost use Rattle.fv_store.specs.Stock.{stock_state as state};
 
 use crate::refusing::{part_refusal, undone, unjudged};
 use fv_engine_command::Part;
-use fv_engine_judging::judge;
-use fv_engine_pending::{PartFault, Pending, apply_all, find_records, read_parts};
+use fv_engine_pending::{PartFault, Pending, apply_all, find_records, judge, read_parts};
 use fv_engine_reply::{Answer, Done, Refusal};
 use fv_local::Rulebook;
 use fv_registry::RuleSet;

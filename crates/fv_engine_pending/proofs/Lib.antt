@@ -3,8 +3,15 @@ pub mod Changing
 pub mod Entries
 pub mod Fitting
 pub mod Found
+pub mod Groups
+pub mod Judged
+pub mod Listings
 pub mod Made
+pub mod OneMore
 pub mod OneObject
+pub mod Pages
+pub mod Passes
 pub mod Readings
+pub mod Rereads
 pub mod Stepping
 pub mod Touching

@@ -2,7 +2,11 @@ pub mod Again
 pub mod Altering
 pub mod FaultNames
 pub mod Fits
+pub mod Judging
 pub mod Parts
+pub mod Passes
+pub mod Records
+pub mod Rejudging
 pub mod Steps
 pub mod Touched
 pub mod Ways

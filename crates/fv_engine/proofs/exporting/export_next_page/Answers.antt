@@ -3,7 +3,7 @@ use Rattle.std.proofs.lemmas.List.{length-map}
 use Rattle.std.proofs.lemmas.Result.{err_from_is_err_and}
 use Rattle.fv_engine.specs.ExportSteps.{NextFails, PageDone}
 use Rattle.fv_engine.proofs.Exported.{Pages, next_done, next_failed, next_store, pages_of, reads_then}
-use Rattle.fv_engine_judging.specs.Passes.{OnlyReads, Sure}
+use Rattle.fv_engine_pending.specs.Passes.{OnlyReads, Sure}
 use Rattle.fv_store.specs.Stock.{stock_state}
 use Rattle.fv_engine.proofs.exporting.export_next_page.Goals as goal
 

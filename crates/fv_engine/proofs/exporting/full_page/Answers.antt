@@ -1,5 +1,5 @@
 use Rattle.std.proofs.Common.{◌≡◌, ◌++◌, List, ℕ, map, Option, Some, None, IfSome, String, Global, string_bytes, option_to_list, sym, ap, ◌∙◌}
-use Rattle.fv_engine_judging.specs.Passes.{last_of}
+use Rattle.fv_engine_pending.specs.Passes.{last_of}
 use Rattle.fv_engine.proofs.Exported.{last_end}
 use Rattle.fv_engine.proofs.exporting.full_page.Goals as goal
 

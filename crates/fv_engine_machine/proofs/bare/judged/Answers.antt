@@ -2,7 +2,7 @@ use Rattle.std.proofs.Common.{◌≡◌, [], List, length, map, subst, arith}
 use Rattle.std.proofs.lemmas.Grind.{common_steps}
 use Rattle.std.proofs.lemmas.Int.{to_z-of_z}
 use mir.Syntax.{w64}
-use Rattle.fv_engine_judging.specs.Judging.{AreListingsOf, IsStanding}
+use Rattle.fv_engine_pending.specs.Judging.{AreListingsOf, IsStanding}
 use Rattle.fv_engine_machine.proofs.Recordless.{judged_none, judged_not, judged_some}
 use Rattle.fv_engine_machine.proofs.Becoming.{no_items, some_items}
 use Rattle.fv_engine_pending.specs.Ways.{pending_view}

@@ -3,7 +3,7 @@ use Rattle.std.proofs.lemmas.Grind.{common_steps}
 use Rattle.std.proofs.lemmas.Int.{to_z-of_z}
 use mir.Syntax.{w64}
 use Rattle.fv_store.specs.Stock.{stock_state as state}
-use Rattle.fv_engine_judging.specs.Judging.{AreListingsOf, IsStanding}
+use Rattle.fv_engine_pending.specs.Judging.{AreListingsOf, IsStanding}
 use Rattle.fv_validate.specs.Violations.{Judged}
 use Rattle.fv_engine_machine.specs.Keeping.{Settles, rows_on}
 use Rattle.fv_engine_pending.specs.Ways.{pending_view}

@@ -3,7 +3,7 @@ use Rattle.std.proofs.lemmas.Grind.{common_steps}
 use Rattle.std.proofs.lemmas.Int.{to_z-of_z}
 use mir.Syntax.{w64}
 use Rattle.fv_declare_schema.specs.Declarations.{Declarations}
-use Rattle.fv_engine_judging.specs.Judging.{AreListingsOf}
+use Rattle.fv_engine_pending.specs.Judging.{AreListingsOf}
 use Rattle.fv_engine_machine.specs.Machines.{contents}
 use Rattle.fv_engine_machine.specs.Redeclaring.{IsAgain}
 use Rattle.fv_engine_machine.proofs.Becoming.{fails_so, no_items, some_items}

@@ -1,4 +1,0 @@
-use Rattle.fv_engine_judging.proofs.rejudging.misread.Goals as goal
-
-pub returns-in_default : goal.returns-in_default
-returns-in_default c ds w reads = c.unfit.ensures ds w (reads c.in_default.not-Memory)

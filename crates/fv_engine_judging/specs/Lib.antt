@@ -1,4 +1,0 @@
-pub mod Judging
-pub mod Passes
-pub mod Records
-pub mod Rejudging
