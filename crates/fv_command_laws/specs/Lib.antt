@@ -1,3 +1,0 @@
-pub mod Absent
-pub mod Faulty
-pub mod Stops
