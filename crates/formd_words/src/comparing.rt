@@ -1,10 +1,10 @@
 //! Comparing: what declarations change over others.
 use crate::failure::Failure;
 use crate::telling::schema_of;
+use fv_bundle::TypeNames;
 use fv_datum::{JsonFault, read_json};
 use fv_declare::{DeclFault, Schema};
 use fv_explain_over::{Declared, OverFault, tell_over};
-use fv_bundle::TypeNames;
 use fv_registry::RuleSet;
 use indexmap::IndexMap;
 use serde_json::Value;

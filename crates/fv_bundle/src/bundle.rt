@@ -8,9 +8,9 @@ ghost use Rattle.fv_bundle.specs.Replaced.{thing_with, bundle_with};
 ghost use Rattle.fv_bundle.specs.Writing.{IsWritten};
 
 use crate::fields::ObjectFields;
+use crate::types::{Fields, TypeId, Types};
 use crate::typing::object_in;
 use fv_datum::Datum;
-use crate::types::{Fields, TypeId, Types};
 use indexmap::IndexMap;
 use std::alloc::{AllocError, Global};
 

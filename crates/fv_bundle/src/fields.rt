@@ -7,9 +7,9 @@ ghost use Rattle.fv_datum.specs.View.{view};
 ghost use Rattle.fv_bundle.specs.Types.{fields_view};
 ghost use Rattle.fv_bundle.specs.FieldViews.{field_view, fields_left};
 
-use fv_datum::Datum;
 use crate::type_use::TypeUse;
 use crate::types::Fields;
+use fv_datum::Datum;
 use indexmap::map::Keys;
 use std::slice;
 

@@ -14,9 +14,9 @@ ghost use Rattle.fv_bundle.specs.TypeLimits.{most_entries};
 ghost use Rattle.fv_bundle.specs.Types.{type_use_view, fields_view};
 
 use crate::bundle::{Bundle, Object, Objects};
-use fv_datum::{Datum, day_of, decimal_units, is_name, key_of, keys_fit, moment_ok};
 use crate::type_use::TypeUse;
 use crate::types::{Fields, Types};
+use fv_datum::{Datum, day_of, decimal_units, is_name, key_of, keys_fit, moment_ok};
 
 /// The most bytes of a text or a map's key.
 const LONGEST: usize = 65536;

@@ -3,10 +3,10 @@ ghost use Rattle.std.proofs.Props.{props};
 ghost use Rattle.std.specs.Prelude.{◌≡◌, map};
 ghost use Rattle.fv_datum.specs.Ascending.{IsAscending};
 
+use fv_bundle::TypeUse;
 use fv_datum::{Attrs, Kind};
 use fv_declare_definition::Definition;
 use fv_extract::Step;
-use fv_bundle::TypeUse;
 use std::collections::BTreeMap;
 
 /// A use of a constraint.

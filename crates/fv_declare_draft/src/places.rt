@@ -14,9 +14,9 @@ ghost use Rattle.fv_declare_draft.specs.Uses.{uses_of as spec_uses};
 use crate::cascades::cascade_of;
 use crate::draft::{CascadeDraft, PlacedCascade, PlacedUse, UseDraft};
 use crate::uses::uses_of;
+use fv_bundle::TypeUse;
 use fv_datum::{Kind, has_only, text_at};
 use fv_extract::Step;
-use fv_bundle::TypeUse;
 use serde_json::Value;
 use std::alloc::{AllocError, Global};
 

@@ -22,11 +22,11 @@ ghost use Rattle.fv_declare_draft.specs.UseViews.{use_view, cascade_view};
 
 use crate::fault::DeclFault;
 use crate::parts::Parts;
+use fv_bundle::{TypeId, Types};
 use fv_constraint_tree::Occurrence;
 use fv_declare_draft::{Cascade, Draft, FormDraft, Use};
 use fv_declare_groups::{Grouping, groups_named, sequences_of, valid_places};
 use fv_declare_schema::{Form, GroupId, Groups, Placed, Schema, ValidPlace};
-use fv_bundle::{TypeId, Types};
 use indexmap::IndexMap;
 use std::alloc::{AllocError, Global};
 

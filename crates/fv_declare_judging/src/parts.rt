@@ -12,10 +12,10 @@ use crate::fault::DeclFault;
 use crate::names::known_types;
 use crate::placed::{PlacedFault, PlacedWording};
 use crate::wording::wording;
+use fv_bundle::{Types, TypesAt};
 use fv_declare_draft::{Draft, Use};
 use fv_declare_groups::{Grouping, grouped};
 use fv_message::Messages;
-use fv_bundle::{Types, TypesAt};
 use std::alloc::Global;
 
 /// The types, groups and messages of declarations whose names are known and stand as they may.

@@ -1,10 +1,10 @@
 use crate::fault::DeclFault;
+use fv_bundle::TypesAt;
 use fv_constraint::ConstraintAt;
 use fv_declare_groups::{GroupingAt, PlacedGroupingFault};
-use fv_flatten::PlacedFlattenFault;
 use fv_declare_schema::GroupLimit;
+use fv_flatten::PlacedFlattenFault;
 use fv_message::{MessageFault, MessagesAt};
-use fv_bundle::TypesAt;
 use std::alloc::AllocError;
 
 /// Where a declared name is at fault, or one that names what is declared, by numbers from 0 in the order of a

@@ -5,8 +5,8 @@ ghost use Rattle.fv_bundle.specs.Types.{fields_view, declared_view};
 ghost use Rattle.fv_declare_judging.specs.Types.{field_declared, type_declared};
 ghost use Rattle.fv_declare_draft.specs.DraftViews.{field_view, type_view};
 
-use fv_declare_draft::{FieldDraft, TypeDraft};
 use fv_bundle::Fields;
+use fv_declare_draft::{FieldDraft, TypeDraft};
 use indexmap::IndexMap;
 use std::alloc::{AllocError, Global};
 

@@ -3,10 +3,10 @@ ghost use Rattle.fv_declare_schema.specs.PlacedView.{placed_view};
 ghost use Rattle.fv_declare_schema.specs.Tables.{indices};
 ghost use Rattle.fv_declare_schema.specs.PlaceViews.{place_view};
 
-use crate::place::Place;
-use fv_constraint_tree::Occurrence;
 use crate::declared::GroupId;
+use crate::place::Place;
 use fv_bundle::TypeId;
+use fv_constraint_tree::Occurrence;
 
 /// A use of a constraint where it stands: at the type itself, or at a field or inside it.
 #[derive(Drop)]

@@ -13,14 +13,14 @@ ghost use Rattle.fv_declare_schema.specs.Places.{judged_at};
 ghost use Rattle.fv_constraint_tree.specs.TargetFits.{test_fits};
 ghost use Rattle.fv_constraint_tree.specs.Views.{test_view};
 
+use crate::declared::GroupId;
+use crate::groups::Groups;
 use crate::place::Place;
 use crate::placed::Placed;
 use crate::valid_place::ValidPlace;
-use fv_constraint_tree::Test;
-use crate::declared::GroupId;
-use crate::groups::Groups;
-use fv_message::Messages;
 use fv_bundle::{TypeId, Types};
+use fv_constraint_tree::Test;
+use fv_message::Messages;
 use fv_registry::RuleSet;
 use indexmap::IndexMap;
 use std::marker::Model;

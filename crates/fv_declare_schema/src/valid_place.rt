@@ -1,5 +1,5 @@
-use fv_extract::Step;
 use crate::declared::GroupId;
+use fv_extract::Step;
 
 /// A group, and the one that it is converted to.
 #[derive(Clone, Copy, Debug, PartialEq, Eq)]

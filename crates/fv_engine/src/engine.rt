@@ -17,13 +17,13 @@ ghost use Rattle.fv_engine.specs.FaultNames.{open_fault_name};
 ghost use Rattle.fv_engine_reply.specs.Answers.{refused};
 ghost use Rattle.fv_engine_reply.specs.Texts.{answer_text};
 
+use fv_bundle::Types;
 use fv_declare::DeclFault;
 use fv_declare_schema::Schema;
 use fv_engine_lines::{LIMIT, Responder};
 use fv_engine_machine::{SharedRules, read_rulebook, reply_to_line};
 use fv_engine_reply::{Refusal, Reply};
 use fv_local::Rulebook;
-use fv_bundle::Types;
 use fv_registry::RuleSet;
 use fv_store::{OpenStoreFault, Store};
 use sqlite::{Alter, Connection};

@@ -21,8 +21,8 @@ ghost use Rattle.fv_store.specs.Stock.{stock_state};
 ghost use Rattle.fv_store.specs.Stored.{untyped, written_view};
 
 use crate::engine::Engine;
-use fv_datum::{JsonFault, read_text};
 use fv_bundle::Types;
+use fv_datum::{JsonFault, read_text};
 use fv_registry::RuleSet;
 use fv_store::{Store, StoreFault, Written};
 use serde_json::{Value, json};

@@ -15,8 +15,8 @@ ghost use Rattle.fv_store.specs.Stock.{stock_state as state};
 
 use crate::refusing::{undone, unjudged};
 use fv_bundle::Bundle;
-use fv_engine_reply::{Answer, Refusal};
 use fv_declare_schema::{GroupId, Groups};
+use fv_engine_reply::{Answer, Refusal};
 use fv_local::Rulebook;
 use fv_registry::RuleSet;
 use fv_store::Store;

@@ -21,6 +21,8 @@ mod shared_rules;
 
 pub use answering::reply_to_line;
 pub use bare::judge_line;
-pub use laws::{absences_are_told, faults_are_told, misfits_are_refused, part_faults_are_told, parts_are_told};
+pub use laws::{
+    absences_are_told, faults_are_told, misfits_are_refused, part_faults_are_told, parts_are_told,
+};
 pub use redeclaring::read_rulebook;
 pub use shared_rules::SharedRules;

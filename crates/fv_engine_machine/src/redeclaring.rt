@@ -15,11 +15,11 @@ ghost use Rattle.fv_store.specs.Stock.{stock_state};
 
 use crate::refusing::undone;
 use crate::shared_rules::SharedRules;
+use fv_bundle::Types;
 use fv_declare::{DeclFault, read_schema};
 use fv_engine_pending::{PartFault, RejudgeFault, judge_all};
 use fv_engine_reply::{Answer, Misfit, Refusal};
 use fv_local::Rulebook;
-use fv_bundle::Types;
 use fv_registry::RuleSet;
 use fv_store::Store;
 use sqlite::Alter;

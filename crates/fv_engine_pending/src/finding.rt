@@ -12,8 +12,8 @@ ghost use Rattle.fv_store.specs.Stock.{stock_state as state};
 ghost use Rattle.fv_bundle.specs.TypesView.{types_view};
 
 use crate::pending::Pending;
-use fv_engine_command::Part;
 use fv_bundle::Types;
+use fv_engine_command::Part;
 use fv_store::{Store, StoreFault};
 use sqlite::Alter;
 use std::alloc::Global;

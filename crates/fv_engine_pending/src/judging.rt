@@ -10,8 +10,8 @@ ghost use Rattle.fv_engine_pending.specs.Ways.{pending_view};
 ghost use Rattle.fv_store.specs.Stored.{stored_view};
 ghost use Rattle.fv_validate.specs.ViolationView.{judged_view, violation_view};
 
-use fv_declare_schema::{GroupId, Schema};
 use crate::pending::Pending;
+use fv_declare_schema::{GroupId, Schema};
 use fv_local::Rulebook;
 use fv_registry::RuleSet;
 use fv_store::Stored;

@@ -22,11 +22,11 @@ ghost use Rattle.fv_store.specs.Stands.{Frame, Holds, IsLive, Stays};
 ghost use Rattle.fv_store.specs.Stock.{stock_state};
 ghost use Rattle.fv_store.specs.Stored.{stored_view, written_view};
 
+use crate::fault::PartFault;
 use crate::judging::add_judged;
 use fv_bundle::Bundle;
 use fv_datum::{JsonFault, read_text};
 use fv_declare_schema::Schema;
-use crate::fault::PartFault;
 use fv_local::Rulebook;
 use fv_model::{BundleFault, read_bundle};
 use fv_registry::RuleSet;

@@ -1,13 +1,13 @@
 //! The limits that are passed, and the wording of declarations, in words: what is no template, and what is no parameter's
 //! name.
+use fv_bundle::{TypeUse, TypesAt};
 use fv_declare_draft::Draft;
 use fv_declare_judging::{LimitAt, WordingAt, user_messages};
+use fv_declare_schema::GroupLimit;
 use fv_explain_places::{
     Found, Named, Refused, Told, Untold, Written, at, entry_at, find_message, say, to_field,
 };
-use fv_declare_schema::GroupLimit;
 use fv_message::{MessagesAt, key_name};
-use fv_bundle::{TypeUse, TypesAt};
 
 /// Goes to a text that is to be a template, and gives it.
 fn to_template<'a>(refused: &Refused<'a>, out: &mut Found, place: WordingAt) -> Told<&'a str> {

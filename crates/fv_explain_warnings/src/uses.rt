@@ -2,6 +2,7 @@
 //! than they seem to, and of parameters in messages.
 use crate::warning::Warned;
 use fv_builtin::kind_of_attribute;
+use fv_bundle::{TypeId, Types, use_in};
 use fv_constraint_tree::{Node, Test};
 use fv_datum::{Attribute, Attrs, Kind};
 use fv_declare_draft::MessageDraft;
@@ -9,7 +10,6 @@ use fv_declare_schema::{Placed, Schema};
 use fv_explain_places::{
     Named, Told, Who, Written, built_in_key, find_message, kind_word, reported, say,
 };
-use fv_bundle::{TypeId, Types, use_in};
 use fv_registry::RuleSet;
 use indexmap::IndexSet;
 use std::alloc::Global;

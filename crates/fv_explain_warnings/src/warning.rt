@@ -3,10 +3,10 @@
 use crate::reach::{inherits, validated};
 use crate::twice::members_twice;
 use crate::uses::add_uses;
+use fv_bundle::TypeId;
 use fv_declare_draft::{Draft, MessageDraft};
 use fv_declare_schema::{GroupId, Groups, Schema};
 use fv_explain_places::{Found, Told, Written, built_in_key, say};
-use fv_bundle::TypeId;
 use fv_registry::RuleSet;
 use indexmap::IndexSet;
 use std::alloc::Global;

@@ -2,8 +2,8 @@
 use crate::effect::in_effect;
 use crate::held::{Made, NAME};
 use crate::object::object_schema;
-use fv_declare_schema::{Form, Schema};
 use fv_bundle::{TypeId, Types};
+use fv_declare_schema::{Form, Schema};
 use serde_json::{Map, Value, json, put};
 use std::alloc::{AllocError, AllocFailed, Global};
 use thiserror::Error;

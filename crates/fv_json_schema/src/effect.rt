@@ -1,6 +1,6 @@
 //! The constraints by which the objects of a type are judged where groups are asked.
-use fv_declare_schema::{GroupId, Groups, Placed, Schema};
 use fv_bundle::TypeId;
+use fv_declare_schema::{GroupId, Groups, Placed, Schema};
 use std::alloc::{AllocError, Global};
 
 /// Whether a plain group is another one or inherits it.

@@ -1,10 +1,10 @@
 //! What a field holds, as a schema.
 use crate::asked::Asked;
 use crate::bound::DECIMAL;
+use fv_bundle::TypeUse;
 use fv_datum::Kind;
 use fv_declare_schema::{Place, Schema};
 use fv_extract::Step;
-use fv_bundle::TypeUse;
 use serde_json::{Map, Value, json, put};
 use std::alloc::{AllocError, Global};
 

@@ -1,8 +1,8 @@
 //! Objects of a type, as schemas.
 use crate::held::{Field, Made, held};
+use fv_bundle::{Fields, TypeId};
 use fv_constraint_tree::{Occurrence, Test};
 use fv_declare_schema::{Place, Schema};
-use fv_bundle::{Fields, TypeId};
 use serde_json::{Map, Value, json, put};
 use std::alloc::Global;
 

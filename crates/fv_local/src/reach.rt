@@ -5,8 +5,8 @@ ghost use Rattle.fv_local.specs.TableView.{lists_view};
 
 use crate::reached::{of_groups, of_sequence};
 use crate::type_uses::uses_of;
-use fv_declare_schema::{GroupId, Schema};
 use fv_bundle::TypeId;
+use fv_declare_schema::{GroupId, Schema};
 use std::alloc::{AllocError, Global};
 use std::marker::Model;
 

@@ -3,8 +3,8 @@ ghost use Rattle.std.specs.Prelude.{◌≡◌};
 ghost use Rattle.fv_declare_schema.specs.Ordered.{AreOrdered};
 ghost use Rattle.fv_local.specs.Spans.{AreOfType};
 
-use fv_declare_schema::Schema;
 use fv_bundle::TypeId;
+use fv_declare_schema::Schema;
 
 /// A type with its uses, which stand together: by their numbers among all, from the first to before
 /// the end.

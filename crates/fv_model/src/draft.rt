@@ -14,8 +14,8 @@ ghost use Rattle.fv_model.specs.Reading.{object_types};
 ghost use Rattle.fv_model.specs.Views.{given_view, object_types_view, part_view, draft_view};
 
 use crate::parts::{Draft, Part};
-use fv_datum::{has_only, object_at, text_at};
 use fv_bundle::TypeNames;
+use fv_datum::{has_only, object_at, text_at};
 use indexmap::IndexMap;
 use serde_json::{Map, Value};
 use std::alloc::{AllocError, Global};

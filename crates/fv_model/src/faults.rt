@@ -13,8 +13,8 @@ ghost use Rattle.fv_model.specs.Reading.{has_flaw, object_types, conditions};
 
 use crate::fault::BundleFault;
 use crate::parts::{Draft, Part};
-use fv_datum::is_name;
 use fv_bundle::{Flaws, TypeId, Types, is_other};
+use fv_datum::is_name;
 
 /// The most objects.
 const MOST_OBJECTS: usize = 256;

@@ -22,7 +22,9 @@ mod value;
 mod writable;
 
 pub use fault::BundleFault;
-pub use fv_bundle::{Bundle, Fields, Object, ObjectFields, Objects, TypeId, TypeUse, Types, TypesFault, is_of_use};
+pub use fv_bundle::{
+    Bundle, Fields, Object, ObjectFields, Objects, TypeId, TypeUse, Types, TypesFault, is_of_use,
+};
 pub use objects::read_objects;
 pub use parts::Part;
 pub use reading::read_bundle;

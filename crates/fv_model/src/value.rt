@@ -13,8 +13,8 @@ ghost use Rattle.fv_bundle.specs.WellTyped.{AnyName};
 ghost use Rattle.fv_model.specs.Writing.{IsWritten, datum_json};
 
 use crate::fault::BundleFault;
-use fv_datum::{Datum, DatumFault};
 use fv_bundle::{TypeNames, TypeUse, flaws_of, read_use};
+use fv_datum::{Datum, DatumFault};
 use indexmap::IndexMap;
 use serde_json::Value;
 use std::alloc::Global;

@@ -5,8 +5,8 @@ ghost use Rattle.fv_datum.specs.Members.{pairs};
 ghost use Rattle.fv_bundle.specs.Names.{object_types_view};
 ghost use Rattle.fv_model_fault.specs.Given.{root_in, type_in};
 
-use fv_datum::text_at;
 use fv_bundle::TypeNames;
+use fv_datum::text_at;
 use indexmap::IndexMap;
 use serde_json::{Map, Value};
 use std::alloc::{AllocError, Global};

@@ -12,8 +12,8 @@ ghost use Rattle.fv_model_fault.specs.Views.{member_view, place_view};
 use crate::given::type_of;
 use crate::place::FaultPlace;
 use crate::search::Search;
-use fv_datum::{is_name, object_at};
 use fv_bundle::{Fields, Types, use_in};
+use fv_datum::{is_name, object_at};
 use serde_json::{Map, Value};
 use std::alloc::AllocError;
 

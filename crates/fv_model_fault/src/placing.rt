@@ -19,9 +19,9 @@ use crate::given::{root_of, type_names};
 use crate::objects::{Member, badly_named, untyped};
 use crate::place::FaultPlace;
 use crate::search::Search;
+use fv_bundle::{TypeId, TypeNames, TypeUse, Types, is_other, type_at};
 use fv_datum::object_at;
 use fv_model::BundleFault;
-use fv_bundle::{TypeId, TypeNames, TypeUse, Types, is_other, type_at};
 use serde_json::{Map, Value};
 use std::alloc::{AllocError, Global};
 

@@ -5,9 +5,9 @@ ghost use Rattle.fv_bundle.specs.Flaws.{misfits};
 ghost use Rattle.fv_bundle.specs.Types.{type_use_view};
 ghost use Rattle.fv_model_fault.specs.SearchViews.{sought};
 
+use fv_bundle::{TypeNames, TypeUse, flaws_of, read_use};
 use fv_datum::DatumFault;
 use fv_model::BundleFault;
-use fv_bundle::{TypeNames, TypeUse, flaws_of, read_use};
 use serde_json::Value;
 use std::alloc::{AllocError, Global};
 

@@ -33,10 +33,7 @@ fn object_row<'a>(
 }
 
 /// What the rows of a bundle's objects keep, in the order of the objects.
-pub(crate) fn object_rows(
-    alloc: Global,
-    bundle: &Bundle,
-) -> Result<Vec<ObjectText<'_>>, AllocError>
+pub(crate) fn object_rows(alloc: Global, bundle: &Bundle) -> Result<Vec<ObjectText<'_>>, AllocError>
     ensures rows { IfOk result (λ v. rows_view v.items ≡ map object_kept (map named_written (bundle_view bundle.now).objects)) }
     ensures apart { IfOk result (λ v. AreApart (rows_view v.items)) }
 {

@@ -7,7 +7,7 @@ ghost use Rattle.fv_tables.specs.Causes.{AreShort, HasRooms, IsExcused, IsShortH
 ghost use Rattle.fv_tables.specs.Stands.{Frame, Stands, with_entry, without_entry};
 ghost use Rattle.fv_tables.specs.Steps.{Advances, Always, Inside, Turns};
 
-use crate::text::ObjectText;
+use crate::entry::ObjectText;
 use crate::rows::{delete_record, update_object, write_record};
 use sqlite::{Alter, Error, Transaction};
 

@@ -9,8 +9,9 @@ ghost use Rattle.fv_tables.specs.Inserting.{insert_of, object_values, row_values
 ghost use Rattle.fv_tables.specs.Stands.{Frame, Spells, IsOwned};
 ghost use Rattle.fv_tables.specs.Steps.{Advances, Inside, Makes};
 
-use crate::text::ObjectText;
-use sqlite::{Alter, Error, Transaction, types::ValueRef};
+use crate::entry::ObjectText;
+use sqlite::types::ValueRef;
+use sqlite::{Alter, Error, Transaction};
 use std::alloc::{AllocError, Global};
 
 const INSERT_OBJECT: &str = "INSERT INTO object (rec, name, kind, fields) VALUES (?1, ?2, ?3, ?4)";
@@ -63,7 +64,10 @@ fn insert_text(rows: usize) -> &'static str
 }
 
 /// Behind these values those of an object.
-fn push_object<'a>(values: &mut Vec<ValueRef<'a>>, object: &'a ObjectText<'a>) -> Result<(), AllocError>
+fn push_object<'a>(
+    values: &mut Vec<ValueRef<'a>>,
+    object: &'a ObjectText<'a>,
+) -> Result<(), AllocError>
     ensures { OnOk result (bound values.new.items ≡ bound values.old.items ++ object_values (object_view object.now ∷ [])) }
 {
     values.push(ValueRef::Text(object.name.as_bytes()))?;

@@ -10,12 +10,12 @@ ghost use Rattle.fv_tables.specs.Stands.{Frame, ShowsHead, Spells, IsOwned, remo
 ghost use Rattle.fv_tables.specs.Steps.{Advances, Anyhow, AreThere, HasHead, Inside, IsThere, Makes, ShowsParts, UpdatesPart, UpdatesRow};
 ghost use Rattle.fv_tables.specs.Stored.{head_view};
 
-use crate::entry::{FoundRow, HeadRow, found_in, head_in};
+use crate::entry::{FoundRow, HeadRow, ObjectText, found_in, head_in};
 use crate::finding::FIND_RECORD;
 use crate::inserting::{insert_objects, insert_run};
-use crate::text::ObjectText;
 use crate::updating::{is_range, update_range};
-use sqlite::{Alter, Error, Row, Transaction, params, types::ValueRef};
+use sqlite::types::ValueRef;
+use sqlite::{Alter, Error, Row, Transaction, params};
 use std::slice::from_ref;
 
 const DELETE_RECORD: &str = "DELETE FROM record WHERE id = ?1";

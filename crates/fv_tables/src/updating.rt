@@ -9,10 +9,10 @@ ghost use Rattle.fv_tables.specs.Stands.{Frame, Spells, IsOwned};
 ghost use Rattle.fv_tables.specs.Steps.{Advances, ArePartsOf, AreRowsOf, Inside};
 ghost use Rattle.fv_tables.specs.Updating.{place_values, places_of, range_values, things_of, Follow, IsRange, UpdatesRange};
 
-use crate::entry::FoundRow;
+use crate::entry::{FoundRow, ObjectText};
 use crate::rows::is_same;
-use crate::text::ObjectText;
-use sqlite::{Alter, Error, Transaction, types::ValueRef};
+use sqlite::types::ValueRef;
+use sqlite::{Alter, Error, Transaction};
 use std::alloc::{AllocError, Global};
 
 /// Sixteen places in the order of their rowids, each with three parameters: its rowid, and the type's name and the fields that its row shall have.

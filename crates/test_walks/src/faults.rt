@@ -1,10 +1,10 @@
 //! The texts of faults, a line each.
 use crate::judged::check;
+use fv_bundle::TypesFault;
 use fv_datum::{DatumFault, JsonFault};
 use fv_declare::DeclFault;
 use fv_declare_schema::GroupFault;
 use fv_model::BundleFault;
-use fv_bundle::TypesFault;
 use fv_registry::RegistryFault;
 use fv_validate::ValidateFault;
 use fv_walk::{PropertyFault, WalkFault};
