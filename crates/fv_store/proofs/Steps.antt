@@ -24,7 +24,7 @@ use Rattle.fv_tables.specs.Causes.{IsShortHead}
 use Rattle.fv_tables.specs.Causes as tables_short
 use Rattle.fv_tables.specs.Stands as tables
 use Rattle.fv_tables.specs.Stands.{Entry, Entries}
-use Rattle.fv_tables.specs.declared.entry.ObjectText.{ObjectText}
+use Rattle.fv_tables.specs.declared.text.ObjectText.{ObjectText}
 use Rattle.fv_tables.specs.Steps.{Always, Turns}
 use Rattle.fv_tables.proofs.Composed.{fewer_rooms}
 

@@ -1,7 +1,7 @@
 -- Why steps that follow one another are refused.
 use Rattle.std.proofs.Common.{◌++◌, ◌≤◌, zero, suc, take, ℕ, List, [], ◌∷◌, IsSome, Ok, Err, Result, IfErr}
 use Rattle.sqlite.specs.Effect.{Database}
-use Rattle.fv_tables.specs.declared.entry.ObjectText.{ObjectText}
+use Rattle.fv_tables.specs.declared.text.ObjectText.{ObjectText}
 use Rattle.fv_tables.specs.Stands.{Part, Maps, IsOwned, added}
 use Rattle.fv_tables.specs.Changes.{Things, all_added, objects_view}
 use Rattle.fv_tables.specs.Causes.{HasRooms, IsShortPart, AreShort}

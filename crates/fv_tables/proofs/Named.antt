@@ -8,7 +8,7 @@ use Rattle.std.proofs.lemmas.Map.Text.{is_eq-slice_cmp}
 use Rattle.std.proofs.lemmas.Slice.Eq.{bytes_eq-Decides}
 use Rattle.sqlite_rules.specs.Lists.{Has}
 use Rattle.fv_tables.specs.declared.entry.FoundRow.{FoundRow}
-use Rattle.fv_tables.specs.declared.entry.ObjectText.{ObjectText}
+use Rattle.fv_tables.specs.declared.text.ObjectText.{ObjectText}
 use Rattle.fv_tables.specs.Changes.{has_name, objects_view}
 
 -- how a name compares with the one that is looked for

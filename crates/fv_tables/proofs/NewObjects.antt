@@ -9,7 +9,7 @@ use Rattle.sqlite.specs.declared.error.Error.{Error}
 use Rattle.sqlite.specs.State.{State, HasCleanDisk, ExecutesInside}
 use Rattle.sqlite_rules.specs.Lists.{Has}
 use Rattle.sqlite_rules.proofs.ListLemmas.{has_left}
-use Rattle.fv_tables.specs.declared.entry.ObjectText.{ObjectText}
+use Rattle.fv_tables.specs.declared.text.ObjectText.{ObjectText}
 use Rattle.fv_tables.specs.Stands.{Head, Part, Maps, Spells, Frame, IsOwned, added}
 use Rattle.fv_tables.specs.Changes.{Things, AreApart, has_name, all_added, object_view, objects_view, IsFree}
 use Rattle.fv_tables.specs.Causes.{HasRooms, IsExcused, IsShortPart, AreShort}

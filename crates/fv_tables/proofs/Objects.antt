@@ -6,7 +6,7 @@ use Rattle.std.proofs.lemmas.Cmp.{nat_list_cmp_total, tied_itself}
 use Rattle.std.proofs.lemmas.Slice.Eq.{bytes_eq-Decides}
 use Rattle.sqlite.specs.Effect.{Database}
 use Rattle.sqlite_rules.specs.Lists.{Has}
-use Rattle.fv_tables.specs.declared.entry.ObjectText.{ObjectText}
+use Rattle.fv_tables.specs.declared.text.ObjectText.{ObjectText}
 use Rattle.fv_tables.specs.Stands.{Head, Part, Place, Maps, Entry, Entries, Spells, IsOwned, same_place, put, added, removed, part_at, head_of, part_of, tables_of, with_entry, without_entry}
 use Rattle.fv_tables.specs.Changes.{Things, AreApart, has_name, all_added, written, IsReady, with_object, changed, with_part_of, objects_view}
 use Rattle.fv_tables.specs.Causes.{HasRooms}

@@ -21,7 +21,7 @@ use Rattle.sqlite_rules.proofs.ListLemmas.{all_has, all_from, has_left, has_righ
 use Rattle.sqlite_trees.proofs.ListLemmas.{all_weaker}
 use Rattle.fv_tables.proofs.Named.{element}
 use Rattle.fv_tables.specs.declared.entry.FoundRow.{FoundRow}
-use Rattle.fv_tables.specs.declared.entry.ObjectText.{ObjectText}
+use Rattle.fv_tables.specs.declared.text.ObjectText.{ObjectText}
 use Rattle.fv_tables.specs.Stands.{NumberedThing}
 use Rattle.fv_tables.specs.Changes.{Thing, Things, found_view, object_view, objects_view}
 use Rattle.fv_tables.specs.Updating.{Follow, under_rowids, filled, place_values, range_values}

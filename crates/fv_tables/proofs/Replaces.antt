@@ -11,7 +11,7 @@ use Rattle.sqlite_rules.specs.Lists.{Has}
 use Rattle.sqlite_rules.proofs.ListLemmas.{has_right}
 use Rattle.sqlite_rules.proofs.ProbeLemmas.{mapped_has}
 use Rattle.fv_tables.specs.declared.entry.FoundRow.{FoundRow}
-use Rattle.fv_tables.specs.declared.entry.ObjectText.{ObjectText}
+use Rattle.fv_tables.specs.declared.text.ObjectText.{ObjectText}
 use Rattle.fv_tables.specs.Stands.{Head, Part, Place, Maps, Spells, Frame, IsOwned, same_place, put, added, dropped, removed, without_parts}
 use Rattle.fv_tables.specs.Changes.{Things, AreApart, names_of, same_object, has_object, all_added, others_dropped, has_name, replaced, dropped_unless_kept, written, found_object, found_objects, object_view, objects_view, IsFree, IsNew}
 use Rattle.fv_tables.specs.Causes.{HasRooms, IsExcused, IsShortHead, IsShortPart, AreShort}

@@ -5,7 +5,7 @@ use Rattle.std.specs.List.Sorted.{IsStrictlySortedBy}
 use Rattle.std.specs.Ordering.{nat_cmp}
 use Rattle.fv_tables.specs.Stands.{Head, Part, Maps, Entry, Entries, NumberedThing, IsOwned, without_parts, put, added, dropped, removed}
 use Rattle.fv_tables.specs.declared.entry.FoundRow.{FoundRow}
-use Rattle.fv_tables.specs.declared.entry.ObjectText.{ObjectText}
+use Rattle.fv_tables.specs.declared.text.ObjectText.{ObjectText}
 
 -- an object with its name
 abbrev pub Thing : Type 0

@@ -28,8 +28,7 @@ fn create_about<S: Alter>(tx: &mut Transaction<'_, S>) -> Result<usize, Error>
     ensures frame { Frame (state S.Store tx.old.conn.now) (state S.Store tx.new.conn.now) }
     ensures limit { tx.new.conn.now.step_limit ≡ tx.old.conn.now.step_limit }
     ensures kept { Inside S.Store tx.old.conn.now tx.new.conn.now KeepsCommit }
-    ensures done { Inside S.Store tx.old.conn.now tx.new.conn.now
-        (λ old new. OnOk result (Advances old new (Leads IsBlank (IsBare [])))) }
+    ensures done { Inside S.Store tx.old.conn.now tx.new.conn.now (λ old new. OnOk result (Advances old new (Leads IsBlank (IsBare [])))) }
     ensures cause { Inside S.Store tx.old.conn.now tx.new.conn.now (λ old new. tx.old.conn.now.step_limit ≡ None
         → IfErr result (λ e. IsBlank old.now → IsExcused old new e)) }
 {

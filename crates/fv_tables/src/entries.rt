@@ -7,8 +7,8 @@ ghost use Rattle.fv_tables.specs.Causes.{AreShort, HasRooms, IsExcused, IsShortH
 ghost use Rattle.fv_tables.specs.Stands.{Frame, Stands, with_entry, without_entry};
 ghost use Rattle.fv_tables.specs.Steps.{Advances, Always, Inside, Turns};
 
-use crate::entry::ObjectText;
 use crate::rows::{delete_record, update_object, write_record};
+use crate::text::ObjectText;
 use sqlite::{Alter, Error, Transaction};
 
 /// Writes a record, in place of the one of that id, if there is one. No two objects may have one name.

@@ -1,5 +1,5 @@
 //! What the rows of a record keep, as it is written and handed out.
-ghost use Rattle.std.specs.Prelude.{◌≡◌, ◌<◌, ℕ, IfErr, IfOk, IsUtf8, length, map, option_map, ◌++◌, List, Option};
+ghost use Rattle.std.specs.Prelude.{◌≡◌, ◌<◌, ℕ, IfErr, IfOk, length, map, option_map, ◌++◌, List, Option};
 ghost use Rattle.std.specs.List.{AllByRecursion};
 ghost use Rattle.sqlite.specs.Order.{Row as Values, column};
 ghost use Rattle.sqlite.specs.declared.types.Value.TheVariants.{Text as Words};
@@ -18,16 +18,6 @@ pub struct ObjectRow {
     pub name: String,
     pub kind: String,
     pub fields: String,
-}
-
-/// What the row of an object shall keep beside its record's id: its name, its type's name, and its fields' text.
-#[derive(Debug, Drop)]
-pub struct ObjectText<'a> {
-    pub name: &'a str,
-    pub kind: &'a str,
-    pub fields: String,
-    pub ghost name_text: { ∥ IsUtf8 name.now ∥₁ },
-    pub ghost kind_text: { ∥ IsUtf8 kind.now ∥₁ },
 }
 
 /// The row of an object as it was found, with its rowid.

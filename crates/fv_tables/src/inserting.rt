@@ -9,7 +9,7 @@ ghost use Rattle.fv_tables.specs.Inserting.{insert_of, object_values, row_values
 ghost use Rattle.fv_tables.specs.Stands.{Frame, Spells, IsOwned};
 ghost use Rattle.fv_tables.specs.Steps.{Advances, Inside, Makes};
 
-use crate::entry::ObjectText;
+use crate::text::ObjectText;
 use sqlite::types::ValueRef;
 use sqlite::{Alter, Error, Transaction};
 use std::alloc::{AllocError, Global};
@@ -31,8 +31,8 @@ const INSERT_SIXTEEN: &str =
     (?1, ?14, ?15, ?16), (?1, ?17, ?18, ?19), (?1, ?20, ?21, ?22), (?1, ?23, ?24, ?25), (?1, ?26, ?27, ?28), (?1, ?29, ?30, ?31), \
     (?1, ?32, ?33, ?34), (?1, ?35, ?36, ?37), (?1, ?38, ?39, ?40), (?1, ?41, ?42, ?43), (?1, ?44, ?45, ?46), (?1, ?47, ?48, ?49)";
 
-/// As many parameters as the longest of these statements has.
-const MOST_VALUES: usize = 49;
+/// As many parameters as the longest of these statements has, and the one that updates sixteen rows.
+pub(crate) const MOST_VALUES: usize = 49;
 
 /// The most of so many rows that one statement puts: 16, 8, 4, 2 or 1.
 fn longest_run(rows: usize) -> usize

@@ -11,12 +11,14 @@ mod inserting;
 mod listing;
 mod migrating;
 mod rows;
+mod text;
 mod updating;
 
 pub use about::{read_about, write_about};
 pub use creating::create_tables;
 pub use entries::{put_record, remove_record, set_object};
-pub use entry::{ObjectRow, ObjectText, RecordRows};
+pub use entry::{ObjectRow, RecordRows};
 pub use finding::find;
 pub use listing::{find_all_ids, find_ids};
 pub use migrating::{OldRow, find_old, replace_tables};
+pub use text::ObjectText;

@@ -3,16 +3,16 @@ ghost use Rattle.std.specs.Prelude.{◌≡◌, ◌+◌, ◌∷◌, [], false, le
 ghost use Rattle.sqlite.specs.State.{KeepsCommit};
 ghost use Rattle.sqlite.specs.Held.{state};
 ghost use Rattle.sqlite_rules.specs.Lists.{Has};
-ghost use Rattle.fv_tables.specs.Changes.{all_added, others_dropped, has_name as has, names_of, replaced, same_object, dropped_unless_kept, written};
-ghost use Rattle.fv_tables.specs.Changes.{found_object, found_objects, object_view, objects_view, AreApart, IsNew, IsReady};
+ghost use Rattle.fv_tables.specs.Changes.{all_added, others_dropped, has_name as has, names_of, replaced, same_object, dropped_unless_kept, written, found_object, found_objects, object_view, objects_view, AreApart, IsNew, IsReady};
 ghost use Rattle.fv_tables.specs.Causes.{AreShort, HasRooms, IsExcused, IsShortHead, IsShortPart};
 ghost use Rattle.fv_tables.specs.Stands.{Frame, ShowsHead, Spells, IsOwned, removed, put, added, dropped};
 ghost use Rattle.fv_tables.specs.Steps.{Advances, Anyhow, AreThere, HasHead, Inside, IsThere, Makes, ShowsParts, UpdatesPart, UpdatesRow};
 ghost use Rattle.fv_tables.specs.Stored.{head_view};
 
-use crate::entry::{FoundRow, HeadRow, ObjectText, found_in, head_in};
+use crate::entry::{FoundRow, HeadRow, found_in, head_in};
 use crate::finding::FIND_RECORD;
 use crate::inserting::{insert_objects, insert_run};
+use crate::text::ObjectText;
 use crate::updating::{is_range, update_range};
 use sqlite::types::ValueRef;
 use sqlite::{Alter, Error, Row, Transaction, params};
@@ -31,8 +31,7 @@ const UPDATE_ROW: &str =
 
 const DELETE_OBJECT: &str = "DELETE FROM object WHERE rec = ?1 AND name = ?2";
 
-const FIND_PARTS: &str =
-    "SELECT name, kind, fields, rowid FROM object WHERE rec = ?1 ORDER BY name";
+const PARTS: &str = "SELECT name, kind, fields, rowid FROM object WHERE rec = ?1 ORDER BY name";
 
 /// Takes the record of the id out, if there is one; the key's cascade takes its objects out.
 pub(crate) fn delete_record<S: Alter>(tx: &mut Transaction<'_, S>, id: &str) -> Result<usize, Error>
@@ -105,7 +104,7 @@ fn find_parts<S: Alter>(tx: &mut Transaction<'_, S>, id: &str) -> Result<Vec<Row
     ensures cause { Inside S.Store tx.old.conn.now tx.new.conn.now (λ old new. tx.old.conn.now.step_limit ≡ None
         → IfErr result (λ e. (d : _) (t : _) → Spells old.now d t → IsExcused old new e)) }
 {
-    tx.query_all(FIND_PARTS, params![id])
+    tx.query_all(PARTS, params![id])
 }
 
 /// Writes the row of an object of a record that is there, in place of that of its name, if there is one.

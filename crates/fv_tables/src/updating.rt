@@ -9,8 +9,10 @@ ghost use Rattle.fv_tables.specs.Stands.{Frame, Spells, IsOwned};
 ghost use Rattle.fv_tables.specs.Steps.{Advances, ArePartsOf, AreRowsOf, Inside};
 ghost use Rattle.fv_tables.specs.Updating.{place_values, places_of, range_values, things_of, Follow, IsRange, UpdatesRange};
 
-use crate::entry::{FoundRow, ObjectText};
+use crate::entry::FoundRow;
+use crate::inserting::MOST_VALUES;
 use crate::rows::is_same;
+use crate::text::ObjectText;
 use sqlite::types::ValueRef;
 use sqlite::{Alter, Error, Transaction};
 use std::alloc::{AllocError, Global};
@@ -33,9 +35,6 @@ const PLACES: usize = 16;
 
 /// As few as it writes sooner than a statement for each.
 const FEWEST: usize = 3;
-
-/// As many parameters as the statement has.
-const MOST_VALUES: usize = 49;
 
 /// The rowid of a row.
 fn rowid_of(row: &FoundRow) -> i64

@@ -5,7 +5,7 @@ use Rattle.sqlite.specs.Effect.{Database}
 use Rattle.sqlite.specs.Order.{Row}
 use Rattle.sqlite.specs.declared.error.Error.{Error}
 use Rattle.sqlite.specs.State.{State, HasCleanDisk}
-use Rattle.fv_tables.specs.declared.entry.ObjectText.{ObjectText}
+use Rattle.fv_tables.specs.declared.text.ObjectText.{ObjectText}
 use Rattle.fv_tables.specs.Causes.{AreShort, HasRooms, IsExcused, IsShortHead}
 use Rattle.fv_tables.specs.Changes.{AreApart, object_view, objects_view}
 use Rattle.fv_tables.specs.Stands.{Entry, Entries, Frame, Stands, with_entry}

@@ -1,7 +1,7 @@
 use Rattle.std.proofs.Common.{◌≡◌, ◌+◌, ◌++◌, List, length, take, drop, refl, ap, subst, ◌∙◌, arith}
 use Rattle.std.proofs.lemmas.List.{take_all, take-append-drop}
 use Rattle.sqlite.specs.Held.{state}
-use Rattle.fv_tables.specs.declared.entry.ObjectText.{ObjectText}
+use Rattle.fv_tables.specs.declared.text.ObjectText.{ObjectText}
 use Rattle.fv_tables.specs.Changes.{all_added, objects_view, IsFree}
 use Rattle.fv_tables.specs.Steps.{Advances, Makes}
 use Rattle.fv_tables.proofs.Steps.{next_step, keeps_then, keeps_same, frame_then, frame_same}

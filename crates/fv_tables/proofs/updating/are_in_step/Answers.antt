@@ -2,7 +2,7 @@ use Rattle.std.proofs.Common.{rules, ◌≡◌, ◌<ℤ◌, ◌+◌, ◌∷◌, 
 use Rattle.std.proofs.lemmas.Int.{ints, to_z-of_z}
 use Rattle.std.proofs.lemmas.List.{drop_more}
 use Rattle.fv_tables.specs.declared.entry.FoundRow.{FoundRow}
-use Rattle.fv_tables.specs.declared.entry.ObjectText.{ObjectText}
+use Rattle.fv_tables.specs.declared.text.ObjectText.{ObjectText}
 use Rattle.fv_tables.specs.Changes.{found_view, objects_view}
 use Rattle.fv_tables.specs.Updating.{Follow}
 use Rattle.fv_tables.proofs.RangePlaces.{follow_more, same_names}
