@@ -13,8 +13,8 @@ use Rattle.fv_builtin.specs.declared.name.BuiltinName.TheVariants.{Null, NotNull
 -- ---- attributes
 
 -- an attribute that must be given: its name and its kind
-abbrev pub required : List ℕ → AttributeKind → List ℕ × (AttributeKind × Option AttributeValue)
-required name k = (name, (k, None))
+abbrev pub required_of : List ℕ → AttributeKind → List ℕ × (AttributeKind × Option AttributeValue)
+required_of name k = (name, (k, None))
 
 -- an attribute with a default: its name and the default
 abbrev pub defaulted : List ℕ → AttributeValue → List ℕ × (AttributeKind × Option AttributeValue)
@@ -22,13 +22,13 @@ defaulted name value = (name, (attribute_kind value, Some value))
 
 -- the attributes of a constraint by their names, each with its kind and its default if it has one
 abbrev pub attributes_of : BuiltinName → List (List ℕ × (AttributeKind × Option AttributeValue))
-attributes_of Min = required (codes "value") attribute.Integer ∷ []
-attributes_of Max = required (codes "value") attribute.Integer ∷ []
-attributes_of DecimalMin = required (codes "value") attribute.Text ∷ defaulted (codes "inclusive") (boolean true) ∷ []
-attributes_of DecimalMax = required (codes "value") attribute.Text ∷ defaulted (codes "inclusive") (boolean true) ∷ []
-attributes_of Digits = required (codes "integer") attribute.Integer ∷ required (codes "fraction") attribute.Integer ∷ []
+attributes_of Min = required_of (codes "value") attribute.Integer ∷ []
+attributes_of Max = required_of (codes "value") attribute.Integer ∷ []
+attributes_of DecimalMin = required_of (codes "value") attribute.Text ∷ defaulted (codes "inclusive") (boolean true) ∷ []
+attributes_of DecimalMax = required_of (codes "value") attribute.Text ∷ defaulted (codes "inclusive") (boolean true) ∷ []
+attributes_of Digits = required_of (codes "integer") attribute.Integer ∷ required_of (codes "fraction") attribute.Integer ∷ []
 attributes_of Size = defaulted (codes "min") (integer (pos 0)) ∷ defaulted (codes "max") (integer (pos 2147483647)) ∷ []
-attributes_of Pattern = required (codes "regexp") attribute.Text ∷ []
+attributes_of Pattern = required_of (codes "regexp") attribute.Text ∷ []
 attributes_of _ = []
 
 -- the kind of a constraint's attribute, if it has one of that name

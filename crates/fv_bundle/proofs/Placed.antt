@@ -5,11 +5,11 @@ use Rattle.std.specs.Option.{option_or}
 use Rattle.fv_first.specs.First.{first_from}
 use Rattle.fv_first.proofs.Laws.{first_told, where_told, inner_told, map_told}
 use Rattle.fv_bundle.specs.TypeLimits.{most_types, most_fields, most_nested}
-use Rattle.fv_bundle.specs.Types.{DeclaredFields, Declared, nested, is_unknown, has_unknown, has_large, deep_in, has_deep, too_many}
+use Rattle.fv_bundle.specs.Types.{DeclaredFields, Declared, nested, is_unknown, has_unknown_type, has_large_type, deep_in, has_deep, too_many}
 use Rattle.fv_bundle.specs.Whereabouts.{deep_field, large_in, large_type_at, large_at, unknown_reference_at}
 use Rattle.fv_bundle.specs.declared.fault.TypesAt.TheVariants as at
 
-pub unknown_told : (ts : Declared) → is_some (unknown_reference_at ts) ≡ has_unknown ts
+pub unknown_told : (ts : Declared) → is_some (unknown_reference_at ts) ≡ has_unknown_type ts
 unknown_told ts = inner_told at.Field (λ t f. is_unknown ts f.1) (λ t. t.1) ts
 
 -- what is found where a test holds, else what another finds
@@ -32,7 +32,7 @@ either_any : {X : Type 0} (s t : X → Bool) (xs : List X) → list_any (λ x. s
 either_any s t [] = refl
 either_any s t (x ∷ xs) = ap (λ b. (s x || t x) || b) (either_any s t xs) ∙ turned (s x) (t x) (list_any s xs) (list_any t xs)
 
-type_told : (ts : Declared) → is_some (large_type_at ts) ≡ (has_large ts || has_deep ts)
+type_told : (ts : Declared) → is_some (large_type_at ts) ≡ (has_large_type ts || has_deep ts)
 type_told ts =
     first_told (λ n t. large_in n t.1) (λ t. nat_lt most_fields (length t.1) || deep_in t.1) (λ n t. one_told n t.1) 0 ts
     ∙ either_any (λ t. nat_lt most_fields (length t.1)) (λ t. deep_in t.1) ts
@@ -44,4 +44,4 @@ grouped false b c = refl
 pub large_told : (ts : Declared) → is_some (large_at ts) ≡ too_many ts
 large_told ts =
     let over = nat_lt most_types (length ts) in
-    when_or over at.Types (large_type_at ts) ∙ ap (λ b. over || b) (type_told ts) ∙ grouped over (has_large ts) (has_deep ts)
+    when_or over at.Types (large_type_at ts) ∙ ap (λ b. over || b) (type_told ts) ∙ grouped over (has_large_type ts) (has_deep ts)

@@ -105,16 +105,16 @@ is_unknown ts (optionals held) = is_unknown ts held
 is_unknown ts _ = false
 
 -- one of the fields refers to a type that isn't declared
-abbrev pub unknown_in : Declared → DeclaredFields → Bool
-unknown_in ts = list_any (λ f. is_unknown ts f.1)
+abbrev pub unknown_type_in : Declared → DeclaredFields → Bool
+unknown_type_in ts = list_any (λ f. is_unknown ts f.1)
 
 -- the same, of one of the types
-abbrev pub has_unknown : Declared → Bool
-has_unknown ts = list_any (λ t. unknown_in ts t.1) ts
+abbrev pub has_unknown_type : Declared → Bool
+has_unknown_type ts = list_any (λ t. unknown_type_in ts t.1) ts
 
 -- a type of more than 256 fields
-abbrev pub has_large : Declared → Bool
-has_large = list_any (λ t. nat_lt most_fields (length t.1))
+abbrev pub has_large_type : Declared → Bool
+has_large_type = list_any (λ t. nat_lt most_fields (length t.1))
 
 -- one of the fields holds more than four containers one in another
 abbrev pub deep_in : DeclaredFields → Bool
@@ -134,15 +134,15 @@ FieldsApart ts = All (λ t. AreApart t.1) ts
 
 -- more than 256 types, a type of more than 256 fields, or more than four containers one in another
 abbrev pub too_many : Declared → Bool
-too_many ts = nat_lt most_types (length ts) || has_large ts || has_deep ts
+too_many ts = nat_lt most_types (length ts) || has_large_type ts || has_deep ts
 
 -- the first fault of types that are declared
 abbrev pub types_fault : Declared → Option TypesFault
-types_fault ts = first ((has_unknown ts, UnknownType) ∷ (too_many ts, TooLarge) ∷ [])
+types_fault ts = first ((has_unknown_type ts, UnknownType) ∷ (too_many ts, TooLarge) ∷ [])
 
 -- the number of the type of that name
-abbrev pub number_of : Declared → List ℕ → Option ℕ
-number_of ts name = position (λ t. bytes_eq name t.0) ts
+abbrev pub number_of_type : Declared → List ℕ → Option ℕ
+number_of_type ts name = position (λ t. bytes_eq name t.0) ts
 
 -- the name of the type of a number; empty where there is none
 abbrev pub name_at : Declared → ℕ → List ℕ

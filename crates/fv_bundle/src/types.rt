@@ -2,7 +2,7 @@ ghost use Rattle.std.specs.Prelude.{◌≡◌, ◌≢◌, false, length, option_
 ghost use Rattle.std.specs.Option.{IfNone};
 ghost use Rattle.fv_datum.specs.Lookup.{at_name};
 ghost use Rattle.fv_bundle.specs.declared.fault.TypesFault.TheVariants.{Memory};
-ghost use Rattle.fv_bundle.specs.Types.{AreApart, FieldsApart, declared_view, fields_view, type_use_view, is_unknown, has_deep, types_fault, name_at, number_of};
+ghost use Rattle.fv_bundle.specs.Types.{AreApart, FieldsApart, declared_view, fields_view, type_use_view, is_unknown, has_deep, types_fault, name_at, number_of_type};
 ghost use Rattle.fv_bundle.specs.Whereabouts.{unknown_field, unknown_reference_at, deep_field, large_in, large_type_at, large_at, types_fault_at};
 
 use crate::fault::{PlacedTypesFault, TypesAt, TypesFault};
@@ -106,7 +106,7 @@ impl Types {
 
     /// The number of the type of that name.
     pub fn find(&self, name: &str) -> Option<TypeId>
-        ensures { option_map (λ t. t.index) result ≡ number_of (types_view self.now) name.now }
+        ensures { option_map (λ t. t.index) result ≡ number_of_type (types_view self.now) name.now }
     {
         match self.declared.get_index_of(name) {
             Some(index) => Some(TypeId { index }),

@@ -4,7 +4,7 @@ use Rattle.std.specs.declared.alloc.Global.{Global}
 use Rattle.fv_graph.specs.Graph.{IsIn, LeadsIn, next_of}
 use Rattle.fv_graph.specs.Graph as graph
 use Rattle.fv_declare_definition.specs.Definitions.{Definitions}
-use Rattle.fv_constraint.specs.Composed.{composed_of, ComposesIn, IsCyclic}
+use Rattle.fv_constraint.specs.Composed.{composed_of, ComposesIn, ComposesItself}
 use Rattle.fv_constraint.specs.Numbered.{number_of, edges_of}
 use Rattle.fv_constraint.proofs.Numbering.{next_is, last_is, edge_named, in_map, number_same, number_within}
 
@@ -42,10 +42,10 @@ module _ (ds : Definitions) (edges : List (Vec ℕ Global)) (are : map (λ nodes
   chain_start zero i j h e = let none : IsIn (next_of edges (length ds)) j = subst (λ (k : ℕ). IsIn (next_of edges k) j) e h in rw (last_is ds edges are) at none
   chain_start (suc further) i j h e = let none : IsIn (next_of edges (length ds)) h.0 = subst (λ (k : ℕ). IsIn (next_of edges k) h.0) e h.1 in rw (last_is ds edges are) at none
 
-  pub cyclic_in : IsCyclic ds → graph.IsCyclic (next_of edges)
+  pub cyclic_in : ComposesItself ds → graph.IsCyclic (next_of edges)
   cyclic_in h = (number_of ds h.0, (h.1, chain_in h.1 h.0 h.0 h.2))
 
-  pub cyclic_out : graph.IsCyclic (next_of edges) → IsCyclic ds
+  pub cyclic_out : graph.IsCyclic (next_of edges) → ComposesItself ds
   cyclic_out h =
       let further : ℕ = h.1.0 in
       let end = chain_end further h.0 h.0 h.1.1 in

@@ -8,7 +8,7 @@ use Rattle.fv_builtin.specs.declared.name.BuiltinName.{BuiltinName}
 use Rattle.fv_datum.specs.Lookup.{at_name}
 use Rattle.fv_graph.specs.Graph.{IsIn, next_of}
 use Rattle.fv_declare_definition.specs.Definitions.{Composing, Definition, Definitions}
-use Rattle.fv_constraint.specs.Meanings.{either_meant, composing_of}
+use Rattle.fv_constraint.specs.Meanings.{either_meant, meant_composing}
 use Rattle.fv_constraint.specs.Composed.{composed_of}
 use Rattle.fv_constraint.specs.Numbered.{place_of, number_of, numbers_of, edges_of}
 
@@ -98,7 +98,7 @@ module _ (f : Definition → List ℕ) (name : List ℕ) where
 
 -- the names that either meaning is composed of, as numbers
 meant_row : (ds : Definitions) (which : Option BuiltinName) (found : Option Definition)
-    → cond (is_some which) [] (option_map_or (λ d. numbers_of ds d.composing) found []) ≡ map (number_of ds) (map (λ c. c.constraint) (option_map_or composing_of (either_meant which found) []))
+    → cond (is_some which) [] (option_map_or (λ d. numbers_of ds d.composing) found []) ≡ map (number_of ds) (map (λ c. c.constraint) (option_map_or meant_composing (either_meant which found) []))
 meant_row ds (Some which) found = refl
 meant_row ds None None = refl
 meant_row ds None (Some d) = sym (map_twice d.composing)

@@ -3,7 +3,7 @@ use Rattle.std.proofs.Common.{◌≡◌, ℕ, zero, suc, List, [], ◌∷◌, ma
 use Rattle.std.specs.declared.alloc.AllocError.{AllocError}
 use Rattle.std.specs.declared.alloc.Global.{Global}
 use Rattle.fv_constraint.proofs.Cycles.{cyclic_in, cyclic_out}
-use Rattle.fv_constraint.specs.Composed.{IsCyclic}
+use Rattle.fv_constraint.specs.Composed.{ComposesItself}
 use Rattle.fv_constraint.specs.Numbered.{edges_of}
 use Rattle.fv_constraint.specs.Whereabouts.{composed_numbers, IsCompositionRing}
 use Rattle.fv_declare_definition.specs.Definitions.{Definitions}
@@ -19,7 +19,7 @@ pub next_composed : (ds : Definitions) (edges : List (Vec ℕ Global)) → map (
 next_composed ds edges are n = next_listed edges n ∙ ap (λ rows. slice_index_or rows n []) are
 
 pub ring_told : (ds : Definitions) (edges : List (Vec ℕ Global)) → map (λ nodes. nodes.items) edges ≡ edges_of ds → (found : Result (Option (Vec ℕ Global)) AllocError)
-    → IfOk found (FindsRing (next_of edges)) → IfOk found (FindsRing (composed_numbers ds)) → IfOk found (λ o. MatchOption o (IsCyclic ds → ⊥) (λ v. IsCyclic ds × IsCompositionRing ds v.items))
+    → IfOk found (FindsRing (next_of edges)) → IfOk found (FindsRing (composed_numbers ds)) → IfOk found (λ o. MatchOption o (ComposesItself ds → ⊥) (λ v. ComposesItself ds × IsCompositionRing ds v.items))
 ring_told ds edges are (Err e) cyclic ring = tt
 ring_told ds edges are (Ok None) cyclic ring = λ cycle. cyclic (cyclic_in ds edges are cycle)
 ring_told ds edges are (Ok (Some v)) cyclic ring = (cyclic_out ds edges are cyclic.0, ring.1)

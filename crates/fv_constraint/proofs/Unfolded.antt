@@ -20,7 +20,7 @@ use Rattle.fv_graph.proofs.Unfolding.{unfolds}
 use Rattle.fv_graph.proofs.Growth.{tree_is}
 use Rattle.fv_constraint.specs.Composed.{Planned, IsTreeOf, AreTreesOf}
 use Rattle.fv_declare_definition.specs.Definitions.{Composing, Definition, Definitions}
-use Rattle.fv_constraint.specs.Meanings.{Meant, builtin, declared, either_meant, meant_by, composing_of, composes_unknown}
+use Rattle.fv_constraint.specs.Meanings.{Meant, builtin, declared, either_meant, meant_by, meant_composing, composes_unknown}
 use Rattle.fv_constraint.specs.Effect.{effective}
 use Rattle.fv_constraint.specs.Numbered.{number_of, numbers_of, edges_of, handed_map, composing_at, IsNumbered}
 use Rattle.fv_constraint_tree.specs.Preorder.{preorder, preorders}
@@ -82,13 +82,13 @@ found_known p name d (e ∷ es) found known = go _ found (found_known p name d e
     go false is ih here later = ih is later
 
 meant_known : (ds : Definitions) (which : Option BuiltinName) (found : Option Definition) (m : Meant) → ((d : Definition) → found ≡ Some d → list_any (is_unknown ds) d.composing ≡ false)
-    → either_meant which found ≡ Some m → list_any (is_unknown ds) (composing_of m) ≡ false
+    → either_meant which found ≡ Some m → list_any (is_unknown ds) (meant_composing m) ≡ false
 meant_known ds which found (builtin w) known is = refl
 meant_known ds (Some w) found (declared d) known is = absurd (cc)
 meant_known ds None None (declared d) known is = absurd (cc)
 meant_known ds None (Some e) (declared d) known is = let same : e ≡ d = cc in known d (ap (λ x. Some x) same)
 
-all_known : (ds : Definitions) (name : List ℕ) (m : Meant) → composes_unknown ds ≡ false → meant_by ds name ≡ Some m → list_any (is_unknown ds) (composing_of m) ≡ false
+all_known : (ds : Definitions) (name : List ℕ) (m : Meant) → composes_unknown ds ≡ false → meant_by ds name ≡ Some m → list_any (is_unknown ds) (meant_composing m) ≡ false
 all_known ds name m known is =
     meant_known ds (builtin_named name) (at_name name ds) m (λ d found. found_known (λ e. list_any (is_unknown ds) e.composing) name d ds found known) is
 
@@ -96,8 +96,8 @@ all_known ds name m known is =
 
 module _ (ds : Definitions) (edges : List (Vec ℕ Global)) (are : map (λ nodes. nodes.items) edges ≡ edges_of ds) (acyclic : graph.IsCyclic (next_of edges) → ⊥) where
   -- what follows the node of a constraint with a meaning
-  next_meant : (name : List ℕ) (m : Meant) → meant_by ds name ≡ Some m → next_of edges (number_of ds name) ≡ map (number_of ds) (map (λ c. c.constraint) (composing_of m))
-  next_meant name m is = next_is ds edges are name ∙ ap (λ o. map (number_of ds) (map (λ c. c.constraint) (option_map_or composing_of o []))) is
+  next_meant : (name : List ℕ) (m : Meant) → meant_by ds name ≡ Some m → next_of edges (number_of ds name) ≡ map (number_of ds) (map (λ c. c.constraint) (meant_composing m))
+  next_meant name m is = next_is ds edges are name ∙ ap (λ o. map (number_of ds) (map (λ c. c.constraint) (option_map_or meant_composing o []))) is
 
   module _ (own : ℕ → ℕ) (ones : (i : ℕ) → i < length edges → own i ≡ 1) where
     mutual
@@ -106,7 +106,7 @@ module _ (ds : Definitions) (edges : List (Vec ℕ Global)) (are : map (λ nodes
       tree_size (tree p below) name own_text given is =
           let w = unfolds (weighed own) (next_of edges) (length edges) (is_below edges (are_within ds edges are)) acyclic (number_of ds name) in
           let next = ap (λ js. sum (map (weight own (next_of edges) (length edges)) js)) (next_meant name p.meant is.1) in
-          let kids = trees_size below (composing_of p.meant) (effective p.meant given) is.4 in
+          let kids = trees_size below (meant_composing p.meant) (effective p.meant given) is.4 in
           let one = ones (number_of ds name) (omega (arith, number_within ds name, edge_count ds edges are)) in
           omega (arith, w, next, kids, one)
 
@@ -169,7 +169,7 @@ mutual
 
 -- what a composing constraint is handed
 abbrev pub hands_of : Definitions → ℕ → ℕ → Planned → Planned
-hands_of ds node edge p = composing_at ds p (slice_get (composing_of p.meant) edge)
+hands_of ds node edge p = composing_at ds p (slice_get (meant_composing p.meant) edge)
 
 some_of : {X : Type 0} (o : Option X) → not (is_some o) ≡ false → (x : X) × (o ≡ Some x)
 some_of None e = absurd (cc)
@@ -192,14 +192,14 @@ module _ (ds : Definitions) (edges : List (Vec ℕ Global)) (are : map (λ nodes
   abbrev trees_at : ℕ → Planned → ℕ → List Composing → unfolded.Trees Planned
   trees_at node p k cs = unfolded.handed (hands_of ds node) p k (map (unfolded.tree_of (hands_of ds) (next_of edges) (length edges)) (map (number_of ds) (map (λ c. c.constraint) cs)))
 
-  tree_at_is : (p : Planned) → meant_by ds p.constraint ≡ Some p.meant → tree_at p ≡ unfolded.tree (number_of ds p.constraint) p (trees_at (number_of ds p.constraint) p 0 (composing_of p.meant))
+  tree_at_is : (p : Planned) → meant_by ds p.constraint ≡ Some p.meant → tree_at p ≡ unfolded.tree (number_of ds p.constraint) p (trees_at (number_of ds p.constraint) p 0 (meant_composing p.meant))
   tree_at_is p is =
       tree_is (hands_of ds) (next_of edges) (length edges) (number_of ds p.constraint) p (is_below edges (are_within ds edges are)) acyclic
       ∙ ap (λ js. unfolded.tree (number_of ds p.constraint) p (unfolded.handed (hands_of ds (number_of ds p.constraint)) p 0 (map (unfolded.tree_of (hands_of ds) (next_of edges) (length edges)) js)))
       (next_meant ds edges are acyclic p.constraint p.meant is)
 
   -- what is handed to a composing constraint that is known
-  handed_is : (node k : ℕ) (p : Planned) (c : Composing) (m : Meant) → slice_get (composing_of p.meant) k ≡ Some c → meant_by ds c.constraint ≡ Some m
+  handed_is : (node k : ℕ) (p : Planned) (c : Composing) (m : Meant) → slice_get (meant_composing p.meant) k ≡ Some c → meant_by ds c.constraint ≡ Some m
       → hands_of ds node k p ≡ record { constraint = c.constraint; meant = m; own = c.message; given = handed_map c (effective p.meant p.given) }
   handed_is node k p c m here is =
       ap (composing_at ds p) here
@@ -211,11 +211,11 @@ module _ (ds : Definitions) (edges : List (Vec ℕ Global)) (are : map (λ nodes
     is_tree (unfolded.tree i v below) p is e =
         let all = e ∙ tree_at_is p is in
         let same : v ≡ p = cc in
-        let kids : below ≡ trees_at (number_of ds p.constraint) p 0 (composing_of p.meant) = cc in
-        let rest = are_trees below p (number_of ds p.constraint) (composing_of p.meant) 0 refl (all_known ds p.constraint p.meant known is) kids in
+        let kids : below ≡ trees_at (number_of ds p.constraint) p 0 (meant_composing p.meant) = cc in
+        let rest = are_trees below p (number_of ds p.constraint) (meant_composing p.meant) 0 refl (all_known ds p.constraint p.meant known is) kids in
         subst (λ (w : Planned). IsTreeOf ds p.constraint p.own p.given (tree w (stripped_all below))) (sym same) (refl, is, refl, refl, rest)
 
-    are_trees : (ts : unfolded.Trees Planned) (p : Planned) (node : ℕ) (cs : List Composing) (k : ℕ) → drop k (composing_of p.meant) ≡ cs → list_any (is_unknown ds) cs ≡ false
+    are_trees : (ts : unfolded.Trees Planned) (p : Planned) (node : ℕ) (cs : List Composing) (k : ℕ) → drop k (meant_composing p.meant) ≡ cs → list_any (is_unknown ds) cs ≡ false
         → ts ≡ trees_at node p k cs → AreTreesOf ds cs (effective p.meant p.given) (stripped_all ts)
     are_trees unfolded.no_tree p node [] k here all e = tt
     are_trees unfolded.no_tree p node (c ∷ cs) k here all e = absurd (cc)
@@ -225,9 +225,9 @@ module _ (ds : Definitions) (edges : List (Vec ℕ Global)) (are : map (λ nodes
         let m = some_of (meant_by ds c.constraint) parts.0 in
         let q : Planned = record { constraint = c.constraint; meant = m.0; own = c.message; given = handed_map c (effective p.meant p.given) } in
         let made : t ≡ unfolded.tree_of (hands_of ds) (next_of edges) (length edges) (number_of ds c.constraint) (hands_of ds node k p) = cc in
-        let first = made ∙ ap (unfolded.tree_of (hands_of ds) (next_of edges) (length edges) (number_of ds c.constraint)) (handed_is node k p c m.0 (get_first (composing_of p.meant) k c cs here) m.1) in
+        let first = made ∙ ap (unfolded.tree_of (hands_of ds) (next_of edges) (length edges) (number_of ds c.constraint)) (handed_is node k p c m.0 (get_first (meant_composing p.meant) k c cs here) m.1) in
         let others : ts ≡ trees_at node p (k + 1) cs = cc in
-        ((q.given, handed_map_is c (effective p.meant p.given), is_tree t q m.1 first), are_trees ts p node cs (k + 1) (drop_next (composing_of p.meant) k c cs here) parts.1 others)
+        ((q.given, handed_map_is c (effective p.meant p.given), is_tree t q m.1 first), are_trees ts p node cs (k + 1) (drop_next (meant_composing p.meant) k c cs here) parts.1 others)
 
   -- there is a tree of each constraint that is known
   pub tree_exists : (name : List ℕ) (own : Option (List ℕ)) (given : Attributes) → is_some (meant_by ds name) ≡ true → (t : Tree Planned) × IsTreeOf ds name own given t

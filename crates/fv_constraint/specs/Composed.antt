@@ -5,7 +5,7 @@ use Rattle.fv_graph.specs.Graph.{IsIn}
 use Rattle.fv_datum.specs.Maps.{IsMapOf}
 use Rattle.fv_datum.specs.Attributes.{AttributeValue, Attributes}
 use Rattle.fv_declare_definition.specs.Definitions.{Composing, Definitions}
-use Rattle.fv_constraint.specs.Meanings.{Meant, meant_by, composing_of}
+use Rattle.fv_constraint.specs.Meanings.{Meant, meant_by, meant_composing}
 use Rattle.fv_constraint.specs.Effect.{effective, handed}
 use Rattle.fv_constraint_tree.specs.Trees.{Tree, tree, Trees, none, more}
 
@@ -21,7 +21,7 @@ abbrev mutual
   pub IsTreeOf : Definitions → List ℕ → Option (List ℕ) → Attributes → Tree Planned → Type 0
   IsTreeOf ds name own given (tree p below) =
       (p.constraint ≡ name) × (meant_by ds name ≡ Some p.meant) × (p.own ≡ own) × (p.given ≡ given)
-      × AreTreesOf ds (composing_of p.meant) (effective p.meant given) below
+      × AreTreesOf ds (meant_composing p.meant) (effective p.meant given) below
 
   -- the trees of composing constraints, in order, by the values in effect of the constraint that they compose: each has its own message and
   -- is given the one map of the values that it is handed
@@ -33,7 +33,7 @@ abbrev mutual
 
 -- the names of the constraints that a constraint is composed of
 abbrev pub composed_of : Definitions → List ℕ → List (List ℕ)
-composed_of ds name = map (λ c. c.constraint) (option_map_or composing_of (meant_by ds name) [])
+composed_of ds name = map (λ c. c.constraint) (option_map_or meant_composing (meant_by ds name) [])
 
 -- a chain of so many constraints after the first, each composed of the next
 abbrev pub ComposesIn : Definitions → ℕ → List ℕ → List ℕ → Type 0
@@ -41,5 +41,5 @@ ComposesIn ds zero a b = IsIn (composed_of ds a) b
 ComposesIn ds (suc further) a b = (c : List ℕ) × IsIn (composed_of ds a) c × ComposesIn ds further c b
 
 -- a constraint is composed of itself, directly or through others
-abbrev pub IsCyclic : Definitions → Type 0
-IsCyclic ds = (name : List ℕ) × (further : ℕ) × ComposesIn ds further name name
+abbrev pub ComposesItself : Definitions → Type 0
+ComposesItself ds = (name : List ℕ) × (further : ℕ) × ComposesIn ds further name name

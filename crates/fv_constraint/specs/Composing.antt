@@ -16,17 +16,17 @@ abbrev pub Signature : Type 0
 Signature = List (List ℕ × (AttributeKind × Bool))
 
 -- the attributes of a constraint
-abbrev pub attributes_of : Meant → Signature
-attributes_of (builtin which) = map (λ a. (a.0, (a.1.0, is_some a.1.1))) (table.attributes_of which)
-attributes_of (declared d) = map (λ a. (a.0, (a.1.kind, is_some a.1.default))) d.attributes
+abbrev pub signature_attributes : Meant → Signature
+signature_attributes (builtin which) = map (λ a. (a.0, (a.1.0, is_some a.1.1))) (table.attributes_of which)
+signature_attributes (declared d) = map (λ a. (a.0, (a.1.kind, is_some a.1.default))) d.attributes
 
 -- the kind of the attribute of that name, if it is there
 abbrev pub kind_in : Signature → List ℕ → Option AttributeKind
 kind_in attributes name = option_map (λ a. a.0) (at_name name attributes)
 
 -- an attribute is given that isn't there, or is of another kind
-abbrev pub has_foreign : Signature → Attributes → Bool
-has_foreign attributes given = list_any (λ g. not (has_kind (kind_in attributes g.0) (attribute_kind g.1))) given
+abbrev pub overrides_any_foreign : Signature → Attributes → Bool
+overrides_any_foreign attributes given = list_any (λ g. not (has_kind (kind_in attributes g.0) (attribute_kind g.1))) given
 
 -- two attributes are there, and of the same kind
 abbrev pub are_alike : Option AttributeKind → Option AttributeKind → Bool
@@ -52,8 +52,8 @@ lacks_attribute attributes c = list_any (λ a. not a.1.1 && not (is_set c a.0)) 
 -- what is given and overridden doesn't suit the attributes of the composing constraint, or the outer ones of the composed one
 abbrev pub is_unsuited : Signature → Signature → Composing → Bool
 is_unsuited outer attributes c =
-    has_foreign attributes c.given || overrides_foreign outer attributes c.overrides || gives_overridden c || lacks_attribute attributes c
+    overrides_any_foreign attributes c.given || overrides_foreign outer attributes c.overrides || gives_overridden c || lacks_attribute attributes c
 
 -- a composing constraint of a definition is refused: it is neither built in nor declared, or what is given and overridden doesn't suit it
 abbrev pub refuses_composing : Definitions → Definition → Composing → Bool
-refuses_composing ds d c = option_map_or (λ m. is_unsuited (attributes_of (declared d)) (attributes_of m) c) (meant_by ds c.constraint) true
+refuses_composing ds d c = option_map_or (λ m. is_unsuited (signature_attributes (declared d)) (signature_attributes m) c) (meant_by ds c.constraint) true

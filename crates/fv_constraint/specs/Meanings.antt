@@ -21,9 +21,9 @@ abbrev pub meant_by : Definitions → List ℕ → Option Meant
 meant_by ds name = either_meant (builtin_named name) (at_name name ds)
 
 -- the constraints that a constraint is composed of, in order
-abbrev pub composing_of : Meant → List Composing
-composing_of (builtin which) = []
-composing_of (declared d) = d.composing
+abbrev pub meant_composing : Meant → List Composing
+meant_composing (builtin which) = []
+meant_composing (declared d) = d.composing
 
 -- a definition is composed of a constraint that is neither built in nor declared
 abbrev pub composes_unknown : Definitions → Bool

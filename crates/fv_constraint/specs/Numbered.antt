@@ -9,7 +9,7 @@ use Rattle.std.specs.Ordering.{nat_cmp}
 use Rattle.std.specs.Str.{bytes_eq}
 use Rattle.fv_datum.specs.Attributes.{AttributeValue, Attributes}
 use Rattle.fv_builtin.specs.Names.{is_builtin}
-use Rattle.fv_constraint.specs.Composed.{Planned, IsTreeOf, IsCyclic}
+use Rattle.fv_constraint.specs.Composed.{Planned, IsTreeOf, ComposesItself}
 use Rattle.fv_declare_definition.specs.Definitions.{Composing, Definitions}
 use Rattle.fv_constraint.specs.Meanings.{meant_by, composes_unknown}
 use Rattle.fv_constraint.specs.Effect.{effective, handed}
@@ -50,7 +50,7 @@ AreSizes ds limit sizes =
 -- the definitions are a graph without cycles: the nodes that each node's edges lead to, and the sizes up to the limit
 pub record IsNumbered (ds : Definitions) (edges : List (List ℕ)) (sizes : List ℕ) : Type 0 where
   pub known : composes_unknown ds ≡ false
-  pub acyclic : IsCyclic ds → ⊥
+  pub acyclic : ComposesItself ds → ⊥
   pub edges_are : edges ≡ edges_of ds
   pub each : length sizes ≡ length edges
   pub sized : AreSizes ds 1025 sizes

@@ -3,7 +3,7 @@ use Rattle.std.specs.Prelude.{ℕ, ◌||◌, ◌&&◌, List, [], ◌∷◌, not,
 use Rattle.std.specs.Option.{option_or, option_map_or}
 use Rattle.fv_builtin.specs.Given.{has_kind}
 use Rattle.fv_builtin.specs.Table.{required_attributes}
-use Rattle.fv_constraint.specs.Composing.{Signature, attributes_of, kind_in, are_alike, is_set}
+use Rattle.fv_constraint.specs.Composing.{Signature, signature_attributes, kind_in, are_alike, is_set}
 use Rattle.fv_constraint.specs.Meanings.{Meant, builtin, declared, meant_by}
 use Rattle.fv_constraint.specs.Numbered.{edges_of}
 use Rattle.fv_constraint.specs.Refusals.{is_empty, is_unknown_rule, is_other_kind}
@@ -63,15 +63,15 @@ lacking_attribute (declared d) c = first_where (λ a. not (is_some a.1.default) 
 -- the first of these, in this order, of a composing constraint by its definition's number and its own, within the outer attributes
 abbrev pub unsuited_at : Signature → Meant → ℕ → ℕ → Composing → Option ConstraintAt
 unsuited_at outer m number place c = first_of (
-    option_map (at.Given number place) (foreign_given (attributes_of m) c.given)
-    ∷ option_map (at.Overridden number place) (unsuited_override outer (attributes_of m) c)
+    option_map (at.Given number place) (foreign_given (signature_attributes m) c.given)
+    ∷ option_map (at.Overridden number place) (unsuited_override outer (signature_attributes m) c)
     ∷ option_map (at.Lacking number place) (lacking_attribute m c)
     ∷ [])
 
 -- what is refused first of a definition's composing constraint: as a whole where it is neither built in nor declared
 abbrev pub refused_composing : Definitions → Definition → ℕ → ℕ → Composing → Option ConstraintAt
 refused_composing ds d number place c =
-    option_map_or (λ m. unsuited_at (attributes_of (declared d)) m number place c) (meant_by ds c.constraint) (Some (at.Composing number place))
+    option_map_or (λ m. unsuited_at (signature_attributes (declared d)) m number place c) (meant_by ds c.constraint) (Some (at.Composing number place))
 
 -- what is refused first of the definition of that number: a default of another kind, else a composing constraint
 abbrev pub bad_in : Definitions → ℕ → Definition → Option ConstraintAt

@@ -4,7 +4,7 @@ ghost use Rattle.fv_builtin.specs.Given.{has_kind};
 ghost use Rattle.fv_constraint.specs.Meanings.{builtin, declared};
 ghost use Rattle.fv_declare_definition.specs.DefinitionViews.{composing_view, definition_view, definition_entry};
 ghost use Rattle.fv_constraint.specs.MeantView.{meant_view};
-ghost use Rattle.fv_constraint.specs.Composing.{attributes_of, kind_in, are_alike, is_set};
+ghost use Rattle.fv_constraint.specs.Composing.{signature_attributes, kind_in, are_alike, is_set};
 ghost use Rattle.fv_constraint.specs.Whereabouts.{foreign_given, unsuited_override, lacking_attribute, unsuited_at, refused_composing};
 
 use crate::at::ConstraintAt;
@@ -16,7 +16,7 @@ use std::collections::BTreeMap;
 
 /// The kind of a declared constraint's attribute, if it has one of that name.
 fn declared_kind(definition: &Definition, name: &str) -> Option<AttributeKind>
-    ensures { result ≡ kind_in (attributes_of (declared (definition_view definition.now))) name.now }
+    ensures { result ≡ kind_in (signature_attributes (declared (definition_view definition.now))) name.now }
 {
     match definition.attributes.get(name) {
         None => None,
@@ -26,7 +26,7 @@ fn declared_kind(definition: &Definition, name: &str) -> Option<AttributeKind>
 
 /// The kind of a constraint's attribute, if it has one of that name.
 fn kind_in(meant: Meant, name: &str) -> Option<AttributeKind>
-    ensures { result ≡ kind_in (attributes_of (meant_view meant.entry)) name.now }
+    ensures { result ≡ kind_in (signature_attributes (meant_view meant.entry)) name.now }
 {
     match meant {
         Meant::BuiltIn(which) => kind_of_attribute(which, name),
@@ -56,7 +56,7 @@ fn are_alike(one: Option<AttributeKind>, other: Option<AttributeKind>) -> bool
 
 /// The first attribute that is given and that the constraint doesn't have, or has with another kind.
 pub fn foreign_given(meant: Meant, given: &Attrs) -> Option<usize>
-    ensures { result ≡ foreign_given (attributes_of (meant_view meant.entry)) given.now }
+    ensures { result ≡ foreign_given (signature_attributes (meant_view meant.entry)) given.now }
 {
     for (number, (name, value)) in given.entries().iter().enumerate() {
         if !has_kind(kind_in(meant, name.as_str()), value.kind()) {
@@ -70,7 +70,7 @@ pub fn foreign_given(meant: Meant, given: &Attrs) -> Option<usize>
 /// that of what isn't an attribute of the composed constraint, or of one of another kind, or that
 /// is given as well.
 fn unsuited_override(composed: Meant, meant: Meant, composing: &Composing) -> Option<usize>
-    ensures { result ≡ unsuited_override (attributes_of (meant_view composed.entry)) (attributes_of (meant_view meant.entry))
+    ensures { result ≡ unsuited_override (signature_attributes (meant_view composed.entry)) (signature_attributes (meant_view meant.entry))
         (composing_view composing.now) }
 {
     for (number, (name, outer)) in composing.overrides.iter().enumerate() {
@@ -138,7 +138,7 @@ fn unsuited_at(
     place: usize,
     composing: &Composing,
 ) -> Option<ConstraintAt>
-    ensures { result ≡ unsuited_at (attributes_of (meant_view composed.entry)) (meant_view meant.entry) number place
+    ensures { result ≡ unsuited_at (signature_attributes (meant_view composed.entry)) (meant_view meant.entry) number place
         (composing_view composing.now) }
 {
     if let Some(given) = foreign_given(meant, &composing.with) {

@@ -1,7 +1,7 @@
 //! Constraints composed of others, by their definitions.
 ghost use Rattle.std.specs.Prelude.{◌≡◌, ℕ, List, Option, true, false, map, min, option_map, is_some, IfOk, MatchOption};
 ghost use Rattle.fv_datum.specs.Attributes.{Attributes};
-ghost use Rattle.fv_constraint.specs.Composed.{IsTreeOf, IsCyclic};
+ghost use Rattle.fv_constraint.specs.Composed.{IsTreeOf, ComposesItself};
 ghost use Rattle.fv_constraint.specs.Composed as spec;
 ghost use Rattle.fv_constraint.specs.PlannedViews.{planned_entry};
 ghost use Rattle.fv_constraint.specs.Meanings.{composes_unknown, meant_by};
@@ -52,7 +52,7 @@ impl<'a> Composition<'a> {
     ) -> Result<Option<Composition<'a>>, AllocError>
         requires { composes_unknown (map definition_entry definitions.now.entries) ≡ false }
         ensures { let ds = map definition_entry definitions.now.entries in IfOk result (λ found.
-            MatchOption found (IsCyclic ds) (λ c. (c ≡ ds) × (IsCyclic ds → ⊥))) }
+            MatchOption found (ComposesItself ds) (λ c. (c ≡ ds) × (ComposesItself ds → ⊥))) }
     {
         let numbers = Numbers::new(alloc, definitions)?;
         let edges = edges_of(alloc, &numbers)?;

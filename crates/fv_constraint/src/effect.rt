@@ -7,7 +7,7 @@ ghost use Rattle.fv_datum.specs.Maps.{ascends, IsMapOf};
 ghost use Rattle.fv_constraint.specs.Meanings.{declared};
 ghost use Rattle.fv_declare_definition.specs.DefinitionViews.{attribute_definition_view, composing_view, definition_view};
 ghost use Rattle.fv_constraint.specs.MeantView.{meant_view};
-ghost use Rattle.fv_constraint.specs.Effect.{default_of, effective, handed};
+ghost use Rattle.fv_constraint.specs.Effect.{attribute_default, effective, handed};
 
 use crate::copying::{copy_entries, copy_of, put};
 use crate::meant::Meant;
@@ -56,7 +56,7 @@ fn fill(
 
 /// The default of a declared constraint's attribute, if it has one.
 fn default_of<'a>(definition: &'a Definition, name: &str) -> Option<&'a Attribute>
-    ensures { option_map (λ v. attribute_view v.now) result ≡ default_of (declared (definition_view definition.now)) name.now }
+    ensures { option_map (λ v. attribute_view v.now) result ≡ attribute_default (declared (definition_view definition.now)) name.now }
 {
     match definition.attributes.get(name) {
         None => None,

@@ -2,7 +2,7 @@
 ghost use Rattle.std.specs.Prelude.{◌≡◌, None, IfOk, map, option_map, slice_get, string_bytes};
 ghost use Rattle.fv_constraint.specs.PlannedViews.{planned_view};
 ghost use Rattle.fv_declare_definition.specs.Definitions.{Definitions};
-ghost use Rattle.fv_constraint.specs.Meanings.{composing_of};
+ghost use Rattle.fv_constraint.specs.Meanings.{meant_composing};
 ghost use Rattle.fv_declare_definition.specs.DefinitionViews.{definition_entry};
 ghost use Rattle.fv_constraint.specs.Numbered.{composing_at};
 
@@ -38,7 +38,7 @@ impl<'a> Hand for Handing<'a> {
     ghost use Rattle.std.specs.Prelude.{map, slice_get};
     ghost use Rattle.fv_constraint.specs.Composed as spec;
     ghost use Rattle.fv_constraint.specs.PlannedViews.{planned_view};
-    ghost use Rattle.fv_constraint.specs.Meanings.{composing_of};
+    ghost use Rattle.fv_constraint.specs.Meanings.{meant_composing};
     ghost use Rattle.fv_declare_definition.specs.DefinitionViews.{definition_entry};
     ghost use Rattle.fv_constraint.specs.Numbered.{composing_at};
 
@@ -47,7 +47,7 @@ impl<'a> Hand for Handing<'a> {
     ghost seen = { planned_view };
 
     ghost hands = { λ h node edge p. composing_at (map definition_entry h.definitions.now.entries) p
-        (slice_get (composing_of p.meant) edge) };
+        (slice_get (meant_composing p.meant) edge) };
 
     fn hand(
         &self,
@@ -90,7 +90,7 @@ fn plan_below<'a>(
     edge: usize,
 ) -> Result<Planned<'a>, AllocError>
     ensures { IfOk result (λ made. planned_view made ≡ composing_at (map definition_entry definitions.now.entries)
-        (planned_view above.now) (slice_get (composing_of (planned_view above.now).meant) edge)) }
+        (planned_view above.now) (slice_get (meant_composing (planned_view above.now).meant) edge)) }
 {
     let Meant::Declared(definition) = above.meant else {
         return Ok(nowhere(alloc, above));

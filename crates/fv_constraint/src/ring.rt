@@ -1,5 +1,5 @@
 ghost use Rattle.std.specs.Prelude.{◌≡◌, map, IfOk, MatchOption};
-ghost use Rattle.fv_constraint.specs.Composed.{IsCyclic};
+ghost use Rattle.fv_constraint.specs.Composed.{ComposesItself};
 ghost use Rattle.fv_constraint.specs.Whereabouts.{IsCompositionRing};
 ghost use Rattle.fv_declare_definition.specs.DefinitionViews.{definition_entry};
 
@@ -16,7 +16,7 @@ pub fn composition_ring(
     definitions: &BTreeMap<String, Definition>,
 ) -> Result<Option<Vec<usize>>, AllocError>
     ensures { let ds = map definition_entry definitions.now.entries in IfOk result (λ found.
-        MatchOption found (IsCyclic ds → ⊥) (λ r. IsCyclic ds × IsCompositionRing ds r.items)) }
+        MatchOption found (ComposesItself ds → ⊥) (λ r. ComposesItself ds × IsCompositionRing ds r.items)) }
 {
     let numbers = Numbers::new(alloc, definitions)?;
     let edges = edges_of(alloc, &numbers)?;

@@ -8,7 +8,7 @@ use Rattle.fv_datum.specs.declared.datum.Datum.{Datum}
 use Rattle.fv_constraint_tree.specs.Nodes as spec
 use Rattle.fv_constraint_tree.specs.Preorder.{preorder}
 use Rattle.fv_constraint_tree.specs.Reports.{is_bad}
-use Rattle.fv_constraint_tree.specs.Says.{of_datum, says, refuses}
+use Rattle.fv_constraint_tree.specs.Says.{of_datum, test_says, refuses}
 use Rattle.fv_constraint_tree.specs.Trees.{Tree, tree, size}
 use Rattle.fv_constraint_tree.specs.Views.{node_view, entry_view, test_view}
 use Rattle.fv_constraint_tree.specs.declared.node.Node.{Node}
@@ -23,7 +23,7 @@ some_node (tree n below) = omega arith
 module _ (m : Meanings) (now : ℤ) where
   -- a test holds of each of these data
   abbrev pub holds : List Datum → Node → Bool
-  holds ds n = list_all (λ d. says m now n.attributes (test_view n.test) (of_datum (view d))) ds
+  holds ds n = list_all (λ d. test_says m now n.attributes (test_view n.test) (of_datum (view d))) ds
 
   abbrev pub Holds : List Datum → Node → Type 0
   Holds ds n = holds ds n ≡ true
@@ -40,19 +40,19 @@ module _ (m : Meanings) (now : ℤ) where
   by_each ds (n ∷ nodes) all = (and_left (holds ds n) (list_all (holds ds) nodes) all, by_each ds nodes (and_right (holds ds n) (list_all (holds ds) nodes) all))
 
   -- what is true of each is true of all
-  pub holds_of_each : (ds : List Datum) (n : Node) → ((d : Datum) → says m now n.attributes (test_view n.test) (of_datum (view d)) ≡ true) → Holds ds n
+  pub holds_of_each : (ds : List Datum) (n : Node) → ((d : Datum) → test_says m now n.attributes (test_view n.test) (of_datum (view d)) ≡ true) → Holds ds n
   holds_of_each [] n each = refl
   holds_of_each (d ∷ ds) n each = rw (each d) (holds_of_each ds n each)
 
   none_refuses : (d : Datum) (ds : List Datum) (nodes : List Node) → AllByRecursion (Holds (d ∷ ds)) nodes → list_any (λ n. refuses m now (of_datum (view d)) (node_view n)) nodes ≡ false
   none_refuses d ds [] all = refl
   none_refuses d ds (n ∷ nodes) all =
-      let here : says m now n.attributes (test_view n.test) (of_datum (view d)) ≡ true = and_left _ (list_all (λ x. says m now n.attributes (test_view n.test) (of_datum (view x))) ds) all.0 in
+      let here : test_says m now n.attributes (test_view n.test) (of_datum (view d)) ≡ true = and_left _ (list_all (λ x. test_says m now n.attributes (test_view n.test) (of_datum (view x))) ds) all.0 in
       ap (λ b. not b || list_any (λ x. refuses m now (of_datum (view d)) (node_view x)) nodes) here ∙ none_refuses d ds nodes all.1
 
   behind : (d : Datum) (ds : List Datum) (nodes : List Node) → AllByRecursion (Holds (d ∷ ds)) nodes → AllByRecursion (Holds ds) nodes
   behind d ds [] all = tt
-  behind d ds (n ∷ nodes) all = (and_right (says m now n.attributes (test_view n.test) (of_datum (view d))) _ all.0, behind d ds nodes all.1)
+  behind d ds (n ∷ nodes) all = (and_right (test_says m now n.attributes (test_view n.test) (of_datum (view d))) _ all.0, behind d ds nodes all.1)
 
   good : (t : Tree spec.Node) (nodes : List Node) (ds : List Datum) → preorder t ≡ map entry_view nodes → AllByRecursion (Holds ds) nodes
       → AllByRecursion (λ d. is_bad (refuses m now (of_datum (view d))) t ≡ false) ds

@@ -14,12 +14,12 @@ pub data Subject : Type 0 where
 
 -- A test with attributes holds of a subject at a moment. `nothing`, the test of a constraint that only has parts, holds of every subject, and so
 -- does a test of the other sort of subject: where a constraint stands at subjects of that sort, its declarations are refused before that.
-abbrev pub says : Meanings → ℤ → Attributes → Test → Subject → Bool
-says m now attributes (built_in b) (of_datum d) = builtin.says b d now
-says m now attributes (by_rule rule) (of_datum d) = m.decides rule d attributes
-says m now attributes (by_object_rule rule) (of_object o) = m.decides_object rule o attributes
-says m now attributes _ _ = true
+abbrev pub test_says : Meanings → ℤ → Attributes → Test → Subject → Bool
+test_says m now attributes (built_in b) (of_datum d) = builtin.says b d now
+test_says m now attributes (by_rule rule) (of_datum d) = m.decides rule d attributes
+test_says m now attributes (by_object_rule rule) (of_object o) = m.decides_object rule o attributes
+test_says m now attributes _ _ = true
 
 -- a constraint's own test refuses a subject at a moment
 abbrev pub refuses : Meanings → ℤ → Subject → Node → Bool
-refuses m now subject n = not (says m now n.attributes n.test subject)
+refuses m now subject n = not (test_says m now n.attributes n.test subject)

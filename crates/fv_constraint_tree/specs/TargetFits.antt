@@ -5,14 +5,14 @@ use Rattle.fv_constraint_tree.specs.Targets.{Target, on_object, on_data}
 use Rattle.fv_constraint_tree.specs.Nodes.{Test, built_in, by_rule, by_object_rule, nothing, Node}
 use Rattle.fv_constraint_tree.specs.Preorder.{nodes}
 use Rattle.fv_constraint_tree.specs.Trees.{Tree}
-use Rattle.fv_registry.specs.Rules.{Known, knows_field, knows_object, takes}
+use Rattle.fv_registry.specs.Rules.{Known, knows_field, knows_object, rule_takes_kind}
 
 -- the rule that a test asks is there for what stands at the place: at data a rule of data that takes the kind, at objects one of objects
 abbrev pub test_fits : Known → Target → Test → Bool
 test_fits k place (built_in b) = true
 test_fits k place nothing = true
 test_fits k on_object (by_rule rule) = false
-test_fits k (on_data kind) (by_rule rule) = knows_field rule k && takes rule kind k
+test_fits k (on_data kind) (by_rule rule) = knows_field rule k && rule_takes_kind rule kind k
 test_fits k on_object (by_object_rule rule) = knows_object rule k
 test_fits k (on_data kind) (by_object_rule rule) = false
 

@@ -5,7 +5,7 @@ ghost use Rattle.fv_datum.specs.Moments.{IsMoment};
 ghost use Rattle.fv_datum.specs.View.{view};
 ghost use Rattle.fv_registry.specs.Meanings.{Meanings};
 ghost use Rattle.fv_constraint_tree.specs.Reports.{is_bad};
-ghost use Rattle.fv_constraint_tree.specs.Says.{of_datum, says, refuses};
+ghost use Rattle.fv_constraint_tree.specs.Says.{of_datum, test_says, refuses};
 ghost use Rattle.fv_constraint_tree.specs.Views.{test_view};
 
 use crate::node::{Node, Test};
@@ -18,7 +18,7 @@ use std::alloc::{AllocError, Global};
 fn holds_for_all(alloc: Global, node: &Node, data: &[Datum], now: i64) -> Result<bool, AllocError>
     requires { IsMoment now }
     ensures { (m : Meanings) → IfOk result (λ b. b ≡ true
-        → list_all (λ d. says m now node.now.attributes (test_view node.now.test) (of_datum (view d))) data.now ≡ true) }
+        → list_all (λ d. test_says m now node.now.attributes (test_view node.now.test) (of_datum (view d))) data.now ≡ true) }
 {
     match &node.test {
         Test::BuiltIn(builtin) => builtin.holds_for_all(alloc, data, now),
@@ -32,7 +32,7 @@ fn holds_for_all(alloc: Global, node: &Node, data: &[Datum], now: i64) -> Result
 fn all_hold(alloc: Global, nodes: &[Node], data: &[Datum], now: i64) -> Result<bool, AllocError>
     requires { IsMoment now }
     ensures { (m : Meanings) → IfOk result (λ b. b ≡ true
-        → list_all (λ n. list_all (λ d. says m now n.attributes (test_view n.test) (of_datum (view d))) data.now) nodes.now ≡ true) }
+        → list_all (λ n. list_all (λ d. test_says m now n.attributes (test_view n.test) (of_datum (view d))) data.now) nodes.now ≡ true) }
 {
     for node in nodes {
         if !holds_for_all(alloc, node, data, now)? {

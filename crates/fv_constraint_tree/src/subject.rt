@@ -5,7 +5,7 @@ ghost use Rattle.fv_datum.specs.View.{view};
 ghost use Rattle.fv_bundle.specs.Views.{object_view};
 ghost use Rattle.fv_registry.specs.Rules.{knows_field, knows_object};
 ghost use Rattle.fv_constraint_tree.specs.Fits.{test_fits};
-ghost use Rattle.fv_constraint_tree.specs.Says.{says};
+ghost use Rattle.fv_constraint_tree.specs.Says.{test_says};
 ghost use Rattle.fv_constraint_tree.specs.Views.{test_view, subject_view};
 
 use crate::node::{Node, Test};
@@ -60,7 +60,7 @@ pub(crate) fn says<R: RuleSet>(
     requires moment { IsMoment now }
     requires there { test_fits (R.known rules.now.rules) (test_view node.now.test) ≡ true }
     ensures { IfOk result (λ b. b
-        ≡ says R.meaning now node.now.attributes (test_view node.now.test) (subject_view subject.entry)) }
+        ≡ test_says R.meaning now node.now.attributes (test_view node.now.test) (subject_view subject.entry)) }
 {
     match (&node.test, subject) {
         (Test::BuiltIn(builtin), Subject::Datum(datum)) => builtin.holds(alloc, datum, now),

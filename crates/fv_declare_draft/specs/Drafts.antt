@@ -7,7 +7,7 @@ use Rattle.fv_declare_definition.specs.Definitions.{Definitions}
 use Rattle.fv_declare_definition.specs.Written.{definition_of}
 use Rattle.fv_datum.specs.NameLists.{names_in, names_of}
 use Rattle.fv_declare_draft.specs.Groups.{group_of}
-use Rattle.fv_declare_draft.specs.Messages.{message_of}
+use Rattle.fv_declare_draft.specs.Messages.{message_draft_of}
 use Rattle.fv_declare_draft.specs.Places.{PlacedUse, PlacedCascade, place_of, type_at, uses_at, cascades_at}
 use Rattle.fv_declare_draft.specs.Uses.{UseDraft, uses_of}
 use Rattle.fv_declare_schema.specs.Groups.{Groups}
@@ -65,4 +65,4 @@ draft_of = only (codes "types" ∷ codes "forms" ∷ codes "groups" ∷ codes "c
     record { types = types; forms = forms; definitions = definitions; groups = groups; messages = messages })
     (required (each_member type_of) (codes "types") j) (required (each_member form_of) (codes "forms") j)
     (optional [] (each_member group_of) (codes "groups") j) (optional [] (each_member definition_of) (codes "constraints") j)
-    (optional [] (each_member message_of) (codes "messages") j))
+    (optional [] (each_member message_draft_of) (codes "messages") j))

@@ -8,7 +8,7 @@ use Rattle.fv_datum.specs.Forms.{required, map2, map3}
 use Rattle.fv_datum.specs.Lookup.{at_name}
 use Rattle.fv_datum.specs.Members.{has_only}
 use Rattle.fv_datum.specs.declared.kind.Kind.{Kind}
-use Rattle.fv_extract.specs.Places.{Step, element, key, value, content}
+use Rattle.fv_extract.specs.Places.{PlaceStep, element, key, value, content}
 use Rattle.fv_bundle.specs.Types.{TypeUse, texts, integers, decimals, booleans, dates, instants, references, lists, maps, optionals, kind_of}
 use Rattle.fv_declare_draft.specs.Cascades.{CascadeDraft, cascade_of}
 use Rattle.fv_declare_draft.specs.Uses.{UseDraft, uses_of}
@@ -81,22 +81,22 @@ abbrev mutual
 
 -- a use at a place in a field: the steps that lead there, the kind of what stands there, and what is used
 pub record PlacedUse : Type 0 where
-  pub steps : List Step
+  pub steps : List PlaceStep
   pub kind : Kind
   pub draft : UseDraft
 
 -- a cascade at a place in a field: the steps that lead there, the kind of what stands there, and what is written of it
 pub record PlacedCascade : Type 0 where
-  pub steps : List Step
+  pub steps : List PlaceStep
   pub kind : Kind
   pub cascade : CascadeDraft
 
 -- a use at a place where data of a kind stand
-abbrev pub use_there : List Step → Kind → UseDraft → PlacedUse
+abbrev pub use_there : List PlaceStep → Kind → UseDraft → PlacedUse
 use_there steps kind draft = record { steps = steps; kind = kind; draft = draft }
 
 -- a cascade at a place where data of a kind stand
-abbrev pub cascade_there : List Step → Kind → CascadeDraft → PlacedCascade
+abbrev pub cascade_there : List PlaceStep → Kind → CascadeDraft → PlacedCascade
 cascade_there steps kind cascade = record { steps = steps; kind = kind; cascade = cascade }
 
 abbrev mutual
@@ -113,10 +113,10 @@ abbrev mutual
 
 abbrev mutual
   -- the uses at the place that these steps lead to and then those inside it, in the order of their numbers
-  pub uses_at : List Step → PlaceDraft → List PlacedUse
+  pub uses_at : List PlaceStep → PlaceDraft → List PlacedUse
   uses_at steps (place uses cascade held) = map (use_there steps (kind_of (type_held held))) uses ++ uses_inside steps held
 
-  pub uses_inside : List Step → Holding → List PlacedUse
+  pub uses_inside : List PlaceStep → Holding → List PlacedUse
   uses_inside steps (plain type) = []
   uses_inside steps (list p) = uses_at (steps ++ element ∷ []) p
   uses_inside steps (optional p) = uses_at (steps ++ content ∷ []) p
@@ -124,10 +124,10 @@ abbrev mutual
 
 abbrev mutual
   -- the cascade at the place that these steps lead to, and then those inside it
-  pub cascades_at : List Step → PlaceDraft → List PlacedCascade
+  pub cascades_at : List PlaceStep → PlaceDraft → List PlacedCascade
   cascades_at steps (place uses cascade held) = cascade_there steps (kind_of (type_held held)) cascade ∷ cascades_inside steps held
 
-  pub cascades_inside : List Step → Holding → List PlacedCascade
+  pub cascades_inside : List PlaceStep → Holding → List PlacedCascade
   cascades_inside steps (plain type) = []
   cascades_inside steps (list p) = cascades_at (steps ++ element ∷ []) p
   cascades_inside steps (optional p) = cascades_at (steps ++ content ∷ []) p

@@ -8,7 +8,7 @@ use Rattle.fv_declare_draft.specs.declared.all_cascades.Cascade.{Cascade}
 use Rattle.fv_declare_draft.specs.declared.all_uses.Use.{Use}
 
 -- a use at its place
-abbrev pub use_view : Use → spec.Use
+abbrev pub use_view : Use → spec.DraftUse
 use_view u = record {
   type = u.type_index;
   place = place_view u.place;

@@ -5,7 +5,7 @@ ghost use Rattle.serde_json.specs.View.{view as json_view, members_view};
 ghost use Rattle.fv_datum.specs.Forms.{each_member};
 ghost use Rattle.fv_datum.specs.Members.{pairs, each_some};
 ghost use Rattle.fv_declare_draft.specs.DraftViews.{message_view};
-ghost use Rattle.fv_declare_draft.specs.Messages.{message_of as spec_message};
+ghost use Rattle.fv_declare_draft.specs.Messages.{message_draft_of as spec_message};
 ghost use Rattle.fv_datum.specs.Ascending.{IsAscending};
 
 use crate::draft::MessageDraft;

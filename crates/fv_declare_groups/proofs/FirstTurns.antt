@@ -15,7 +15,7 @@ use Rattle.fv_declare_draft.specs.declared.draft.TypeDraft.{TypeDraft}
 use Rattle.fv_first.specs.First.{first_from}
 use Rattle.fv_first.proofs.Turns.{first_turn}
 
-pub use_turn : {P : Type 0} (f : ℕ → uses.Use → Option P) (xs : List Use) (i : ℕ) (x : Use) → i < length xs → x ≡ get_or xs i x
+pub use_turn : {P : Type 0} (f : ℕ → uses.DraftUse → Option P) (xs : List Use) (i : ℕ) (x : Use) → i < length xs → x ≡ get_or xs i x
     → first_from f i (map use_view (drop i xs)) ≡ option_or (f i (use_view x)) (first_from f (i + 1) (map use_view (drop (i + 1) xs)))
 use_turn = first_turn use_view
 

@@ -3,9 +3,9 @@ use Rattle.std.proofs.Common.{◌≡◌, inl, inr, List, [], ◌∷◌, Bool, tr
 use Rattle.std.specs.List.{list_any}
 use Rattle.fv_declare_draft.specs.Drafts.{TypeDraft, Drafted}
 use Rattle.fv_declare_schema.specs.Groups.{Groups}
-use Rattle.fv_declare_schema.specs.Judged.{has_unknown, has_inherited_sequence, sequence_in, AreSound}
+use Rattle.fv_declare_schema.specs.Judged.{has_unknown_group, has_inherited_sequence, sequence_in, AreSound}
 use Rattle.fv_declare_draft.specs.AllCascades.{Cascade, cascades_in}
-use Rattle.fv_declare_draft.specs.AllUses.{Use, uses_in}
+use Rattle.fv_declare_draft.specs.AllUses.{DraftUse, uses_in}
 use Rattle.fv_declare_groups.specs.First.{IsFirst, HasSome}
 use Rattle.fv_declare_groups.specs.Graphed.{IsFaultOf}
 use Rattle.fv_declare_groups.specs.Grouping.{groups_in, named_unknown, lacks_type, MembersMeet, is_misplaced, grouping_faults, Holds}
@@ -44,17 +44,17 @@ module _ (d : Drafted) where
 
   -- a name outside of groups is no group's
   pub name_unknown : named ≡ true → Told (Some UnknownGroup)
-  name_unknown is = inl (or_first named (has_unknown all) is, refl)
+  name_unknown is = inl (or_first named (has_unknown_group all) is, refl)
 
   module _ (names : named ≡ false) where
     -- a fault of groups by themselves
     pub group_fault : (f : GroupingFault) → IsFaultOf all f → Told (Some f)
-    group_fault UnknownGroup is = inl (or_second named (has_unknown all) is, refl)
-    group_fault CyclicInheritance is = inr (not_both _ (or_neither named (has_unknown all) names is.0), inl (is.1, refl))
-    group_fault CyclicSequence is = inr (not_both _ (or_neither named (has_unknown all) names is.0), inr (is.1, inl (is.2, refl)))
+    group_fault UnknownGroup is = inl (or_second named (has_unknown_group all) is, refl)
+    group_fault CyclicInheritance is = inr (not_both _ (or_neither named (has_unknown_group all) names is.0), inl (is.1, refl))
+    group_fault CyclicSequence is = inr (not_both _ (or_neither named (has_unknown_group all) names is.0), inr (is.1, inl (is.2, refl)))
     group_fault SequenceMisused is =
         inr (
-          not_both _ (or_neither named (has_unknown all) names is.0),
+          not_both _ (or_neither named (has_unknown_group all) names is.0),
           inr (
             is.1,
             inr (
@@ -70,7 +70,7 @@ module _ (d : Drafted) where
 
     module _ (sound : AreSound all) where
       later : (found : Option GroupingFault) → IsFirst (Holds d) (SequenceMisused ∷ SequenceLacksType ∷ DefaultInTypeSequence ∷ ConversionMisplaced ∷ []) found → Told found
-      later found h = inr (not_both _ (or_neither named (has_unknown all) names sound.known), inr (sound.inheritance, inr (sound.expansion, h)))
+      later found h = inr (not_both _ (or_neither named (has_unknown_group all) names sound.known), inr (sound.inheritance, inr (sound.expansion, h)))
 
       abbrev in_sequence : Bool
       in_sequence = list_any (λ u. sequence_in all u.draft.groups) (uses_in d.types)
@@ -104,16 +104,16 @@ module _ (d : Drafted) where
 -- ---- what is asked of lists that are the draft's
 
 module _ (d : Drafted) where
-  pub named_same : (gs : Groups) (us : List Use) (cs : List Cascade) (b : Bool) → gs ≡ groups_in d → us ≡ uses_in d.types → cs ≡ cascades_in d.types → b ≡ named_unknown gs us d.types cs d.forms
+  pub named_same : (gs : Groups) (us : List DraftUse) (cs : List Cascade) (b : Bool) → gs ≡ groups_in d → us ≡ uses_in d.types → cs ≡ cascades_in d.types → b ≡ named_unknown gs us d.types cs d.forms
       → named_unknown (groups_in d) (uses_in d.types) d.types (cascades_in d.types) d.forms ≡ b
   named_same gs us cs b groups uses cascades is =
-      sym (is ∙ ap (λ (g : Groups). named_unknown g us d.types cs d.forms) groups ∙ ap (λ (u : List Use). named_unknown (groups_in d) u d.types cs d.forms) uses
+      sym (is ∙ ap (λ (g : Groups). named_unknown g us d.types cs d.forms) groups ∙ ap (λ (u : List DraftUse). named_unknown (groups_in d) u d.types cs d.forms) uses
       ∙ ap (λ (c : List Cascade). named_unknown (groups_in d) (uses_in d.types) d.types c d.forms) cascades)
 
-  pub sequenced_same : (gs : Groups) (us : List Use) (b : Bool) → gs ≡ groups_in d → us ≡ uses_in d.types → b ≡ list_any (λ u. sequence_in gs u.draft.groups) us
+  pub sequenced_same : (gs : Groups) (us : List DraftUse) (b : Bool) → gs ≡ groups_in d → us ≡ uses_in d.types → b ≡ list_any (λ u. sequence_in gs u.draft.groups) us
       → list_any (λ u. sequence_in (groups_in d) u.draft.groups) (uses_in d.types) ≡ b
   sequenced_same gs us b groups uses is =
-      sym (is ∙ ap (λ (g : Groups). list_any (λ (u : Use). sequence_in g u.draft.groups) us) groups ∙ ap (λ (u : List Use). list_any (λ (v : Use). sequence_in (groups_in d) v.draft.groups) u) uses)
+      sym (is ∙ ap (λ (g : Groups). list_any (λ (u : DraftUse). sequence_in g u.draft.groups) us) groups ∙ ap (λ (u : List DraftUse). list_any (λ (v : DraftUse). sequence_in (groups_in d) v.draft.groups) u) uses)
 
   pub lacking_same : (ts : List TypeDraft) (b : Bool) → ts ≡ d.types → b ≡ list_any lacks_type ts → list_any lacks_type d.types ≡ b
   lacking_same ts b types is = sym (is ∙ ap (list_any lacks_type) types)
@@ -163,16 +163,16 @@ fault_alone d Memory found is at none = absurd is
 -- ---- where a draft has a fault
 
 -- what is found is found in lists that are the draft's
-pub unknown_same : (d : Drafted) (gs : Groups) (us : List Use) (cs : List Cascade) (found : Option GroupingAt) → gs ≡ groups_in d → us ≡ uses_in d.types → cs ≡ cascades_in d.types → found ≡ unknown_in gs us d.types cs d.forms
+pub unknown_same : (d : Drafted) (gs : Groups) (us : List DraftUse) (cs : List Cascade) (found : Option GroupingAt) → gs ≡ groups_in d → us ≡ uses_in d.types → cs ≡ cascades_in d.types → found ≡ unknown_in gs us d.types cs d.forms
     → found ≡ unknown_in (groups_in d) (uses_in d.types) d.types (cascades_in d.types) d.forms
 unknown_same d gs us cs found groups uses cascades is =
-    is ∙ ap (λ (g : Groups). unknown_in g us d.types cs d.forms) groups ∙ ap (λ (u : List Use). unknown_in (groups_in d) u d.types cs d.forms) uses
+    is ∙ ap (λ (g : Groups). unknown_in g us d.types cs d.forms) groups ∙ ap (λ (u : List DraftUse). unknown_in (groups_in d) u d.types cs d.forms) uses
     ∙ ap (λ (c : List Cascade). unknown_in (groups_in d) (uses_in d.types) d.types c d.forms) cascades
 
 pub name_at : (d : Drafted) (at : GroupingAt) → Some at ≡ unknown_in (groups_in d) (uses_in d.types) d.types (cascades_in d.types) d.forms → IsAt d UnknownGroup (Some at)
 name_at d at is = (ap (λ o. option_or o (option_map group_at (unknown_name (groups_in d)))) is, refl)
 
-pub use_at : (d : Drafted) (gs : Groups) (us : List Use) (at : GroupingAt) → AreSound (groups_in d) → gs ≡ groups_in d → us ≡ uses_in d.types → Some at ≡ misused_in gs us → IsAt d SequenceMisused (Some at)
+pub use_at : (d : Drafted) (gs : Groups) (us : List DraftUse) (at : GroupingAt) → AreSound (groups_in d) → gs ≡ groups_in d → us ≡ uses_in d.types → Some at ≡ misused_in gs us → IsAt d SequenceMisused (Some at)
 use_at d gs us at sound groups uses is =
     let here : Some at ≡ misused_in (groups_in d) (uses_in d.types) = is ∙ ap (λ (g : Groups). misused_in g us) groups ∙ ap (misused_in (groups_in d)) uses in
     let none : inherited_sequence (groups_in d) ≡ None = nothing (inherited_sequence (groups_in d)) (inherited_told (groups_in d) ∙ sound.proper) in

@@ -3,10 +3,10 @@ use Rattle.std.proofs.Common.{◌≡◌, ℕ, List, [], ◌∷◌, Bool, true, f
 use Rattle.std.specs.List.{list_any}
 use Rattle.std.specs.Option.{option_map_or}
 use Rattle.fv_declare_draft.specs.AllCascades.{Cascade}
-use Rattle.fv_declare_draft.specs.AllUses.{Use}
+use Rattle.fv_declare_draft.specs.AllUses.{DraftUse}
 use Rattle.fv_declare_draft.specs.Cascades as drafts
 use Rattle.fv_declare_draft.specs.Drafts.{TypeDraft, FormDraft}
-use Rattle.fv_declare_schema.specs.Groups.{Groups, number_of, is_sequence}
+use Rattle.fv_declare_schema.specs.Groups.{Groups, group_number, is_sequence}
 use Rattle.fv_declare_schema.specs.Judged as judged
 use Rattle.fv_declare_schema.specs.Judged.{sequence_in}
 use Rattle.fv_declare_groups.specs.First.{HasSome}
@@ -25,22 +25,22 @@ four false true c d = refl
 four false false true d = refl
 four false false false d = refl
 
-pub unknown_told : (gs : Groups) (us : List Use) (ts : List TypeDraft) (cs : List Cascade) (fs : List FormDraft) → is_some (unknown_in gs us ts cs fs) ≡ named_unknown gs us ts cs fs
+pub unknown_told : (gs : Groups) (us : List DraftUse) (ts : List TypeDraft) (cs : List Cascade) (fs : List FormDraft) → is_some (unknown_in gs us ts cs fs) ≡ named_unknown gs us ts cs fs
 unknown_told gs us ts cs fs =
     or_told (unknown_use gs us) _
-    ∙ ap₂ (λ a b. a || b) (inner_told at.Use (λ u name. not (is_some (number_of gs name))) (λ (u : Use). u.draft.groups) us) (
+    ∙ ap₂ (λ a b. a || b) (inner_told at.Use (λ u name. not (is_some (group_number gs name))) (λ (u : DraftUse). u.draft.groups) us) (
     or_told (unknown_member gs ts) _
     ∙ ap₂ (λ a b. a || b) (inner_told at.Member (λ t. member_unknown gs t.name) sequence_members ts) (
     or_told (unknown_conversion gs cs) _
     ∙ ap₂ (λ a b. a || b) (inner_told (λ n k. at.Cascade n (Conversion k)) (λ c. conversion_unknown gs) (λ (c : Cascade). c.placed.cascade.conversions) cs) (
-    or_none (unknown_form gs fs) ∙ inner_told at.Form (λ f name. not (is_some (number_of gs name))) (λ (f : FormDraft). f.groups) fs
+    or_none (unknown_form gs fs) ∙ inner_told at.Form (λ f name. not (is_some (group_number gs name))) (λ (f : FormDraft). f.groups) fs
     )
     )
     )
-    ∙ four (list_any (λ u. judged.unknown_in gs u.draft.groups) us) (list_any (members_unknown gs) ts) (list_any (conversions_unknown gs) cs) (list_any (λ f. judged.unknown_in gs f.groups) fs)
+    ∙ four (list_any (λ u. judged.unknown_group_in gs u.draft.groups) us) (list_any (members_unknown gs) ts) (list_any (conversions_unknown gs) cs) (list_any (λ f. judged.unknown_group_in gs f.groups) fs)
 
-pub misused_told : (gs : Groups) (us : List Use) → is_some (misused_in gs us) ≡ list_any (λ u. sequence_in gs u.draft.groups) us
-misused_told gs us = inner_told at.Use (λ u name. option_map_or (is_sequence gs) (number_of gs name) false) (λ (u : Use). u.draft.groups) us
+pub misused_told : (gs : Groups) (us : List DraftUse) → is_some (misused_in gs us) ≡ list_any (λ u. sequence_in gs u.draft.groups) us
+misused_told gs us = inner_told at.Use (λ u name. option_map_or (is_sequence gs) (group_number gs name) false) (λ (u : DraftUse). u.draft.groups) us
 
 pub lacking_told : (ts : List TypeDraft) → is_some (lacking_in ts) ≡ list_any lacks_type ts
 lacking_told ts = first_told _ lacks_type (λ n t. when_told (lacks_type t) (at.Sequence n)) 0 ts

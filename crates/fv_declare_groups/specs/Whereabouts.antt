@@ -2,7 +2,7 @@
 use Rattle.std.specs.Prelude.{◌≡◌, ℕ, ◌&&◌, List, [], ◌∷◌, IsTrue, not, if◌then◌else◌, Option, Some, None, option_map, is_some, MatchOption}
 use Rattle.std.specs.Option.{option_or}
 use Rattle.fv_declare_draft.specs.AllCascades.{Cascade, cascades_in}
-use Rattle.fv_declare_draft.specs.AllUses.{Use, uses_in}
+use Rattle.fv_declare_draft.specs.AllUses.{DraftUse, uses_in}
 use Rattle.fv_declare_draft.specs.Drafts.{TypeDraft, FormDraft, Drafted}
 use Rattle.fv_declare_schema.specs.Groups.{Groups}
 use Rattle.fv_declare_schema.specs.Judged.{sequence_in}
@@ -24,7 +24,7 @@ group_at name = at.Group name.group name.name
 -- ---- a group that isn't declared
 
 -- the first use that names one
-abbrev pub unknown_use : Groups → List Use → Option GroupingAt
+abbrev pub unknown_use : Groups → List DraftUse → Option GroupingAt
 unknown_use gs us = first_in (λ n u. option_map (at.Use n) (first_unknown gs u.draft.groups)) us
 
 -- the first type whose sequence has one as a member
@@ -40,21 +40,21 @@ abbrev pub unknown_form : Groups → List FormDraft → Option GroupingAt
 unknown_form gs fs = first_in (λ n f. option_map (at.Form n) (first_unknown gs f.groups)) fs
 
 -- the first of these, in this order
-abbrev pub unknown_in : Groups → List Use → List TypeDraft → List Cascade → List FormDraft → Option GroupingAt
+abbrev pub unknown_in : Groups → List DraftUse → List TypeDraft → List Cascade → List FormDraft → Option GroupingAt
 unknown_in gs us ts cs fs = first_of (unknown_use gs us ∷ unknown_member gs ts ∷ unknown_conversion gs cs ∷ unknown_form gs fs ∷ [])
 
 -- the first of these, else the first group that names one
-abbrev pub unknown_at : Groups → List Use → List TypeDraft → List Cascade → List FormDraft → Option GroupingAt
+abbrev pub unknown_at : Groups → List DraftUse → List TypeDraft → List Cascade → List FormDraft → Option GroupingAt
 unknown_at gs us ts cs fs = option_or (unknown_in gs us ts cs fs) (option_map group_at (unknown_name gs))
 
 -- ---- sequences
 
 -- the first use in a sequence
-abbrev pub misused_in : Groups → List Use → Option GroupingAt
+abbrev pub misused_in : Groups → List DraftUse → Option GroupingAt
 misused_in gs us = first_in (λ n u. option_map (at.Use n) (first_sequence gs u.draft.groups)) us
 
 -- the first group that inherits a sequence, else the first use in one
-abbrev pub misused_at : Groups → List Use → Option GroupingAt
+abbrev pub misused_at : Groups → List DraftUse → Option GroupingAt
 misused_at gs us = option_or (option_map group_at (inherited_sequence gs)) (misused_in gs us)
 
 -- the first type whose sequence lacks it

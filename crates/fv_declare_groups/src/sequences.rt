@@ -5,10 +5,10 @@ ghost use Rattle.std.specs.Option.{option_map_or};
 ghost use Rattle.std.specs.Str.{bytes_eq};
 ghost use Rattle.fv_declare_draft.specs.DraftViews.{type_view};
 ghost use Rattle.fv_first.specs.First.{first_where, IsFirstIn};
-ghost use Rattle.fv_declare_groups.specs.Grouping.{lacks_type, is_long, MemberMeets};
+ghost use Rattle.fv_declare_groups.specs.Grouping.{lacks_type, is_long_group, MemberMeets};
 ghost use Rattle.fv_declare_groups.specs.Whereabouts.{misused_in, lacking_in, IsMetAt, IsMetIn};
 ghost use Rattle.fv_declare_schema.specs.Whereabouts.{first_sequence};
-ghost use Rattle.fv_declare_schema.specs.Groups.{number_of, is_sequence};
+ghost use Rattle.fv_declare_schema.specs.Groups.{group_number, is_sequence};
 ghost use Rattle.fv_declare_draft.specs.UseViews.{use_view};
 
 use crate::at::GroupingAt;
@@ -21,7 +21,7 @@ const MOST_MEMBERS: usize = 32;
 
 /// Whether the group of that name is a sequence.
 pub(crate) fn is_sequence(graph: &GroupGraph, name: &str) -> bool
-    ensures { result ≡ option_map_or (is_sequence graph.now) (number_of graph.now name.now) false }
+    ensures { result ≡ option_map_or (is_sequence graph.now) (group_number graph.now name.now) false }
 {
     match graph.find(name) {
         None => false,
@@ -131,7 +131,7 @@ pub(crate) fn met_in(graph: &GroupGraph, types: &[TypeDraft]) -> Option<Grouping
 /// The number of the first type whose sequence has more than 32 members.
 #[tactic(auto, using(crate::proofs::FirstTurns::type_turn))]
 pub fn long_sequence(types: &[TypeDraft]) -> Option<usize>
-    ensures { result ≡ first_where is_long (map type_view types.now) }
+    ensures { result ≡ first_where is_long_group (map type_view types.now) }
 {
     for (number, declared) in types.iter().enumerate() {
         if members_of(declared).len() > MOST_MEMBERS {

@@ -7,7 +7,7 @@ use Rattle.fv_constraint_tree.specs.Nodes.{Node}
 use Rattle.fv_constraint_tree.specs.TargetFits.{tree_fits}
 use Rattle.fv_constraint_tree.specs.Trees.{Tree}
 use Rattle.fv_declare_draft.specs.AllCascades.{Cascade, cascades_in}
-use Rattle.fv_declare_draft.specs.AllUses.{Use, uses_in}
+use Rattle.fv_declare_draft.specs.AllUses.{DraftUse, uses_in}
 use Rattle.fv_declare_draft.specs.DraftViews.{draft_view}
 use Rattle.fv_declare_draft.specs.declared.draft.Draft.{Draft}
 use Rattle.fv_declare_groups.specs.Grouping.{groups_in, is_misplaced}
@@ -41,7 +41,7 @@ told P r m is h = subst (λ (s : Result Messages PlacedWording). IfOk s P) is h
 
 module _
     (draft : Draft)
-    (us : List Use)
+    (us : List DraftUse)
     (p : Parts)
     (checked : IsChecked (draft_view draft) us p)
     (types : Types)
@@ -55,7 +55,7 @@ module _
     (n : Numbers)
     (numbered : IsNumbered (draft_view draft) (types_view types) gs us cs os n) where
   at : map placed_view n.occurrences.items ≡ placed_from gs 0 (uses_in (draft_view draft).types) os
-  at = numbered.occurrences ∙ ap (λ (ws : List Use). placed_from gs 0 ws os) checked.uses
+  at = numbered.occurrences ∙ ap (λ (ws : List DraftUse). placed_from gs 0 ws os) checked.uses
 
   long : length os ≡ length (uses_in (draft_view draft).types)
   long = each ∙ ap length checked.uses

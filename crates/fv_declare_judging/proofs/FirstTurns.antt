@@ -33,7 +33,7 @@ pub group_turn : {P : Type 0} (f : ℕ → List ℕ × Form → Option P) (xs : 
     → first_from f i (map group_view (drop i xs)) ≡ option_or (f i (group_view x)) (first_from f (i + 1) (map group_view (drop (i + 1) xs)))
 group_turn = first_turn group_view
 
-pub use_turn : {P : Type 0} (f : ℕ → uses.Use → Option P) (xs : List Use) (i : ℕ) (x : Use) → i < length xs → x ≡ get_or xs i x
+pub use_turn : {P : Type 0} (f : ℕ → uses.DraftUse → Option P) (xs : List Use) (i : ℕ) (x : Use) → i < length xs → x ≡ get_or xs i x
     → first_from f i (map use_view (drop i xs)) ≡ option_or (f i (use_view x)) (first_from f (i + 1) (map use_view (drop (i + 1) xs)))
 use_turn = first_turn use_view
 

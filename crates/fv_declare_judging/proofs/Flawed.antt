@@ -3,7 +3,7 @@ use Rattle.std.proofs.Common.{◌≡◌, ◌↔◌, ◌++◌, ◌||◌, inl, inr
 use Rattle.std.specs.List.{cons_option, flat_map, list_any}
 use Rattle.std.specs.Option.{option_map_or}
 use Rattle.fv_declare_definition.specs.Definitions.{Composing, Definition}
-use Rattle.fv_declare_draft.specs.AllUses.{Use, uses_in}
+use Rattle.fv_declare_draft.specs.AllUses.{DraftUse, uses_in}
 use Rattle.fv_declare_draft.specs.Drafts.{Drafted}
 use Rattle.fv_first.specs.First.{first_in}
 use Rattle.fv_first.proofs.Laws.{or_told, map_told, when_told, where_told, first_told}
@@ -37,7 +37,7 @@ module _ (test : List ℕ → Bool) where
   any_flat of (x ∷ xs) = any_both (of x) (flat_map of xs) ∙ ap (λ b. list_any test (of x) || b) (any_flat of xs)
 
 module _ (flaw : TemplateFlaw) where
-  uses_told : (us : List Use) → is_some (flawed_use flaw us) ≡ list_any (has_flaw flaw) (use_templates us)
+  uses_told : (us : List DraftUse) → is_some (flawed_use flaw us) ≡ list_any (has_flaw flaw) (use_templates us)
   uses_told us = first_told _ (λ u. is_flawed flaw u.draft.message) (λ n u. when_told (is_flawed flaw u.draft.message) _) 0 us ∙ sym (any_told (has_flaw flaw) (λ u. u.draft.message) us)
 
   definition_told : (n : ℕ) (c : List ℕ × Definition) → is_some (flawed_definition flaw n c) ≡ list_any (has_flaw flaw) (own_templates c.1)

@@ -7,7 +7,7 @@ use Rattle.std.proofs.lemmas.Map.Made.{is_some-lookup}
 use Rattle.std.proofs.lemmas.Option.{unwrap_or-slice_get}
 use Rattle.std.proofs.lemmas.Slice.Eq.{bytes_eq-Decides}
 use Rattle.fv_datum.specs.Lookup.{at_name}
-use Rattle.fv_bundle.specs.Types.{DeclaredFields, Declared, number_of, name_at, has_unknown}
+use Rattle.fv_bundle.specs.Types.{DeclaredFields, Declared, number_of_type, name_at, has_unknown_type}
 use Rattle.fv_constraint.specs.Meanings.{composes_unknown}
 use Rattle.fv_datum.specs.Outcomes.{first}
 use Rattle.fv_declare_draft.specs.Drafts as spec
@@ -59,20 +59,20 @@ any_map p f [] = refl
 any_map p f (x ∷ xs) = ap (λ b. p (f x) || b) (any_map p f xs)
 
 -- a name that stands among the types has a number
-numbered : (ts : Declared) (name : List ℕ) → is_some (number_of ts name) ≡ is_some (at_name name ts)
+numbered : (ts : Declared) (name : List ℕ) → is_some (number_of_type ts name) ≡ is_some (at_name name ts)
 numbered ts name = is_some-position (λ t. bytes_eq name t.0) ts ∙ sym (any_map (bytes_eq name) (λ t. t.0) ts) ∙ sym (is_some-lookup (bytes_eq name) ts)
 
 module _ (d : spec.Drafted) (good : first (name_conditions d) ≡ None) where
   -- no condition of unknown names holds
-  all_known : ((unknown_constraint d || composes_unknown d.definitions) || has_unknown (types_declared d)) || unknown_root (types_declared d) d.forms ≡ false
+  all_known : ((unknown_constraint d || composes_unknown d.definitions) || has_unknown_type (types_declared d)) || unknown_root (types_declared d) d.forms ≡ false
   unfolding unknown_name
   all_known = let all : unknown_name d ≡ false = good_names d good in all
 
   pub roots_known : unknown_root (types_declared d) d.forms ≡ false
-  roots_known = or_right ((unknown_constraint d || composes_unknown d.definitions) || has_unknown (types_declared d)) _ all_known
+  roots_known = or_right ((unknown_constraint d || composes_unknown d.definitions) || has_unknown_type (types_declared d)) _ all_known
 
   constraints_known : unknown_constraint d || composes_unknown d.definitions ≡ false
-  constraints_known = or_left _ (has_unknown (types_declared d)) (or_left _ (unknown_root (types_declared d) d.forms) all_known)
+  constraints_known = or_left _ (has_unknown_type (types_declared d)) (or_left _ (unknown_root (types_declared d) d.forms) all_known)
 
   pub composed_known : composes_unknown d.definitions ≡ false
   composed_known = or_right (unknown_constraint d) _ constraints_known
@@ -80,7 +80,7 @@ module _ (d : spec.Drafted) (good : first (name_conditions d) ≡ None) where
   pub used_known : unknown_constraint d ≡ false
   used_known = or_left _ (composes_unknown d.definitions) constraints_known
 
-pub known_here : (ts : Declared) (fs : List FormDraft) (i : ℕ) (f : FormDraft) → i < length fs → f ≡ get_or fs i f → unknown_root ts (map form_view (drop i fs)) ≡ false → not (is_some (number_of ts f.root.now)) ≡ false
+pub known_here : (ts : Declared) (fs : List FormDraft) (i : ℕ) (f : FormDraft) → i < length fs → f ≡ get_or fs i f → unknown_root ts (map form_view (drop i fs)) ≡ false → not (is_some (number_of_type ts f.root.now)) ≡ false
 known_here ts fs i f h is e = ap not (numbered ts f.root.now) ∙ or_left _ _ (sym (form_turn (λ g. not (is_some (at_name g.root ts))) fs i f h is) ∙ e)
 
 pub known_later : (ts : Declared) (fs : List FormDraft) (i : ℕ) (f : FormDraft) → i < length fs → f ≡ get_or fs i f → unknown_root ts (map form_view (drop i fs)) ≡ false → unknown_root ts (map form_view (drop (i + 1) fs)) ≡ false
@@ -91,7 +91,7 @@ named_some None d = refl
 named_some (Some t) d = refl
 
 -- the type of the number that a name has is of that name
-pub found_name : (ts : Declared) (name : List ℕ) (n : ℕ) → number_of ts name ≡ Some n → name_at ts n ≡ name
+pub found_name : (ts : Declared) (name : List ℕ) (n : ℕ) → number_of_type ts name ≡ Some n → name_at ts n ≡ name
 found_name ts name n e =
     let none : List ℕ × DeclaredFields = ([], []) in
     let found = position-Some (λ t. bytes_eq name t.0) ts n none e in

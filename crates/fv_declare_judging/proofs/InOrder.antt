@@ -11,7 +11,7 @@ use Rattle.fv_constraint_tree.specs.Trees.{Tree}
 use Rattle.fv_datum.proofs.Bools.{or_right}
 use Rattle.fv_datum.specs.Parsing.{json_of}
 use Rattle.fv_declare_draft.specs.AllCascades.{cascades_in}
-use Rattle.fv_declare_draft.specs.AllUses.{Use, uses_in}
+use Rattle.fv_declare_draft.specs.AllUses.{DraftUse, uses_in}
 use Rattle.fv_declare_draft.specs.Drafts.{Drafted, draft_of}
 use Rattle.fv_declare_groups.specs.Grouping.{groups_in, is_misplaced}
 use Rattle.fv_declare_schema.specs.Declarations.{Placed, Declarations, count_nodes}
@@ -40,8 +40,8 @@ use Rattle.fv_declare_judging.proofs.Within.{named_within, forms_within, sequenc
 
 module _ (gs : Groups) where
   -- what all uses have, what is placed as they are has too
-  placed_all : (P : Use → Type 0) (Q : Placed → Type 0) (us : List Use) (ts : List (Tree Planned)) (os : List Placed) → length ts ≡ length us
-      → ((u : Use) (t : Tree Planned) (o : Placed) → IsPlacedAs gs (u, t) o → P u → Q o) → AllByRecursion P us → AllZip (IsPlacedAs gs) (zip us ts) os → AllByRecursion Q os
+  placed_all : (P : DraftUse → Type 0) (Q : Placed → Type 0) (us : List DraftUse) (ts : List (Tree Planned)) (os : List Placed) → length ts ≡ length us
+      → ((u : DraftUse) (t : Tree Planned) (o : Placed) → IsPlacedAs gs (u, t) o → P u → Q o) → AllByRecursion P us → AllZip (IsPlacedAs gs) (zip us ts) os → AllByRecursion Q os
   placed_all P Q [] [] [] long f h z = tt
   placed_all P Q [] [] (o ∷ os) long f h z = absurd z
   placed_all P Q [] (t ∷ ts) os long f h z = cc
@@ -50,7 +50,7 @@ module _ (gs : Groups) where
   placed_all P Q (u ∷ us) (t ∷ ts) (o ∷ os) long f h z =
       let less : length ts ≡ length us = omega (arith, long) in (f u t o z.0 h.0, placed_all P Q us ts os less f h.1 z.1)
 
-  rising : (us : List Use) (ts : List (Tree Planned)) (os : List Placed) → length ts ≡ length us → Rises us → AllZip (IsPlacedAs gs) (zip us ts) os → IsRising os
+  rising : (us : List DraftUse) (ts : List (Tree Planned)) (os : List Placed) → length ts ≡ length us → Rises us → AllZip (IsPlacedAs gs) (zip us ts) os → IsRising os
   rising [] [] [] long h z = tt
   rising [] [] (o ∷ os) long h z = absurd z
   rising [] (t ∷ ts) os long h z = cc
@@ -61,7 +61,7 @@ module _ (gs : Groups) where
       (placed_all (Before u) (Precedes o) us ts os less (λ v s p is b. rw (z.0.type, is.type, z.0.place, is.place) b) h.0 z.1, rising us ts os less h.1 z.1)
 
   -- and their trees have as many nodes
-  same_nodes : (us : List Use) (ts : List (Tree Planned)) (os : List Placed) → length ts ≡ length us → AllZip (IsPlacedAs gs) (zip us ts) os → count_nodes (map (λ o. o.tree) os) ≡ count_nodes ts
+  same_nodes : (us : List DraftUse) (ts : List (Tree Planned)) (os : List Placed) → length ts ≡ length us → AllZip (IsPlacedAs gs) (zip us ts) os → count_nodes (map (λ o. o.tree) os) ≡ count_nodes ts
   same_nodes [] [] [] long z = refl
   same_nodes [] [] (o ∷ os) long z = absurd z
   same_nodes [] (t ∷ ts) os long z = cc
@@ -73,7 +73,7 @@ module _ (gs : Groups) where
       let rest = same_nodes us ts os less z.1 in
       omega (arith, one, rest)
 
-each_unit : (us : List Use) → AllByRecursion (λ u. Unit {0}) us
+each_unit : (us : List DraftUse) → AllByRecursion (λ u. Unit {0}) us
 each_unit [] = tt
 each_unit (u ∷ us) = (tt, each_unit us)
 

@@ -40,7 +40,7 @@ use Rattle.fv_declare_judging.specs.declared.placed.At.TheVariants.{Constraints,
 use Rattle.fv_declare_judging.specs.declared.placed.LimitAt.{LimitAt}
 use Rattle.fv_declare_judging.specs.declared.placed.WordingAt.{WordingAt}
 use Rattle.fv_declare_judging.proofs.Limits.{limit_large, limit_small}
-use Rattle.fv_declare_draft.specs.AllUses.{Use, uses_in}
+use Rattle.fv_declare_draft.specs.AllUses.{DraftUse, uses_in}
 use Rattle.fv_declare_judging.specs.Used.{used}
 use Rattle.fv_declare_judging.specs.declared.fault.DeclFault.{DeclFault}
 use Rattle.fv_declare_judging.specs.declared.fault.DeclFault.TheVariants.{EmptyConstraint, TooLarge}
@@ -52,9 +52,9 @@ use Rattle.fv_declare_judging.proofs.Counts.{zip_long, zipped_long, same_count}
 abbrev pub Treed : Drafted → Type 0
 Treed d = (ts : List (Tree Planned)) × AreTreesOfUses d.definitions (used_in d) ts
 
-pub treed : (d : Drafted) (ds : Definitions) (us : List Use) (ts : List (Tree Planned)) → ds ≡ d.definitions → us ≡ uses_in d.types → AreTreesOfUses ds (map used us) ts → AreTreesOfUses d.definitions (used_in d) ts
+pub treed : (d : Drafted) (ds : Definitions) (us : List DraftUse) (ts : List (Tree Planned)) → ds ≡ d.definitions → us ≡ uses_in d.types → AreTreesOfUses ds (map used us) ts → AreTreesOfUses d.definitions (used_in d) ts
 treed d ds us ts same uses is =
-    subst (λ (es : Definitions). AreTreesOfUses es (used_in d) ts) same (subst (λ (ws : List Use). AreTreesOfUses ds (map used ws) ts) uses is)
+    subst (λ (es : Definitions). AreTreesOfUses es (used_in d) ts) same (subst (λ (ws : List DraftUse). AreTreesOfUses ds (map used ws) ts) uses is)
 
 -- what definitions and uses are flattened to, where they are the draft's
 pub moved : (k : Known) (d : Drafted) (ds : Definitions) (us : List flat.Use) (answer : Result (List (Tree Node)) FlattenFault) → ds ≡ d.definitions → us ≡ used_in d

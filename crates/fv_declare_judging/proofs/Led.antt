@@ -12,7 +12,7 @@ use Rattle.fv_declare_draft.specs.Cascades.{CascadeDraft}
 use Rattle.fv_declare_draft.specs.Drafts.{FieldDraft, TypeDraft, FormDraft, Drafted, field_of, type_of, draft_of}
 use Rattle.fv_declare_draft.specs.Places.{PlaceDraft, Holding, PlacedUse, PlacedCascade, place, plain, list, optional, a_map, place_of, use_there, cascade_there, type_at, type_held, uses_at, uses_inside, cascades_at, cascades_inside}
 use Rattle.fv_declare_draft.specs.Uses.{UseDraft, uses_of}
-use Rattle.fv_extract.specs.Places.{Step, element, key, value, content}
+use Rattle.fv_extract.specs.Places.{PlaceStep, element, key, value, content}
 use Rattle.fv_declare_schema.specs.Groups.{Groups}
 use Rattle.fv_bundle.specs.Types.{TypeUse, texts, lists, maps, optionals, kind_of}
 use Rattle.fv_declare_judging.specs.Judging.{IsLed, AreLed}
@@ -24,41 +24,41 @@ use Rattle.fv_declare_judging.proofs.Depths.{place_deep}
 -- ---- one place
 
 -- behind these steps come others, which lead in what is held to data of the kind
-abbrev Leads : List Step → TypeUse → List Step → Kind → Type 0
-Leads steps type to kind = (inner : List Step) × (to ≡ steps ++ inner) × (option_map kind_of (held_inside inner type) ≡ Some kind)
+abbrev Leads : List PlaceStep → TypeUse → List PlaceStep → Kind → Type 0
+Leads steps type to kind = (inner : List PlaceStep) × (to ≡ steps ++ inner) × (option_map kind_of (held_inside inner type) ≡ Some kind)
 
-abbrev UseLeads : List Step → TypeUse → PlacedUse → Type 0
+abbrev UseLeads : List PlaceStep → TypeUse → PlacedUse → Type 0
 UseLeads steps type u = Leads steps type u.steps u.kind
 
-abbrev CascadeLeads : List Step → TypeUse → PlacedCascade → Type 0
+abbrev CascadeLeads : List PlaceStep → TypeUse → PlacedCascade → Type 0
 CascadeLeads steps type c = Leads steps type c.steps c.kind
 
-abbrev AllLead : List Step → TypeUse → List PlacedUse → List PlacedCascade → Type 0
+abbrev AllLead : List PlaceStep → TypeUse → List PlacedUse → List PlacedCascade → Type 0
 AllLead steps type us cs = AllByRecursion (UseLeads steps type) us × AllByRecursion (CascadeLeads steps type) cs
 
 -- what is held one step inside
-further : (steps : List Step) (step : Step) (outer type : TypeUse) (to : List Step) (kind : Kind) → held_after step outer ≡ Some type → Leads (steps ++ step ∷ []) type to kind → Leads steps outer to kind
+further : (steps : List PlaceStep) (step : PlaceStep) (outer type : TypeUse) (to : List PlaceStep) (kind : Kind) → held_after step outer ≡ Some type → Leads (steps ++ step ∷ []) type to kind → Leads steps outer to kind
 further steps step outer type to kind is h = (step ∷ h.0, h.1 ∙ append_assoc steps (step ∷ []) h.0, ap (λ held. option_map kind_of (option_and_then (held_inside h.0) held)) is ∙ h.2)
 
-all_further : (steps : List Step) (step : Step) (outer type : TypeUse) (us : List PlacedUse) (cs : List PlacedCascade) → held_after step outer ≡ Some type → AllLead (steps ++ step ∷ []) type us cs → AllLead steps outer us cs
+all_further : (steps : List PlaceStep) (step : PlaceStep) (outer type : TypeUse) (us : List PlacedUse) (cs : List PlacedCascade) → held_after step outer ≡ Some type → AllLead (steps ++ step ∷ []) type us cs → AllLead steps outer us cs
 all_further steps step outer type us cs is h = (
   each_of (UseLeads (steps ++ step ∷ []) type) (UseLeads steps outer) us (λ u k. further steps step outer type u.steps u.kind is k) h.0,
   each_of (CascadeLeads (steps ++ step ∷ []) type) (CascadeLeads steps outer) cs (λ c k. further steps step outer type c.steps c.kind is k) h.1,
 )
 
-there : (steps : List Step) (type : TypeUse) (us : List UseDraft) → AllByRecursion (UseLeads steps type) (map (use_there steps (kind_of type)) us)
+there : (steps : List PlaceStep) (type : TypeUse) (us : List UseDraft) → AllByRecursion (UseLeads steps type) (map (use_there steps (kind_of type)) us)
 there steps type us = all_mapped (UseLeads steps type) (use_there steps (kind_of type)) us (λ u. ([], sym (append-nil steps), refl))
 
 -- the uses at a place and the cascade there, before those inside it
-before : (steps : List Step) (type : TypeUse) (uses : List UseDraft) (cascade : CascadeDraft) (us : List PlacedUse) (cs : List PlacedCascade) → AllLead steps type us cs
+before : (steps : List PlaceStep) (type : TypeUse) (uses : List UseDraft) (cascade : CascadeDraft) (us : List PlacedUse) (cs : List PlacedCascade) → AllLead steps type us cs
     → AllLead steps type (map (use_there steps (kind_of type)) uses ++ us) (cascade_there steps (kind_of type) cascade ∷ cs)
 before steps type uses cascade us cs h = (all_append (UseLeads steps type) (map (use_there steps (kind_of type)) uses) us (there steps type uses) h.0, (([], sym (append-nil steps), refl), h.1))
 
 mutual
-  place_led : (steps : List Step) (p : PlaceDraft) → AllLead steps (type_at p) (uses_at steps p) (cascades_at steps p)
+  place_led : (steps : List PlaceStep) (p : PlaceDraft) → AllLead steps (type_at p) (uses_at steps p) (cascades_at steps p)
   place_led steps (place uses cascade held) = before steps (type_held held) uses cascade _ _ (inside_led steps held)
 
-  inside_led : (steps : List Step) (held : Holding) → AllLead steps (type_held held) (uses_inside steps held) (cascades_inside steps held)
+  inside_led : (steps : List PlaceStep) (held : Holding) → AllLead steps (type_held held) (uses_inside steps held) (cascades_inside steps held)
   inside_led steps (plain type) = (tt, tt)
   inside_led steps (list p) = all_further steps element (lists (type_at p)) (type_at p) _ _ refl (place_led (steps ++ element ∷ []) p)
   inside_led steps (optional p) = all_further steps content (optionals (type_at p)) (type_at p) _ _ refl (place_led (steps ++ content ∷ []) p)

@@ -5,11 +5,11 @@ use Rattle.fv_datum.specs.Lookup.{at_name}
 use Rattle.fv_datum.specs.Name.{names}
 use Rattle.fv_datum.specs.Outcomes.{first}
 use Rattle.fv_declare_definition.specs.Definitions.{Composing, Definition, Definitions}
-use Rattle.fv_declare_draft.specs.AllUses.{Use, uses_in}
+use Rattle.fv_declare_draft.specs.AllUses.{DraftUse, uses_in}
 use Rattle.fv_declare_draft.specs.Drafts.{FieldDraft, TypeDraft, FormDraft, Drafted}
 use Rattle.fv_first.specs.First.{first_in, first_of}
 use Rattle.fv_first.proofs.Laws.{map_told, when_told, where_told, first_told, inner_told}
-use Rattle.fv_bundle.specs.Types.{Declared, DeclaredFields, TypeUse, has_unknown, is_unknown, types_fault}
+use Rattle.fv_bundle.specs.Types.{Declared, DeclaredFields, TypeUse, has_unknown_type, is_unknown, types_fault}
 use Rattle.fv_bundle.specs.declared.fault.TypesFault.TheVariants as types
 use Rattle.fv_declare_judging.specs.Conditions as condition
 use Rattle.fv_declare_judging.specs.Judging.{name_conditions}
@@ -51,7 +51,7 @@ bad_told d =
     (first_told _ (is_bad_group d.types) (λ n g. when_told (is_bad_group d.types g) _) 0 d.groups)
 
 -- the first field that refers to no type
-reference_told : (ts : Declared) → is_some (place.unknown_reference ts) ≡ has_unknown ts
+reference_told : (ts : Declared) → is_some (place.unknown_reference ts) ≡ has_unknown_type ts
 reference_told ts = map_told _ _ ∙ inner_told _ (λ (t : List ℕ × DeclaredFields) (f : List ℕ × TypeUse). is_unknown ts f.1) (λ (t : List ℕ × DeclaredFields). t.1) ts
 
 swapped : (a b c e : Bool) → (((a || b) || c) || e) ≡ (((a || b) || e) || c)
@@ -71,11 +71,11 @@ unknown_told d =
     ∙ ap₂ (λ (a b : Bool). a || b)
     (ap₂ (λ (a b : Bool). a || b)
     (ap₂ (λ (a b : Bool). a || b)
-    (first_told _ (λ (u : Use). not (is_some (meant_by ds u.draft.constraint))) (λ n u. when_told (not (is_some (meant_by ds u.draft.constraint))) _) 0 (uses_in d.types))
+    (first_told _ (λ (u : DraftUse). not (is_some (meant_by ds u.draft.constraint))) (λ n u. when_told (not (is_some (meant_by ds u.draft.constraint))) _) 0 (uses_in d.types))
     (map_told _ _ ∙ inner_told _ (λ (c : List ℕ × Definition) (p : Composing). not (is_some (meant_by ds p.constraint))) (λ (c : List ℕ × Definition). c.1.composing) ds))
     (first_told _ (λ (f : FormDraft). not (is_some (at_name f.root ts))) (λ n f. when_told (not (is_some (at_name f.root ts))) _) 0 d.forms))
     (reference_told ts)
-    ∙ swapped (condition.unknown_constraint d) (composes_unknown ds) (condition.unknown_root ts d.forms) (has_unknown ts)
+    ∙ swapped (condition.unknown_constraint d) (composes_unknown ds) (condition.unknown_root ts d.forms) (has_unknown_type ts)
 
 -- ---- the first fault of names
 
@@ -94,7 +94,7 @@ module _ (d : Drafted) (good : is_some (place.bad_name d) ≡ false) where
 
 -- ---- the names that are looked for before those of references
 
-abbrev pub outside : Declared → Definitions → List Use → List FormDraft → Option At
+abbrev pub outside : Declared → Definitions → List DraftUse → List FormDraft → Option At
 outside ts ds us fs = first_of (place.unknown_use ds us ∷ place.unknown_part ds ∷ place.unknown_root ts fs ∷ [])
 
 three_some : {P : Type 0} (a b c e : Option P) (p : P) → Some p ≡ first_of (a ∷ b ∷ c ∷ []) → is_some (first_of (a ∷ b ∷ c ∷ e ∷ [])) ≡ true
@@ -128,7 +128,7 @@ module _ (d : Drafted) (good : is_some (place.bad_name d) ≡ false) where
   found_outside p is = unknown_first d good (three_some (place.unknown_use d.definitions (uses_in d.types)) (place.unknown_part d.definitions) (place.unknown_root (types_declared d) d.forms) (place.unknown_reference (types_declared d)) p is)
 
   module _ (none : None ≡ outside (types_declared d) d.definitions (uses_in d.types) d.forms) where
-    told : is_some (place.unknown_name (types_declared d) d.definitions (uses_in d.types) d.forms) ≡ has_unknown (types_declared d)
+    told : is_some (place.unknown_name (types_declared d) d.definitions (uses_in d.types) d.forms) ≡ has_unknown_type (types_declared d)
     told = three_none (place.unknown_use d.definitions (uses_in d.types)) (place.unknown_part d.definitions) (place.unknown_root (types_declared d) d.forms) (place.unknown_reference (types_declared d)) none ∙ reference_told (types_declared d)
 
     pub all_named : types_fault (types_declared d) ≡ None → first (name_conditions d) ≡ None

@@ -22,7 +22,7 @@ use Rattle.fv_datum.proofs.Bools.{not_false, or_left, or_right}
 use Rattle.fv_datum.proofs.Lists.{none_each}
 use Rattle.fv_datum.specs.Ascending.{IsAscending}
 use Rattle.fv_declare_draft.specs.AllCascades.{cascades_in}
-use Rattle.fv_declare_draft.specs.AllUses.{Use, uses_in}
+use Rattle.fv_declare_draft.specs.AllUses.{DraftUse, uses_in}
 use Rattle.fv_declare_judging.specs.Used.{used}
 use Rattle.fv_declare_schema.specs.Declarations.{Placed, Declarations, count_nodes, AreNumbered}
 use Rattle.fv_declare_judging.specs.Schemas.{form_declared, form_grouped, IsPlacedAs}
@@ -41,35 +41,35 @@ use Rattle.fv_declare_judging.proofs.Valid.{valid_all}
 -- ---- the uses with their trees stand where they do
 
 -- a use with its groups and its tree, the root of which has a number
-abbrev at : Groups → Use → ℕ → Tree Node → Placed
+abbrev at : Groups → DraftUse → ℕ → Tree Node → Placed
 at gs u n t = record { type = u.type; place = u.place; number = n; groups = groups_named gs u.draft.groups; tree = t }
 
-placed_all : (gs : Groups) (P : Use → Type 0) (Q : Placed → Type 0) (n : ℕ) (us : List Use) (ts : List (Tree Node)) → ((u : Use) (n : ℕ) (t : Tree Node) → P u → Q (at gs u n t)) → AllByRecursion P us → AllByRecursion Q (placed_from gs n us ts)
+placed_all : (gs : Groups) (P : DraftUse → Type 0) (Q : Placed → Type 0) (n : ℕ) (us : List DraftUse) (ts : List (Tree Node)) → ((u : DraftUse) (n : ℕ) (t : Tree Node) → P u → Q (at gs u n t)) → AllByRecursion P us → AllByRecursion Q (placed_from gs n us ts)
 placed_all gs P Q n [] [] f h = tt
 placed_all gs P Q n [] (t ∷ ts) f h = tt
 placed_all gs P Q n (u ∷ us) [] f h = tt
 placed_all gs P Q n (u ∷ us) (t ∷ ts) f h = (f u n t h.0, placed_all gs P Q (n + size t) us ts f h.1)
 
-rising : (gs : Groups) (n : ℕ) (us : List Use) (ts : List (Tree Node)) → Rises us → IsRising (placed_from gs n us ts)
+rising : (gs : Groups) (n : ℕ) (us : List DraftUse) (ts : List (Tree Node)) → Rises us → IsRising (placed_from gs n us ts)
 rising gs n [] [] h = tt
 rising gs n [] (t ∷ ts) h = tt
 rising gs n (u ∷ us) [] h = tt
 rising gs n (u ∷ us) (t ∷ ts) h = (placed_all gs (Before u) (Precedes (at gs u n t)) (n + size t) us ts (λ v k s b. b) h.0, rising gs (n + size t) us ts h.1)
 
-numbered : (gs : Groups) (n : ℕ) (us : List Use) (ts : List (Tree Node)) → AreNumbered n (placed_from gs n us ts)
+numbered : (gs : Groups) (n : ℕ) (us : List DraftUse) (ts : List (Tree Node)) → AreNumbered n (placed_from gs n us ts)
 numbered gs n [] [] = tt
 numbered gs n [] (t ∷ ts) = tt
 numbered gs n (u ∷ us) [] = tt
 numbered gs n (u ∷ us) (t ∷ ts) = (refl, numbered gs (n + size t) us ts)
 
-trees : (gs : Groups) (n : ℕ) (us : List Use) (ts : List (Tree Node)) → length ts ≡ length us → map (λ o. o.tree) (placed_from gs n us ts) ≡ ts
+trees : (gs : Groups) (n : ℕ) (us : List DraftUse) (ts : List (Tree Node)) → length ts ≡ length us → map (λ o. o.tree) (placed_from gs n us ts) ≡ ts
 trees gs n [] [] same = refl
 trees gs n [] (t ∷ ts) same = cc
 trees gs n (u ∷ us) [] same = cc
 trees gs n (u ∷ us) (t ∷ ts) same = let less : length ts ≡ length us = omega (arith, same) in ap (λ rest. t ∷ rest) (trees gs (n + size t) us ts less)
 
 -- what is read at the uses' places stands there
-pub placed : (gs : Groups) (n : ℕ) (us : List Use) (ps : List (Tree Planned)) (ts : List (Tree Node)) → length ts ≡ length us → AllZip (λ u o. IsReadTree u.0.place u.1 o) (zip (map used us) ps) ts
+pub placed : (gs : Groups) (n : ℕ) (us : List DraftUse) (ps : List (Tree Planned)) (ts : List (Tree Node)) → length ts ≡ length us → AllZip (λ u o. IsReadTree u.0.place u.1 o) (zip (map used us) ps) ts
     → AllZip (IsPlacedAs gs) (zip us ps) (placed_from gs n us ts)
 placed gs n [] [] [] long z = tt
 placed gs n [] [] (t ∷ ts) long z = cc
@@ -83,7 +83,7 @@ placed gs n (u ∷ us) (p ∷ ps) (t ∷ ts) long z =
     (record { type = refl; place = refl; groups = refl; tree = z.0 }, placed gs (n + size t) us ps ts less z.1)
 
 -- and fits where the trees do
-pub placed_fit : (gs : Groups) (k : Known) (n : ℕ) (us : List Use) (ts : List (Tree Node)) → AllZip (λ u o. tree_fits k u.place o ≡ true) (map used us) ts → list_all (placed_fits k) (placed_from gs n us ts) ≡ true
+pub placed_fit : (gs : Groups) (k : Known) (n : ℕ) (us : List DraftUse) (ts : List (Tree Node)) → AllZip (λ u o. tree_fits k u.place o ≡ true) (map used us) ts → list_all (placed_fits k) (placed_from gs n us ts) ≡ true
 placed_fit gs k n [] [] z = refl
 placed_fit gs k n [] (t ∷ ts) z = absurd z
 placed_fit gs k n (u ∷ us) [] z = absurd z

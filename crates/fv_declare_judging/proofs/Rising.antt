@@ -6,32 +6,32 @@ use Rattle.fv_declare_draft.specs.Places.{PlacedUse}
 use Rattle.fv_declare_draft.specs.Uses.{UseDraft}
 use Rattle.fv_datum.proofs.Lists.{each_of}
 use Rattle.fv_declare_schema.specs.Places.{whole}
-use Rattle.fv_declare_draft.specs.AllUses.{Use, use_at, use_in, field_uses, type_uses}
+use Rattle.fv_declare_draft.specs.AllUses.{DraftUse, use_at, use_in, field_uses, type_uses}
 use Rattle.fv_declare_schema.specs.Ordered.{place_number}
 use Rattle.fv_declare_judging.proofs.Alls.{all_append, all_mapped}
 
 -- ---- lists of uses
 
 -- in an earlier type, or in the same type and at no later place
-abbrev pub Before : Use → Use → Type 0
+abbrev pub Before : DraftUse → DraftUse → Type 0
 Before p q = (p.type < q.type) ⊎ ((p.type ≡ q.type) × (place_number p.place ≤ place_number q.place))
 
-abbrev pub Rises : List Use → Type 0
+abbrev pub Rises : List DraftUse → Type 0
 Rises [] = Unit {0}
 Rises (p ∷ ps) = AllByRecursion (Before p) ps × Rises ps
 
-rises_append : (ps qs : List Use) → Rises ps → Rises qs → AllByRecursion (λ p. AllByRecursion (Before p) qs) ps → Rises (ps ++ qs)
+rises_append : (ps qs : List DraftUse) → Rises ps → Rises qs → AllByRecursion (λ p. AllByRecursion (Before p) qs) ps → Rises (ps ++ qs)
 rises_append [] qs h k cross = k
 rises_append (p ∷ ps) qs h k cross = (all_append (Before p) ps qs h.0 cross.0, rises_append ps qs h.1 k cross.1)
 
 -- in the type, from a place on and below an end
-abbrev IsIn : ℕ → ℕ → ℕ → Use → Type 0
+abbrev IsIn : ℕ → ℕ → ℕ → DraftUse → Type 0
 IsIn type from end p = (p.type ≡ type) × (from ≤ place_number p.place) × (place_number p.place < end)
 
 -- ---- at one place
 
 -- in the type, at a place of this number
-abbrev IsAt : ℕ → ℕ → Use → Type 0
+abbrev IsAt : ℕ → ℕ → DraftUse → Type 0
 IsAt type number p = (p.type ≡ type) × (place_number p.place ≡ number)
 
 at_whole : (type : ℕ) (us : List UseDraft) → AllByRecursion (IsAt type 0) (map (use_at type whole) us)
@@ -40,14 +40,14 @@ at_whole type us = all_mapped (IsAt type 0) (use_at type whole) us (λ u. (refl,
 at_field : (type number : ℕ) (us : List PlacedUse) → AllByRecursion (IsAt type (number + 1)) (map (use_in type number) us)
 at_field type number us = all_mapped (IsAt type (number + 1)) (use_in type number) us (λ u. (refl, refl))
 
-same_rises : (type number : ℕ) (ps : List Use) → AllByRecursion (IsAt type number) ps → Rises ps
+same_rises : (type number : ℕ) (ps : List DraftUse) → AllByRecursion (IsAt type number) ps → Rises ps
 same_rises type number [] h = tt
 same_rises type number (p ∷ ps) h = (
   each_of (IsAt type number) (Before p) ps (λ q k. let same : place_number p.place ≡ place_number q.place = h.0.1 ∙ sym k.1 in inr (h.0.0 ∙ sym k.0, omega arith)) h.1,
   same_rises type number ps h.1,
 )
 
-at_in : (type from end number : ℕ) (p : Use) → from ≤ number → number < end → IsAt type number p → IsIn type from end p
+at_in : (type from end number : ℕ) (p : DraftUse) → from ≤ number → number < end → IsAt type number p → IsIn type from end p
 at_in type from end number p low high h = (h.0, omega (arith, h.1), omega (arith, h.1))
 
 -- ---- in one type

@@ -6,17 +6,17 @@ use Rattle.fv_datum.proofs.Lists.{each_of}
 use Rattle.fv_bundle.specs.Types.{DeclaredFields, Declared, kind_of}
 use Rattle.fv_declare_draft.specs.AllCascades.{Cascade, cascade_in, field_cascades, type_cascades}
 use Rattle.fv_declare_schema.specs.Places.{whole, field}
-use Rattle.fv_declare_draft.specs.AllUses.{Use, use_at, use_in, field_uses, type_uses}
+use Rattle.fv_declare_draft.specs.AllUses.{DraftUse, use_at, use_in, field_uses, type_uses}
 use Rattle.fv_declare_judging.specs.Types.{field_declared, type_declared}
 use Rattle.fv_declare_judging.specs.Judging.{IsLed}
 use Rattle.fv_declare_schema.specs.Ordered.{held_inside, IsAmong}
 use Rattle.fv_declare_judging.proofs.Alls.{all_append, all_mapped, all_mapped_by}
 
-abbrev pub IsThere : Declared → Use → Type 0
+abbrev pub IsThere : Declared → DraftUse → Type 0
 IsThere ts p = (t : List ℕ × DeclaredFields) × (slice_get ts p.type ≡ Some t) × IsAmong t.1 p.place
 
 -- in the type of that number, at a place among these fields
-abbrev IsOf : ℕ → DeclaredFields → Use → Type 0
+abbrev IsOf : ℕ → DeclaredFields → DraftUse → Type 0
 IsOf type fs p = (p.type ≡ type) × IsAmong fs p.place
 
 fields_there : (type : ℕ) (all : DeclaredFields) (from : ℕ) (fs : List FieldDraft) → AllByRecursion IsLed fs → ((j : ℕ) → slice_get all (from + j) ≡ slice_get (map field_declared fs) j)

@@ -3,7 +3,7 @@ use Rattle.std.proofs.Common.{◌≡◌, ◌≢◌, inl, inr, List, [], ◌∷�
 use Rattle.std.specs.Prelude.{ℕ, option_and_then}
 use Rattle.std.specs.Option.{ok_or}
 use Rattle.serde_json.specs.Data as json
-use Rattle.fv_constraint.specs.Composed.{IsCyclic}
+use Rattle.fv_constraint.specs.Composed.{ComposesItself}
 use Rattle.fv_constraint_tree.specs.Nodes.{Node}
 use Rattle.fv_constraint_tree.specs.Trees.{Tree}
 use Rattle.fv_datum.specs.Outcomes.{first}
@@ -30,15 +30,15 @@ module _ (k : Known) (d : Drafted) where
   -- ---- composition
 
   -- a constraint that is composed of itself is told
-  pub cyclic : IsCyclic d.definitions → IsAnswerTo k d composition_faults (Err CyclicComposition)
+  pub cyclic : ComposesItself d.definitions → IsAnswerTo k d composition_faults (Err CyclicComposition)
   unfolding IsAnswerTo
-  cyclic h = λ bytes is. inl (of_draft k bytes d is (λ e. IsCyclic e.definitions) h, refl)
+  cyclic h = λ bytes is. inl (of_draft k bytes d is (λ e. ComposesItself e.definitions) h, refl)
 
-  pub acyclic : (IsCyclic d.definitions → ⊥) → (answer : Result Declarations DeclFault) → IsAnswerTo k d tree_faults answer → IsAnswerTo k d composition_faults answer
+  pub acyclic : (ComposesItself d.definitions → ⊥) → (answer : Result Declarations DeclFault) → IsAnswerTo k d tree_faults answer → IsAnswerTo k d composition_faults answer
   unfolding IsAnswerTo
-  acyclic never answer h = λ bytes is. inr (not_of_draft k bytes d is (λ e. IsCyclic e.definitions) never, h bytes is)
+  acyclic never answer h = λ bytes is. inr (not_of_draft k bytes d is (λ e. ComposesItself e.definitions) never, h bytes is)
 
-  pub acyclic_read : (IsCyclic d.definitions → ⊥) → (os : List (Tree Node)) → AreRead k d tree_faults os → AreRead k d composition_faults os
+  pub acyclic_read : (ComposesItself d.definitions → ⊥) → (os : List (Tree Node)) → AreRead k d tree_faults os → AreRead k d composition_faults os
   acyclic_read never os r = record { each = r.each; few = r.few; fit = r.fit; declared = λ ds h. acyclic never (Ok ds) (r.declared ds h) }
 
   -- ---- names and groups

@@ -7,14 +7,14 @@ use Rattle.fv_declare_draft.specs.Cascades.{Conversion}
 use Rattle.fv_declare_draft.specs.Drafts.{TypeDraft, FormDraft}
 use Rattle.fv_graph.specs.Graph.{mem, IsIn}
 use Rattle.fv_declare_groups.specs.Numbered.{groups_named, member_ranks, own_ranks, type_ranks, converted, valid_place, valid_places}
-use Rattle.fv_declare_schema.specs.Groups.{Groups, number_of, numbers_of, ranks}
+use Rattle.fv_declare_schema.specs.Groups.{Groups, group_number, numbers_of, ranks}
 use Rattle.fv_declare_schema.specs.Once.{once_after}
 use Rattle.fv_declare_schema.proofs.Edges.{numbers_below}
 use Rattle.fv_declare_schema.proofs.Plain.{ranks_plain}
 use Rattle.fv_constraint_tree.specs.Nodes.{Node}
 use Rattle.fv_constraint_tree.specs.Trees.{Tree, size}
 use Rattle.fv_declare_draft.specs.AllCascades.{Cascade}
-use Rattle.fv_declare_draft.specs.AllUses.{Use}
+use Rattle.fv_declare_draft.specs.AllUses.{DraftUse}
 use Rattle.fv_declare_judging.specs.Schemas.{form_grouped}
 use Rattle.fv_declare_judging.specs.Judging.{placed_from}
 use Rattle.fv_declare_schema.specs.Ordered.{AreGroups, AreConversions}
@@ -32,8 +32,8 @@ module _ (gs : Groups) where
   ranks_within : (g : ℕ) → g < length gs → AreGroups gs (ranks gs g)
   ranks_within g less = each_in (λ r. r < length gs) (ranks gs g) (λ j k. (ranks_plain gs g j less k).0)
 
-  number_within : (name : List ℕ) (i : ℕ) → number_of gs name ≡ Some i → i < length gs
-  number_within name i is = numbers_below gs (name ∷ []) i (go (number_of gs name) is)
+  number_within : (name : List ℕ) (i : ℕ) → group_number gs name ≡ Some i → i < length gs
+  number_within name i is = numbers_below gs (name ∷ []) i (go (group_number gs name) is)
     where
       go : (o : Option ℕ) → o ≡ Some i → IsIn (cons_option o []) i
       go None e = absurd (cc)
@@ -52,7 +52,7 @@ module _ (gs : Groups) where
     named_within [] = (some, tt)
     named_within (name ∷ names) = numbers_within (name ∷ names)
 
-    pub uses_within : (n : ℕ) (us : List Use) (ts : List (Tree Node)) → AllByRecursion (λ u. AreGroups gs u.groups) (placed_from gs n us ts)
+    pub uses_within : (n : ℕ) (us : List DraftUse) (ts : List (Tree Node)) → AllByRecursion (λ u. AreGroups gs u.groups) (placed_from gs n us ts)
     uses_within n [] ts = tt
     uses_within n (u ∷ us) [] = tt
     uses_within n (u ∷ us) (t ∷ ts) = (named_within u.draft.groups, uses_within (n + size t) us ts)
@@ -62,7 +62,7 @@ module _ (gs : Groups) where
     forms_within (f ∷ fs) = (named_within f.groups, forms_within fs)
 
     members_within : (type name : List ℕ) → AreGroups gs (member_ranks gs type name)
-    members_within type name = go (bytes_eq name type) (number_of gs name) (λ i e. number_within name i e)
+    members_within type name = go (bytes_eq name type) (group_number gs name) (λ i e. number_within name i e)
       where
         go : (b : Bool) (o : Option ℕ) → ((i : ℕ) → o ≡ Some i → i < length gs) → AreGroups gs (cond b (0 ∷ []) (option_map_or (ranks gs) o []))
         go true o h = (some, tt)
@@ -95,7 +95,7 @@ module _ (gs : Groups) where
   conversions_within [] = tt
   conversions_within (c ∷ cs) =
       one_within (converted gs c) (filter_map (converted gs) cs)
-      (λ p e. pair_within (number_of gs c.from) (number_of gs c.to) (λ i k. number_within c.from i k) (λ i k. number_within c.to i k) p e)
+      (λ p e. pair_within (group_number gs c.from) (group_number gs c.to) (λ i k. number_within c.from i k) (λ i k. number_within c.to i k) p e)
       (conversions_within cs)
 
   pub places_within : (cs : List Cascade) → AllByRecursion (λ p. AreConversions gs p.conversions) (valid_places gs cs)

@@ -2,7 +2,7 @@
 use Rattle.std.specs.Prelude.{◌||◌, List, length, map, zip, Bool, not, nat_lt, is_some}
 use Rattle.std.specs.List.{list_any, AllZip}
 use Rattle.fv_datum.specs.Lookup.{at_name}
-use Rattle.fv_bundle.specs.Types.{Declared, has_unknown, too_many}
+use Rattle.fv_bundle.specs.Types.{Declared, has_unknown_type, too_many}
 use Rattle.fv_constraint.specs.Composed.{Planned}
 use Rattle.fv_flatten.specs.Flattening as flat
 use Rattle.fv_constraint.specs.Meanings.{composes_unknown, meant_by}
@@ -11,9 +11,9 @@ use Rattle.fv_constraint_tree.specs.Nodes.{Node}
 use Rattle.fv_constraint_tree.specs.Trees.{Tree}
 use Rattle.fv_declare_draft.specs.AllUses.{uses_in}
 use Rattle.fv_declare_draft.specs.Drafts.{FormDraft, Drafted}
-use Rattle.fv_declare_groups.specs.Grouping.{groups_in, is_long}
+use Rattle.fv_declare_groups.specs.Grouping.{groups_in, is_long_group}
 use Rattle.fv_declare_schema.specs.Declarations.{count_nodes}
-use Rattle.fv_declare_schema.specs.Judged.{is_large}
+use Rattle.fv_declare_schema.specs.Judged.{is_large_group}
 use Rattle.fv_declare_judging.specs.Types.{types_declared}
 use Rattle.fv_declare_judging.specs.Used.{used}
 
@@ -27,7 +27,7 @@ unknown_root ts = list_any (λ f. not (is_some (at_name f.root ts)))
 
 -- a constraint that is neither built in nor declared, used or composed of, or a type that isn't declared
 unfoldable pub unknown_name : Drafted → Bool
-unknown_name d = unknown_constraint d || composes_unknown d.definitions || has_unknown (types_declared d) || unknown_root (types_declared d) d.forms
+unknown_name d = unknown_constraint d || composes_unknown d.definitions || has_unknown_type (types_declared d) || unknown_root (types_declared d) d.forms
 
 -- what is used, in order, each of what it judges
 abbrev pub used_in : Drafted → List flat.Use
@@ -36,7 +36,7 @@ used_in d = map used (uses_in d.types)
 -- more than 256 forms, declared constraints or groups, more than 32 that a group inherits directly, or more than 32 members of a sequence
 abbrev pub has_many : Drafted → Bool
 has_many d =
-    nat_lt 256 (length d.forms) || nat_lt 256 (length d.definitions) || is_large (groups_in d) || list_any is_long d.types
+    nat_lt 256 (length d.forms) || nat_lt 256 (length d.definitions) || is_large_group (groups_in d) || list_any is_long_group d.types
 
 -- the same, or more than 256 types or fields of a type, more than four containers one in another, or more than 1,024 nodes of all trees
 unfoldable pub too_large : Drafted → List (Tree Planned) → Bool

@@ -21,7 +21,7 @@ use Rattle.fv_declare_groups.specs.Numbered.{groups_named}
 use Rattle.fv_declare_schema.specs.Groups.{Groups}
 use Rattle.fv_message.specs.declared.fault.MessageFault.{MessageFault}
 use Rattle.fv_message.specs.declared.fault.MessageFault.TheVariants as message
-use Rattle.fv_declare_draft.specs.AllUses.{Use, uses_in}
+use Rattle.fv_declare_draft.specs.AllUses.{DraftUse, uses_in}
 use Rattle.fv_registry.specs.Rules.{Known}
 use Rattle.fv_declare_judging.specs.declared.fault.DeclFault.{DeclFault}
 use Rattle.fv_declare_judging.specs.declared.fault.DeclFault.TheVariants.{BadName, UnknownName}
@@ -77,7 +77,7 @@ abbrev pub AreLed : Drafted → Type 0
 AreLed d = AllByRecursion (λ t. AllByRecursion IsLed t.fields) d.types
 
 -- uses with their groups and trees at their places, in order, where the root of the first tree has a number
-abbrev pub placed_from : Groups → ℕ → List Use → List (Tree Node) → List Placed
+abbrev pub placed_from : Groups → ℕ → List DraftUse → List (Tree Node) → List Placed
 placed_from gs n (u ∷ us) (t ∷ ts) =
     record { type = u.type; place = u.place; number = n; groups = groups_named gs u.draft.groups; tree = t } ∷ placed_from gs (n + size t) us ts
 placed_from gs n _ _ = []

@@ -7,7 +7,7 @@ use Rattle.fv_constraint.specs.Whereabouts.{unknown_composing}
 use Rattle.fv_datum.specs.Lookup.{at_name}
 use Rattle.fv_datum.specs.Name.{names}
 use Rattle.fv_declare_definition.specs.Definitions.{AttributeDefinition, Definition, Definitions}
-use Rattle.fv_declare_draft.specs.AllUses.{Use}
+use Rattle.fv_declare_draft.specs.AllUses.{DraftUse}
 use Rattle.fv_declare_draft.specs.Drafts.{FieldDraft, FormDraft, TypeDraft, Drafted}
 use Rattle.fv_first.specs.First.{first_in, first_where, first_of}
 use Rattle.fv_declare_schema.specs.Groups.{Groups}
@@ -50,7 +50,7 @@ bad_name d = first_of (first_in bad_type d.types ∷ bad_form d.forms ∷ first_
 -- ---- unknown names
 
 -- the first use of a constraint that is neither built in nor declared
-abbrev pub unknown_use : Definitions → List Use → Option At
+abbrev pub unknown_use : Definitions → List DraftUse → Option At
 unknown_use ds us = first_in (λ n u. if not (is_some (meant_by ds u.draft.constraint)) then Some (Names (at.Use n)) else None) us
 
 -- the first constraint of that sort of which one is composed
@@ -66,5 +66,5 @@ abbrev pub unknown_reference : Declared → Option At
 unknown_reference ts = option_map (λ p. Names (at.Reference p)) (unknown_reference_at ts)
 
 -- the first of these, in this order, where the types are declared as well
-abbrev pub unknown_name : Declared → Definitions → List Use → List FormDraft → Option At
+abbrev pub unknown_name : Declared → Definitions → List DraftUse → List FormDraft → Option At
 unknown_name ts ds us fs = first_of (unknown_use ds us ∷ unknown_part ds ∷ unknown_root ts fs ∷ unknown_reference ts ∷ [])

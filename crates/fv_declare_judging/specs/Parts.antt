@@ -2,7 +2,7 @@
 use Rattle.std.specs.Prelude.{◌≡◌, ◌≢◌, List, true, false, Some, None, Result, Ok, Err, is_ok, map, IfOk, IfErr}
 use Rattle.fv_datum.specs.Outcomes.{first}
 use Rattle.fv_declare_draft.specs.AllCascades.{Cascade}
-use Rattle.fv_declare_draft.specs.AllUses.{Use, uses_in}
+use Rattle.fv_declare_draft.specs.AllUses.{DraftUse, uses_in}
 use Rattle.fv_declare_draft.specs.Drafts.{Drafted}
 use Rattle.fv_declare_draft.specs.UseViews.{cascade_view}
 use Rattle.fv_declare_groups.specs.Grouping.{IsGrouping}
@@ -35,7 +35,7 @@ AreTypesOf d (Err at) = (too_many (types_declared d) ≡ true) × (large_at (typ
 
 -- the names of a draft are known and stand as they may, and so do its groups; these are its uses, and its parts: its types, unless
 -- there are too many, its groups and cascades, and its messages, or what is wrong with the wording
-pub record IsChecked (d : Drafted) (us : List Use) (p : Parts) : Type 0 where
+pub record IsChecked (d : Drafted) (us : List DraftUse) (p : Parts) : Type 0 where
   pub named : first (name_conditions d) ≡ None
   pub led : AreLed d
   pub uses : us ≡ uses_in d.types
@@ -52,7 +52,7 @@ pub record IsWhole (p : Parts) : Type 0 where
 
 -- what is said of a draft's uses, with these trees, of its sequences, of these cascades and of its forms, by the numbers of its types and
 -- of these groups
-pub record IsNumbered (d : Drafted) (all : Declared) (gs : Groups) (us : List Use) (cs : List Cascade) (ts : List (Tree Node)) (n : Numbers) : Type 0 where
+pub record IsNumbered (d : Drafted) (all : Declared) (gs : Groups) (us : List DraftUse) (cs : List Cascade) (ts : List (Tree Node)) (n : Numbers) : Type 0 where
   pub occurrences : map placed_view n.occurrences.items ≡ placed_from gs 0 us ts
   pub sequences : sequences_view n.sequences.items ≡ map (type_ranks gs) d.types
   pub valid_places : map valid_place_view n.valid_places.items ≡ valid_places gs cs

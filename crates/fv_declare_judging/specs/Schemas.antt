@@ -6,7 +6,7 @@ use Rattle.fv_flatten.specs.Read.{IsReadTree}
 use Rattle.fv_constraint_tree.specs.Trees.{Tree}
 use Rattle.fv_datum.specs.Ascending.{IsAscending}
 use Rattle.fv_declare_draft.specs.AllCascades.{cascades_in}
-use Rattle.fv_declare_draft.specs.AllUses.{Use, uses_in}
+use Rattle.fv_declare_draft.specs.AllUses.{DraftUse, uses_in}
 use Rattle.fv_declare_draft.specs.Drafts.{FormDraft, Drafted}
 use Rattle.fv_declare_groups.specs.Grouping.{groups_in}
 use Rattle.fv_declare_groups.specs.Numbered.{groups_named, type_ranks, valid_places}
@@ -25,7 +25,7 @@ abbrev pub form_grouped : Groups → FormDraft → List ℕ × List ℕ
 form_grouped gs f = (f.name, groups_named gs f.groups)
 
 -- a use with its tree is declared: it stands at its place and in its groups, and each of the tree's constraints is read there
-pub record IsPlacedAs (gs : Groups) (u : Use × Tree Planned) (o : Placed) : Type 0 where
+pub record IsPlacedAs (gs : Groups) (u : DraftUse × Tree Planned) (o : Placed) : Type 0 where
   pub type : o.type ≡ u.0.type
   pub place : o.place ≡ u.0.place
   pub groups : o.groups ≡ groups_named gs u.0.draft.groups

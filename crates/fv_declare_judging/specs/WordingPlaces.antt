@@ -2,7 +2,7 @@
 use Rattle.std.specs.Prelude.{◌≡◌, ◌⊎◌, ℕ, List, Bool, false, IsTrue, not, if◌then◌else◌, Option, Some, None, option_map, is_some, Result, Ok, Err}
 use Rattle.std.specs.Option.{option_or, option_map_or}
 use Rattle.fv_declare_definition.specs.Definitions.{Composing, Definition, Definitions}
-use Rattle.fv_declare_draft.specs.AllUses.{Use, uses_in}
+use Rattle.fv_declare_draft.specs.AllUses.{DraftUse, uses_in}
 use Rattle.fv_declare_draft.specs.Drafts.{Drafted}
 use Rattle.fv_first.specs.First.{first_in, first_where}
 use Rattle.fv_message.specs.Judged.{fits}
@@ -30,7 +30,7 @@ abbrev pub is_flawed : TemplateFlaw → Option (List ℕ) → Bool
 is_flawed flaw told = option_map_or (has_flaw flaw) told false
 
 -- the first use with a flawed message
-abbrev pub flawed_use : TemplateFlaw → List Use → Option WordingAt
+abbrev pub flawed_use : TemplateFlaw → List DraftUse → Option WordingAt
 flawed_use flaw us = first_in (λ n u. if is_flawed flaw u.draft.message then Some (at.Use n) else None) us
 
 -- the first composing constraint with a flawed message
@@ -42,7 +42,7 @@ abbrev pub flawed_definition : TemplateFlaw → ℕ → List ℕ × Definition �
 flawed_definition flaw n c = if is_flawed flaw c.1.message then Some (at.Definition n) else option_map (at.Composing n) (flawed_composing flaw c.1.composing)
 
 -- the first template with a flaw: of uses, then of declared constraints
-abbrev pub flawed_template : TemplateFlaw → List Use → Definitions → Option WordingAt
+abbrev pub flawed_template : TemplateFlaw → List DraftUse → Definitions → Option WordingAt
 flawed_template flaw us ds = option_or (flawed_use flaw us) (first_in (flawed_definition flaw) ds)
 
 -- a flaw of templates or the fault of messages that is one: the first such template, else where the messages have the fault

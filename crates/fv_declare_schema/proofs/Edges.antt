@@ -6,7 +6,7 @@ use Rattle.std.proofs.lemmas.List.{length-map}
 use Rattle.fv_graph.specs.Graph.{IsIn, LeadsIn, IsCyclic, IsBelow, AreWithin, next_of}
 use Rattle.fv_graph.specs.Recursion.{value, value_in}
 use Rattle.fv_graph.proofs.Unfolding.{map_same, unfolds}
-use Rattle.fv_declare_schema.specs.Groups.{Form, inherits, Groups, number_of, numbers_of, inherited_by, members_of, is_a_sequence, is_sequence, form_at, inherit_next, member_next, ranked, ranks}
+use Rattle.fv_declare_schema.specs.Groups.{Form, inherits, Groups, group_number, numbers_of, inherited_by, members_of, is_a_sequence, is_sequence, form_at, inherit_next, member_next, ranked, ranks}
 use Rattle.fv_declare_schema.specs.Judged.{AreSound}
 use Rattle.fv_declare_schema.specs.Marked.{flag_of, Reaches, AreMeetingIn}
 use Rattle.fv_declare_schema.specs.Once.{once}
@@ -15,9 +15,9 @@ use Rattle.fv_declare_schema.specs.declared.declared.GroupId.{GroupId}
 
 -- ---- what edges lead to
 
-number_below : (gs : Groups) (name : List ℕ) (i : ℕ) → number_of gs name ≡ Some i → i < length gs
+number_below : (gs : Groups) (name : List ℕ) (i : ℕ) → group_number gs name ≡ Some i → i < length gs
 number_below [] name i e = absurd (cc)
-number_below (g ∷ gs) name i e = go (bytes_eq name g.0) (number_of gs name) (number_below gs name) e
+number_below (g ∷ gs) name i e = go (bytes_eq name g.0) (group_number gs name) (number_below gs name) e
   where
     go : (b : Bool) (o : Option ℕ) → ((k : ℕ) → o ≡ Some k → k < length gs) → cond b (Some 0) (option_map suc o) ≡ Some i → i < suc (length gs)
     go true o ih is = let z : 0 ≡ i = cc in omega arith
@@ -27,7 +27,7 @@ number_below (g ∷ gs) name i e = go (bytes_eq name g.0) (number_of gs name) (n
 -- the numbers of names are groups'
 pub numbers_below : (gs : Groups) (names : List (List ℕ)) (j : ℕ) → IsIn (numbers_of gs names) j → j < length gs
 numbers_below gs [] j h = absurd h
-numbers_below gs (n ∷ ns) j h = go (number_of gs n) (numbers_below gs ns j) (number_below gs n) h
+numbers_below gs (n ∷ ns) j h = go (group_number gs n) (numbers_below gs ns j) (number_below gs n) h
   where
     go : (o : Option ℕ) → (IsIn (numbers_of gs ns) j → j < length gs) → ((k : ℕ) → o ≡ Some k → k < length gs) → IsIn (cons_option o (numbers_of gs ns)) j → j < length gs
     go None rest f k = rest k

@@ -31,9 +31,9 @@ is_a_sequence (inherits names) = false
 is_a_sequence (sequence names) = true
 
 -- the names that a group is declared with
-abbrev pub names_of : Form → List (List ℕ)
-names_of (inherits names) = names
-names_of (sequence names) = names
+abbrev pub group_names_of : Form → List (List ℕ)
+group_names_of (inherits names) = names
+group_names_of (sequence names) = names
 
 -- the names of the groups that a group inherits; a sequence inherits none
 abbrev pub inherited_by : Form → List (List ℕ)
@@ -46,9 +46,9 @@ members_of (inherits names) = []
 members_of (sequence names) = names
 
 -- the number of the first group of that name
-abbrev pub number_of : Groups → List ℕ → Option ℕ
-number_of [] name = None
-number_of (g ∷ gs) name = cond (bytes_eq name g.0) (Some 0) (option_map suc (number_of gs name))
+abbrev pub group_number : Groups → List ℕ → Option ℕ
+group_number [] name = None
+group_number (g ∷ gs) name = cond (bytes_eq name g.0) (Some 0) (option_map suc (group_number gs name))
 
 -- the name of the group of a number; empty where there is none
 abbrev pub name_at : Groups → ℕ → List ℕ
@@ -64,7 +64,7 @@ is_sequence gs i = is_a_sequence (form_at gs i)
 
 -- the numbers of groups, by their names; a name that no group has is left out
 abbrev pub numbers_of : Groups → List (List ℕ) → List ℕ
-numbers_of gs names = filter_map (number_of gs) names
+numbers_of gs names = filter_map (group_number gs) names
 
 -- the groups that a group inherits
 abbrev pub inherit_next : Groups → ℕ → List ℕ

@@ -6,7 +6,7 @@ use Rattle.fv_datum.specs.declared.kind.Kind.TheVariants as kind
 use Rattle.fv_declare_schema.specs.ValidPlaces.{ValidPlace}
 use Rattle.fv_declare_schema.specs.Groups.{Groups}
 use Rattle.fv_datum.specs.Ascending.{IsAscending}
-use Rattle.fv_extract.specs.Places.{Step, element, key, value, content}
+use Rattle.fv_extract.specs.Places.{PlaceStep, element, key, value, content}
 use Rattle.fv_bundle.specs.Types.{TypeUse, texts, lists, maps, optionals, DeclaredFields, Declared, kind_of}
 use Rattle.fv_declare_schema.specs.Declarations.{Placed, Declarations, count_nodes, AreNumbered}
 use Rattle.fv_declare_schema.specs.Places.{Place, whole, field}
@@ -26,7 +26,7 @@ IsRising [] = Unit {0}
 IsRising (u ∷ us) = AllByRecursion (Precedes u) us × IsRising us
 
 -- what a type use holds one step inside: the keys of a map are texts
-abbrev pub held_after : Step → TypeUse → Option TypeUse
+abbrev pub held_after : PlaceStep → TypeUse → Option TypeUse
 held_after element (lists held) = Some held
 held_after key (maps held) = Some texts
 held_after value (maps held) = Some held
@@ -34,7 +34,7 @@ held_after content (optionals held) = Some held
 held_after _ _ = None
 
 -- what it holds these steps inside
-abbrev pub held_inside : List Step → TypeUse → Option TypeUse
+abbrev pub held_inside : List PlaceStep → TypeUse → Option TypeUse
 held_inside [] type = Some type
 held_inside (step ∷ steps) type = option_and_then (held_inside steps) (held_after step type)
 

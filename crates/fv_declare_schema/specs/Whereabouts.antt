@@ -2,7 +2,7 @@
 use Rattle.std.specs.Prelude.{◌≡◌, ℕ, List, length, nat_lt, not, false, if◌then◌else◌, Option, Some, None, option_map, is_some}
 use Rattle.std.specs.Option.{option_map_or}
 use Rattle.fv_first.specs.First.{first_in, first_where}
-use Rattle.fv_declare_schema.specs.Groups.{Groups, names_of, inherited_by, number_of, is_sequence}
+use Rattle.fv_declare_schema.specs.Groups.{Groups, group_names_of, inherited_by, group_number, is_sequence}
 use Rattle.fv_declare_schema.specs.declared.fault.GroupFault.{GroupFault}
 use Rattle.fv_declare_schema.specs.declared.fault.GroupFault.TheVariants.{UnknownGroup, SequenceMisused}
 use Rattle.fv_declare_schema.specs.Judged.{most_groups, most_names}
@@ -16,15 +16,15 @@ name_in group name = record { group = group; name = name }
 
 -- the first of these names that is no group's
 abbrev pub first_unknown : Groups → List (List ℕ) → Option ℕ
-first_unknown gs names = first_where (λ name. not (is_some (number_of gs name))) names
+first_unknown gs names = first_where (λ name. not (is_some (group_number gs name))) names
 
 -- the first of these names that is a sequence's
 abbrev pub first_sequence : Groups → List (List ℕ) → Option ℕ
-first_sequence gs names = first_where (λ name. option_map_or (is_sequence gs) (number_of gs name) false) names
+first_sequence gs names = first_where (λ name. option_map_or (is_sequence gs) (group_number gs name) false) names
 
 -- the first group that inherits, or has as a member, one that isn't declared
 abbrev pub unknown_name : Groups → Option NameAt
-unknown_name gs = first_in (λ n g. option_map (name_in n) (first_unknown gs (names_of g.1))) gs
+unknown_name gs = first_in (λ n g. option_map (name_in n) (first_unknown gs (group_names_of g.1))) gs
 
 -- the first group that inherits a sequence
 abbrev pub inherited_sequence : Groups → Option NameAt
@@ -32,7 +32,7 @@ inherited_sequence gs = first_in (λ n g. option_map (name_in n) (first_sequence
 
 -- the first group that is declared with too many names
 abbrev pub first_large : Groups → Option ℕ
-first_large gs = first_where (λ g. nat_lt most_names (length (names_of g.1))) gs
+first_large gs = first_where (λ g. nat_lt most_names (length (group_names_of g.1))) gs
 
 -- the limit that is passed, how many groups there are asked first
 abbrev pub passed_limit : Groups → Option GroupLimit

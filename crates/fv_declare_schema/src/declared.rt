@@ -3,7 +3,7 @@ ghost use Rattle.std.specs.Prelude.{◌≡◌, ◌<◌, ◌++◌, [], map, lengt
 ghost use Rattle.std.specs.List.{cons_option};
 ghost use Rattle.std.specs.Option.{option_map_or};
 ghost use Rattle.fv_declare_schema.specs.GroupViews.{names_view, declared_view};
-ghost use Rattle.fv_declare_schema.specs.Groups.{all_groups, number_of, numbers_of, name_at, is_sequence, is_a_sequence, inherited_by, members_of};
+ghost use Rattle.fv_declare_schema.specs.Groups.{all_groups, group_number, numbers_of, name_at, is_sequence, is_a_sequence, inherited_by, members_of};
 ghost use Rattle.fv_declare_schema.specs.Whereabouts.{first_unknown, first_sequence, first_large, unknown_name, inherited_sequence, passed_limit};
 
 use crate::draft::GroupDraft;
@@ -62,7 +62,7 @@ impl DeclaredGroups {
 
     /// The number of the group of that name.
     pub(crate) fn find(&self, name: &str) -> Option<GroupId>
-        ensures number { option_map (λ g. g.index) result ≡ number_of self.now name.now }
+        ensures number { option_map (λ g. g.index) result ≡ group_number self.now name.now }
         ensures within { IfSome result (λ g. g.index < length self.now) }
     {
         let declared = &self.declared;
@@ -132,7 +132,7 @@ impl DeclaredGroups {
 
     /// Whether the group of that name is a sequence.
     fn is_sequence_named(&self, name: &str) -> bool
-        ensures { result ≡ option_map_or (is_sequence self.now) (number_of self.now name.now) false }
+        ensures { result ≡ option_map_or (is_sequence self.now) (group_number self.now name.now) false }
     {
         match self.find(name) {
             Some(group) => self.is_sequence(group),

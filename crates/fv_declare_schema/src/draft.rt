@@ -1,5 +1,5 @@
 ghost use Rattle.std.specs.Prelude.{◌≡◌};
-ghost use Rattle.fv_declare_schema.specs.Groups.{is_a_sequence, names_of, inherited_by, members_of};
+ghost use Rattle.fv_declare_schema.specs.Groups.{is_a_sequence, group_names_of, inherited_by, members_of};
 
 /// A declared group, as its declaration says it.
 #[derive(Drop)]
@@ -22,7 +22,7 @@ impl GroupDraft {
 
     /// All names that the group is declared with.
     pub(crate) fn names(&self) -> &[String]
-        ensures { names_view result.now ≡ names_of (form_view self.now) }
+        ensures { names_view result.now ≡ group_names_of (form_view self.now) }
     {
         match self {
             GroupDraft::Inherits(names) | GroupDraft::Sequence(names) => names,

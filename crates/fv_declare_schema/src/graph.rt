@@ -3,8 +3,8 @@ ghost use Rattle.std.specs.Prelude.{◌≡◌, ◌<◌, ◌↔◌, ◌≢◌, tr
 ghost use mathlib.Core.Logic.{◌⊎◌};
 ghost use Rattle.fv_graph.specs.Graph.{next_of};
 ghost use Rattle.fv_declare_schema.specs.GroupViews.{declared_view};
-ghost use Rattle.fv_declare_schema.specs.Groups.{all_groups, number_of, is_sequence, MeetsDefault};
-ghost use Rattle.fv_declare_schema.specs.Judged.{AreSound, IsFault, is_large};
+ghost use Rattle.fv_declare_schema.specs.Groups.{all_groups, group_number, is_sequence, MeetsDefault};
+ghost use Rattle.fv_declare_schema.specs.Judged.{AreSound, IsFault, is_large_group};
 ghost use Rattle.fv_declare_schema.specs.Whereabouts.{IsAt, passed_limit};
 ghost use Rattle.fv_declare_schema.specs.Marked.{AreMeetingIn};
 ghost use Rattle.fv_declare_schema.specs.declared.fault.GroupFault.TheVariants.{TooLarge, Memory};
@@ -95,7 +95,7 @@ impl GroupGraph {
 
     /// The number of the group of that name.
     pub fn find(&self, name: &str) -> Option<GroupId>
-        ensures number { option_map (λ g. g.index) result ≡ number_of self.now name.now }
+        ensures number { option_map (λ g. g.index) result ≡ group_number self.now name.now }
         ensures within { IfSome result (λ g. g.index < length self.now) }
     {
         self.groups.find(name)
@@ -126,8 +126,8 @@ impl GroupGraph {
 
     /// The groups with their tables; refused by `TooLarge` where a limit is passed, and by `Memory`.
     pub fn finish(self, alloc: Global) -> Result<Groups, GroupFault>
-        ensures { MatchResult result (λ gs. (gs ≡ self) × AreSound self × (is_large self ≡ false))
-            (λ e. (e ≡ Memory) ⊎ ((e ≡ TooLarge) × (is_large self ≡ true))) }
+        ensures { MatchResult result (λ gs. (gs ≡ self) × AreSound self × (is_large_group self ≡ false))
+            (λ e. (e ≡ Memory) ⊎ ((e ≡ TooLarge) × (is_large_group self ≡ true))) }
     {
         if self.limit.is_some() {
             return Err(GroupFault::TooLarge);

@@ -16,7 +16,7 @@ use Rattle.fv_engine_command.specs.Commands.{Asked, alone, is_id, put}
 use Rattle.fv_engine_pending.specs.Judging.{IsListingOf, AreListings, AreListingsOf}
 use Rattle.fv_engine_machine.specs.Redeclaring.{IsAgain, Reign}
 use Rattle.fv_engine_machine.specs.Refusals.{first_of, made, refusal, told_fault, when}
-use Rattle.fv_engine_machine.specs.Services.{Turned, Turns}
+use Rattle.fv_engine_machine.specs.Services.{Turned, LineTurns}
 use Rattle.fv_engine_machine.specs.Step.{Answers}
 use Rattle.fv_engine_pending.specs.Parts.{and_then, bundle_under, is_misread, kept_as, part_made, parts_made}
 use Rattle.fv_engine_pending.specs.declared.fault.PartFault.{PartFault}
@@ -31,7 +31,7 @@ use Rattle.fv_model.specs.declared.fault.BundleFault.{BundleFault}
 use Rattle.fv_bundle.specs.Types.{FieldsApart}
 use Rattle.fv_registry.specs.Meanings.{Meanings}
 use Rattle.fv_registry.specs.Rules.{Known}
-use Rattle.fv_store.specs.Records.{Fits, Kept, Records, no_records, with_record}
+use Rattle.fv_store.specs.Records.{RecordFits, Kept, Records, no_records, with_record}
 
 -- what a line of a record needs so that it can be read back: an id that a command may have, JSON that is read, a text within the limit of a line
 pub record HasLine (id : List ℕ) (k : Kept) : Type 0 where
@@ -42,7 +42,7 @@ pub record HasLine (id : List ℕ) (k : Kept) : Type 0 where
   pub text : is_utf8 (compact_text (put_json id k.form (bundle_json k.bundle))) ≡ true
 
 module _ (means : Meanings) (ds : Declarations) (now : ℤ) (apart : FieldsApart ds.types) where
-  module _ (id : List ℕ) (k : Kept) (fits : Fits ds.types ds.forms k) where
+  module _ (id : List ℕ) (k : Kept) (fits : RecordFits ds.types ds.forms k) where
     put_part : (m : Records) → part_made ds.types ds.forms (put id k.form (bundle_json k.bundle)) m ≡ Ok (with_record id k m)
     put_part m =
         ap (λ (o : Option (List ℕ)). cond (is_some o) (kept_as id k.form m (bundle_read ds.types o (bundle_json k.bundle))) (Err part.UnknownForm)) fits.declared
@@ -79,7 +79,7 @@ module _ (means : Meanings) (ds : Declarations) (now : ℤ) (apart : FieldsApart
     put_turns known m line good = (
       done Put,
       refl,
-      subst (λ (a : Asked). Turns known means (record { declared = ds; records = m }) a now (done Put) (record { declared = ds; records = with_record id k m }))
+      subst (λ (a : Asked). LineTurns known means (record { declared = ds; records = m }) a now (done Put) (record { declared = ds; records = with_record id k m }))
           (sym (record_asks id k line.named line.plain line.shallow line.short line.text)) (inl (put_taken m good), refl),
     )
 
@@ -89,7 +89,7 @@ module _ (means : Meanings) (ds : Declarations) (now : ℤ) (apart : FieldsApart
   declarations_turn known text first declares short is_text = (
     redeclared,
     refl,
-    subst (λ (a : Asked). Turns known means (record { declared = first; records = no_records }) a now redeclared (record { declared = ds; records = no_records })) (sym (declarations_ask text short is_text))
+    subst (λ (a : Asked). LineTurns known means (record { declared = first; records = no_records }) a now redeclared (record { declared = ds; records = no_records })) (sym (declarations_ask text short is_text))
         (inl (inr (ds, declares, inr ((λ id k is. cc), inr (inl (none, refl, refl)))))),
   )
     where
@@ -100,7 +100,7 @@ module _ (means : Meanings) (ds : Declarations) (now : ℤ) (apart : FieldsApart
 
   -- a record that fits the declarations, whose line can be read, and that has no violation at the moment
   abbrev pub IsGood : List ℕ → Kept → Type 0
-  IsGood id k = Fits ds.types ds.forms k × HasLine id k × IsListingOf means ds now k []
+  IsGood id k = RecordFits ds.types ds.forms k × HasLine id k × IsListingOf means ds now k []
 
   -- lines, each with its reply, one after another
   abbrev pub RunsTo : Known → Reign → List (List ℕ × List ℕ) → Reign → Type 0

@@ -30,7 +30,7 @@ use Rattle.fv_bundle.specs.Types.{has_deep}
 use Rattle.fv_store.proofs.Steps.{failed_then}
 use Rattle.fv_store.specs.Causes.{HasFailed}
 use Rattle.fv_store.specs.Records.{Contents, Kept, Records}
-use Rattle.fv_store.specs.Stands.{Holds}
+use Rattle.fv_store.specs.Stands.{HoldsRecords}
 use Rattle.fv_store.specs.Stored.{untyped}
 use Rattle.fv_store.specs.declared.fault.StoreFault.{StoreFault}
 use Rattle.fv_store.specs.declared.fault.StoreFault.TheVariants as store
@@ -175,9 +175,9 @@ none_kept (Some j) k none is = cc
 
 -- what the store tells of its fault
 abbrev pub IsCaused : State → State → StoreFault → Type 0
-IsCaused old new e = HasCleanDisk new → e ≡ store.Store → (c : Contents) → Holds old c → HasFailed old new
+IsCaused old new e = HasCleanDisk new → e ≡ store.Store → (c : Contents) → HoldsRecords old c → HasFailed old new
 
-stored : (old new : State) (e : StoreFault) → IsCaused old new e → of_store e ≡ Store → HasCleanDisk new → (c : Contents) → Holds old c → HasFailed old new
+stored : (old new : State) (e : StoreFault) → IsCaused old new e → of_store e ≡ Store → HasCleanDisk new → (c : Contents) → HoldsRecords old c → HasFailed old new
 stored old new store.Store cause is clean c holds = cause clean refl c holds
 stored old new store.Memory cause is clean c holds = cc
 
@@ -420,24 +420,24 @@ unflushed old new w v u text done keeps = λ clean c shallow holds.
 -- ---- told of an engine's records
 
 module _ (old new : State) (w v : Option (List ℕ)) (text : List ℕ) (of : Records → Contents) (is : (m : Records) → (of m).records ≡ m) (shallow : (m : Records) → has_deep (of m).types ≡ false) {X : Type 0} (r : Result X ExportFault) (told : MatchResult r (λ _. StoreDone old new w v text) (λ f. StoreFails old new w v text f)) (clean : HasCleanDisk new) where
-  pub engine_exports : OnOk r ((m : Records) → Holds old (of m) → Exports text m w v)
+  pub engine_exports : OnOk r ((m : Records) → HoldsRecords old (of m) → Exports text m w v)
   engine_exports = at r told
     where
-      at : (r : Result X ExportFault) → MatchResult r (λ _. StoreDone old new w v text) (λ f. StoreFails old new w v text f) → OnOk r ((m : Records) → Holds old (of m) → Exports text m w v)
+      at : (r : Result X ExportFault) → MatchResult r (λ _. StoreDone old new w v text) (λ f. StoreFails old new w v text f) → OnOk r ((m : Records) → HoldsRecords old (of m) → Exports text m w v)
       at (Ok x) done = λ m holds. subst (λ (n : Records). Exports text n w v) (is m) (done clean (of m) (shallow m) holds)
       at (Err f) fails = tt
 
-  pub engine_front : OnErr r ((m : Records) → Holds old (of m) → ExportsFront text m w v)
+  pub engine_front : OnErr r ((m : Records) → HoldsRecords old (of m) → ExportsFront text m w v)
   engine_front = at r told
     where
-      at : (r : Result X ExportFault) → MatchResult r (λ _. StoreDone old new w v text) (λ f. StoreFails old new w v text f) → OnErr r ((m : Records) → Holds old (of m) → ExportsFront text m w v)
+      at : (r : Result X ExportFault) → MatchResult r (λ _. StoreDone old new w v text) (λ f. StoreFails old new w v text f) → OnErr r ((m : Records) → HoldsRecords old (of m) → ExportsFront text m w v)
       at (Ok x) done = tt
       at (Err f) fails = λ m holds. subst (λ (n : Records). ExportsFront text n w v) (is m) (fails clean (of m) (shallow m) holds).1
 
-  pub engine_cause : IfErr r (λ f. f ≡ Store → (m : Records) → Holds old (of m) → HasFewIds m → IsUtf8 text → HasFailed old new)
+  pub engine_cause : IfErr r (λ f. f ≡ Store → (m : Records) → HoldsRecords old (of m) → HasFewIds m → IsUtf8 text → HasFailed old new)
   engine_cause = at r told
     where
       at : (r : Result X ExportFault) → MatchResult r (λ _. StoreDone old new w v text) (λ f. StoreFails old new w v text f)
-          → IfErr r (λ f. f ≡ Store → (m : Records) → Holds old (of m) → HasFewIds m → IsUtf8 text → HasFailed old new)
+          → IfErr r (λ f. f ≡ Store → (m : Records) → HoldsRecords old (of m) → HasFewIds m → IsUtf8 text → HasFailed old new)
       at (Ok x) done = tt
       at (Err f) fails = λ of_store m holds few is_text. (fails clean (of m) (shallow m) holds).0 of_store (subst HasFewIds (sym (is m)) few) is_text

@@ -8,7 +8,7 @@ use Rattle.sqlite_trees.specs.declared.memory.MemStore.{MemStore}
 use Rattle.fv_engine.specs.Laws.{LacksRoom, LacksRoomForAll}
 use Rattle.fv_engine.proofs.Laws.{closes_only_failed, fails_for_room_alone}
 use Rattle.fv_engine_machine.specs.Machines.{with_map}
-use Rattle.fv_engine_machine.specs.Services.{GoesOn, Keeps, Responds, Service, with_mapped}
+use Rattle.fv_engine_machine.specs.Services.{GoesOn, ServiceKeeps, Responds, Service, with_mapped}
 use Rattle.fv_engine_reply.specs.Answers.{refused}
 use Rattle.fv_engine_reply.specs.Texts.{answer_text}
 use Rattle.fv_engine_reply.specs.declared.answer.Refusal.TheVariants.{Store}
@@ -26,7 +26,7 @@ none_fail more = omega (arith, more)
 -- a line is answered over an open connection to a database in memory, which stands for these records
 module _ (means : Meanings) (line : List ℕ) (now : ℤ) (reply : List ℕ) (old new : Service (Stock MemStore))
     (going : GoesOn in_memory old new (λ x y. Responds means x line now reply y))
-    (m : Records) (stands : Keeps in_memory old m) (live : IsTrue (in_memory old.machine.records).is_open) where
+    (m : Records) (stands : ServiceKeeps in_memory old m) (live : IsTrue (in_memory old.machine.records).is_open) where
   -- it stays open
   pub open_still : IsTrue (in_memory new.machine.records).is_open
   open_still =

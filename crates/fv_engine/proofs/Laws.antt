@@ -16,16 +16,16 @@ use Rattle.fv_engine.specs.Laws.{IsDone, IsFailure, IsRedeclared, IsNoMisfit, On
 use Rattle.fv_engine_machine.specs.Causes.{StoreHasFailed, Caused, Handles}
 use Rattle.fv_engine_machine.specs.Machines.{Machine, contents}
 use Rattle.fv_engine_machine.specs.Redeclaring.{IsAgain, JudgesAll, RedeclareStep, Refits, Reign, misfit, under}
-use Rattle.fv_engine_machine.specs.Services.{Attends, GoesOn, Keeps, RedeclareCauses, Responds, Service, TellsOfRecords, Turned, reign_of, with_mapped}
+use Rattle.fv_engine_machine.specs.Services.{Attends, GoesOn, ServiceKeeps, RedeclareCauses, Responds, Service, TellsOfRecords, Turned, reign_of, with_mapped}
 use Rattle.fv_engine_machine.proofs.Becoming.{checked_other, step_stays}
-use Rattle.fv_engine_machine.specs.Refusals.{when, first_of, is_too_long, is_no_json, is_misshapen, lacks_form, value_fault, part_fault, lacks_record, lacks_group, lacks_field, part_refusal, told_fault, made, parts_of, refusal}
+use Rattle.fv_engine_machine.specs.Refusals.{when, first_of, is_too_long, is_no_json, is_misshapen_line, lacks_form, value_fault, part_fault, lacks_record, lacks_group, lacks_field, part_refusal, told_fault, made, batch_parts, refusal}
 use Rattle.fv_engine_machine.specs.Step.{done_by, Changes, Checked, FieldChecked, Serves, LooksUp, Step, Told}
 use Rattle.fv_engine.proofs.Lifts.{follows, redeclare_rests, turned_of, weaker}
 use Rattle.fv_engine_machine.proofs.Changes.{by_itself, refusal_of}
 use Rattle.fv_engine_command.specs.Commands.{Part, put, set, remove, Request, too_long, not_json, shape, alone, batch, get, check, check_field, check_value, list, asked, Asked, redeclare, of_records, asks}
 use Rattle.fv_engine_command.proofs.Asking.{asks_inner, asks_shape}
 use Rattle.fv_declare_schema.specs.Groups.{numbers_of}
-use Rattle.fv_declare_schema.specs.Judged.{unknown_in}
+use Rattle.fv_declare_schema.specs.Judged.{unknown_group_in}
 use Rattle.fv_engine_pending.specs.Judging.{groups_of, IsListingOf, AreListings, AreListingsOf}
 use Rattle.fv_bundle.specs.Bundles.{Thing, Bundled}
 use Rattle.fv_model.specs.Reading.{value_read}
@@ -45,7 +45,7 @@ use Rattle.fv_model.proofs.Again.{same_json}
 use Rattle.serde_json.specs.Written.{compact_text}
 use Rattle.fv_engine_reply.specs.Answers.{Answer, done, shown, violated, checked, field_checked, value_checked, ids, refused, part_refused, redeclared, misdeclared, unfit}
 use Rattle.fv_validate.specs.Violations.{Judged}
-use Rattle.fv_engine_reply.specs.Texts.{answer_text, members_of}
+use Rattle.fv_engine_reply.specs.Texts.{answer_text, reply_members}
 use Rattle.fv_engine_reply.specs.declared.answer.Done.{Done}
 use Rattle.fv_engine_reply.specs.declared.answer.Done.TheVariants.{Put, Batch}
 use Rattle.fv_engine_reply.specs.declared.answer.Refusal.{Refusal}
@@ -159,7 +159,7 @@ refusal_refuses : (ds : Declarations) (m : Records) (r : Request) → Refuses (r
 refusal_refuses ds m r = first_refuses (
     when (is_too_long r) LineTooLong
     ∷ when (is_no_json r) NotJson
-    ∷ when (is_misshapen ds r) Shape
+    ∷ when (is_misshapen_line ds r) Shape
     ∷ when (lacks_form ds r) UnknownForm
     ∷ value_fault ds r
     ∷ part_fault ds m r
@@ -172,7 +172,7 @@ refusal_refuses ds m r = first_refuses (
       (
         when_refuses (is_no_json r) NotJson tt,
         (
-          when_refuses (is_misshapen ds r) Shape tt,
+          when_refuses (is_misshapen_line ds r) Shape tt,
           (
             when_refuses (lacks_form ds r) UnknownForm tt,
             (value_refuses ds r, (part_refuses ds m r, (when_refuses (lacks_record m r) NoRecord tt, (when_refuses (lacks_group ds r) UnknownGroup tt, (when_refuses (lacks_field ds m r) NoSuchField tt, tt))))),
@@ -204,7 +204,7 @@ module _ (means : Meanings) (ds : Declarations) (now : ℤ) (what : Done) (m n :
   field_other o field groups lists other (inl many) = done_or_refused what TooManyVisits many.1
   field_other o field groups lists other (inr told) = other told.0 told.3
 
-  served_took : (r : Request) → Serves means ds now r m (done what) n → Took means ds now (parts_of r) m n
+  served_took : (r : Request) → Serves means ds now r m (done what) n → Took means ds now (batch_parts r) m n
   served_took too_long s = absurd s
   served_took not_json s = absurd s
   served_took shape s = absurd s
@@ -218,13 +218,13 @@ module _ (means : Meanings) (ds : Declarations) (now : ℤ) (what : Done) (m n :
       absurd (field_other (valued ds.types type field s.2.0) field (numbers_of ds.groups names) value_checked (λ vs never. cc) s.2.2)
   served_took (list form after limit) s = let never : done what ≡ ids s.0 = s.2 in absurd cc
 
-  took : (r : Request) → Step means ds m r now (done what) n → Took means ds now (parts_of r) m n
+  took : (r : Request) → Step means ds m r now (done what) n → Took means ds now (batch_parts r) m n
   took r (inl (inl refuses)) = absurd (told_refusal ds m r (done what) refuses.0)
   took r (inl (inr serves)) = served_took r serves.1
   took r (inr (inl memory)) = absurd (done_or_refused what Memory memory.0)
   took r (inr (inr store)) = absurd (done_or_refused what Store store.0)
 
-  told_took : (line reply : List ℕ) → IsDone what reply → Told means ds m line now reply n → Took means ds now (parts_of (asked line)) m n
+  told_took : (line reply : List ℕ) → IsDone what reply → Told means ds m line now reply n → Took means ds now (batch_parts (asked line)) m n
   told_took line reply is_done told = took (asked line)
       (subst (λ (a : Answer). Step means ds m (asked line) now a n) (only_done told.0 what (sym told.1 ∙ is_done)) told.2)
 
@@ -313,7 +313,7 @@ module _ (means : Meanings) (ds : Declarations) (now : ℤ) (id form : List ℕ)
 
   module _ (line reply : List ℕ) (asks : asked line ≡ alone (put id form bundle)) (is_done : IsDone Put reply) where
     told_took_put : (m n : Records) → Told means ds m line now reply n → TookPut means ds now id form bundle m n
-    told_took_put m n told = took_put m n (subst (λ (r : Request). Took means ds now (parts_of r) m n) asks (told_took means ds now Put m n line reply is_done told))
+    told_took_put m n told = took_put m n (subst (λ (r : Request). Took means ds now (batch_parts r) m n) asks (told_took means ds now Put m n line reply is_done told))
 
     took_told : (m n : Records) → TookPut means ds now id form bundle m n → Told means ds m line now reply n
     took_told m n t = (done Put, is_done, subst (λ (r : Request). Step means ds m r now (done Put) n) (sym asks) (takes_put m n t))
@@ -373,7 +373,7 @@ module _ (means : Meanings) (ds : Declarations) (now : ℤ) (id : List ℕ) wher
 -- ---- what two gets show of what is written alike
 
 shown_text : List ℕ → List ℕ → json.Data → List ℕ
-shown_text id form bundle = compact_text (json.object (members_of (
+shown_text id form bundle = compact_text (json.object (reply_members (
     (codes "bundle", bundle) ∷ (codes "form", json.string form) ∷ (codes "id", json.string id) ∷ (codes "ok", json.string (codes "get")) ∷ [])))
 
 same_shown : (id : List ℕ) (k l : Kept) → written_of k ≡ written_of l → answer_text (shown id k.form k.bundle) ≡ answer_text (shown id l.form l.bundle)
@@ -418,12 +418,12 @@ none_told means ds now b groups answer (inr (vs, few, listing, is)) none =
     is ∙ ap checked (one_listing ds.occurrences ds.messages (IsViolation (request_of means ds now b groups)) vs [] listing none.1)
 
 module _ (means : Meanings) (ds : Declarations) (now : ℤ) (id : List ℕ) (names : List (List ℕ)) (kept : Kept) (m : Records) (some : m id ≡ Some kept)
-    (known : unknown_in ds.groups names ≡ false) (none : HasNone means ds now kept.bundle (numbers_of ds.groups names)) where
+    (known : unknown_group_in ds.groups names ≡ false) (none : HasNone means ds now kept.bundle (numbers_of ds.groups names)) where
   -- what a check answers where there is a record and it has no violation
   check_lists : (n : Records) (answer : Answer) → Step means ds m (check id names) now answer n → (answer ≡ checked []) ⊎ ((answer ≡ refused Store) ⊎ (answer ≡ refused Memory))
   check_lists n answer (inl (inl refuses)) =
       let never : None ≡ Some answer = sym (
-      ap (λ (o : Option Kept). first_of (when (not (is_some o)) NoRecord ∷ when (unknown_in ds.groups names) UnknownGroup ∷ None ∷ [])) some
+      ap (λ (o : Option Kept). first_of (when (not (is_some o)) NoRecord ∷ when (unknown_group_in ds.groups names) UnknownGroup ∷ None ∷ [])) some
       ∙ ap (λ (u : Bool). first_of (when u UnknownGroup ∷ None ∷ [])) known
       ) ∙ refuses.0 in absurd cc
   check_lists n answer (inl (inr serves)) =
@@ -599,7 +599,7 @@ told_of means x line now reply y told = (told.0, told.1, told.2.0)
 
 -- of a service whose database stands for these records
 module _ {H : Type 0} (held : H → State) (means : Meanings) (line : List ℕ) (now : ℤ) (reply : List ℕ) (old new : Service H) (apart : FieldsApart old.machine.declared.types)
-    (was_clean : HasCleanDisk (held old.machine.records)) (m n : Records) (before : Keeps held old m) where
+    (was_clean : HasCleanDisk (held old.machine.records)) (m n : Records) (before : ServiceKeeps held old m) where
   abbrev first : Service Records
   first = with_mapped held old m
 

@@ -4,7 +4,7 @@ use Rattle.sqlite.specs.State.{State}
 use Rattle.fv_datum.specs.Parsing.{json_of}
 use Rattle.fv_engine_command.specs.Commands.{Asked, redeclare, of_records, asks, asks_json}
 use Rattle.fv_engine_lines.specs.Runs.{Ticks, Session, Run, Served, Stopped}
-use Rattle.fv_engine_machine.specs.Services.{Attends, GoesOn, Replies, Responds, Service, Turned, Turns, reign_of}
+use Rattle.fv_engine_machine.specs.Services.{Attends, GoesOn, Replies, Responds, Service, Turned, LineTurns, reign_of}
 use Rattle.fv_registry.specs.Meanings.{Meanings}
 use Rattle.fv_registry.specs.Rules.{Known}
 use Rattle.fv_engine_reply.specs.Answers.{Answer, refused}
@@ -28,7 +28,7 @@ module _ {H : Type 0} (means : Meanings) (held : H → State) (line : List ℕ) 
 
 -- ---- a step with its causes is a step of declarations and the map, and so is a run
 
-attends_turns : (means : Meanings) (now : ℤ) (x y : Service Records) (answer : Answer) (a : Asked) → Attends means now a x answer y → Turns x.known means (reign_of x) a now answer (reign_of y)
+attends_turns : (means : Meanings) (now : ℤ) (x y : Service Records) (answer : Answer) (a : Asked) → Attends means now a x answer y → LineTurns x.known means (reign_of x) a now answer (reign_of y)
 attends_turns means now x y answer (redeclare given) t = t.0
 attends_turns means now x y answer (of_records r) t = (t.0.0, t.0.1.declared)
 

@@ -13,7 +13,7 @@ use Rattle.fv_datum.specs.Ascending.{IsAscending}
 use Rattle.fv_engine_lines.specs.Lines.{ended}
 use Rattle.fv_engine_lines.specs.Writes.{AppendsFront}
 use Rattle.fv_engine_machine.specs.Services.{Service}
-use Rattle.fv_engine_reply.specs.Texts.{members_of}
+use Rattle.fv_engine_reply.specs.Texts.{reply_members}
 use Rattle.fv_model.specs.Writing.{bundle_json}
 use Rattle.fv_store.specs.Records.{Kept, Records}
 
@@ -21,12 +21,12 @@ use Rattle.fv_store.specs.Records.{Kept, Records}
 
 -- `{"bundle":..,"do":"put","form":..,"id":..}`
 abbrev pub put_json : List ℕ → List ℕ → json.Data → json.Data
-put_json id form bundle = json.object (members_of (
+put_json id form bundle = json.object (reply_members (
     (codes "bundle", bundle) ∷ (codes "do", json.string (codes "put")) ∷ (codes "form", json.string form) ∷ (codes "id", json.string id) ∷ []))
 
 -- `{"do":"redeclare","text":..}`
 abbrev pub redeclare_json : List ℕ → json.Data
-redeclare_json text = json.object (members_of ((codes "do", json.string (codes "redeclare")) ∷ (codes "text", json.string text) ∷ []))
+redeclare_json text = json.object (reply_members ((codes "do", json.string (codes "redeclare")) ∷ (codes "text", json.string text) ∷ []))
 
 -- the line that puts a record, with its end
 abbrev pub record_line : List ℕ → Kept → List ℕ

@@ -12,10 +12,10 @@ use Rattle.fv_engine_machine.specs.Redeclaring.{Reign}
 use Rattle.fv_engine_pending.specs.Rejudging.{HasFewIds}
 use Rattle.fv_registry.specs.Rules.{Known}
 use Rattle.fv_store.specs.Causes.{IsShortAbout}
-use Rattle.fv_engine_machine.specs.Refusals.{parts_of}
+use Rattle.fv_engine_machine.specs.Refusals.{batch_parts}
 use Rattle.fv_engine_machine.specs.Step.{IsTaken, Told}
 use Rattle.fv_declare_schema.specs.Groups.{numbers_of}
-use Rattle.fv_declare_schema.specs.Judged.{unknown_in}
+use Rattle.fv_declare_schema.specs.Judged.{unknown_group_in}
 use Rattle.fv_bundle.specs.Bundles.{Bundled}
 use Rattle.fv_engine_pending.specs.Judging.{groups_of}
 use Rattle.fv_engine_pending.specs.Parts.{bundle_under}
@@ -86,7 +86,7 @@ FailsWhereShut line reply old = (id : List ℕ) → LooksFor (asked line) id →
 -- a command that changes records would be taken, but the database has no room for what it leaves
 abbrev pub LacksRoom : Meanings → List ℕ → ℤ → Machine Records → Type 0
 LacksRoom means line now old =
-    (m : Records) × IsTaken means old.declared now (asked line) old.records m × (HasRoomFor (parts_of (asked line)) m old → ⊥)
+    (m : Records) × IsTaken means old.declared now (asked line) old.records m × (HasRoomFor (batch_parts (asked line)) m old → ⊥)
 
 -- a line asks for other declarations, and these are too long for a row, or there are more ids than are looked at
 abbrev pub LacksRoomForAll : List ℕ → Machine Records → Type 0
@@ -100,13 +100,13 @@ FailsForRoomAlone means line now reply old new =
 
 -- these are names of the form's groups, in order; each counts where it stands first, and none stand for `Default`
 abbrev pub AreNamesOf : Declarations → List ℕ → List (List ℕ) → Type 0
-AreNamesOf ds form names = (unknown_in ds.groups names ≡ false) × (asked_groups (numbers_of ds.groups names) ≡ asked_groups (groups_of ds form))
+AreNamesOf ds form names = (unknown_group_in ds.groups names ≡ false) × (asked_groups (numbers_of ds.groups names) ≡ asked_groups (groups_of ds form))
 
 -- A taken command leaves nothing to list: a check of a record that it put or set for the groups of its form, on the next line and at the same
 -- moment, finds no violation, unless that check fails.
 abbrev pub LeavesNothingToList : Meanings → Declarations → List ℕ → ℤ → List ℕ → Records → Type 0
 LeavesNothingToList means ds line now reply new = (what : Done) → IsDone what reply
-    → (id : List ℕ) (kept : Kept) → IsTouched (parts_of (asked line)) new id kept
+    → (id : List ℕ) (kept : Kept) → IsTouched (batch_parts (asked line)) new id kept
     → (next : List ℕ) (names : List (List ℕ)) (lists : List ℕ) (last : Records) → asked next ≡ check id names
     → AreNamesOf ds kept.form names → Told means ds new next now lists last
     → (lists ≡ answer_text (checked [])) ⊎ IsFailure lists

@@ -4,13 +4,13 @@ ghost use Rattle.sqlite.specs.Held.{state};
 ghost use Rattle.fv_datum.specs.Moments.{IsMoment};
 ghost use Rattle.fv_store.specs.Faults.{about_fault, IsAboutFault};
 ghost use Rattle.fv_store.specs.Causes.{HasFailed};
-ghost use Rattle.fv_store.specs.Stands.{Frame, Holds, IsLive, Opens, Stays, TellsAbout};
+ghost use Rattle.fv_store.specs.Stands.{Frame, HoldsRecords, IsLive, Opens, Stays, TellsAbout};
 ghost use Rattle.fv_store.specs.Stock.{stock_state};
 ghost use Rattle.fv_declare_judging.specs.Declares.{Declares};
 ghost use Rattle.fv_engine.specs.Laws.{ShowsWhatWasPut, ChangesNoGet, ListsSome, MayChangePlaces, LeavesNothingToList, FailsWhereShut, FailsForRoomAlone, ShowsTheSame, LeavesNothingAtAll, FitsWhereAdded};
 ghost use Rattle.fv_engine.specs.Openings.{CanBeOpened, DeclaresSome, IsInForce, IsKept, IsLeft, IsMisdeclared};
 ghost use Rattle.fv_engine_machine.specs.Machines.{contents};
-ghost use Rattle.fv_engine_machine.specs.Services.{GoesOn, Keeps, Responds, Turned, reign_of};
+ghost use Rattle.fv_engine_machine.specs.Services.{GoesOn, ServiceKeeps, Responds, Turned, reign_of};
 ghost use Rattle.fv_bundle.specs.Types.{FieldsApart, has_deep};
 ghost use Rattle.fv_bundle.specs.TypesView.{types_view};
 ghost use Rattle.fv_engine.specs.FaultNames.{open_fault_name};
@@ -176,7 +176,7 @@ impl<R: RuleSet + Drop, S: Alter + Drop> Engine<R, S> {
         // The records are those that the database handed over, whatever engine kept them there under the same text.
         ensures opened { IfOk result (λ e. (known : _) (ds : _) (m : _) → Declares known e.text (Ok ds)
             → Opens (state S.Store connection) declarations.now (contents e.text ds m)
-            → Keeps (stock_state S.Store) e m) }
+            → ServiceKeeps (stock_state S.Store) e m) }
         // Whatever is not of version 1 is left as it was; one of version 1 is opened only where the text of each row
         // is a bundle by its form, whatever texts they are.
         ensures kept { IfOk result (λ e. IsKept (state S.Store connection) (stock_state S.Store e.machine.records)) }
@@ -317,7 +317,7 @@ impl<R: RuleSet + Drop, S: Alter> Engine<R, S> {
     /// The database, without the engine. It takes no memory.
     pub fn into_connection(self) -> Connection<S>
         ensures same { result ≡ self.machine.records.connection }
-        ensures holds { (c : _) → Holds (stock_state S.Store self.machine.records) c → Holds (state S.Store result) c }
+        ensures holds { (c : _) → HoldsRecords (stock_state S.Store self.machine.records) c → HoldsRecords (state S.Store result) c }
     {
         let Engine {
             rules: _,

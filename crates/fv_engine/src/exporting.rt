@@ -11,7 +11,7 @@ ghost use Rattle.fv_engine_pending.specs.Passes.{OnlyReads, last_of};
 ghost use Rattle.fv_engine_pending.specs.Rejudging.{HasFewIds};
 ghost use Rattle.fv_engine_lines.specs.Lines.{ended};
 ghost use Rattle.fv_engine_lines.specs.Writes.{AppendsFront};
-ghost use Rattle.fv_engine_machine.specs.Services.{Keeps};
+ghost use Rattle.fv_engine_machine.specs.Services.{ServiceKeeps};
 ghost use Rattle.fv_bundle.specs.Types.{has_deep};
 ghost use Rattle.fv_bundle.specs.TypesView.{types_view};
 ghost use Rattle.fv_store.specs.Causes.{HasFailed};
@@ -328,21 +328,21 @@ impl<R: RuleSet + Drop, S: Alter> Engine<R, S> {
         ensures same { IsSameService self.old self.new }
         ensures frame { Frame (stock_state S.Store self.old.machine.records)
             (stock_state S.Store self.new.machine.records) }
-        ensures keeps { (m : Records) → Keeps (stock_state S.Store) self.old m
-            → Keeps (stock_state S.Store) self.new m }
+        ensures keeps { (m : Records) → ServiceKeeps (stock_state S.Store) self.old m
+            → ServiceKeeps (stock_state S.Store) self.new m }
         // The database is as it was.
-        ensures untouched { (m : Records) → Keeps (stock_state S.Store) self.old m
+        ensures untouched { (m : Records) → ServiceKeeps (stock_state S.Store) self.old m
             → Stays (stock_state S.Store self.old.machine.records) (stock_state S.Store self.new.machine.records) }
         // The declarations and all records were written, each record once, by id.
         ensures exported { HasCleanDisk (stock_state S.Store self.new.machine.records) → OnOk result ((m : Records)
-            → Keeps (stock_state S.Store) self.old m
+            → ServiceKeeps (stock_state S.Store) self.old m
             → Exports self.old.text m (W.contents out.old) (W.contents out.new)) }
         // A front of the same.
         ensures front { HasCleanDisk (stock_state S.Store self.new.machine.records) → OnErr result ((m : Records)
-            → Keeps (stock_state S.Store) self.old m
+            → ServiceKeeps (stock_state S.Store) self.old m
             → ExportsFront self.old.text m (W.contents out.old) (W.contents out.new)) }
         ensures cause { HasCleanDisk (stock_state S.Store self.new.machine.records)
-            → IfErr result (λ f. f ≡ ExportFault.Store → (m : Records) → Keeps (stock_state S.Store) self.old m
+            → IfErr result (λ f. f ≡ ExportFault.Store → (m : Records) → ServiceKeeps (stock_state S.Store) self.old m
             → HasFewIds m → IsUtf8 self.old.text
             → HasFailed (stock_state S.Store self.old.machine.records) (stock_state S.Store self.new.machine.records)) }
     {

@@ -113,8 +113,8 @@ abbrev pub limit_in : json.Data → Option ℕ
 limit_in j = option_and_then (passing (λ n. nat_lt 0 n && nat_le n 1000)) (option_and_then as_u64 (as_number j))
 
 -- `{"do":"list","form":NAME,"after":ID,"limit":N}`, where the last two may be missing; the limit is 100 then
-abbrev pub list_of : json.Data → Option Request
-list_of = only (codes "do" ∷ codes "form" ∷ codes "after" ∷ codes "limit" ∷ []) (λ j.
+abbrev pub list_request : json.Data → Option Request
+list_request = only (codes "do" ∷ codes "form" ∷ codes "after" ∷ codes "limit" ∷ []) (λ j.
     map3 list (required as_str (codes "form") j) (maybe id_in (codes "after") j) (optional 100 limit_in (codes "limit") j))
 
 -- the commands by their names
@@ -128,7 +128,7 @@ forms =
     ∷ (codes "check", check_of)
     ∷ (codes "checkfield", check_field_of)
     ∷ (codes "checkvalue", check_value_of)
-    ∷ (codes "list", list_of)
+    ∷ (codes "list", list_request)
     ∷ []
 
 -- the command that a JSON value is, by the name at its member `do`

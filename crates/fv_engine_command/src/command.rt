@@ -4,7 +4,7 @@ ghost use Rattle.fv_datum.specs.Forms.{maybe, optional};
 ghost use Rattle.fv_datum.specs.Lookup.{at_name};
 ghost use Rattle.serde_json.specs.View.{view as json_view};
 ghost use Rattle.fv_engine_command.specs.CommandView.{command_view, part_view};
-ghost use Rattle.fv_engine_command.specs.Commands.{alone, batch_of, get_of, groups_at, check_of, check_field_of, check_value_of, id_in, limit_in, list_of, forms, command_of};
+ghost use Rattle.fv_engine_command.specs.Commands.{alone, batch_of, get_of, groups_at, check_of, check_field_of, check_value_of, id_in, limit_in, list_request, forms, command_of};
 
 use crate::ids::{id_in, id_of};
 use crate::part::{Part, parts_in, put_of, remove_of, set_of};
@@ -176,7 +176,7 @@ fn limit_of(value: &Value) -> Option<u32>
 }
 
 fn list_of(value: &Value) -> Option<Command<'_>>
-    ensures { option_map command_view result ≡ list_of (json_view value.now) }
+    ensures { option_map command_view result ≡ list_request (json_view value.now) }
 {
     if !has_only(value, &["do", "form", "after", "limit"]) {
         return None;

@@ -13,11 +13,11 @@ use Rattle.fv_declare_schema.specs.Declarations.{Declarations}
 use Rattle.fv_engine_machine.specs.Causes.{StoreHasFailed, HasCause, GivesOut, Causes, Handles}
 use Rattle.fv_engine_machine.specs.Keeping.{Unchanged, Fails, Checks, unjudged}
 use Rattle.fv_engine_machine.specs.Machines.{Machine, over, with_map, contents, room_in, Becomes}
-use Rattle.fv_engine_machine.specs.Refusals.{when, first_of, is_too_long, parts_of, refusal}
-use Rattle.fv_engine_command.specs.Commands.{Part, Request, too_long, not_json, shape, alone, batch, get, check, check_field, check_value, list, id_in, id_at, put_of, set_of, remove_of, parts_in, batch_of, get_of, groups_at, check_of, check_field_of, check_value_of, limit_in, list_of, forms, command_of, of_json}
+use Rattle.fv_engine_machine.specs.Refusals.{when, first_of, is_too_long, batch_parts, refusal}
+use Rattle.fv_engine_command.specs.Commands.{Part, Request, too_long, not_json, shape, alone, batch, get, check, check_field, check_value, list, id_in, id_at, put_of, set_of, remove_of, parts_in, batch_of, get_of, groups_at, check_of, check_field_of, check_value_of, limit_in, list_request, forms, command_of, of_json}
 use Rattle.fv_engine_machine.specs.Step.{done_by, Changes, Checked, Serves, Answers, IsTaken, looks_up, LooksUp, Step}
 use Rattle.fv_declare_schema.specs.Groups.{numbers_of}
-use Rattle.fv_declare_schema.specs.Judged.{unknown_in}
+use Rattle.fv_declare_schema.specs.Judged.{unknown_group_in}
 use Rattle.fv_bundle.specs.Bundles.{Bundled}
 use Rattle.fv_model.specs.declared.fault.BundleFault.{BundleFault}
 use Rattle.fv_model.specs.declared.fault.BundleFault.TheVariants as fault
@@ -32,7 +32,7 @@ use Rattle.fv_store.specs.Lists.{Lists}
 use Rattle.fv_store.specs.Records.{Kept, Records}
 use Rattle.fv_store.specs.declared.fault.StoreFault.{StoreFault}
 use Rattle.fv_store.specs.declared.fault.StoreFault.TheVariants as store
-use Rattle.fv_store.specs.Stands.{Frame, Holds, Stays}
+use Rattle.fv_store.specs.Stands.{Frame, HoldsRecords, Stays}
 use Rattle.fv_validate.specs.declared.fault.ValidateFault.{ValidateFault}
 use Rattle.fv_validate.specs.declared.fault.ValidateFault.TheVariants as validate
 use Rattle.fv_walk.specs.Visits.{HasTooManyVisits}
@@ -84,10 +84,10 @@ module _ {H : Type 0} (held : H → State) where
   -- a call on the store
   module _ (ds : Declarations) (old new : H) (frame : Frame (held old) (held new)) where
     -- it changes no record
-    pub unchanged : ((bytes : List ℕ) (m : Records) → Holds (held old) (contents bytes ds m) → Stays (held old) (held new)) → (T : Relation)
-        → (HasCleanDisk (held new) → (bytes : List ℕ) (m : Records) → Holds (held old) (contents bytes ds m)
+    pub unchanged : ((bytes : List ℕ) (m : Records) → HoldsRecords (held old) (contents bytes ds m) → Stays (held old) (held new)) → (T : Relation)
+        → (HasCleanDisk (held new) → (bytes : List ℕ) (m : Records) → HoldsRecords (held old) (contents bytes ds m)
         → Unchanged (with_map held (over held ds old) m) (with_map held (over held ds new) m) → T (with_map held (over held ds old) m) (with_map held (over held ds new) m))
-        → ((bytes : List ℕ) (m : Records) → Holds (held old) (contents bytes ds m) → Holds (held new) (contents bytes ds m)) → Becomes held (over held ds old) (over held ds new) T
+        → ((bytes : List ℕ) (m : Records) → HoldsRecords (held old) (contents bytes ds m) → HoldsRecords (held new) (contents bytes ds m)) → Becomes held (over held ds old) (over held ds new) T
     unchanged untouched T does undone = record {
       declared = refl;
       clean = frame.clean;
@@ -160,7 +160,7 @@ module _ (means : Meanings) (now : ℤ) (r : Request) (x y : Machine Records) (s
     counts = stay.counts;
     was_open = stay.was_open;
     closes = stay.closes;
-    gives = gives_none answer (parts_of r) x y other stay.room;
+    gives = gives_none answer (batch_parts r) x y other stay.room;
     finds = finds;
     cause = cause;
   }
@@ -226,7 +226,7 @@ check_refusal : Option Kept → Bool → Option Answer
 check_refusal o unknown = first_of (when (not (is_some o)) NoRecord ∷ when unknown UnknownGroup ∷ None ∷ [])
 
 -- a bundle that isn't validated
-pub not_checked : (means : Meanings) (ds : Declarations) (now : ℤ) (b : Bundled) (names : List (List ℕ)) (fault : ValidateFault) → unknown_in ds.groups names ≡ false → fault ≢ validate.UnknownGroup → fault ≢ validate.NoSuchField
+pub not_checked : (means : Meanings) (ds : Declarations) (now : ℤ) (b : Bundled) (names : List (List ℕ)) (fault : ValidateFault) → unknown_group_in ds.groups names ≡ false → fault ≢ validate.UnknownGroup → fault ≢ validate.NoSuchField
     → (fault ≡ validate.TooManyVisits → HasTooManyVisits ds b (numbers_of ds.groups names)) → Checks means ds now b names (refused (unjudged fault))
 not_checked means ds now b names validate.UnknownGroup known named other many = absurd (named refl)
 not_checked means ds now b names validate.NoSuchField known named other many = absurd (other refl)
@@ -242,14 +242,14 @@ module _ (means : Meanings) (now : ℤ) (id : List ℕ) (names : List (List ℕ)
   pub checked_none : IsTrue x.is_open → x.records id ≡ None → Handles means now (check id names) x (refused NoRecord) y
   unfolding check_refusal
   checked_none live none = still means now (check id names) x y stay (refused NoRecord) tt
-      (inl (ap (λ (o : Option Kept). check_refusal o (unknown_in x.declared.groups names)) none, stay.records)) (λ looks. live)
+      (inl (ap (λ (o : Option Kept). check_refusal o (unknown_group_in x.declared.groups names)) none, stay.records)) (λ looks. live)
 
   -- the refusals of a check of a record that is there
-  there : (kept : Kept) (unknown : Bool) → x.records id ≡ Some kept → unknown_in x.declared.groups names ≡ unknown
+  there : (kept : Kept) (unknown : Bool) → x.records id ≡ Some kept → unknown_group_in x.declared.groups names ≡ unknown
       → refusal x.declared x.records (check id names) ≡ when unknown UnknownGroup
   unfolding check_refusal
-  there kept true some is = ap (λ (o : Option Kept). check_refusal o (unknown_in x.declared.groups names)) some ∙ ap (check_refusal (Some kept)) is
-  there kept false some is = ap (λ (o : Option Kept). check_refusal o (unknown_in x.declared.groups names)) some ∙ ap (check_refusal (Some kept)) is
+  there kept true some is = ap (λ (o : Option Kept). check_refusal o (unknown_group_in x.declared.groups names)) some ∙ ap (check_refusal (Some kept)) is
+  there kept false some is = ap (λ (o : Option Kept). check_refusal o (unknown_group_in x.declared.groups names)) some ∙ ap (check_refusal (Some kept)) is
 
   pub checked_some : IsTrue x.is_open → (kept : Kept) → x.records id ≡ Some kept → (answer : Answer) → Checks means x.declared now kept.bundle names answer → Handles means now (check id names) x answer y
   checked_some live kept some answer (inl (unknown, is)) = subst (λ (a : Answer). Handles means now (check id names) x a y) (sym is)
@@ -293,7 +293,7 @@ module _ (means : Meanings) (now : ℤ) where
     was_open = causes.was_open;
     counts = causes.counts;
     closes = causes.closes;
-    room = none_given answer (parts_of r) x y other causes.gives;
+    room = none_given answer (batch_parts r) x y other causes.gives;
   }
 
   -- where memory was refused for the text of an answer, that is the answer
@@ -360,7 +360,7 @@ short_check_value j =
     short_if (has_only (codes "do" ∷ codes "type" ∷ codes "field" ∷ codes "value" ∷ codes "groups" ∷ []) j) (map4 check_value type field value (groups_at j)) None
     (short_map4 check_value type field value (groups_at j) (λ t f v names. refl)) refl
 
-short_list : (j : json.Data) → is_too_long (unwrap_or (list_of j) shape) ≡ false
+short_list : (j : json.Data) → is_too_long (unwrap_or (list_request j) shape) ≡ false
 short_list j =
     let form = required as_str (codes "form") j in
     let after = maybe id_in (codes "after") j in

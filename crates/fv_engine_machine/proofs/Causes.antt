@@ -3,7 +3,7 @@ use Rattle.std.proofs.Common.{◌≡◌, ◌⊎◌, inl, inr, ℕ, List, [], ◌
 use Rattle.std.specs.Result.{result_err, result_map_both}
 use Rattle.fv_declare_schema.specs.Declarations.{Declarations}
 use Rattle.fv_engine_command.specs.Commands.{Part, Request, too_long, not_json, shape, alone, batch, get, check, check_field, check_value, list}
-use Rattle.fv_engine_machine.specs.Refusals.{refusal, when, first_of, is_too_long, is_no_json, is_misshapen, lacks_form, value_fault, part_fault, part_refusal, lacks_record, lacks_group, lacks_field, made, told_fault}
+use Rattle.fv_engine_machine.specs.Refusals.{refusal, when, first_of, is_too_long, is_no_json, is_misshapen_line, lacks_form, value_fault, part_fault, part_refusal, lacks_record, lacks_group, lacks_field, made, told_fault}
 use Rattle.fv_engine_pending.specs.Parts.{part_made, parts_made, and_then}
 use Rattle.fv_engine_pending.specs.declared.fault.PartFault.{PartFault}
 use Rattle.fv_engine_reply.specs.Answers.{Answer, refused, part_refused}
@@ -95,7 +95,7 @@ module _ (ds : Declarations) (m : Records) (r : Request) where
   abbrev pub Says : Refusal → Type 0
   Says why.LineTooLong = is_too_long r ≡ true
   Says why.NotJson = is_no_json r ≡ true
-  Says why.Shape = is_misshapen ds r ≡ true
+  Says why.Shape = is_misshapen_line ds r ≡ true
   Says why.UnknownForm = lacks_form ds r ≡ true
   Says why.NoRecord = lacks_record m r ≡ true
   Says why.UnknownGroup = lacks_group ds r ≡ true
@@ -105,13 +105,13 @@ module _ (ds : Declarations) (m : Records) (r : Request) where
   -- the condition of a refusal holds, or a part by itself can't be made for the fault that it tells
   pub cause : (v : Refusal) → refusal ds m r ≡ Some (refused v) → Says v ⊎ IsPartFault ds m r v
   cause v = said (Says v ⊎ IsPartFault ds m r v) (refused v)
-      (when (is_too_long r) why.LineTooLong ∷ when (is_no_json r) why.NotJson ∷ when (is_misshapen ds r) why.Shape ∷ when (lacks_form ds r) why.UnknownForm
+      (when (is_too_long r) why.LineTooLong ∷ when (is_no_json r) why.NotJson ∷ when (is_misshapen_line ds r) why.Shape ∷ when (lacks_form ds r) why.UnknownForm
       ∷ value_fault ds r ∷ part_fault ds m r ∷ when (lacks_record m r) why.NoRecord ∷ when (lacks_group ds r) why.UnknownGroup ∷ when (lacks_field ds m r) why.NoSuchField ∷ []) (
         plain (is_too_long r) why.LineTooLong (λ b. b),
         λ n1. (
           plain (is_no_json r) why.NotJson (λ b. b),
           λ n2. (
-            plain (is_misshapen ds r) why.Shape (λ b. b),
+            plain (is_misshapen_line ds r) why.Shape (λ b. b),
             λ n3. (
               plain (lacks_form ds r) why.UnknownForm (λ b. b),
               λ n4. (

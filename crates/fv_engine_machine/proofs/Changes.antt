@@ -32,7 +32,7 @@ use Rattle.fv_engine_reply.specs.declared.answer.Refusal.TheVariants.{Shape, Too
 use Rattle.fv_store.specs.Causes.{LeavesRoom, rows_of_all}
 use Rattle.fv_store.specs.Changes.{after_all, changed, ChangesFit}
 use Rattle.fv_store.specs.Records.{Contents, Kept, Records, Roots}
-use Rattle.fv_store.specs.Stands.{Frame, Holds, Stays}
+use Rattle.fv_store.specs.Stands.{Frame, HoldsRecords, Stays}
 use Rattle.fv_store.specs.declared.change.Change.{Change}
 use Rattle.fv_bundle.specs.Types.{Declared}
 use Rattle.fv_validate.specs.declared.fault.ValidateFault.{ValidateFault}
@@ -84,9 +84,9 @@ frame_still s = record { clean = λ clean. clean; was_open = λ clean live. live
 
 module _ {H : Type 0} (held : H → State) (ds : Declarations) (bytes : List ℕ) (m : Records) (old new : H) where
   -- nothing was written
-  pub moves_not : (T : Machine Records → Machine Records → Type 0) → Frame (held old) (held new) → (Holds (held old) (contents bytes ds m) → Holds (held new) (contents bytes ds m))
-      → (Holds (held old) (contents bytes ds m) → Stays (held old) (held new))
-      → (HasCleanDisk (held new) → Holds (held old) (contents bytes ds m) → Unchanged (with_map held (over held ds old) m) (with_map held (over held ds new) m)
+  pub moves_not : (T : Machine Records → Machine Records → Type 0) → Frame (held old) (held new) → (HoldsRecords (held old) (contents bytes ds m) → HoldsRecords (held new) (contents bytes ds m))
+      → (HoldsRecords (held old) (contents bytes ds m) → Stays (held old) (held new))
+      → (HasCleanDisk (held new) → HoldsRecords (held old) (contents bytes ds m) → Unchanged (with_map held (over held ds old) m) (with_map held (over held ds new) m)
       → T (with_map held (over held ds old) m) (with_map held (over held ds new) m)) → Moves held ds bytes m old new T
   moves_not T frame undone untouched does = λ clean holds. (
     m,
@@ -96,9 +96,9 @@ module _ {H : Type 0} (held : H → State) (ds : Declarations) (bytes : List ℕ
 
   -- what stands on the way was written
   pub moves_on : (given : ℕ) (way : Way) (what : Done) (changes : List Change) → Frame (held old) (held new) → (HasCleanDisk (held new) → IsTrue (held new).is_open)
-      → ((c : Contents) → ChangesFit c.types c.roots changes c.records → Holds (held old) c → Holds (held new) (changed changes c)) → after_all changes m ≡ overlay way m
+      → ((c : Contents) → ChangesFit c.types c.roots changes c.records → HoldsRecords (held old) c → HoldsRecords (held new) (changed changes c)) → after_all changes m ≡ overlay way m
       → rows_of_all changes ≤ given
-      → (HasCleanDisk (held new) → (c : Contents) → Holds (held old) c → LeavesRoom (rows_of_all changes) (held old).now (held new).now)
+      → (HasCleanDisk (held new) → (c : Contents) → HoldsRecords (held old) c → LeavesRoom (rows_of_all changes) (held old).now (held new).now)
       → (AreFitting ds.types ds.forms way → ChangesFit ds.types ds.forms changes m) → FitsWhereHeld (held old) (contents bytes ds m) way
       → Moves held ds bytes m old new (λ x y. Keeps given way what x (done what) y)
   moves_on given way what changes frame live stored after rows leaves fitting fits = λ clean holds.
@@ -107,7 +107,7 @@ module _ {H : Type 0} (held : H → State) (ds : Declarations) (bytes : List ℕ
       let left = room_left (rows_of_all changes) (held old).now (held new).now (leaves clean (contents bytes ds m) holds) in (
         overlay way m,
         inl (refl, record { declared = refl; records = refl; was_open = was; is_open = now_live; counts = frame.counts; room = omega (arith, left, rows) }),
-        subst (λ (n : Records). Holds (held new) (contents bytes ds n)) after
+        subst (λ (n : Records). HoldsRecords (held new) (contents bytes ds n)) after
             (stored (contents bytes ds m) (fitting (fits (frame.clean clean) was holds)) holds),
       )
 

@@ -10,7 +10,7 @@ use Rattle.fv_datum.specs.Data.{Data}
 use Rattle.fv_datum.specs.Lookup.{at_name}
 use Rattle.fv_declare_schema.specs.Declarations.{Declarations}
 use Rattle.fv_engine_command.specs.Commands.{Part, put, set, remove, Request, too_long, not_json, shape, alone, batch, get, check, check_field, check_value, list}
-use Rattle.fv_engine_machine.specs.Refusals.{refusal, when, is_too_long, is_no_json, is_misshapen, lacks_form, value_fault, part_fault, part_refusal, lacks_record, lacks_group, lacks_field, made, told_fault}
+use Rattle.fv_engine_machine.specs.Refusals.{refusal, when, is_too_long, is_no_json, is_misshapen_line, lacks_form, value_fault, part_fault, part_refusal, lacks_record, lacks_group, lacks_field, made, told_fault}
 use Rattle.fv_engine_pending.specs.Parts as parts
 use Rattle.fv_engine_pending.specs.declared.fault.PartFault.{PartFault}
 use Rattle.fv_engine_pending.specs.declared.fault.PartFault.TheVariants as part
@@ -107,7 +107,7 @@ module _ (ds : Declarations) (m : Records) (f : BundleFault) where
   value_at_fault (check_field id object field names) e = cc
   value_at_fault (list form after limit) e = cc
 
-  parts_at_fault : (r : Request) → is_misshapen ds r ≡ false → part_fault ds m r ≡ Some (refused (why.Bundle f)) → IsFaulty ds m r f
+  parts_at_fault : (r : Request) → is_misshapen_line ds r ≡ false → part_fault ds m r ≡ Some (refused (why.Bundle f)) → IsFaulty ds m r f
   parts_at_fault (alone p) shaped e = go (parts.part_made ds.types ds.forms p m) refl e
     where
       go : (res : Result Records PartFault) → parts.part_made ds.types ds.forms p m ≡ res
@@ -137,19 +137,19 @@ module _ (ds : Declarations) (m : Records) (f : BundleFault) where
   -- a request that is refused for a bundle's fault has it
   pub at_fault : (r : Request) → refusal ds m r ≡ Some (refused (why.Bundle f)) → IsFaulty ds m r f
   at_fault r = said (IsFaulty ds m r f) (refused (why.Bundle f))
-      (when (is_too_long r) why.LineTooLong ∷ when (is_no_json r) why.NotJson ∷ when (is_misshapen ds r) why.Shape ∷ when (lacks_form ds r) why.UnknownForm
+      (when (is_too_long r) why.LineTooLong ∷ when (is_no_json r) why.NotJson ∷ when (is_misshapen_line ds r) why.Shape ∷ when (lacks_form ds r) why.UnknownForm
       ∷ value_fault ds r ∷ part_fault ds m r ∷ when (lacks_record m r) why.NoRecord ∷ when (lacks_group ds r) why.UnknownGroup ∷ when (lacks_field ds m r) why.NoSuchField ∷ []) (
         other r (is_too_long r) why.LineTooLong (λ s. cc),
         λ n1. (
           other r (is_no_json r) why.NotJson (λ s. cc),
           λ n2. (
-            other r (is_misshapen ds r) why.Shape (λ s. cc),
+            other r (is_misshapen_line ds r) why.Shape (λ s. cc),
             λ shaped. (
               other r (lacks_form ds r) why.UnknownForm (λ s. cc),
               λ n4. (
                 value_at_fault r,
                 λ n5. (
-                  parts_at_fault r (not_held (is_misshapen ds r) why.Shape shaped),
+                  parts_at_fault r (not_held (is_misshapen_line ds r) why.Shape shaped),
                   λ n6. (
                     other r (lacks_record m r) why.NoRecord (λ s. cc),
                     λ n7. (

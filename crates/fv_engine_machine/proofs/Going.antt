@@ -4,7 +4,7 @@ use Rattle.sqlite.specs.State.{State, HasCleanDisk}
 use Rattle.fv_declare_judging.specs.Declares.{Declares}
 use Rattle.fv_declare_schema.specs.Declarations.{Declarations}
 use Rattle.fv_engine_machine.specs.Machines.{Machine, StandsFor, over, Becomes}
-use Rattle.fv_engine_machine.specs.Services.{GoesOn, Keeps, Service, serving, with_mapped}
+use Rattle.fv_engine_machine.specs.Services.{GoesOn, ServiceKeeps, Service, serving, with_mapped}
 use Rattle.fv_registry.specs.Rules.{Known}
 use Rattle.fv_store.specs.Records.{Records}
 use Rattle.fv_store.specs.Stock.{Stock}
@@ -16,7 +16,7 @@ Relation = Service Records → Service Records → Type 0
 module _ {H : Type 0} (held : H → State) where
   -- the same, by a relation that follows from the first where the database stands for the records
   pub follows : (old new : Service H) (T U : Relation)
-      → (HasCleanDisk (held new.machine.records) → (m n : Records) → Keeps held old m → Keeps held new n → T (with_mapped held old m) (with_mapped held new n) → U (with_mapped held old m) (with_mapped held new n))
+      → (HasCleanDisk (held new.machine.records) → (m n : Records) → ServiceKeeps held old m → ServiceKeeps held new n → T (with_mapped held old m) (with_mapped held new n) → U (with_mapped held old m) (with_mapped held new n))
       → GoesOn held old new T → GoesOn held old new U
   follows old new T U w going = record {
     known = going.known;

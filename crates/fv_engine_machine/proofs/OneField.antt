@@ -17,7 +17,7 @@ use Rattle.fv_engine_machine.specs.Refusals.{when, first_of, refusal}
 use Rattle.fv_engine_machine.specs.Step.{FieldChecked, Answers}
 use Rattle.fv_engine_machine.proofs.Becoming.{is_memory, stays_itself, IsOther, still, out_of_memory}
 use Rattle.fv_declare_schema.specs.Groups.{numbers_of}
-use Rattle.fv_declare_schema.specs.Judged.{unknown_in}
+use Rattle.fv_declare_schema.specs.Judged.{unknown_group_in}
 use Rattle.fv_bundle.specs.Bundles.{Thing, Bundled}
 use Rattle.fv_bundle.specs.WellTyped.{AnyName, IsWellTyped, IsOfType}
 use Rattle.fv_model.specs.Reading.{value_read}
@@ -51,7 +51,7 @@ pub use_fits : (ts : Declared) (type field : List ℕ) (d : Data) → IsValueOf 
 use_fits ts type field d (held, is, fits) = λ u there. subst (λ (v : TypeUse). Fits AnyName v d) (same_use (field_use ts type field) held u is there) fits
 
 -- what a field is told where it isn't validated, and where it is
-module _ (means : Meanings) (ds : Declarations) (now : ℤ) (o : Thing) (field : List ℕ) (names : List (List ℕ)) (lists : List Reported → Answer) (known : unknown_in ds.groups names ≡ false) where
+module _ (means : Meanings) (ds : Declarations) (now : ℤ) (o : Thing) (field : List ℕ) (names : List (List ℕ)) (lists : List Reported → Answer) (known : unknown_group_in ds.groups names ≡ false) where
   pub field_told : (f : ValidateFault) → f ≢ validate.UnknownGroup → (f ≡ validate.NoSuchField → field_number ds.types o.type_name field ≡ None)
       → (f ≡ validate.TooManyVisits → (is_some (field_number ds.types o.type_name field) ≡ true) × HasTooManyVisitsAt ds o (numbers_of ds.groups names))
       → ChecksField means ds now (Some o) field names lists (refused (unjudged f))
@@ -91,14 +91,14 @@ module _ (means : Meanings) (now : ℤ) (id object field : List ℕ) (names : Li
 
   pub field_none : IsTrue x.is_open → x.records id ≡ None → Handles means now (check_field id object field names) x (refused NoRecord) y
   unfolding field_refusal
-  field_none live none = field_refused live NoRecord (refused NoRecord) refl tt (ap (λ (o : Option Kept). field_refusal o (unknown_in x.declared.groups names) (field_there o)) none)
+  field_none live none = field_refused live NoRecord (refused NoRecord) refl tt (ap (λ (o : Option Kept). field_refusal o (unknown_group_in x.declared.groups names) (field_there o)) none)
 
   -- the refusals where the record is there
-  there : (kept : Kept) (unknown : Bool) → x.records id ≡ Some kept → unknown_in x.declared.groups names ≡ unknown
+  there : (kept : Kept) (unknown : Bool) → x.records id ≡ Some kept → unknown_group_in x.declared.groups names ≡ unknown
       → refusal x.declared x.records (check_field id object field names) ≡ field_refusal (Some kept) unknown (field_there (Some kept))
   unfolding field_refusal
   there kept unknown some is =
-      ap (λ (o : Option Kept). field_refusal o (unknown_in x.declared.groups names) (field_there o)) some ∙ ap (λ (u : Bool). field_refusal (Some kept) u (field_there (Some kept))) is
+      ap (λ (o : Option Kept). field_refusal o (unknown_group_in x.declared.groups names) (field_there o)) some ∙ ap (λ (u : Bool). field_refusal (Some kept) u (field_there (Some kept))) is
 
   pub field_some : IsTrue x.is_open → (kept : Kept) → x.records id ≡ Some kept → (answer : Answer)
       → ChecksField means x.declared now (at_name object kept.bundle.objects) field names field_checked answer → Handles means now (check_field id object field names) x answer y
@@ -173,11 +173,11 @@ module _ (means : Meanings) (now : ℤ) (type field : List ℕ) (value : json.Da
   value_refusal o unknown =
       first_of (option_and_then (λ (u : TypeUse). fault_of (value_read u value)) o ∷ None ∷ None ∷ when unknown UnknownGroup ∷ when (not (is_some o)) NoSuchField ∷ [])
 
-  refusal_is : (o : Option TypeUse) (unknown : Bool) → field_use x.declared.types type field ≡ o → unknown_in x.declared.groups names ≡ unknown
+  refusal_is : (o : Option TypeUse) (unknown : Bool) → field_use x.declared.types type field ≡ o → unknown_group_in x.declared.groups names ≡ unknown
       → refusal x.declared x.records (check_value type field value names) ≡ value_refusal o unknown
   unfolding value_refusal
   refusal_is o unknown holds is =
-      ap (λ (p : Option TypeUse). value_refusal p (unknown_in x.declared.groups names)) holds ∙ ap (value_refusal o) is
+      ap (λ (p : Option TypeUse). value_refusal p (unknown_group_in x.declared.groups names)) holds ∙ ap (value_refusal o) is
 
   -- it needs no store
   answered : (answer : Answer) → IsOther answer → Answers means x.declared now (check_value type field value names) x.records answer x.records → Handles means now (check_value type field value names) x answer x
@@ -197,7 +197,7 @@ module _ (means : Meanings) (now : ℤ) (type field : List ℕ) (value : json.Da
   read_refusal found unknown = first_of (fault_of found ∷ None ∷ None ∷ when unknown UnknownGroup ∷ None ∷ [])
 
   refusal_by : (held : TypeUse) (found : Result Data BundleFault) (unknown : Bool) → field_use x.declared.types type field ≡ Some held → value_read held value ≡ found
-      → unknown_in x.declared.groups names ≡ unknown → refusal x.declared x.records (check_value type field value names) ≡ read_refusal found unknown
+      → unknown_group_in x.declared.groups names ≡ unknown → refusal x.declared x.records (check_value type field value names) ≡ read_refusal found unknown
   unfolding value_refusal read_refusal
   refusal_by held found unknown holds read is = refusal_is (Some held) unknown holds is ∙ ap (λ (r : Result Data BundleFault). read_refusal r unknown) read
 
@@ -205,7 +205,7 @@ module _ (means : Meanings) (now : ℤ) (type field : List ℕ) (value : json.Da
   unfolding read_refusal
   value_misread why at = elim (is_memory why) [
     | inl e ↦ subst (λ (g : BundleFault). Handles means now (check_value type field value names) x (refused (misread g)) x) (sym e) (forgets (refused Memory) refl)
-    | inr n ↦ value_refused (Bundle why) (refused (misread why)) (ap refused (misread_is why n)) tt (refusal_by at.0 (Err why) (unknown_in x.declared.groups names) at.1 (at.2 n) refl)
+    | inr n ↦ value_refused (Bundle why) (refused (misread why)) (ap refused (misread_is why n)) tt (refusal_by at.0 (Err why) (unknown_group_in x.declared.groups names) at.1 (at.2 n) refl)
   ]
 
   pub value_done : (o : Option Data) → IsReadAt x.declared.types type field value o → (answer : Answer)

@@ -26,7 +26,7 @@ use Rattle.fv_registry.specs.Meanings.{Meanings}
 use Rattle.fv_registry.specs.Rules.{Known}
 use Rattle.fv_store.specs.Causes.{HasFailed, IsShortAbout, LeavesRoom}
 use Rattle.fv_store.specs.Records.{AllFit, Contents, Records}
-use Rattle.fv_store.specs.Stands.{Frame, Holds, Stays, IsLive}
+use Rattle.fv_store.specs.Stands.{Frame, HoldsRecords, Stays, IsLive}
 use Rattle.fv_store.specs.Stock.{Stock}
 use Rattle.fv_store.specs.Written.{writings}
 
@@ -98,9 +98,9 @@ module _ {S : Type 0} (held : Stock S → State) (means : Meanings) (known : Kno
 
   -- nothing is written
   pub unwritten : (old new : Stock S) (answer : Answer) → Frame (held old) (held new) → new.text ≡ old.text → text_after answer given old.text ≡ old.text
-      → ((c : Contents) → Holds (held old) c → Holds (held new) c) → ((c : Contents) → Holds (held old) c → Stays (held old) (held new))
+      → ((c : Contents) → HoldsRecords (held old) c → HoldsRecords (held new) c) → ((c : Contents) → HoldsRecords (held old) c → Stays (held old) (held new))
       → (TellsOfRecords answer → IsLive (held new))
-      → (HasCleanDisk (held new) → (m : Records) → Holds (held old) (contents old.text ds m) → RedeclareStep known means (reign ds m) given now answer (reign ds m)
+      → (HasCleanDisk (held new) → (m : Records) → HoldsRecords (held old) (contents old.text ds m) → RedeclareStep known means (reign ds m) given now answer (reign ds m)
       × (answer ≡ refused Store → IsShortAbout given → HasFewIds m → HasFailed (held old) (held new)))
       → Does ds old new answer
   unwritten old new answer frame text after stays untouched live tells = record {
@@ -124,7 +124,7 @@ module _ {S : Type 0} (held : Stock S → State) (means : Meanings) (known : Kno
               cause = told.1;
             },
           ),
-          subst (λ (t : List ℕ). Holds (held new) (contents t ds m)) (sym text) (stays (contents old.text ds m) stands),
+          subst (λ (t : List ℕ). HoldsRecords (held new) (contents t ds m)) (sym text) (stays (contents old.text ds m) stands),
         );
   }
 
@@ -143,11 +143,11 @@ module _ {S : Type 0} (held : Stock S → State) (means : Meanings) (known : Kno
       (λ clean m holds. (inl (inl (fault, declares is, refl, refl)), λ e. cc)))
 
   module _ (next : Declarations) (declares : Declares known given (Ok next)) (old mid : Stock S) (frame : Frame (held old) (held mid)) (text : mid.text ≡ old.text)
-      (stays : (c : Contents) → Holds (held old) c → Holds (held mid) c)
-      (untouched : (c : Contents) → Holds (held old) c → Stays (held old) (held mid)) where
+      (stays : (c : Contents) → HoldsRecords (held old) c → HoldsRecords (held mid) c)
+      (untouched : (c : Contents) → HoldsRecords (held old) c → Stays (held old) (held mid)) where
     -- the records aren't all judged
     pub is_unjudged : (fault : RejudgeFault) → (IsOfRecord fault → IsLive (held mid))
-        → (HasCleanDisk (held mid) → (m : Records) → Holds (held old) (contents old.text ds m) → RejudgeFails next m (HasFailed (held old) (held mid)) fault)
+        → (HasCleanDisk (held mid) → (m : Records) → HoldsRecords (held old) (contents old.text ds m) → RejudgeFails next m (HasFailed (held old) (held mid)) fault)
         → Does ds old mid (told_pass fault)
     is_unjudged (rejudge.Unfit id why) live fails = unwritten old mid (told_pass (rejudge.Unfit id why)) frame text refl stays untouched live
         (λ clean m holds. (inl (inr (next, declares, inl (string_bytes id, why, fails clean m holds, refl, refl))), λ e. cc))
@@ -160,16 +160,16 @@ module _ {S : Type 0} (held : Stock S → State) (means : Meanings) (known : Kno
 
     -- some records have violations
     pub is_violated : (ls : List Judged) → (ls ≢ []) → IsLive (held mid)
-        → (HasCleanDisk (held mid) → (m : Records) → Holds (held old) (contents old.text ds m)
+        → (HasCleanDisk (held mid) → (m : Records) → HoldsRecords (held old) (contents old.text ds m)
         → AllReadAgain next.types next.forms m × AreListingsOf means next now (IsAgain next m) ls) → Does ds old mid (violated ls)
     is_violated ls some live judged = unwritten old mid (violated ls) frame text refl stays untouched (λ of. live)
         (λ clean m holds. let j = judged clean m holds in (inl (inr (next, declares, inr (j.0, inr (inr (ls, j.1, some, refl, refl))))), λ e. cc))
 
     module _ (new : Stock S) (onward : Frame (held mid) (held new))
-        (judged : HasCleanDisk (held mid) → (m : Records) → Holds (held old) (contents old.text ds m) → AllReadAgain next.types next.forms m × AreListingsOf means next now (IsAgain next m) []) where
+        (judged : HasCleanDisk (held mid) → (m : Records) → HoldsRecords (held old) (contents old.text ds m) → AllReadAgain next.types next.forms m × AreListingsOf means next now (IsAgain next m) []) where
       -- they aren't written
-      pub is_undone : (why : Refusal) → Fails why (HasCleanDisk (held new) → (c : Contents) → Holds (held mid) c → IsShortAbout given → HasFailed (held mid) (held new))
-          → new.text ≡ mid.text → ((c : Contents) → Holds (held mid) c → Holds (held new) c) → Stays (held mid) (held new) → Does ds old new (refused why)
+      pub is_undone : (why : Refusal) → Fails why (HasCleanDisk (held new) → (c : Contents) → HoldsRecords (held mid) c → IsShortAbout given → HasFailed (held mid) (held new))
+          → new.text ≡ mid.text → ((c : Contents) → HoldsRecords (held mid) c → HoldsRecords (held new) c) → Stays (held mid) (held new) → Does ds old new (refused why)
       is_undone why f same undone still = by why f
         where
           through : Frame (held old) (held new)
@@ -178,13 +178,13 @@ module _ {S : Type 0} (held : Stock S → State) (means : Meanings) (known : Kno
           same_text : new.text ≡ old.text
           same_text = same ∙ text
 
-          holds_on : (c : Contents) → Holds (held old) c → Holds (held new) c
+          holds_on : (c : Contents) → HoldsRecords (held old) c → HoldsRecords (held new) c
           holds_on c holds = undone c (stays c holds)
 
-          stays_on : (c : Contents) → Holds (held old) c → Stays (held old) (held new)
+          stays_on : (c : Contents) → HoldsRecords (held old) c → Stays (held old) (held new)
           stays_on c holds = stays_then (held old) (held mid) (held new) onward (untouched c holds) still
 
-          by : (why : Refusal) → Fails why (HasCleanDisk (held new) → (c : Contents) → Holds (held mid) c → IsShortAbout given → HasFailed (held mid) (held new)) → Does ds old new (refused why)
+          by : (why : Refusal) → Fails why (HasCleanDisk (held new) → (c : Contents) → HoldsRecords (held mid) c → IsShortAbout given → HasFailed (held mid) (held new)) → Does ds old new (refused why)
           by Memory f = unwritten old new (refused Memory) through same_text refl holds_on stays_on (λ of. absurd of) (λ clean m holds. (inr (inl (refl, refl)), λ e. cc))
           by Store f = unwritten old new (refused Store) through same_text refl holds_on stays_on (λ of. absurd of)
               (λ clean m holds. (
@@ -204,8 +204,8 @@ module _ {S : Type 0} (held : Stock S → State) (means : Meanings) (known : Kno
 
       -- they are written
       pub is_redeclared : FieldsApart next.types → IsLive (held new) → new.text ≡ given
-          → ((c d : Contents) → d.bytes ≡ given → writings d.records ≡ writings c.records → AllFit d → Holds (held mid) c → Holds (held new) d)
-          → (HasCleanDisk (held new) → (c : Contents) → Holds (held mid) c → LeavesRoom 0 (held mid).now (held new).now)
+          → ((c d : Contents) → d.bytes ≡ given → writings d.records ≡ writings c.records → AllFit d → HoldsRecords (held mid) c → HoldsRecords (held new) d)
+          → (HasCleanDisk (held new) → (c : Contents) → HoldsRecords (held mid) c → LeavesRoom 0 (held mid).now (held new).now)
           → Does next old new redeclared
       is_redeclared apart live text_now made leaves = record {
         known = refl;
@@ -238,7 +238,7 @@ module _ {S : Type 0} (held : Stock S → State) (means : Meanings) (known : Kno
                   cause = λ e. cc;
                 },
               ),
-              subst (λ (t : List ℕ). Holds (held new) (contents t next (under next m))) (sym text_now)
+              subst (λ (t : List ℕ). HoldsRecords (held new) (contents t next (under next m))) (sym text_now)
                   (made old_contents (contents given next (under next m)) refl (again_written old_contents next.types next.forms apart fit j.0)
                   (again_fit old_contents given next.types next.forms apart fit) mid_holds),
             );

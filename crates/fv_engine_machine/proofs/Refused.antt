@@ -16,7 +16,7 @@ use Rattle.fv_datum.specs.Lookup.{at_name}
 use Rattle.fv_declare_schema.specs.Declarations.{Declarations}
 use Rattle.fv_engine_machine.specs.Absent.{refusal_of, IsSomewhere, IsPart}
 use Rattle.fv_engine_command.specs.Commands.{Part, put, set, remove, Request, too_long, not_json, shape, alone, batch, get, check, check_field, check_value, list}
-use Rattle.fv_engine_machine.specs.Refusals.{refusal, when, first_of, is_misshapen, lacks_form, part_fault, part_refusal, lacks_record, lacks_group, lacks_field}
+use Rattle.fv_engine_machine.specs.Refusals.{refusal, when, first_of, is_misshapen_line, lacks_form, part_fault, part_refusal, lacks_record, lacks_group, lacks_field}
 use Rattle.fv_engine_pending.specs.Parts.{part_made, kept_as, bundle_under}
 use Rattle.fv_engine_pending.specs.declared.fault.PartFault.{PartFault}
 use Rattle.fv_engine_pending.specs.declared.fault.PartFault.TheVariants as part
@@ -24,8 +24,8 @@ use Rattle.fv_engine_reply.specs.Answers.{Answer, refused, part_refused}
 use Rattle.fv_engine_reply.specs.declared.answer.Refusal.{Refusal}
 use Rattle.fv_engine_reply.specs.declared.answer.Refusal.TheVariants as why
 use Rattle.fv_first.proofs.Laws.{where_told}
-use Rattle.fv_declare_schema.specs.Groups.{Groups, number_of}
-use Rattle.fv_declare_schema.specs.Judged.{unknown_in}
+use Rattle.fv_declare_schema.specs.Groups.{Groups, group_number}
+use Rattle.fv_declare_schema.specs.Judged.{unknown_group_in}
 use Rattle.fv_declare_schema.specs.Whereabouts.{first_unknown}
 use Rattle.fv_model.specs.Setting.{bundle_set}
 use Rattle.fv_model.specs.declared.fault.BundleFault.{BundleFault}
@@ -72,8 +72,8 @@ record_there m (batch ps) h = cc
 record_there m (check_value type field j names) h = cc
 record_there m (list form after limit) h = cc
 
-first_there : (gs : Groups) (names : List (List ℕ)) → unknown_in gs names ≡ true → (n : ℕ) × (first_unknown gs names ≡ Some n)
-first_there gs names h = there_of (first_unknown gs names) (where_told (λ name. not (is_some (number_of gs name))) names ∙ h)
+first_there : (gs : Groups) (names : List (List ℕ)) → unknown_group_in gs names ≡ true → (n : ℕ) × (first_unknown gs names ≡ Some n)
+first_there gs names h = there_of (first_unknown gs names) (where_told (λ name. not (is_some (group_number gs name))) names ∙ h)
 
 group_there : (ds : Declarations) (r : Request) → lacks_group ds r ≡ true → (n : ℕ) × (first_unknown ds.groups (names_of r) ≡ Some n)
 group_there ds (check id names) h = first_there ds.groups names h
@@ -212,8 +212,8 @@ refused_there ds m r w e = go (cause ds m r (refusal_of w) e)
 
 -- a batch that is refused at a part: its bundles are of their form, and the part can't be made
 pub batch_cause : (ds : Declarations) (m : Records) (ps : List Part) (n : ℕ) (v : Refusal) → refusal ds m (batch ps) ≡ Some (part_refused n v)
-    → (is_misshapen ds (batch ps) ≡ false) × (part_fault ds m (batch ps) ≡ Some (part_refused n v))
-batch_cause ds m ps n v e = go (is_misshapen ds (batch ps)) (part_fault ds m (batch ps)) e
+    → (is_misshapen_line ds (batch ps) ≡ false) × (part_fault ds m (batch ps) ≡ Some (part_refused n v))
+batch_cause ds m ps n v e = go (is_misshapen_line ds (batch ps)) (part_fault ds m (batch ps)) e
   where
     go : (b : Bool) (o : Option Answer) → first_of (when b why.Shape ∷ None ∷ None ∷ o ∷ None ∷ None ∷ None ∷ []) ≡ Some (part_refused n v) → (b ≡ false) × (o ≡ Some (part_refused n v))
     go true o e = cc

@@ -9,15 +9,15 @@ use Rattle.fv_datum.specs.Lookup.{at_name}
 use Rattle.fv_datum.specs.Outcomes.{first, unless_fault}
 use Rattle.fv_declare_schema.specs.Declarations.{Declarations}
 use Rattle.fv_engine_command.specs.Commands as command
-use Rattle.fv_engine_machine.specs.Refusals.{refusal, is_misshapen, part_refusal}
+use Rattle.fv_engine_machine.specs.Refusals.{refusal, is_misshapen_line, part_refusal}
 use Rattle.fv_engine_pending.specs.Parts as parts
 use Rattle.fv_engine_pending.specs.declared.fault.PartFault.{PartFault}
 use Rattle.fv_engine_pending.specs.declared.fault.PartFault.TheVariants as part
 use Rattle.fv_engine_reply.specs.Answers.{refused}
 use Rattle.fv_engine_reply.specs.declared.answer.Refusal.TheVariants as why
 use Rattle.fv_form.specs.Commands.{is_drafted, is_shaped, is_command}
-use Rattle.fv_model.specs.Draft.{Drafted, draft_of}
-use Rattle.fv_model.specs.Reading.{conditions, bundle_of, bundle_read}
+use Rattle.fv_model.specs.Draft.{BundleDraft, bundle_draft_of}
+use Rattle.fv_model.specs.Reading.{bundle_conditions, bundle_of, bundle_read}
 use Rattle.fv_model.specs.declared.fault.BundleFault.{BundleFault}
 use Rattle.fv_model.specs.declared.fault.BundleFault.TheVariants as fault
 use Rattle.fv_bundle.specs.Types.{Declared}
@@ -45,12 +45,12 @@ module _ (b : Bundled) where
       pick c.0 c.1 (first cs) (left_false (parts.is_misread (Err c.1)) (list_all (λ c. not (parts.is_misread (Err c.1))) cs) all)
       (other_fault cs (right_true (parts.is_misread (Err c.1)) (list_all (λ c. not (parts.is_misread (Err c.1))) cs) all))
 
-misread_where : (types : Declared) (root : Option (List ℕ)) (j : json.Data) → parts.is_misread (bundle_read types root j) ≡ not (is_some (draft_of j))
-misread_where types root j = go (draft_of j)
+misread_where : (types : Declared) (root : Option (List ℕ)) (j : json.Data) → parts.is_misread (bundle_read types root j) ≡ not (is_some (bundle_draft_of j))
+misread_where types root j = go (bundle_draft_of j)
   where
-    go : (o : Option Drafted) → parts.is_misread (option_map_or (λ d. unless_fault (first (conditions types root d)) (bundle_of types d)) o (Err fault.Shape)) ≡ not (is_some o)
+    go : (o : Option BundleDraft) → parts.is_misread (option_map_or (λ d. unless_fault (first (bundle_conditions types root d)) (bundle_of types d)) o (Err fault.Shape)) ≡ not (is_some o)
     go None = refl
-    go (Some d) = other_fault (bundle_of types d) (conditions types root d) refl
+    go (Some d) = other_fault (bundle_of types d) (bundle_conditions types root d) refl
 
 -- ---- the machine's condition
 
@@ -72,7 +72,7 @@ module _ (ds : Declarations) where
   or_nothing true = refl
   or_nothing false = refl
 
-  shape_where : (r : command.Request) → is_misshapen ds r ≡ not (is_shaped r)
+  shape_where : (r : command.Request) → is_misshapen_line ds r ≡ not (is_shaped r)
   shape_where command.too_long = refl
   shape_where command.not_json = refl
   shape_where command.shape = refl
@@ -92,14 +92,14 @@ part_other (part.Bundle f) e = cc
 part_other part.NoRecord e = cc
 part_other part.Memory e = cc
 
-shape_of : (ds : Declarations) (m : Records) (r : command.Request) → refusal ds m r ≡ Some (refused why.Shape) → is_misshapen ds r ≡ true
+shape_of : (ds : Declarations) (m : Records) (r : command.Request) → refusal ds m r ≡ Some (refused why.Shape) → is_misshapen_line ds r ≡ true
 shape_of ds m r e = go (cause ds m r why.Shape e)
   where
-    go : Says ds m r why.Shape ⊎ IsPartFault ds m r why.Shape → is_misshapen ds r ≡ true
+    go : Says ds m r why.Shape ⊎ IsPartFault ds m r why.Shape → is_misshapen_line ds r ≡ true
     go (inl h) = h
     go (inr h) = absurd (part_other h.fault h.told)
 
-shape_told : (ds : Declarations) (m : Records) (r : command.Request) → is_misshapen ds r ≡ true → refusal ds m r ≡ Some (refused why.Shape)
+shape_told : (ds : Declarations) (m : Records) (r : command.Request) → is_misshapen_line ds r ≡ true → refusal ds m r ≡ Some (refused why.Shape)
 shape_told ds m command.too_long e = cc
 shape_told ds m command.not_json e = cc
 shape_told ds m command.shape e = refl
@@ -127,5 +127,5 @@ misfits_refused ds m j r asked = go (command.redeclare_of j) asked
     go None asks =
         let same : command.of_json (Some j) ≡ r = cc in
         let form : (is_shaped (command.of_json (Some j)) || false) ≡ is_shaped r = or_nothing ds (is_shaped (command.of_json (Some j))) ∙ ap is_shaped same in
-        let shaped = turned (is_misshapen ds r) (is_shaped r) (shape_where ds r) in
+        let shaped = turned (is_misshapen_line ds r) (is_shaped r) (shape_where ds r) in
         (λ e. shape_told ds m r (shaped.0 (sym form ∙ e)), λ e. form ∙ shaped.1 (shape_of ds m r e))

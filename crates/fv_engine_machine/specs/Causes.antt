@@ -2,7 +2,7 @@
 use Rattle.std.specs.Prelude.{◌≡◌, ◌+◌, ◌*◌, ◌≤◌, ◌<◌, ◌⊎◌, ℕ, ℤ, IsTrue, false, List, [], ◌∷◌}
 use Rattle.sqlite.specs.Disk.{MoreFaults}
 use Rattle.fv_engine_machine.specs.Machines.{Machine}
-use Rattle.fv_engine_machine.specs.Refusals.{parts_of}
+use Rattle.fv_engine_machine.specs.Refusals.{batch_parts}
 use Rattle.fv_engine_machine.specs.Step.{IsTaken, LooksUp, Step}
 use Rattle.fv_engine_command.specs.Commands.{Part, set, Request, asked}
 use Rattle.fv_engine_pending.specs.Altering.{most_rows}
@@ -31,7 +31,7 @@ HasRoomFor parts m old = (rows_taken parts < old.room) × ((id : List ℕ) (k : 
 -- why the store refuses a request: it has failed, or that is a command that would be taken, and so it has where the database has room
 abbrev pub HasCause : Meanings → ℤ → Request → Machine Records → Machine Records → Type 0
 HasCause means now r old new = StoreHasFailed old new
-    ⊎ ((m : Records) × IsTaken means old.declared now r old.records m × (HasRoomFor (parts_of r) m old → StoreHasFailed old new))
+    ⊎ ((m : Records) × IsTaken means old.declared now r old.records m × (HasRoomFor (batch_parts r) m old → StoreHasFailed old new))
 
 -- A taken command of these parts goes by an open connection, which stays open, and gives out as many rowids as they take, at most. Else none
 -- is given out.
@@ -46,7 +46,7 @@ pub record Causes (means : Meanings) (now : ℤ) (r : Request) (answer : Answer)
   pub counts : old.faults ≤ new.faults
   pub was_open : IsTrue new.is_open → IsTrue old.is_open
   pub closes : IsTrue old.is_open → IsTrue new.is_open ⊎ MoreFaults old.faults new.faults
-  pub gives : GivesOut answer (parts_of r) old new
+  pub gives : GivesOut answer (batch_parts r) old new
   pub finds : LooksUp old.declared r → IsTrue old.is_open ⊎ ((answer ≡ refused Store) ⊎ (answer ≡ refused Memory))
   pub cause : answer ≡ refused Store → HasCause means now r old new
 

@@ -5,7 +5,7 @@ use Rattle.fv_engine_command.specs.Commands.{Asked, Part, Request, asks}
 use Rattle.fv_engine_pending.specs.Judging.{AreListingsOf, IsStanding, OneIsOverAmong}
 use Rattle.fv_engine_machine.specs.Keeping.{IsCommand}
 use Rattle.fv_engine_machine.specs.Redeclaring.{Reign}
-use Rattle.fv_engine_machine.specs.Services.{Turns}
+use Rattle.fv_engine_machine.specs.Services.{LineTurns}
 use Rattle.fv_engine_machine.specs.Step.{Step}
 use Rattle.fv_engine_pending.specs.Ways.{Way}
 use Rattle.fv_engine_reply.specs.Answers.{Answer, done, refused, violated}
@@ -23,7 +23,7 @@ bare ds = record { declared = ds; records = no_records }
 
 -- What is asked is answered by a step from no records, whatever it would leave; the store refuses nothing, as there is none.
 abbrev pub AnswersBare : Known → Meanings → Declarations → ℤ → Asked → Answer → Type 0
-AnswersBare known means ds now what answer = (answer ≢ refused Store) × ((left : Reign) × Turns known means (bare ds) what now answer left)
+AnswersBare known means ds now what answer = (answer ≢ refused Store) × ((left : Reign) × LineTurns known means (bare ds) what now answer left)
 
 -- the same, told by the text of the answer
 abbrev pub RepliesBare : Known → Meanings → Declarations → ℤ → Asked → List ℕ → Type 0

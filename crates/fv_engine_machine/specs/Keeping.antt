@@ -8,7 +8,7 @@ use Rattle.fv_declare_schema.specs.Declarations.{Declarations}
 use Rattle.fv_engine_machine.specs.Causes.{StoreHasFailed, Handles}
 use Rattle.fv_engine_machine.specs.Machines.{Machine, contents, over, with_map}
 use Rattle.fv_engine_command.specs.Commands.{Part, set, Request}
-use Rattle.fv_engine_machine.specs.Refusals.{first_of, is_too_long, made, parts_of, refusal, told_fault, when}
+use Rattle.fv_engine_machine.specs.Refusals.{first_of, is_too_long, made, batch_parts, refusal, told_fault, when}
 use Rattle.fv_engine_machine.specs.Step.{Changes, Checked, FieldChecked, LooksUp, Serves}
 use Rattle.fv_engine_pending.specs.Judging.{AreListingsOf, IsStanding, OneIsOverAmong}
 use Rattle.fv_engine_machine.specs.Redeclaring.{misfit}
@@ -20,7 +20,7 @@ use Rattle.fv_engine_pending.specs.Parts.{are_misshapen}
 use Rattle.fv_engine_pending.specs.Touched.{needs_record}
 use Rattle.fv_engine_pending.specs.Ways.{Way, overlay, standing}
 use Rattle.fv_declare_schema.specs.Groups.{numbers_of}
-use Rattle.fv_declare_schema.specs.Judged.{unknown_in}
+use Rattle.fv_declare_schema.specs.Judged.{unknown_group_in}
 use Rattle.fv_bundle.specs.Bundles.{Thing, Bundled}
 use Rattle.fv_model.specs.Reading.{value_read}
 use Rattle.fv_bundle.specs.WellTyped.{AnyName}
@@ -38,7 +38,7 @@ use Rattle.fv_engine_reply.specs.declared.answer.Refusal.{Refusal}
 use Rattle.fv_engine_reply.specs.declared.answer.Refusal.TheVariants.{Shape, Bundle, UnknownGroup, NoSuchField, TooManyVisits, Store, Memory}
 use Rattle.fv_walk.specs.Properties.{field_number}
 use Rattle.fv_store.specs.Records.{Contents, Records}
-use Rattle.fv_store.specs.Stands.{Holds}
+use Rattle.fv_store.specs.Stands.{HoldsRecords}
 use Rattle.sqlite.specs.State.{State, HasCleanDisk}
 use Rattle.fv_validate.specs.declared.fault.ValidateFault.{ValidateFault}
 use Rattle.fv_validate.specs.declared.fault.ValidateFault.TheVariants as validate
@@ -70,12 +70,12 @@ Fails _ cause = ⊥
 -- The old database becomes the new one, where it stands for these records under declarations of these bytes: the new one stands for records
 -- that are in the relation with them.
 abbrev pub Moves : {H : Type 0} → (H → State) → Declarations → List ℕ → Records → H → H → (Machine Records → Machine Records → Type 0) → Type 0
-Moves held ds bytes m old new relation = HasCleanDisk (held new) → Holds (held old) (contents bytes ds m)
-    → (n : Records) × relation (with_map held (over held ds old) m) (with_map held (over held ds new) n) × Holds (held new) (contents bytes ds n)
+Moves held ds bytes m old new relation = HasCleanDisk (held new) → HoldsRecords (held old) (contents bytes ds m)
+    → (n : Records) × relation (with_map held (over held ds old) m) (with_map held (over held ds new) n) × HoldsRecords (held new) (contents bytes ds n)
 
 -- what stands on the way fits, where an open database holds these records
 abbrev pub FitsWhereHeld : State → Contents → Way → Type 0
-FitsWhereHeld s c way = HasCleanDisk s → IsTrue s.is_open → Holds s c → AreFitting c.types c.roots way
+FitsWhereHeld s c way = HasCleanDisk s → IsTrue s.is_open → HoldsRecords s c → AreFitting c.types c.roots way
 
 -- how many rowids what stands on the way takes in a table, at most: none where one object is set
 abbrev pub rows_on : Option (List ℕ) → Way → ℕ
@@ -124,7 +124,7 @@ told_part _ n why = refused why
 -- looks something up where one of them needs a record.
 pub record IsCommand (r : Request) (parts : List Part) (what : Done) : Type 0 where
   pub short : is_too_long r ≡ false
-  pub parts_are : parts_of r ≡ parts
+  pub parts_are : batch_parts r ≡ parts
   pub refusal_is : (ds : Declarations) (m : Records) → refusal ds m r
       ≡ first_of (when (are_misshapen ds.types ds.forms parts) Shape ∷ told_fault (told_part what) (made ds parts m) ∷ [])
   pub serves : (means : Meanings) (ds : Declarations) (now : ℤ) (old : Records) (answer : Answer) (new : Records)
@@ -151,8 +151,8 @@ unjudged validate.Memory = Memory
 -- a bundle is checked for the groups of these names, unless one of them is no group's, or memory is refused
 abbrev pub Checks : Meanings → Declarations → ℤ → Bundled → List (List ℕ) → Answer → Type 0
 Checks means ds now b names answer =
-    ((unknown_in ds.groups names ≡ true) × (answer ≡ refused UnknownGroup))
-    ⊎ (((unknown_in ds.groups names ≡ false) × Checked means ds now b (numbers_of ds.groups names) answer) ⊎ (answer ≡ refused Memory))
+    ((unknown_group_in ds.groups names ≡ true) × (answer ≡ refused UnknownGroup))
+    ⊎ (((unknown_group_in ds.groups names ≡ false) × Checked means ds now b (numbers_of ds.groups names) answer) ⊎ (answer ≡ refused Memory))
 
 -- the number of the field of that name in an object's type; none where the type has no such field
 abbrev pub field_in : Declared → List ℕ → Thing → Option ℕ
@@ -169,8 +169,8 @@ FieldAnswers means ds now (Some o) field names lists answer =
 -- then there is no such object or field, or memory is refused
 abbrev pub ChecksField : Meanings → Declarations → ℤ → Option Thing → List ℕ → List (List ℕ) → (List Reported → Answer) → Answer → Type 0
 ChecksField means ds now o field names lists answer =
-    ((unknown_in ds.groups names ≡ true) × (answer ≡ refused UnknownGroup))
-    ⊎ (((unknown_in ds.groups names ≡ false) × FieldAnswers means ds now o field names lists answer) ⊎ (answer ≡ refused Memory))
+    ((unknown_group_in ds.groups names ≡ true) × (answer ≡ refused UnknownGroup))
+    ⊎ (((unknown_group_in ds.groups names ≡ false) × FieldAnswers means ds now o field names lists answer) ⊎ (answer ≡ refused Memory))
 
 -- a value's JSON is read as what the field of that name in the type of that name holds: as nothing where there is no such field, else as the
 -- datum, which is of that

@@ -7,7 +7,7 @@ use Rattle.sqlite.specs.State.{State, HasCleanDisk}
 use Rattle.sqlite.specs.Tree.{rowid}
 use Rattle.fv_declare_schema.specs.Declarations.{Declarations}
 use Rattle.fv_store.specs.Records.{Records, Contents}
-use Rattle.fv_store.specs.Stands.{Holds}
+use Rattle.fv_store.specs.Stands.{HoldsRecords}
 
 -- What is declared and the records, as a map or as the connection to the database that keeps them; whether the connection is open, which a
 -- failure of the disk may shut; how often the disk has failed; and the room for more rows. The rows of records are in one table and those of
@@ -60,7 +60,7 @@ contents bytes ds m = record { bytes = bytes; types = ds.types; roots = ds.forms
 
 -- its database stands for these records, under declarations of these bytes
 abbrev pub StandsFor : {H : Type 0} → (H → State) → List ℕ → Machine H → Records → Type 0
-StandsFor held bytes machine m = Holds (held machine.records) (contents bytes machine.declared m)
+StandsFor held bytes machine m = HoldsRecords (held machine.records) (contents bytes machine.declared m)
 
 -- The old machine becomes the new one: what is declared stays, and where the disk is clean, the records that the old one stood for are in
 -- the relation with those that the new one stands for.

@@ -4,7 +4,7 @@ use Rattle.std.specs.Result.{result_err}
 use Rattle.fv_datum.specs.Lookup.{at_name}
 use Rattle.fv_declare_schema.specs.Declarations.{Declarations}
 use Rattle.fv_engine_command.specs.Commands.{Part, Request, too_long, not_json, shape, alone, batch, get, check, check_field, check_value, list}
-use Rattle.fv_declare_schema.specs.Judged.{unknown_in}
+use Rattle.fv_declare_schema.specs.Judged.{unknown_group_in}
 use Rattle.fv_bundle.specs.Bundles.{Thing}
 use Rattle.fv_model.specs.Reading.{value_read}
 use Rattle.fv_engine_pending.specs.Parts.{parts_made, are_misshapen}
@@ -30,15 +30,15 @@ is_no_json not_json = true
 is_no_json _ = false
 
 -- the parts of a command that changes records; none of another request
-abbrev pub parts_of : Request → List Part
-parts_of (alone p) = p ∷ []
-parts_of (batch ps) = ps
-parts_of _ = []
+abbrev pub batch_parts : Request → List Part
+batch_parts (alone p) = p ∷ []
+batch_parts (batch ps) = ps
+batch_parts _ = []
 
 -- no command, or one of the puts of a command has a bundle that isn't of a bundle's form
-abbrev pub is_misshapen : Declarations → Request → Bool
-is_misshapen ds shape = true
-is_misshapen ds r = are_misshapen ds.types ds.forms (parts_of r)
+abbrev pub is_misshapen_line : Declarations → Request → Bool
+is_misshapen_line ds shape = true
+is_misshapen_line ds r = are_misshapen ds.types ds.forms (batch_parts r)
 
 -- a list whose form isn't declared
 abbrev pub lacks_form : Declarations → Request → Bool
@@ -81,9 +81,9 @@ lacks_record m _ = false
 
 -- a check of any sort that names a group that isn't declared
 abbrev pub lacks_group : Declarations → Request → Bool
-lacks_group ds (check id names) = unknown_in ds.groups names
-lacks_group ds (check_field id object field names) = unknown_in ds.groups names
-lacks_group ds (check_value type field value names) = unknown_in ds.groups names
+lacks_group ds (check id names) = unknown_group_in ds.groups names
+lacks_group ds (check_field id object field names) = unknown_group_in ds.groups names
+lacks_group ds (check_value type field value names) = unknown_group_in ds.groups names
 lacks_group ds _ = false
 
 -- a checkfield whose record has no such object, or whose object's type has no such field; a checkvalue whose type isn't declared or has no
@@ -113,7 +113,7 @@ abbrev pub refusal : Declarations → Records → Request → Option Answer
 refusal ds m r = first_of (
     when (is_too_long r) LineTooLong  -- C1
     ∷ when (is_no_json r) NotJson  -- C2
-    ∷ when (is_misshapen ds r) Shape  -- C3
+    ∷ when (is_misshapen_line ds r) Shape  -- C3
     ∷ when (lacks_form ds r) UnknownForm  -- C4 of a list
     ∷ value_fault ds r  -- C5 of a checkvalue
     ∷ part_fault ds m r  -- C4, C5 and C6 of parts

@@ -39,8 +39,8 @@ abbrev pub reign_of : Service Records → Reign
 reign_of s = record { declared = s.machine.declared; records = s.machine.records }
 
 -- its database stands for these records, under the declarations in force
-abbrev pub Keeps : {H : Type 0} → (H → State) → Service H → Records → Type 0
-Keeps held s m = StandsFor held s.text s.machine m
+abbrev pub ServiceKeeps : {H : Type 0} → (H → State) → Service H → Records → Type 0
+ServiceKeeps held s m = StandsFor held s.text s.machine m
 
 -- The old service goes on as the new one: the rules stay, what is declared is still what the text in force declares, and where the disk is
 -- clean, the records that the old one stood for are in the relation with those that the new one stands for, each under its own declarations.
@@ -48,8 +48,8 @@ pub record GoesOn {H : Type 0} (held : H → State) (old new : Service H) (relat
   pub known : new.known ≡ old.known
   pub declares : Declares old.known old.text (Ok old.machine.declared) → Declares new.known new.text (Ok new.machine.declared)
   pub clean : HasCleanDisk (held new.machine.records) → HasCleanDisk (held old.machine.records)
-  pub related : HasCleanDisk (held new.machine.records) → (m : Records) → Keeps held old m
-      → (n : Records) × relation (with_mapped held old m) (with_mapped held new n) × Keeps held new n
+  pub related : HasCleanDisk (held new.machine.records) → (m : Records) → ServiceKeeps held old m
+      → (n : Records) × relation (with_mapped held old m) (with_mapped held new n) × ServiceKeeps held new n
 
 -- the text in force behind a redeclare: the new one where it was taken
 abbrev pub text_after : Answer → List ℕ → List ℕ → List ℕ
@@ -96,10 +96,10 @@ Replies means now asked old text new = (answer : Answer) × (text ≡ answer_tex
 -- ---- the declarations and the records alone
 
 -- the step of what is asked
-abbrev pub Turns : Known → Meanings → Reign → Asked → ℤ → Answer → Reign → Type 0
-Turns known means old (redeclare given) moment answer new = RedeclareStep known means old given moment answer new
-Turns known means old (of_records r) moment answer new = Step means old.declared old.records r moment answer new.records × (new.declared ≡ old.declared)
+abbrev pub LineTurns : Known → Meanings → Reign → Asked → ℤ → Answer → Reign → Type 0
+LineTurns known means old (redeclare given) moment answer new = RedeclareStep known means old given moment answer new
+LineTurns known means old (of_records r) moment answer new = Step means old.declared old.records r moment answer new.records × (new.declared ≡ old.declared)
 
 -- what a line asks for, told by the text of its answer
 abbrev pub Turned : Known → Meanings → Reign → List ℕ → ℤ → List ℕ → Reign → Type 0
-Turned known means old line moment text new = (answer : Answer) × (text ≡ answer_text answer) × Turns known means old (asks line) moment answer new
+Turned known means old line moment text new = (answer : Answer) × (text ≡ answer_text answer) × LineTurns known means old (asks line) moment answer new

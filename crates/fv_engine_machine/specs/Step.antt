@@ -4,7 +4,7 @@ use Rattle.std.specs.List.{list_any}
 use Rattle.fv_datum.specs.Data.{Data}
 use Rattle.fv_datum.specs.Lookup.{at_name}
 use Rattle.fv_declare_schema.specs.Declarations.{Declarations}
-use Rattle.fv_engine_machine.specs.Refusals.{is_misshapen, is_too_long, lacks_form, made, parts_of, refusal}
+use Rattle.fv_engine_machine.specs.Refusals.{is_misshapen_line, is_too_long, lacks_form, made, batch_parts, refusal}
 use Rattle.fv_engine_command.specs.Commands.{Part, put, set, remove, Request, alone, batch, get, check, check_field, check_value, list, asked}
 use Rattle.fv_engine_pending.specs.Touched.{needed_id}
 use Rattle.fv_declare_schema.specs.Groups.{numbers_of}
@@ -85,11 +85,11 @@ looks_up (get id) = true
 looks_up (check id names) = true
 looks_up (check_field id object field names) = true
 looks_up (list form after limit) = true
-looks_up r = list_any (λ p. is_some (needed_id p)) (parts_of r)
+looks_up r = list_any (λ p. is_some (needed_id p)) (batch_parts r)
 
 -- one that does so, as it isn't refused before
 abbrev pub LooksUp : Declarations → Request → Type 0
-LooksUp ds r = IsTrue (looks_up r) × (is_misshapen ds r ≡ false) × (lacks_form ds r ≡ false)
+LooksUp ds r = IsTrue (looks_up r) × (is_misshapen_line ds r ≡ false) × (lacks_form ds r ≡ false)
 
 -- From the old map, the request at the moment has the answer and leaves the new one. Beside its answer, want of memory may refuse any request
 -- but a line that is too long, and the store one that looks something up or would be taken; nothing changes then.

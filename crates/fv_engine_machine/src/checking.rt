@@ -6,7 +6,7 @@ ghost use Rattle.fv_engine_command.specs.Commands.{check};
 ghost use Rattle.fv_engine_machine.specs.Keeping.{Checks};
 ghost use Rattle.fv_engine_machine.specs.Machines.{over, Becomes};
 ghost use Rattle.fv_engine_machine.specs.Causes.{Handles};
-ghost use Rattle.fv_declare_schema.specs.Groups.{number_of};
+ghost use Rattle.fv_declare_schema.specs.Groups.{group_number};
 ghost use Rattle.fv_declare_schema.specs.Tables.{indices};
 ghost use Rattle.fv_bundle.specs.Views.{bundle_view};
 ghost use Rattle.fv_bundle.specs.WellTyped.{IsWellTyped};
@@ -31,7 +31,7 @@ pub(crate) fn groups_named(
     names: &[&str],
 ) -> Result<Option<Vec<GroupId>>, AllocError>
     ensures numbers { IfOk result (λ o. option_map (λ v. indices v.items) o
-        ≡ each_some (number_of groups.now) (map (λ n. n.now) names.now)) }
+        ≡ each_some (group_number groups.now) (map (λ n. n.now) names.now)) }
     ensures within { IfOk result (λ o. IfSome o (λ v. All (λ g. g.index < length groups.now) v.items)) }
 {
     let mut found = Vec::with_capacity(alloc, names.len())?;

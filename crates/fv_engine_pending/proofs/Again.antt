@@ -17,7 +17,7 @@ use Rattle.fv_engine_pending.specs.declared.fault.PartFault.TheVariants.{Unknown
 use Rattle.fv_store.proofs.Again.{all_read_fit, all_read_written}
 use Rattle.fv_store.specs.Again.{ReadsUnder}
 use Rattle.fv_store.specs.Written.{writings}
-use Rattle.fv_store.specs.Records.{Kept, Roots, Fits, Contents, AllFit}
+use Rattle.fv_store.specs.Records.{Kept, Roots, RecordFits, Contents, AllFit}
 use Rattle.fv_bundle.specs.Types.{Declared, FieldsApart}
 
 read_ok : (r : Result Bundled BundleFault) (b : Bundled) → if_read (faulty r) ≡ Some b → r ≡ Ok b
@@ -40,7 +40,7 @@ again_written c types forms apart fit all =
     all_read_written c types forms (λ k. if_read (again types forms k)) apart (again_reads types forms) fit (λ id k is. (let found = all id k is in (found.0, ap if_read found.1)))
 
 -- a record that can't be read is of a form that isn't declared, or its bundle doesn't fit the types
-pub unfit_why : (old types : Declared) (roots forms : Roots) (k : Kept) (why : PartFault) → Fits old roots k → again types forms k ≡ Err why → is_unfit why ≡ true
+pub unfit_why : (old types : Declared) (roots forms : Roots) (k : Kept) (why : PartFault) → RecordFits old roots k → again types forms k ≡ Err why → is_unfit why ≡ true
 unfit_why old types roots forms k why fits is = at (at_name k.form forms) is
   where
     refused : (o : Option (List ℕ)) (r : Result Bundled BundleFault) → bundle_read types o (bundle_json k.bundle) ≡ r → faulty r ≡ Err why → is_unfit why ≡ true

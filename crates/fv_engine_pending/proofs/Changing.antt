@@ -19,7 +19,7 @@ use Rattle.fv_bundle.specs.Bundles.{Thing}
 use Rattle.fv_bundle.specs.WellTyped.{IsWellTyped}
 use Rattle.fv_store.specs.Causes.{AreShort as ChangesShort, WritesShort, IsShort, IsShortObject, rows_of, rows_of_all}
 use Rattle.fv_store.specs.Changes.{after, after_all, ChangeFits, ChangesFit}
-use Rattle.fv_store.specs.Records.{Kept, Records, Roots, Fits, with_object, with_thing}
+use Rattle.fv_store.specs.Records.{Kept, Records, Roots, RecordFits, with_object, with_thing}
 use Rattle.fv_store.specs.declared.change.Change.{Change}
 use Rattle.fv_store.specs.declared.change.Change.TheVariants.{Put, Object, Remove}
 use Rattle.fv_store.specs.declared.stored.Stored.{Stored}
@@ -68,8 +68,8 @@ makes_so (Remove id) m = refl
 
 -- what it leaves fits
 abbrev pub LeavesFit : Declared → Roots → Altered → Records → Type 0
-LeavesFit types forms (leaves id o) m = ForSome o (Fits types forms)
-LeavesFit types forms (sets id name t) m = (k : Kept) → m id ≡ Some k → Fits types forms (with_thing name t k)
+LeavesFit types forms (leaves id o) m = ForSome o (RecordFits types forms)
+LeavesFit types forms (sets id name t) m = (k : Kept) → m id ≡ Some k → RecordFits types forms (with_thing name t k)
 
 pub fits_so : (types : Declared) (forms : Roots) (c : Change) (m : Records) → LeavesFit types forms (altered c) m → ChangeFits types forms c m
 fits_so types forms (Put id s) m h = h _ refl

@@ -19,7 +19,7 @@ use Rattle.fv_engine_pending.specs.Ways.{Way, standing_at, left_at, without_id}
 use Rattle.fv_engine_pending.specs.declared.fault.PartFault.{PartFault}
 use Rattle.fv_engine_pending.proofs.Made.{at_left, at_without}
 use Rattle.fv_store.specs.Causes.{IsShort}
-use Rattle.fv_store.specs.Records.{Kept, Records, Roots, Fits}
+use Rattle.fv_store.specs.Records.{Kept, Records, Roots, RecordFits}
 use Rattle.fv_datum.specs.Ascending.{IsAscending}
 use Rattle.fv_bundle.specs.Types.{Declared}
 
@@ -49,13 +49,13 @@ of_entries P way [] each found = tt
 of_entries P way (f ∷ fs) each found = (λ k is. each f.0 k (found.0 ∙ ap (λ o. Some o) is), of_entries P way fs each found.1)
 
 pub all_fit : (types : Declared) (forms : Roots) (way : Way) → IsAscending (keys_of way) → AreFitting types forms way → AreFit types forms way
-all_fit types forms way ascending fitting = of_entries (λ id. Fits types forms) way way fitting (each_found way ascending)
+all_fit types forms way ascending fitting = of_entries (λ id. RecordFits types forms) way way fitting (each_found way ascending)
 
 pub shorts : (way : Way) → IsAscending (keys_of way) → AreShort way → EachIsShort way
 shorts way ascending short = of_entries IsShort way way short (each_found way ascending)
 
 -- what is found in records that fit, fits
-pub agreeing_fit : (types : Declared) (forms : Roots) (way : Way) (m : Records) → Agrees way m → ((id : List ℕ) (k : Kept) → m id ≡ Some k → Fits types forms k) → AreFitting types forms way
+pub agreeing_fit : (types : Declared) (forms : Roots) (way : Way) (m : Records) → Agrees way m → ((id : List ℕ) (k : Kept) → m id ≡ Some k → RecordFits types forms k) → AreFitting types forms way
 agreeing_fit types forms way m agrees fit id k stands = fit id k (agrees id (Some k) stands)
 
 -- ---- what a step leaves
@@ -117,9 +117,9 @@ pub keeps_put : (types : Declared) (id form : List ℕ) (way new : Way) (r : Res
 keeps_put types id form way new (Ok b) e forms fit =
     let kept : Kept = record { form = form; bundle = b } in
     let same : left_at id (Some kept) way ≡ new = cc in
-    let fits : Fits types forms kept = fit.0 in (
+    let fits : RecordFits types forms kept = fit.0 in (
       λ all. subst (AreTyped types) same (each_left (λ k. IsWellTyped types k.bundle) id (Some kept) way (only (λ k. IsWellTyped types k.bundle) kept fits.typed) all),
-      λ all. subst (AreFitting types forms) same (each_at_left (Fits types forms) id (Some kept) way way (λ q other. refl) (only (Fits types forms) kept fits) all),
+      λ all. subst (AreFitting types forms) same (each_at_left (RecordFits types forms) id (Some kept) way way (λ q other. refl) (only (RecordFits types forms) kept fits) all),
     )
 keeps_put types id form way new (Err fault) e forms fit = cc
 
@@ -128,7 +128,7 @@ keeps_remove types id way new None e forms fit = cc
 keeps_remove types id way new (Some k) e forms fit =
     let same : left_at id None (without_id id way) ≡ new = cc in (
       λ all. subst (AreTyped types) same (each_left (λ l. IsWellTyped types l.bundle) id None (without_id id way) (none (λ l. IsWellTyped types l.bundle)) (each_without (λ l. IsWellTyped types l.bundle) id way all)),
-      λ all. subst (AreFitting types forms) same (each_at_left (Fits types forms) id None (without_id id way) way (at_without id way) (none (Fits types forms)) all),
+      λ all. subst (AreFitting types forms) same (each_at_left (RecordFits types forms) id None (without_id id way) way (at_without id way) (none (RecordFits types forms)) all),
     )
 
 -- a record with a bundle that is as well-typed, with a root of the same type, in its place
@@ -139,9 +139,9 @@ keeps_set types id object field j way new k b stands typed rooted same forms fit
       λ all. subst (AreTyped types) same (each_left (λ l. IsWellTyped types l.bundle) id (Some kept) (without_id id way)
           (only (λ l. IsWellTyped types l.bundle) kept (typed (each_standing (λ l. IsWellTyped types l.bundle) id way k all (sym stands)))) (each_without (λ l. IsWellTyped types l.bundle) id way all)),
       λ all. subst (AreFitting types forms) same (
-          let fits : Fits types forms k = all id k (stands_at (at_name id way) k (sym stands)) in
-          each_at_left (Fits types forms) id (Some kept) (without_id id way) way (at_without id way)
-          (only (Fits types forms) kept (record { root = fits.root; declared = fits.declared; typed = typed fits.typed; rooted = rooted fits.root fits.rooted })) all),
+          let fits : RecordFits types forms k = all id k (stands_at (at_name id way) k (sym stands)) in
+          each_at_left (RecordFits types forms) id (Some kept) (without_id id way) way (at_without id way)
+          (only (RecordFits types forms) kept (record { root = fits.root; declared = fits.declared; typed = typed fits.typed; rooted = rooted fits.root fits.rooted })) all),
     )
 
 -- ---- steps in order

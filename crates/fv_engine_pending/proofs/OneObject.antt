@@ -11,7 +11,7 @@ use Rattle.fv_datum.specs.Lookup.{at_name}
 use Rattle.fv_datum.specs.Outcomes.{first}
 use Rattle.fv_bundle.specs.Bundles.{Thing, Things, Bundled}
 use Rattle.fv_bundle.specs.Replaced.{changed_at, thing_with, bundle_with}
-use Rattle.fv_model.specs.Setting.{bundle_set, conditions, datum_for}
+use Rattle.fv_model.specs.Setting.{bundle_set, set_conditions, datum_for}
 use Rattle.fv_bundle.specs.Views.{bundle_view}
 use Rattle.fv_model.specs.declared.fault.BundleFault.{BundleFault}
 use Rattle.fv_model.proofs.Typed.{head_false, unless_none}
@@ -26,7 +26,7 @@ use Rattle.fv_engine_pending.specs.declared.fault.PartFault.{PartFault}
 use Rattle.fv_engine_pending.proofs.Changing.{LeavesFit, LeavesShort, makes, makes_so, fits_so, short_so, taken, taken_so, short_object}
 use Rattle.fv_store.specs.Causes.{AreShort as ChangesShort, rows_of, rows_of_all}
 use Rattle.fv_store.specs.Changes.{after_all, ChangesFit}
-use Rattle.fv_store.specs.Records.{Kept, Records, Roots, Fits, with_thing, with_object}
+use Rattle.fv_store.specs.Records.{Kept, Records, Roots, RecordFits, with_thing, with_object}
 use Rattle.fv_store.specs.Stored.{stored_view}
 use Rattle.fv_store.specs.declared.change.Change.{Change}
 use Rattle.fv_store.specs.declared.stored.Stored.{Stored}
@@ -152,9 +152,9 @@ module _ (object id : List ℕ) (t : Thing) (way : Way) (c : Change) (is : alter
     object_fits types forms fitting =
         let s = stood in
         let there : at_name id way ≡ Some (Some (with_thing object t o.kept)) = ap (at_name id) s.1 ∙ ap (λ b. cond b (Some (Some (with_thing object t o.kept))) None) ((bytes_eq-Decides id id).1 refl) in
-        let fits : Fits types forms (with_thing object t o.kept) = fitting id (with_thing object t o.kept) there in (
+        let fits : RecordFits types forms (with_thing object t o.kept) = fitting id (with_thing object t o.kept) there in (
           fits_so types forms c m (subst (λ (a : Altered). LeavesFit types forms a m) (sym is)
-              (λ k stands. subst (λ l. Fits types forms (with_thing object t l)) (some_kept o.kept k (sym s.0 ∙ stands)) fits)),
+              (λ k stands. subst (λ l. RecordFits types forms (with_thing object t l)) (some_kept o.kept k (sym s.0 ∙ stands)) fits)),
           tt,
         )
 
@@ -165,8 +165,8 @@ none_true : (cs : List (Bool × BundleFault)) → first cs ≡ None → AllByRec
 none_true [] none = tt
 none_true (c ∷ cs) none = let rest = head_false c.0 c.1 (first cs) none in (rest.0, none_true cs rest.1)
 
-there_set : (ts : Declared) (types : ObjectTypes) (field : List ℕ) (j : json.Data) (there : Option Thing) → first (conditions ts types field j there) ≡ None → not (is_some there) ≡ false
-there_set ts types field j there none = (none_true (conditions ts types field j there) none).1.1.1.1.1.0
+there_set : (ts : Declared) (types : ObjectTypes) (field : List ℕ) (j : json.Data) (there : Option Thing) → first (set_conditions ts types field j there) ≡ None → not (is_some there) ≡ false
+there_set ts types field j there none = (none_true (set_conditions ts types field j there) none).1.1.1.1.1.0
 
 -- a changed object is another in its place
 changed_so : (name : List ℕ) (f : Thing → Thing) (t : Thing) (os : Things) → at_name name os ≡ Some t → changed_at name f os ≡ changed_at name (λ _. f t) os

@@ -28,7 +28,7 @@ use Rattle.fv_store.specs.Again.{with_bundle}
 use Rattle.fv_store.specs.Causes.{HasFailed}
 use Rattle.fv_store.specs.Lists.{ListsOf}
 use Rattle.fv_store.specs.Records.{Contents, Kept, Records}
-use Rattle.fv_store.specs.Stands.{Holds, IsLive}
+use Rattle.fv_store.specs.Stands.{HoldsRecords, IsLive}
 use Rattle.fv_store.specs.Stored.{untyped}
 use Rattle.fv_store.specs.declared.fault.StoreFault.{StoreFault}
 use Rattle.fv_store.specs.declared.fault.StoreFault.TheVariants as store
@@ -162,7 +162,7 @@ none_found (Some j) k none is = cc
 
 -- what the store tells of its fault
 abbrev pub IsCaused : State → State → StoreFault → Type 0
-IsCaused old new e = HasCleanDisk new → e ≡ store.Store → (c : Contents) → Holds old c → HasFailed old new
+IsCaused old new e = HasCleanDisk new → e ≡ store.Store → (c : Contents) → HoldsRecords old c → HasFailed old new
 
 pub no_record : (e : StoreFault) → IsOfRecord (of_store e) → ⊥
 no_record store.Store of = of

@@ -9,7 +9,7 @@ use Rattle.fv_engine_pending.specs.Steps.{Staged, StepFits}
 use Rattle.fv_engine_pending.specs.Touched.{needed_id, needs_at}
 use Rattle.fv_engine_pending.specs.Ways.{Way, IsOn}
 use Rattle.fv_store.specs.Causes.{IsShort}
-use Rattle.fv_store.specs.Records.{Kept, Records, Roots, Fits}
+use Rattle.fv_store.specs.Records.{Kept, Records, Roots, RecordFits}
 use Rattle.fv_bundle.specs.Types.{Declared}
 
 -- each record on the way is well-typed
@@ -18,11 +18,11 @@ AreTyped types = AllByRecursion (λ e. ForSome e.1 (λ k. IsWellTyped types k.bu
 
 -- and each entry's fits the forms
 abbrev pub AreFit : Declared → Roots → Way → Type 0
-AreFit types forms = AllByRecursion (λ e. ForSome e.1 (Fits types forms))
+AreFit types forms = AllByRecursion (λ e. ForSome e.1 (RecordFits types forms))
 
 -- each record that stands on the way fits the forms
 abbrev pub AreFitting : Declared → Roots → Way → Type 0
-AreFitting types forms way = (id : List ℕ) (k : Kept) → at_name id way ≡ Some (Some k) → Fits types forms k
+AreFitting types forms way = (id : List ℕ) (k : Kept) → at_name id way ≡ Some (Some k) → RecordFits types forms k
 
 -- where the bundles of the puts fit, steps keep the records well-typed, and keep them fitting
 abbrev pub Keeps : Declared → List Staged → Way → Way → Type 0

@@ -28,7 +28,7 @@ use Rattle.fv_registry.specs.Meanings.{Meanings}
 use Rattle.fv_store.specs.Again.{with_bundle}
 use Rattle.fv_store.specs.Causes.{HasFailed}
 use Rattle.fv_store.specs.Records.{Contents, Kept, Records}
-use Rattle.fv_store.specs.Stands.{Frame, Holds, Stays}
+use Rattle.fv_store.specs.Stands.{Frame, HoldsRecords, Stays}
 use Rattle.fv_store.specs.Stored.{untyped}
 use Rattle.fv_store.specs.declared.fault.StoreFault.{StoreFault}
 use Rattle.fv_store.specs.declared.fault.StoreFault.TheVariants as store
@@ -91,12 +91,12 @@ last_of above (id ∷ ids) = last_of id ids
 -- what a call keeps of a store that it only reads
 pub record OnlyReads (old new : State) : Type 0 where
   pub frame : Frame old new
-  pub stays : (c : Contents) → Holds old c → Holds new c
-  pub untouched : (c : Contents) → Holds old c → Stays old new
+  pub stays : (c : Contents) → HoldsRecords old c → HoldsRecords new c
+  pub untouched : (c : Contents) → HoldsRecords old c → Stays old new
 
 -- what is sure of all records that were held before a call, unless the disk has lied
 abbrev pub Sure : State → State → (Records → Type 0) → Type 0
-Sure old new P = HasCleanDisk new → (c : Contents) → has_deep c.types ≡ false → Holds old c → P c.records
+Sure old new P = HasCleanDisk new → (c : Contents) → has_deep c.types ≡ false → HoldsRecords old c → P c.records
 
 -- ---- faults
 

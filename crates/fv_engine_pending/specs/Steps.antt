@@ -15,7 +15,7 @@ use Rattle.fv_engine_pending.specs.declared.fault.PartFault.{PartFault}
 use Rattle.fv_engine_pending.specs.declared.fault.PartFault.TheVariants.{UnknownForm, Bundle, NoRecord}
 use Rattle.fv_engine_pending.specs.declared.step.Step.{Step}
 use Rattle.fv_engine_pending.specs.declared.step.Step.TheVariants.{Put, Set, Remove}
-use Rattle.fv_store.specs.Records.{Kept, Roots, Fits}
+use Rattle.fv_store.specs.Records.{Kept, Roots, RecordFits}
 use Rattle.fv_bundle.specs.Types.{Declared}
 
 -- a part whose bundle was read
@@ -71,5 +71,5 @@ steps_made types n (s ∷ ss) way = and_then (steps_made types (n + 1) ss) (numb
 
 -- the bundle of a put is well-typed, and fits its form
 abbrev pub StepFits : Declared → Roots → Staged → Type 0
-StepFits types forms (put_step id form (Ok b)) = Fits types forms (record { form = form; bundle = b })
+StepFits types forms (put_step id form (Ok b)) = RecordFits types forms (record { form = form; bundle = b })
 StepFits types forms _ = Unit {0}

@@ -7,7 +7,7 @@ ghost use Rattle.fv_engine_pending.specs.Fits.{Agrees, AreNeeded, AreTyped, Cove
 ghost use Rattle.fv_engine_pending.specs.Touched.{needed_id, needs_at, needs_record, count_needed};
 ghost use Rattle.fv_engine_pending.specs.Ways.{pending_view, IsOn};
 ghost use Rattle.fv_store.specs.Causes.{HasFailed};
-ghost use Rattle.fv_store.specs.Stands.{Frame, Holds, IsLive, Stays};
+ghost use Rattle.fv_store.specs.Stands.{Frame, HoldsRecords, IsLive, Stays};
 ghost use Rattle.fv_store.specs.Stock.{stock_state as state};
 ghost use Rattle.fv_bundle.specs.TypesView.{types_view};
 
@@ -40,7 +40,7 @@ fn find_record<'a, S: Alter>(
     ensures frame { Frame (state S.Store store.old) (state S.Store store.new) }
     ensures text { store.new.text ≡ store.old.text }
     ensures found { HasCleanDisk (state S.Store store.new) → OnOk result ((c : _) → c.types ≡ types_view types.now
-        → Holds (state S.Store store.old) c → Agrees (pending_view pending.old) c.records → Agrees (pending_view pending.new) c.records) }
+        → HoldsRecords (state S.Store store.old) c → Agrees (pending_view pending.old) c.records → Agrees (pending_view pending.new) c.records) }
     ensures there { OnOk result (IsOn id.now (pending_view pending.new)) }
     ensures keeps { OnOk result ((i : _) → IsOn i (pending_view pending.old) → IsOn i (pending_view pending.new)) }
     ensures only { OnOk result ((i : _) → IsOn i (pending_view pending.new) → (IsOn i (pending_view pending.old)) ⊎ (i ≡ id.now)) }
@@ -48,12 +48,12 @@ fn find_record<'a, S: Alter>(
     ensures live { OnOk result ((IsOn id.now (pending_view pending.old) → IsLive (state S.Store store.old)) → IsLive (state S.Store store.new)) }
     ensures count { OnOk result (length (pending_view pending.new) ≤ length (pending_view pending.old) + 1) }
     ensures cause { HasCleanDisk (state S.Store store.new) → IfErr result (λ e. e ≡ StoreFault.Store → (c : _)
-        → c.types ≡ types_view types.now → Holds (state S.Store store.old) c
+        → c.types ≡ types_view types.now → HoldsRecords (state S.Store store.old) c
         → HasFailed (state S.Store store.old) (state S.Store store.new)) }
-    ensures stays { (c : _) → Holds (state S.Store store.old) c → Holds (state S.Store store.new) c }
-    ensures untouched { (c : _) → Holds (state S.Store store.old) c
+    ensures stays { (c : _) → HoldsRecords (state S.Store store.old) c → HoldsRecords (state S.Store store.new) c }
+    ensures untouched { (c : _) → HoldsRecords (state S.Store store.old) c
         → Stays (state S.Store store.old) (state S.Store store.new) }
-    ensures same { HasCleanDisk (state S.Store store.new) → OnOk result ((c : _) → Holds (state S.Store store.old) c
+    ensures same { HasCleanDisk (state S.Store store.new) → OnOk result ((c : _) → HoldsRecords (state S.Store store.old) c
         → (state S.Store store.new).now ≡ (state S.Store store.old).now) }
 {
     if pending.has(id) {
@@ -77,7 +77,7 @@ fn find_for<'a, S: Alter>(
     ensures frame { Frame (state S.Store store.old) (state S.Store store.new) }
     ensures text { store.new.text ≡ store.old.text }
     ensures found { HasCleanDisk (state S.Store store.new) → OnOk result ((c : _) → c.types ≡ types_view types.now
-        → Holds (state S.Store store.old) c → Agrees (pending_view pending.old) c.records
+        → HoldsRecords (state S.Store store.old) c → Agrees (pending_view pending.old) c.records
         → Agrees (pending_view pending.new) c.records) }
     ensures covers { OnOk result (Covers (pending_view pending.new) (part_view part.now)) }
     ensures keeps { OnOk result ((i : _) → IsOn i (pending_view pending.old) → IsOn i (pending_view pending.new)) }
@@ -90,13 +90,13 @@ fn find_for<'a, S: Alter>(
     ensures count { OnOk result (length (pending_view pending.new)
         ≤ length (pending_view pending.old) + count_needed (part_view part.now ∷ [])) }
     ensures cause { HasCleanDisk (state S.Store store.new) → IfErr result (λ e. e ≡ StoreFault.Store → (c : _)
-        → c.types ≡ types_view types.now → Holds (state S.Store store.old) c
+        → c.types ≡ types_view types.now → HoldsRecords (state S.Store store.old) c
         → HasFailed (state S.Store store.old) (state S.Store store.new)) }
     ensures asked { OnErr result (IsTrue (needs_record (part_view part.now))) }
-    ensures stays { (c : _) → Holds (state S.Store store.old) c → Holds (state S.Store store.new) c }
-    ensures untouched { (c : _) → Holds (state S.Store store.old) c
+    ensures stays { (c : _) → HoldsRecords (state S.Store store.old) c → HoldsRecords (state S.Store store.new) c }
+    ensures untouched { (c : _) → HoldsRecords (state S.Store store.old) c
         → Stays (state S.Store store.old) (state S.Store store.new) }
-    ensures same { HasCleanDisk (state S.Store store.new) → OnOk result ((c : _) → Holds (state S.Store store.old) c
+    ensures same { HasCleanDisk (state S.Store store.new) → OnOk result ((c : _) → HoldsRecords (state S.Store store.old) c
         → (state S.Store store.new).now ≡ (state S.Store store.old).now) }
 {
     match needed(part) {
@@ -119,20 +119,20 @@ pub fn find_records<'a, S: Alter>(
     ensures frame { Frame (state S.Store store.old) (state S.Store store.new) }
     ensures text { store.new.text ≡ store.old.text }
     ensures found { HasCleanDisk (state S.Store store.new) → IfOk result (λ p. (c : _) → c.types ≡ types_view types.now
-        → Holds (state S.Store store.old) c → Agrees (pending_view p) c.records) }
+        → HoldsRecords (state S.Store store.old) c → Agrees (pending_view p) c.records) }
     ensures covers { IfOk result (λ p. AllByRecursion (Covers (pending_view p)) (map part_view parts.now)) }
     ensures needed { IfOk result (λ p. AreNeeded (map part_view parts.now) (pending_view p)) }
     ensures typed { IfOk result (λ p. AreTyped (types_view types.now) (pending_view p)) }
     ensures live { OnOk result (IsTrue (list_any needs_record (map part_view parts.now)) → IsLive (state S.Store store.new)) }
     ensures count { IfOk result (λ p. length (pending_view p) ≤ count_needed (map part_view parts.now)) }
     ensures cause { HasCleanDisk (state S.Store store.new) → IfErr result (λ e. e ≡ StoreFault.Store → (c : _)
-        → c.types ≡ types_view types.now → Holds (state S.Store store.old) c
+        → c.types ≡ types_view types.now → HoldsRecords (state S.Store store.old) c
         → HasFailed (state S.Store store.old) (state S.Store store.new)) }
     ensures asked { IfErr result (λ e. e ≡ StoreFault.Store → IsTrue (list_any needs_record (map part_view parts.now))) }
-    ensures stays { (c : _) → Holds (state S.Store store.old) c → Holds (state S.Store store.new) c }
-    ensures untouched { (c : _) → Holds (state S.Store store.old) c
+    ensures stays { (c : _) → HoldsRecords (state S.Store store.old) c → HoldsRecords (state S.Store store.new) c }
+    ensures untouched { (c : _) → HoldsRecords (state S.Store store.old) c
         → Stays (state S.Store store.old) (state S.Store store.new) }
-    ensures same { HasCleanDisk (state S.Store store.new) → OnOk result ((c : _) → Holds (state S.Store store.old) c
+    ensures same { HasCleanDisk (state S.Store store.new) → OnOk result ((c : _) → HoldsRecords (state S.Store store.old) c
         → (state S.Store store.new).now ≡ (state S.Store store.old).now) }
 {
     let mut pending = Pending::new(alloc);

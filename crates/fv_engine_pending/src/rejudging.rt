@@ -18,7 +18,7 @@ ghost use Rattle.fv_bundle.specs.WellTyped.{IsWellTyped};
 ghost use Rattle.fv_bundle.specs.Types.{has_deep};
 ghost use Rattle.fv_store.specs.Causes.{HasFailed};
 ghost use Rattle.fv_store.specs.Records.{Contents, Kept};
-ghost use Rattle.fv_store.specs.Stands.{Frame, Holds, IsLive, Stays};
+ghost use Rattle.fv_store.specs.Stands.{Frame, HoldsRecords, IsLive, Stays};
 ghost use Rattle.fv_store.specs.Stock.{stock_state};
 ghost use Rattle.fv_store.specs.Stored.{stored_view, written_view};
 
@@ -353,16 +353,16 @@ pub fn judge_all<R: RuleSet, S: Alter>(
     ensures open { MatchResult result (λ _. IsLive (stock_state S.Store store.new))
         (λ f. IsOfRecord f → IsLive (stock_state S.Store store.new)) }
     ensures judged { HasCleanDisk (stock_state S.Store store.new) → IfOk result (λ v. (c : Contents)
-        → has_deep c.types ≡ false → Holds (stock_state S.Store store.old) c
+        → has_deep c.types ≡ false → HoldsRecords (stock_state S.Store store.old) c
         → AllReadAgain book.now.types book.now.forms c.records
         × AreListingsOf R.meaning book.now now (λ id k. all_again book.now.types book.now.forms c.records id ≡ Some k)
         (map judged_view v.items)) }
     ensures refused { HasCleanDisk (stock_state S.Store store.new) → IfErr result (λ f. (c : Contents)
-        → has_deep c.types ≡ false → Holds (stock_state S.Store store.old) c
+        → has_deep c.types ≡ false → HoldsRecords (stock_state S.Store store.old) c
         → RejudgeFails book.now c.records (HasFailed (stock_state S.Store store.old) (stock_state S.Store store.new)) f) }
-    ensures stays { (c : Contents) → Holds (stock_state S.Store store.old) c
-        → Holds (stock_state S.Store store.new) c }
-    ensures untouched { (c : Contents) → Holds (stock_state S.Store store.old) c
+    ensures stays { (c : Contents) → HoldsRecords (stock_state S.Store store.old) c
+        → HoldsRecords (stock_state S.Store store.new) c }
+    ensures untouched { (c : Contents) → HoldsRecords (stock_state S.Store store.old) c
         → Stays (stock_state S.Store store.old) (stock_state S.Store store.new) }
 {
     let mut verdicts = Verdicts::Listed(Vec::new(alloc));

@@ -20,13 +20,13 @@ use Rattle.fv_engine_reply.specs.declared.answer.Refusal.TheVariants.{LineTooLon
 -- ---- violations
 
 -- the members of a JSON object: names with values
-abbrev pub members_of : List (List ℕ × json.Data) → json.Members
-members_of [] = json.no_members
-members_of (m ∷ ms) = json.member m.0 m.1 (members_of ms)
+abbrev pub reply_members : List (List ℕ × json.Data) → json.Members
+reply_members [] = json.no_members
+reply_members (m ∷ ms) = json.member m.0 m.1 (reply_members ms)
 
 -- a violation's JSON
 abbrev pub violation_json : Reported → json.Data
-violation_json v = json.object (members_of (
+violation_json v = json.object (reply_members (
     (codes "constraint", json.string v.constraint) ∷ (codes "message", json.string v.message)
     ∷ (codes "occurrence", json.number (json.unsigned v.occurrence)) ∷ (codes "path", json.string v.path) ∷ (codes "value", datum_json v.value) ∷ []))
 
@@ -36,7 +36,7 @@ violations_json vs = json.array (items_of (map violation_json vs))
 
 -- a record's id with its violations
 abbrev pub judged_json : Judged → json.Data
-judged_json r = json.object (members_of ((codes "id", json.string r.0) ∷ (codes "violations", violations_json r.1) ∷ []))
+judged_json r = json.object (reply_members ((codes "id", json.string r.0) ∷ (codes "violations", violations_json r.1) ∷ []))
 
 -- ---- other refusals
 
@@ -61,7 +61,7 @@ fault_member why = []
 
 -- the JSON of a refusal, in a batch with the number of the part
 abbrev pub refused_json : Option ℕ → Refusal → json.Data
-refused_json part why = json.object (members_of (
+refused_json part why = json.object (reply_members (
     ((codes "error", json.string (refusal_told why).0) ∷ fault_member why)
     ++ (codes "name", json.string (refusal_told why).1) ∷ option_map_or (λ n. (codes "part", json.number (json.unsigned n)) ∷ []) part []))
 
@@ -83,28 +83,28 @@ done_name what.Batch = codes "batch"
 
 -- the JSON of the violations that a check of that name lists
 abbrev pub listing_json : List ℕ → List Reported → json.Data
-listing_json name vs = json.object (members_of ((codes "ok", json.string name) ∷ (codes "violations", violations_json vs) ∷ []))
+listing_json name vs = json.object (reply_members ((codes "ok", json.string name) ∷ (codes "violations", violations_json vs) ∷ []))
 
 -- an answer's JSON
 abbrev pub answer_json : Answer → json.Data
-answer_json (done what) = json.object (members_of ((codes "ok", json.string (done_name what)) ∷ []))
-answer_json (shown id form b) = json.object (members_of (
+answer_json (done what) = json.object (reply_members ((codes "ok", json.string (done_name what)) ∷ []))
+answer_json (shown id form b) = json.object (reply_members (
     (codes "bundle", bundle_json b) ∷ (codes "form", json.string form) ∷ (codes "id", json.string id) ∷ (codes "ok", json.string (codes "get")) ∷ []))
-answer_json (violated rs) = json.object (members_of (
+answer_json (violated rs) = json.object (reply_members (
     (codes "error", json.string (codes "C10")) ∷ (codes "name", json.string (codes "Violations"))
     ∷ (codes "records", json.array (items_of (map judged_json rs))) ∷ []))
 answer_json (checked vs) = listing_json (codes "check") vs
 answer_json (field_checked vs) = listing_json (codes "checkfield") vs
 answer_json (value_checked vs) = listing_json (codes "checkvalue") vs
-answer_json (ids ts) = json.object (members_of (
+answer_json (ids ts) = json.object (reply_members (
     (codes "ids", json.array (items_of (map (λ t. json.string t) ts))) ∷ (codes "ok", json.string (codes "list")) ∷ []))
 answer_json (refused why) = refused_json None why
 answer_json (part_refused n why) = refused_json (Some n) why
-answer_json redeclared = json.object (members_of ((codes "ok", json.string (codes "redeclare")) ∷ []))
-answer_json (misdeclared fault) = json.object (members_of (
+answer_json redeclared = json.object (reply_members ((codes "ok", json.string (codes "redeclare")) ∷ []))
+answer_json (misdeclared fault) = json.object (reply_members (
     (codes "error", json.string (codes "C13")) ∷ (codes "fault", json.string (decl_fault_code fault))
     ∷ (codes "name", json.string (codes "Declarations")) ∷ []))
-answer_json (unfit id why) = json.object (members_of (
+answer_json (unfit id why) = json.object (reply_members (
     (codes "error", json.string (codes "C14")) ∷ (codes "fault", json.string (misfit_code why))
     ∷ (codes "id", json.string id) ∷ (codes "name", json.string (codes "Unfit")) ∷ []))
 

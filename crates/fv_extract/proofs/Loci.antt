@@ -11,8 +11,8 @@ use Rattle.std.specs.Ordering.{is_lt}
 use Rattle.fv_datum.specs.Data.{Data, list, map, optional, Items, no_items, item, Entries, no_entries, entry}
 use Rattle.fv_datum.specs.Written.{is_text, key_of, below_first, keys_fit}
 use Rattle.fv_bundle.specs.Writing.{IsWritten}
-use Rattle.fv_extract.specs.Parts.{at_index, at_key, Locus, items_from, keys_in, values_in, inside, below, parts_of, AreApart}
-use Rattle.fv_extract.specs.Places.{Step, element, key, value, content}
+use Rattle.fv_extract.specs.Parts.{at_index, at_key, Locus, items_from, keys_in, values_in, inside, parts_below, parts_of, AreApart}
+use Rattle.fv_extract.specs.Places.{PlaceStep, element, key, value, content}
 use Rattle.fv_extract.proofs.Writable.{CanBeWritten, keys_of_written, inside_can}
 use Rattle.fv_extract.specs.Pairs.{Pairwise, Differ}
 
@@ -99,7 +99,7 @@ values_picked : (es : Entries) → picked (λ k d. d) es ≡ values_in es
 values_picked no_entries = refl
 values_picked (entry k d es) = ap (λ ps. (at_key (key_of k) ∷ [], d) ∷ ps) (values_picked es)
 
-inside_aside : (step : Step) (d : Data) → IsWritten d → Pairwise Aside (inside step d)
+inside_aside : (step : PlaceStep) (d : Data) → IsWritten d → Pairwise Aside (inside step d)
 inside_aside element (list ds) h = items_aside 0 ds
 inside_aside element _ h = tt
 inside_aside key (map es) h = subst (λ (ps : List (Locus × Data)). Pairwise Aside ps) (keys_picked es) (picked_aside (λ k d. k) es (keys_of_written es h))
@@ -111,28 +111,28 @@ inside_aside content _ h = tt
 
 -- ---- further inside
 
-beyond : (l : Locus) (d : Data) (q : Locus × Data) (ys : List (Locus × Data)) → ((y : Locus) → l ≡ q.0 ++ y → ⊥) → AllByRecursion (Differ (l, d)) (each (below q.0) ys)
+beyond : (l : Locus) (d : Data) (q : Locus × Data) (ys : List (Locus × Data)) → ((y : Locus) → l ≡ q.0 ++ y → ⊥) → AllByRecursion (Differ (l, d)) (each (parts_below q.0) ys)
 beyond l d q [] far = tt
 beyond l d q (y ∷ ys) far = (far y.0, beyond l d q ys far)
 
-after_below : (l : Locus) (x : Locus × Data) (xs : List (Locus × Data)) → AllByRecursion (Differ x) xs → AllByRecursion (Differ (below l x)) (each (below l) xs)
+after_below : (l : Locus) (x : Locus × Data) (xs : List (Locus × Data)) → AllByRecursion (Differ x) xs → AllByRecursion (Differ (parts_below l x)) (each (parts_below l) xs)
 after_below l x [] h = tt
 after_below l x (y ∷ ys) h = (λ e. h.0 (append_cancel_left l x.0 y.0 e), after_below l x ys h.1)
 
-pairwise_below : (l : Locus) (xs : List (Locus × Data)) → Pairwise Differ xs → Pairwise Differ (each (below l) xs)
+pairwise_below : (l : Locus) (xs : List (Locus × Data)) → Pairwise Differ xs → Pairwise Differ (each (parts_below l) xs)
 pairwise_below l [] h = tt
 pairwise_below l (x ∷ xs) h = (after_below l x xs h.0, pairwise_below l xs h.1)
 
 -- what lies inside each of the parts that a step gives, by what lies further inside a datum
 module _ (f : Data → List (Locus × Data)) where
   abbrev within : Locus × Data → List (Locus × Data)
-  within p = each (below p.0) (f p.1)
+  within p = each (parts_below p.0) (f p.1)
 
-  far_off : (p : Locus × Data) (x : Locus × Data) (ps : List (Locus × Data)) → AllByRecursion (Aside p) ps → AllByRecursion (Differ (below p.0 x)) (flat_map within ps)
+  far_off : (p : Locus × Data) (x : Locus × Data) (ps : List (Locus × Data)) → AllByRecursion (Aside p) ps → AllByRecursion (Differ (parts_below p.0 x)) (flat_map within ps)
   far_off p x [] h = tt
-  far_off p x (q ∷ qs) h = all_append (Differ (below p.0 x)) (within q) (flat_map within qs) (beyond (p.0 ++ x.0) x.1 q (f q.1) (λ y e. h.0 x.0 y e)) (far_off p x qs h.1)
+  far_off p x (q ∷ qs) h = all_append (Differ (parts_below p.0 x)) (within q) (flat_map within qs) (beyond (p.0 ++ x.0) x.1 q (f q.1) (λ y e. h.0 x.0 y e)) (far_off p x qs h.1)
 
-  all_far : (p : Locus × Data) (xs ps : List (Locus × Data)) → AllByRecursion (Aside p) ps → AllByRecursion (λ x. AllByRecursion (Differ x) (flat_map within ps)) (each (below p.0) xs)
+  all_far : (p : Locus × Data) (xs ps : List (Locus × Data)) → AllByRecursion (Aside p) ps → AllByRecursion (λ x. AllByRecursion (Differ x) (flat_map within ps)) (each (parts_below p.0) xs)
   all_far p [] ps h = tt
   all_far p (x ∷ xs) ps h = (far_off p x ps h, all_far p xs ps h)
 
@@ -141,12 +141,12 @@ module _ (f : Data → List (Locus × Data)) where
   within_differ each_differ (p ∷ ps) aside can =
       pairwise_append Differ (within p) (flat_map within ps) (pairwise_below p.0 (f p.1) (each_differ p.1 can.0)) (within_differ each_differ ps aside.1 can.1) (all_far p (f p.1) ps aside.0)
 
-pub parts_differ : (steps : List Step) (d : Data) → IsWritten d → Pairwise Differ (parts_of steps d)
+pub parts_differ : (steps : List PlaceStep) (d : Data) → IsWritten d → Pairwise Differ (parts_of steps d)
 parts_differ [] d h = (tt, tt)
 parts_differ (step ∷ steps) d h = within_differ (parts_of steps) (λ e can. parts_differ steps e can) (inside step d) (inside_aside step d h) (inside_can step d h)
 
 -- no two parts of a datum that can be written have one locus
-pub loci_apart : (steps : List Step) (d : Data) → IsWritten d → AreApart (parts_of steps d)
+pub loci_apart : (steps : List PlaceStep) (d : Data) → IsWritten d → AreApart (parts_of steps d)
 loci_apart steps d h = all_pairs Differ (parts_of steps d) (parts_differ steps d h)
 
 -- ---- the fields of an object
@@ -157,6 +157,6 @@ field_written (g ∷ fs) zero f all e = let same : g ≡ f = cc in subst (λ (h 
 field_written (g ∷ fs) (suc i) f all e = field_written fs i f all.1 e
 
 -- parts that were found have loci of their own
-pub found_apart : {E X : Type 0} (r : Result X E) (f : X → List (Locus × Data)) (steps : List Step) (d : Data) → IsWritten d → IfOk r (λ x. f x ≡ parts_of steps d) → IfOk r (λ x. AreApart (f x))
+pub found_apart : {E X : Type 0} (r : Result X E) (f : X → List (Locus × Data)) (steps : List PlaceStep) (d : Data) → IsWritten d → IfOk r (λ x. f x ≡ parts_of steps d) → IfOk r (λ x. AreApart (f x))
 found_apart (Ok x) f steps d can is = subst AreApart (sym is) (loci_apart steps d can)
 found_apart (Err e) f steps d can is = tt

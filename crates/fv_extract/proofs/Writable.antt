@@ -7,7 +7,7 @@ use Rattle.fv_datum.specs.Data.{Data, null, text, integer, decimal, boolean, dat
 use Rattle.fv_datum.specs.Written.{is_text, key_of, below_first, keys_fit, written, items_written, entries_written}
 use Rattle.fv_bundle.specs.Writing.{IsWritten}
 use Rattle.fv_extract.specs.Parts.{Locus, items_from, keys_in, values_in, inside}
-use Rattle.fv_extract.specs.Places.{Step, element, key, value, content}
+use Rattle.fv_extract.specs.Places.{PlaceStep, element, key, value, content}
 
 -- a part can be written
 abbrev pub CanBeWritten : Locus × Data → Type 0
@@ -68,7 +68,7 @@ values_of_written : (es : Entries) → IsWritten (map es) → is_some (entries_w
 values_of_written es h =
     map_part json.object (entries_written json.no_members es) (if_some (keys_fit es) (option_map json.object (entries_written json.no_members es)) h).1
 
-pub inside_can : (step : Step) (d : Data) → IsWritten d → AllByRecursion CanBeWritten (inside step d)
+pub inside_can : (step : PlaceStep) (d : Data) → IsWritten d → AllByRecursion CanBeWritten (inside step d)
 inside_can element (list ds) h = items_can [] 0 ds (map_part json.array (items_written [] ds) h)
 inside_can element _ h = tt
 inside_can key (map es) h = keys_can es (keys_of_written es h)

@@ -5,16 +5,16 @@ use Rattle.std.specs.List.{AllPairs, flat_map}
 use Rattle.fv_datum.specs.Data.{Data, list, map, optional, Items, no_items, item, Entries, no_entries, entry}
 use Rattle.fv_datum.specs.Written.{key_of}
 use Rattle.fv_bundle.specs.Bundles.{Thing}
-use Rattle.fv_extract.specs.Places.{Step, element, key, value, content, Place}
+use Rattle.fv_extract.specs.Places.{PlaceStep, element, key, value, content, FieldPlace}
 
 -- which part of a container: the index in a list, from 0, or the key in a map
-pub data Part : Type 0 where
-  at_index : ℕ → Part
-  at_key : List ℕ → Part
+pub data LocusPart : Type 0 where
+  at_index : ℕ → LocusPart
+  at_key : List ℕ → LocusPart
 
 -- which part of a field's datum: the indices and keys on the way to it
 abbrev pub Locus : Type 0
-Locus = List Part
+Locus = List LocusPart
 
 -- the items of a list, the first of which has an index
 abbrev pub items_from : ℕ → Items → List (Locus × Data)
@@ -33,7 +33,7 @@ values_in (entry k d es) = (at_key (key_of k) ∷ [], d) ∷ values_in es
 
 -- what lies one step inside a datum, with what that adds to the locus. The content of an optional adds nothing, and is null where it is
 -- empty; nothing lies inside null, or inside another datum than the step is for
-abbrev pub inside : Step → Data → List (Locus × Data)
+abbrev pub inside : PlaceStep → Data → List (Locus × Data)
 inside element (list ds) = items_from 0 ds
 inside key (map es) = keys_in es
 inside value (map es) = values_in es
@@ -41,21 +41,21 @@ inside content (optional d) = ([], d) ∷ []
 inside _ _ = []
 
 -- a part of a part, by its whole locus
-abbrev pub below : Locus → Locus × Data → Locus × Data
-below l p = (l ++ p.0, p.1)
+abbrev pub parts_below : Locus → Locus × Data → Locus × Data
+parts_below l p = (l ++ p.0, p.1)
 
 -- the parts of a datum at these steps, in order: itself where there is no step, and else the parts at the other steps of all that lies
 -- inside at the first
-abbrev pub parts_of : List Step → Data → List (Locus × Data)
+abbrev pub parts_of : List PlaceStep → Data → List (Locus × Data)
 parts_of [] d = ([], d) ∷ []
-parts_of (step ∷ steps) d = flat_map (λ p. each (below p.0) (parts_of steps p.1)) (inside step d)
+parts_of (step ∷ steps) d = flat_map (λ p. each (parts_below p.0) (parts_of steps p.1)) (inside step d)
 
 -- what lies one step further inside a part
-abbrev pub further : Step → Locus × Data → List (Locus × Data)
-further step p = each (below p.0) (inside step p.1)
+abbrev pub further : PlaceStep → Locus × Data → List (Locus × Data)
+further step p = each (parts_below p.0) (inside step p.1)
 
 -- the parts of an object at a place, in order: none where it has no such field
-abbrev pub parts_at : Thing → Place → List (Locus × Data)
+abbrev pub parts_at : Thing → FieldPlace → List (Locus × Data)
 parts_at object place = option_map_or (λ f. parts_of place.steps f.1) (slice_get object.fields place.field) []
 
 -- no two parts have one locus

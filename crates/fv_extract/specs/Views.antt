@@ -13,18 +13,18 @@ use Rattle.fv_extract.specs.declared.part.Part.{Part}
 use Rattle.fv_extract.specs.declared.part.Part.TheVariants as code
 
 -- a step
-abbrev pub step_view : Step → place.Step
+abbrev pub step_view : Step → place.PlaceStep
 step_view step.Element = place.element
 step_view step.Key = place.key
 step_view step.Value = place.value
 step_view step.Content = place.content
 
 -- a place
-abbrev pub place_view : Place → place.Place
+abbrev pub place_view : Place → place.FieldPlace
 place_view p = record { field = p.field; steps = map step_view p.steps.now }
 
 -- a part of a container
-abbrev pub part_view : Part → part.Part
+abbrev pub part_view : Part → part.LocusPart
 part_view (code.Index i) = part.at_index i
 part_view (code.Key k) = part.at_key k.now
 

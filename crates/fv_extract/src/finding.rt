@@ -4,7 +4,7 @@ ghost use Rattle.std.specs.List.{flat_map};
 ghost use Rattle.fv_datum.specs.View.{view};
 ghost use Rattle.fv_bundle.specs.Views.{object_view};
 ghost use Rattle.fv_extract.specs.FoundView.{found_view};
-ghost use Rattle.fv_extract.specs.Parts.{below, further, parts_at, parts_of, AreApart};
+ghost use Rattle.fv_extract.specs.Parts.{parts_below, further, parts_at, parts_of, AreApart};
 ghost use Rattle.fv_extract.specs.Views.{part_view, added_view, step_view, place_view};
 
 use crate::inside::Inside;

@@ -2,7 +2,7 @@
 use Rattle.std.proofs.Common.{◌≡◌, ℕ, zero, suc, ◌<◌, List, [], ◌∷◌, ◌≤◌, ◌++◌, map, min, nat_lt, Bool, true, false, IsTrue, Option, Some, None, option_map, is_some, Result, Ok, Err, refl, sym, ap, subst, inr, ◌∙◌, arith}
 use Rattle.std.proofs.lemmas.Bool.Decides.{nat_tests}
 use Rattle.std.specs.List.{All, AllZip, list_any, zip}
-use Rattle.fv_constraint.specs.Composed.{Planned, IsTreeOf, IsCyclic}
+use Rattle.fv_constraint.specs.Composed.{Planned, IsTreeOf, ComposesItself}
 use Rattle.fv_declare_definition.specs.Definitions.{Definitions}
 use Rattle.fv_constraint.specs.PlannedViews.{planned_entry}
 use Rattle.fv_datum.specs.Attributes.{Attributes}
@@ -169,7 +169,7 @@ second_holds : {E : Type 0} (a b : Bool) (x y : E) (rest : List (Bool × E)) →
 second_holds a b x y rest p q = rw (p, q) refl
 
 -- a use by itself, over a composition of the definitions, whose count of the tree's nodes stops at 1025
-module _ (k : Known) (made ds : Definitions) (u : Use) (count : ℕ) (same : made ≡ ds) (acyclic : IsCyclic ds → ⊥)
+module _ (k : Known) (made ds : Definitions) (u : Use) (count : ℕ) (same : made ≡ ds) (acyclic : ComposesItself ds → ⊥)
     (sized : (own : Option (List ℕ)) (given : Attributes) (t : Tree Planned) → IsTreeOf made u.constraint own given t → count ≡ min 1025 (size t))
     (composed : (own : Option (List ℕ)) (given : Attributes) → ((t : Tree Planned) × IsTreeOf made u.constraint own given t)) where
   found : (t : Tree Planned) × IsTreeOf ds u.constraint u.message u.given t

@@ -7,7 +7,7 @@ use Rattle.fv_builtin.specs.Names.{builtin_named}
 use Rattle.fv_builtin.specs.declared.name.BuiltinName.{BuiltinName}
 use Rattle.fv_constraint.specs.Composed.{Planned, IsTreeOf, AreTreesOf}
 use Rattle.fv_declare_definition.specs.Definitions.{Rule, of_data, of_objects, Composing, Definition, Definitions}
-use Rattle.fv_constraint.specs.Meanings.{Meant, builtin, declared, either_meant, composing_of}
+use Rattle.fv_constraint.specs.Meanings.{Meant, builtin, declared, either_meant, meant_composing}
 use Rattle.fv_constraint.specs.Effect.{effective}
 use Rattle.fv_datum.specs.Attributes.{AttributeValue, Attributes}
 use Rattle.fv_datum.specs.Lookup.{at_name}
@@ -15,7 +15,7 @@ use Rattle.fv_datum.proofs.Bools.{or_left, or_right, not_false}
 use Rattle.fv_constraint_tree.specs.TargetFits.{test_fits, tree_fits}
 use Rattle.fv_flatten.specs.Flattening.{Use, AreTreesOfUses, unexpected_type}
 use Rattle.fv_constraint.specs.Refusals.{unknown_rule}
-use Rattle.fv_flatten.specs.Read.{asked, Asks, IsReadTree, AreReadTrees, refuses_at}
+use Rattle.fv_flatten.specs.Read.{asked, NodeAsks, IsReadTree, AreReadTrees, refuses_at}
 use Rattle.fv_constraint_tree.specs.Targets.{Target, on_object, on_data}
 use Rattle.fv_constraint.specs.Refusals.{is_unknown_rule}
 use Rattle.fv_flatten.specs.Refusals.{rule_refuses, refuses_place}
@@ -57,7 +57,7 @@ rule_fits k (Some (of_data rule)) (on_data kind) known taken = rw (not_false _ k
 rule_fits k (Some (of_objects rule)) on_object known taken = not_false _ known
 rule_fits k (Some (of_objects rule)) (on_data kind) known taken = absurd (true≢false taken)
 
-node_fits : (k : Known) (m : Meant) (place : Target) (given : Attributes) (test : Test) → Asks m place given test → meant_unknown k m ≡ false → refuses_place k m place ≡ false
+node_fits : (k : Known) (m : Meant) (place : Target) (given : Attributes) (test : Test) → NodeAsks m place given test → meant_unknown k m ≡ false → refuses_place k m place ≡ false
     → test_fits k place test ≡ true
 node_fits k (builtin which) on_object given test asks known taken = absurd asks
 node_fits k (builtin which) (on_data kind) given test asks known taken = ap (test_fits k (on_data kind)) asks.1
@@ -89,7 +89,7 @@ mutual
       → IsTreeOf ds name own given t → IsReadTree place t o → PassAt k place (preorder t) → FitAt k place (preorder o)
   fits_tree k ds place name own given (tree p below) (tree n others) known is read pass =
       let here = node_fits k p.meant place p.given n.test read.0.asks (known_here k ds name (builtin_named name) p.meant known is.1) (or_left _ _ pass) in
-      both_hold _ _ here (fits_trees k ds place (composing_of p.meant) (effective p.meant given) below others known is.4 read.1 (or_right (refuses_at k place p) _ pass))
+      both_hold _ _ here (fits_trees k ds place (meant_composing p.meant) (effective p.meant given) below others known is.4 read.1 (or_right (refuses_at k place p) _ pass))
 
   fits_trees : (k : Known) (ds : Definitions) (place : Target) (cs : List Composing) (above : List ℕ → Option AttributeValue) (ts : Trees Planned) (os : Trees Node) → unknown_rule k ds ≡ false
       → AreTreesOf ds cs above ts → AreReadTrees place ts os → PassAt k place (preorders ts) → FitAt k place (preorders os)

@@ -4,7 +4,7 @@ use Rattle.std.specs.List.{list_any}
 use Rattle.fv_builtin.specs.Table as table
 use Rattle.fv_builtin.specs.Table.{required_attributes}
 use Rattle.fv_builtin.specs.declared.name.BuiltinName.{BuiltinName}
-use Rattle.fv_constraint.specs.Composing.{attributes_of, is_set, lacks_attribute}
+use Rattle.fv_constraint.specs.Composing.{signature_attributes, is_set, lacks_attribute}
 use Rattle.fv_constraint.specs.Meanings.{builtin}
 use Rattle.fv_datum.specs.Attributes.{AttributeValue}
 use Rattle.fv_datum.specs.declared.attribute_kind.AttributeKind.{AttributeKind}
@@ -30,5 +30,5 @@ lacking set (x ∷ xs) = go (is_some x.1.1) (lacking set xs)
     go false later = ap (λ rest. not (set x.0) || rest) later
 
 -- a built-in constraint lacks an attribute where one that it requires is neither given nor overridden
-pub lacks_required : (which : BuiltinName) (c : Composing) → lacks_attribute (attributes_of (builtin which)) c ≡ list_any (λ n. not (is_set c n)) (required_attributes which)
+pub lacks_required : (which : BuiltinName) (c : Composing) → lacks_attribute (signature_attributes (builtin which)) c ≡ list_any (λ n. not (is_set c n)) (required_attributes which)
 lacks_required which c = lacking (is_set c) (table.attributes_of which)

@@ -4,7 +4,7 @@ use Rattle.std.specs.List.{list_any}
 use Rattle.std.specs.Option.{option_map_or}
 use Rattle.fv_builtin.specs.Given.{has_kind}
 use Rattle.fv_flatten.proofs.Signatures.{any_seen, lacks_required}
-use Rattle.fv_constraint.specs.Composing.{Signature, attributes_of, kind_in, has_foreign, are_alike, overrides_foreign, gives_overridden, is_set, lacks_attribute, is_unsuited, refuses_composing}
+use Rattle.fv_constraint.specs.Composing.{Signature, signature_attributes, kind_in, overrides_any_foreign, are_alike, overrides_foreign, gives_overridden, is_set, lacks_attribute, is_unsuited, refuses_composing}
 use Rattle.fv_constraint.specs.Meanings.{Meant, builtin, declared, meant_by}
 use Rattle.fv_constraint.specs.Refusals.{is_unknown_rule, is_other_kind, bad_default, unknown_rule, bad_definition}
 use Rattle.fv_constraint.specs.Whereabouts.{unknown_rule_at, bad_default_at, foreign_given, unsuited_override, lacking_attribute, unsuited_at, refused_composing, bad_in, bad_definition_at}
@@ -22,7 +22,7 @@ rule_told k ds = first_told _ (λ (d : List ℕ × Definition). is_unknown_rule 
 
 -- ---- attributes
 
-pub foreign_told : (own : Signature) (given : Attributes) → is_some (foreign_given own given) ≡ has_foreign own given
+pub foreign_told : (own : Signature) (given : Attributes) → is_some (foreign_given own given) ≡ overrides_any_foreign own given
 foreign_told own given = where_told (λ g. not (has_kind (kind_in own g.0) (attribute_kind g.1))) given
 
 any_or : {X : Type 0} (s t : X → Bool) (xs : List X) → list_any (λ x. s x || t x) xs ≡ (list_any s xs || list_any t xs)
@@ -40,7 +40,7 @@ override_told outer own c =
     where_told (λ (o : List ℕ × List ℕ). not (are_alike (kind_in own o.0) (kind_in outer o.1)) || is_some (at_name o.0 c.given)) c.overrides
     ∙ any_or (λ (o : List ℕ × List ℕ). not (are_alike (kind_in own o.0) (kind_in outer o.1))) (λ o. is_some (at_name o.0 c.given)) c.overrides
 
-lacking_told : (m : Meant) (c : Composing) → is_some (lacking_attribute m c) ≡ lacks_attribute (attributes_of m) c
+lacking_told : (m : Meant) (c : Composing) → is_some (lacking_attribute m c) ≡ lacks_attribute (signature_attributes m) c
 lacking_told (builtin which) c = where_told (λ name. not (is_set c name)) _ ∙ sym (lacks_required which c)
 lacking_told (declared d) c =
     where_told (λ (a : List ℕ × AttributeDefinition). not (is_some a.1.default) && not (is_set c a.0)) d.attributes
@@ -52,9 +52,9 @@ grouped false true c d = refl
 grouped false false true d = refl
 grouped false false false d = refl
 
-unsuited_told : (outer : Signature) (m : Meant) (number place : ℕ) (c : Composing) → is_some (unsuited_at outer m number place c) ≡ is_unsuited outer (attributes_of m) c
+unsuited_told : (outer : Signature) (m : Meant) (number place : ℕ) (c : Composing) → is_some (unsuited_at outer m number place c) ≡ is_unsuited outer (signature_attributes m) c
 unsuited_told outer m number place c =
-    let own = attributes_of m in
+    let own = signature_attributes m in
     or_told (option_map (at.Given number place) (foreign_given own c.given)) _
     ∙ ap₂ (λ a b. a || b) (map_told (at.Given number place) (foreign_given own c.given) ∙ foreign_told own c.given) (
     or_told (option_map (at.Overridden number place) (unsuited_override outer own c)) _
@@ -62,16 +62,16 @@ unsuited_told outer m number place c =
     or_none (option_map (at.Lacking number place) (lacking_attribute m c)) ∙ map_told (at.Lacking number place) (lacking_attribute m c) ∙ lacking_told m c
     )
     )
-    ∙ grouped (has_foreign own c.given) (overrides_foreign outer own c.overrides) (gives_overridden c) (lacks_attribute own c)
+    ∙ grouped (overrides_any_foreign own c.given) (overrides_foreign outer own c.overrides) (gives_overridden c) (lacks_attribute own c)
 
 composing_told : (ds : Definitions) (d : Definition) (number place : ℕ) (c : Composing) → is_some (refused_composing ds d number place c) ≡ refuses_composing ds d c
 composing_told ds d number place c = go (meant_by ds c.constraint)
   where
     go : (o : Option Meant)
-        → is_some (option_map_or (λ m. unsuited_at (attributes_of (declared d)) m number place c) o (Some (at.Composing number place)))
-        ≡ option_map_or (λ m. is_unsuited (attributes_of (declared d)) (attributes_of m) c) o true
+        → is_some (option_map_or (λ m. unsuited_at (signature_attributes (declared d)) m number place c) o (Some (at.Composing number place)))
+        ≡ option_map_or (λ m. is_unsuited (signature_attributes (declared d)) (signature_attributes m) c) o true
     go None = refl
-    go (Some m) = unsuited_told (attributes_of (declared d)) m number place c
+    go (Some m) = unsuited_told (signature_attributes (declared d)) m number place c
 
 bad_told : (ds : Definitions) (number : ℕ) (d : Definition) → is_some (bad_in ds number d) ≡ (bad_default d || list_any (refuses_composing ds d) d.composing)
 bad_told ds number d =

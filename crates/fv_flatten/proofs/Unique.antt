@@ -4,7 +4,7 @@ use Rattle.fv_datum.proofs.Maps.{same_map}
 use Rattle.fv_datum.specs.Attributes.{AttributeValue, Attributes}
 use Rattle.fv_constraint.specs.Composed.{Planned, IsTreeOf, AreTreesOf}
 use Rattle.fv_declare_definition.specs.Definitions.{Composing, Definitions}
-use Rattle.fv_constraint.specs.Meanings.{Meant, composing_of}
+use Rattle.fv_constraint.specs.Meanings.{Meant, meant_composing}
 use Rattle.fv_constraint.specs.Effect.{effective, handed}
 use Rattle.fv_constraint_tree.specs.Trees.{Tree, tree, Trees, none, more}
 
@@ -19,8 +19,8 @@ mutual
       let found = sym x.1 ∙ y.1 in
       let meant : p.meant ≡ q.meant = cc in
       let same : p ≡ q = planned_same p.constraint q.constraint p.meant q.meant p.own q.own p.given q.given (x.0 ∙ sym y.0) meant (x.2 ∙ sym y.2) (x.3 ∙ sym y.3) in
-      let z = subst (λ (m : Meant). AreTreesOf ds (composing_of m) (effective m given) others) (sym meant) y.4 in
-      let kids = uniques ds (composing_of p.meant) (effective p.meant given) below others x.4 z in
+      let z = subst (λ (m : Meant). AreTreesOf ds (meant_composing m) (effective m given) others) (sym meant) y.4 in
+      let kids = uniques ds (meant_composing p.meant) (effective p.meant given) below others x.4 z in
       ap (λ r. tree r below) same ∙ ap (tree q) kids
 
   uniques : (ds : Definitions) (cs : List Composing) (above : List ℕ → Option AttributeValue) (ts us : Trees Planned) → AreTreesOf ds cs above ts → AreTreesOf ds cs above us → ts ≡ us

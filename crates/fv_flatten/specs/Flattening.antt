@@ -2,7 +2,7 @@
 use Rattle.std.specs.Prelude.{◌≡◌, ◌⊎◌, ℕ, ◌||◌, List, [], ◌∷◌, Bool, not, nat_lt, Option, Some, None, is_some, Result, Ok, Err}
 use Rattle.std.specs.List.{list_any, zip, AllZip}
 use Rattle.fv_builtin.specs.declared.fault.BuiltinFault.TheVariants as builtin
-use Rattle.fv_constraint.specs.Composed.{Planned, IsTreeOf, IsCyclic}
+use Rattle.fv_constraint.specs.Composed.{Planned, IsTreeOf, ComposesItself}
 use Rattle.fv_declare_definition.specs.Definitions.{Definitions}
 use Rattle.fv_constraint.specs.Meanings.{meant_by}
 use Rattle.fv_datum.specs.Attributes.{Attributes}
@@ -92,6 +92,6 @@ alone (Err fault) = Err fault
 -- what a use is flattened to: a constraint that is composed of itself comes first, the rest is by the use's tree
 abbrev pub Flattens : Known → Definitions → Use → Result (Tree Node) FlattenFault → Type 0
 Flattens k ds u answer =
-    (IsCyclic ds × (answer ≡ Err CyclicComposition))
-    ⊎ ((IsCyclic ds → ⊥)
+    (ComposesItself ds × (answer ≡ Err CyclicComposition))
+    ⊎ ((ComposesItself ds → ⊥)
     × ((t : Tree Planned) × IsTreeOf ds u.constraint u.message u.given t × IsDecided (first (conditions k ds u t)) (u ∷ []) (t ∷ []) (alone answer)))

@@ -46,16 +46,16 @@ asked (Some (of_data rule)) = by_rule rule
 asked (Some (of_objects rule)) = by_object_rule rule
 
 -- what a constraint asks itself at a place, with the attributes that are given: its own test
-abbrev pub Asks : Meant → Target → Attributes → Test → Type 0
-Asks (builtin which) (on_data kind) given test = (b : BuiltIn) × (test ≡ built_in b) × IsRead (drafted which given) (takes which kind) (Ok b)
-Asks (declared d) place given test = test ≡ asked d.rule
-Asks _ _ given test = ⊥
+abbrev pub NodeAsks : Meant → Target → Attributes → Test → Type 0
+NodeAsks (builtin which) (on_data kind) given test = (b : BuiltIn) × (test ≡ built_in b) × IsRead (drafted which given) (takes which kind) (Ok b)
+NodeAsks (declared d) place given test = test ≡ asked d.rule
+NodeAsks _ _ given test = ⊥
 
 -- a planned constraint is read as a constraint at a place, with the one map of its values in effect
 pub record IsNode (place : Target) (p : Planned) (n : Node) : Type 0 where
   pub constraint : n.constraint ≡ p.constraint
   pub attributes : IsMapOf (effective p.meant p.given) n.attributes
-  pub asks : Asks p.meant place p.given n.test
+  pub asks : NodeAsks p.meant place p.given n.test
   pub single : n.single ≡ is_single p.meant
   pub message : n.message ≡ template_of p.constraint p.meant p.own
 

@@ -10,7 +10,7 @@ ghost use Rattle.fv_constraint.specs.MeantView.{meant_view};
 ghost use Rattle.fv_declare_definition.specs.DefinitionViews.{rule_view};
 ghost use Rattle.fv_constraint_tree.specs.TargetViews.{target_view};
 ghost use Rattle.fv_constraint.specs.PlannedViews.{planned_view, planned_entry};
-ghost use Rattle.fv_flatten.specs.Read.{default_template, declared_template, template_of, is_single, asked, Asks, IsEntry, IsReadTree, IsReadAs, refuses_its_given, refuses_at};
+ghost use Rattle.fv_flatten.specs.Read.{default_template, declared_template, template_of, is_single, asked, NodeAsks, IsEntry, IsReadTree, IsReadAs, refuses_its_given, refuses_at};
 ghost use Rattle.fv_flatten.specs.Refusals.{refuses_place};
 ghost use Rattle.fv_constraint_tree.specs.Preorder.{preorder, IsPreorder};
 ghost use Rattle.fv_constraint_tree.specs.Trees.{Tree};
@@ -37,7 +37,7 @@ fn builtin_test(
 ) -> Result<Test, FlattenFault>
     requires attributes { is_some (drafted which given.now) ≡ true }
     requires place { (k : Known) × (refuses_place k (builtin which) (target_view place) ≡ false) }
-    ensures taken { IfOk result (λ test. Asks (builtin which) (target_view place) given.now (test_view test)) }
+    ensures taken { IfOk result (λ test. NodeAsks (builtin which) (target_view place) given.now (test_view test)) }
     ensures refused { IfErr result (λ f. f ≢ FlattenFault.Memory → (f ≡ FlattenFault.BadPattern)
         × ((p : spec.Planned) → p.meant ≡ builtin which → p.given ≡ given.now → IsReadAs (target_view place) p (Err fault.BadPattern))) }
 {
@@ -73,7 +73,7 @@ fn test_of(
 ) -> Result<Test, FlattenFault>
     requires attributes { refuses_its_given (planned_view planned.now) ≡ false }
     requires place { (k : Known) × (refuses_at k (target_view place) (planned_view planned.now) ≡ false) }
-    ensures taken { IfOk result (λ test. Asks (planned_view planned.now).meant (target_view place) planned.now.with (test_view test)) }
+    ensures taken { IfOk result (λ test. NodeAsks (planned_view planned.now).meant (target_view place) planned.now.with (test_view test)) }
     ensures refused { IfErr result (λ f. f ≢ FlattenFault.Memory → (f ≡ FlattenFault.BadPattern)
         × IsReadAs (target_view place) (planned_view planned.now) (Err fault.BadPattern)) }
 {

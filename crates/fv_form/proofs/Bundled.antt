@@ -4,7 +4,7 @@ use Rattle.serde_json.specs.Data as json
 use Rattle.serde_json.specs.Find.{as_str, as_object}
 use Rattle.fv_datum.specs.Forms.{each_member, map2, required, optional}
 use Rattle.fv_datum.specs.Members.{pairs}
-use Rattle.fv_model.specs.Draft.{Part, Drafted, part_of, draft_of}
+use Rattle.fv_model.specs.Draft.{ObjectDraft, BundleDraft, object_draft, bundle_draft_of}
 use Rattle.fv_form.specs.Asked.{asked}
 use Rattle.fv_form.specs.Commands.{of_bundle, of_object}
 use Rattle.fv_form.specs.Entries.{must, may}
@@ -31,10 +31,10 @@ given_kept (json.object ms) = members_told asked part.Any (λ m. Some m) (λ m. 
 
 -- ---- an object
 
-abbrev object_made : List ℕ → List ℕ → json.Members → Part
+abbrev object_made : List ℕ → List ℕ → json.Members → ObjectDraft
 object_made name type given = record { name = name; type_name = type; given = given }
 
-abbrev object_in : List ℕ → json.Data → Option Part
+abbrev object_in : List ℕ → json.Data → Option ObjectDraft
 object_in name j = map2 (object_made name) (required as_str (codes "type") j) (optional json.no_members as_object (codes "fields") j)
 
 object_right : (name : List ℕ) (ms : json.Members) → none_in (in_entries part.Object of_object ms) ≡ is_some (object_in name (json.object ms))
@@ -47,29 +47,29 @@ object_right name ms =
     (may_told asked part.Object (codes "fields") part.Given json.no_members as_object given_kept ms)
     ∙ sym (map2_read (object_made name) type fields)
 
-one_kept : (m : List ℕ × json.Data) → is_kept part.Object m.1 ≡ is_some (part_of m)
+one_kept : (m : List ℕ × json.Data) → is_kept part.Object m.1 ≡ is_some (object_draft m)
 one_kept m = object_kept asked part.Object of_object (codes "type" ∷ codes "fields" ∷ []) (object_in m.0) (λ j. refl) (λ ms. refl) (object_right m.0) m.1
 
-objects_kept : (j : json.Data) → is_kept part.Objects j ≡ is_some (each_member part_of j)
-objects_kept = members_kept asked part.Objects part.Object part_of (λ j. refl) one_kept
+objects_kept : (j : json.Data) → is_kept part.Objects j ≡ is_some (each_member object_draft j)
+objects_kept = members_kept asked part.Objects part.Object object_draft (λ j. refl) one_kept
 
 -- ---- a bundle
 
-abbrev bundle_made : List ℕ → List Part → Drafted
+abbrev bundle_made : List ℕ → List ObjectDraft → BundleDraft
 bundle_made root objects = record { root = root; objects = objects }
 
-abbrev bundle_in : json.Data → Option Drafted
-bundle_in j = map2 bundle_made (required as_str (codes "root") j) (required (each_member part_of) (codes "objects") j)
+abbrev bundle_in : json.Data → Option BundleDraft
+bundle_in j = map2 bundle_made (required as_str (codes "root") j) (required (each_member object_draft) (codes "objects") j)
 
 bundle_right : (ms : json.Members) → none_in (in_entries part.Bundle of_bundle ms) ≡ is_some (bundle_in (json.object ms))
 bundle_right ms =
     let j = json.object ms in
     let root : Option (List ℕ) = required as_str (codes "root") j in
-    let objects : Option (List Part) = required (each_member part_of) (codes "objects") j in
+    let objects : Option (List ObjectDraft) = required (each_member object_draft) (codes "objects") j in
     none2 (entry_at part.Bundle ms (must (codes "root") part.Text)) (entry_at part.Bundle ms (must (codes "objects") part.Objects)) (is_some root) (is_some objects)
     (must_told asked part.Bundle (codes "root") part.Text as_str text_kept ms)
-    (must_told asked part.Bundle (codes "objects") part.Objects (each_member part_of) objects_kept ms)
+    (must_told asked part.Bundle (codes "objects") part.Objects (each_member object_draft) objects_kept ms)
     ∙ sym (map2_read bundle_made root objects)
 
-pub bundle_kept : (j : json.Data) → is_kept part.Bundle j ≡ is_some (draft_of j)
+pub bundle_kept : (j : json.Data) → is_kept part.Bundle j ≡ is_some (bundle_draft_of j)
 bundle_kept = object_kept asked part.Bundle of_bundle (codes "root" ∷ codes "objects" ∷ []) bundle_in (λ j. refl) (λ ms. refl) bundle_right

@@ -122,7 +122,7 @@ module _ (ms : json.Members) (known : none_in (in_entry asked part.Command named
       ∙ ap (λ b. only && b) (sym (passed4 is_shaped command.check_value (λ a b c d. refl) type field value groups))
       ∙ sym (passed_where is_shaped only (map4 command.check_value type field value groups))
 
-  list_right : asks part.Command ms of_list ≡ right (command.list_of j)
+  list_right : asks part.Command ms of_list ≡ right (command.list_request j)
   list_right =
       let form : Option (List ℕ) = required as_str (codes "form") j in
       let after : Option (Option (List ℕ)) = maybe command.id_in (codes "after") j in
@@ -161,7 +161,7 @@ rows =
     (codes "put", (of_put, λ j. option_map command.alone (command.put_of j))) ∷ (codes "set", (of_set, λ j. option_map command.alone (command.set_of j)))
     ∷ (codes "remove", (of_id, λ j. option_map command.alone (command.remove_of j))) ∷ (codes "batch", (of_batch, command.batch_of)) ∷ (codes "get", (of_id, command.get_of))
     ∷ (codes "check", (of_check, command.check_of)) ∷ (codes "checkfield", (of_check_field, command.check_field_of)) ∷ (codes "checkvalue", (of_check_value, command.check_value_of))
-    ∷ (codes "list", (of_list, command.list_of)) ∷ []
+    ∷ (codes "list", (of_list, command.list_request)) ∷ []
 
 module _ (ms : json.Members) where
   abbrev others : List (Entry FormName)

@@ -154,8 +154,8 @@ groups_kept = members_kept asked part.Groups part.Group group_of (λ j. refl) gr
 
 -- ---- messages, and the whole
 
-pub messages_kept : (j : json.Data) → is_kept part.Messages j ≡ is_some (each_member written.message_of j)
-messages_kept = members_kept asked part.Messages part.Text written.message_of (λ j. refl) (λ m. text_kept m.1 ∙ sym (map_read _ (as_str m.1)))
+pub messages_kept : (j : json.Data) → is_kept part.Messages j ≡ is_some (each_member written.message_draft_of j)
+messages_kept = members_kept asked part.Messages part.Text written.message_draft_of (λ j. refl) (λ m. text_kept m.1 ∙ sym (map_read _ (as_str m.1)))
 
 abbrev draft_made : List TypeDraft → List FormDraft → Groups → Definitions → List (List ℕ × List ℕ) → Drafted
 draft_made types forms groups definitions messages = record { types = types; forms = forms; definitions = definitions; groups = groups; messages = messages }
@@ -163,7 +163,7 @@ draft_made types forms groups definitions messages = record { types = types; for
 abbrev draft_in : json.Data → Option Drafted
 draft_in j =
     map5 draft_made (required (each_member type_of) (codes "types") j) (required (each_member form_of) (codes "forms") j) (optional [] (each_member group_of) (codes "groups") j)
-    (optional [] (each_member definition_of) (codes "constraints") j) (optional [] (each_member written.message_of) (codes "messages") j)
+    (optional [] (each_member definition_of) (codes "constraints") j) (optional [] (each_member written.message_draft_of) (codes "messages") j)
 
 draft_right : (ms : json.Members) → none_in (in_entries part.Declarations declarations ms) ≡ is_some (draft_in (json.object ms))
 draft_right ms =
@@ -172,7 +172,7 @@ draft_right ms =
     let forms : Option (List FormDraft) = required (each_member form_of) (codes "forms") j in
     let groups : Option Groups = optional [] (each_member group_of) (codes "groups") j in
     let definitions : Option Definitions = optional [] (each_member definition_of) (codes "constraints") j in
-    let texts : Option (List (List ℕ × List ℕ)) = optional [] (each_member written.message_of) (codes "messages") j in
+    let texts : Option (List (List ℕ × List ℕ)) = optional [] (each_member written.message_draft_of) (codes "messages") j in
     none5 (entry_at part.Declarations ms (must (codes "types") part.Types)) (entry_at part.Declarations ms (must (codes "forms") part.Forms)) (entry_at part.Declarations ms (may (codes "groups") part.Groups))
     (entry_at part.Declarations ms (may (codes "constraints") part.Definitions)) (entry_at part.Declarations ms (may (codes "messages") part.Messages))
     (is_some types) (is_some forms) (is_some groups) (is_some definitions) (is_some texts)
@@ -180,7 +180,7 @@ draft_right ms =
     (must_told asked part.Declarations (codes "forms") part.Forms (each_member form_of) forms_kept ms)
     (may_told asked part.Declarations (codes "groups") part.Groups [] (each_member group_of) groups_kept ms)
     (may_told asked part.Declarations (codes "constraints") part.Definitions [] (each_member definition_of) definitions_kept ms)
-    (may_told asked part.Declarations (codes "messages") part.Messages [] (each_member written.message_of) messages_kept ms)
+    (may_told asked part.Declarations (codes "messages") part.Messages [] (each_member written.message_draft_of) messages_kept ms)
     ∙ sym (map5_read draft_made types forms groups definitions texts)
 
 pub draft_kept : (j : json.Data) → is_kept part.Declarations j ≡ is_some (draft_of j)

@@ -9,7 +9,7 @@ use Rattle.fv_datum.specs.Json.{passing}
 use Rattle.fv_datum.specs.Lookup.{at_name}
 use Rattle.fv_datum.specs.Members.{listed, has_only, each_some}
 use Rattle.fv_engine_command.specs.Commands as command
-use Rattle.fv_model.specs.Draft.{Drafted, draft_of}
+use Rattle.fv_model.specs.Draft.{BundleDraft, bundle_draft_of}
 use Rattle.fv_form.specs.Asked.{asked}
 use Rattle.fv_form.specs.Commands.{named, of_put, of_set, of_id, of_unnamed, parts, is_part_name, is_drafted}
 use Rattle.fv_form.specs.Entries.{must}
@@ -25,7 +25,7 @@ use Rattle.fv_form.proofs.Written.{is_kept, entry_at, text_kept}
 -- ---- each by its entries
 
 put_drafted : (id form : Option (List ℕ)) (bundle : Option json.Data)
-    → option_map_or is_drafted (map3 command.put id form bundle) false ≡ (is_some id && (is_some form && is_some (option_and_then draft_of bundle)))
+    → option_map_or is_drafted (map3 command.put id form bundle) false ≡ (is_some id && (is_some form && is_some (option_and_then bundle_draft_of bundle)))
 put_drafted None form bundle = refl
 put_drafted (Some id) None bundle = refl
 put_drafted (Some id) (Some form) None = refl
@@ -37,14 +37,14 @@ put_right g ms known =
     let id : Option (List ℕ) = command.id_at j in
     let form : Option (List ℕ) = required as_str (codes "form") j in
     let bundle : Option json.Data = get (codes "bundle") j in
-    let draft : Option Drafted = required draft_of (codes "bundle") j in
+    let draft : Option BundleDraft = required bundle_draft_of (codes "bundle") j in
     let only : Bool = has_only (codes "do" ∷ codes "id" ∷ codes "form" ∷ codes "bundle" ∷ []) j in
     asks_where g of_put ms (is_some id && (is_some form && is_some draft)) (
     none4 (entry_at g ms named) (entry_at g ms (must (codes "id") part.Id)) (entry_at g ms (must (codes "form") part.Text)) (entry_at g ms (must (codes "bundle") part.Bundle))
     true (is_some id) (is_some form) (is_some draft) known
     (must_told asked g (codes "id") part.Id command.id_in id_kept ms)
     (must_told asked g (codes "form") part.Text as_str text_kept ms)
-    (must_told asked g (codes "bundle") part.Bundle draft_of bundle_kept ms))
+    (must_told asked g (codes "bundle") part.Bundle bundle_draft_of bundle_kept ms))
     ∙ ap (λ b. only && b) (sym (put_drafted id form bundle)) ∙ sym (passed_where is_drafted only (map3 command.put id form bundle))
 
 pub set_right : (g : FormName) (ms : json.Members) → none_in (in_entry asked g named ms) ≡ true → asks g ms of_set ≡ option_map_or is_drafted (command.set_of (json.object ms)) false

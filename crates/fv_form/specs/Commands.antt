@@ -131,7 +131,7 @@ counted_form test h j = items h
 
 -- the bundle of a put is of the form of one
 abbrev pub is_drafted : command.Part → Bool
-is_drafted (command.put id form j) = is_some (bundle.draft_of j)
+is_drafted (command.put id form j) = is_some (bundle.bundle_draft_of j)
 is_drafted _ = true
 
 -- a request is of a command's form, and each bundle in it of the form of one

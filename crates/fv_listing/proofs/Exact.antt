@@ -13,7 +13,7 @@ use Rattle.fv_local.specs.Requests as request
 use Rattle.fv_local.proofs.Tidy.{judging_tidy, visiting_tidy}
 use Rattle.fv_walk_traces.specs.Listing.{IsFailing, IsListed, violation_at}
 use Rattle.fv_walk_traces.specs.Reaching.{at_object, violation}
-use Rattle.fv_walk_traces.specs.Requests.{Own, Plain, Request}
+use Rattle.fv_walk_traces.specs.Requests.{Own, Plain, GraphRequest}
 use Rattle.fv_walk_traces.specs.Traces.{Arrives}
 use Rattle.fv_walk_traces.specs.Turns.{Spot, of_object, at, LocalFailure, Ask, Step, Group, Fail, Free, Rank, Turns, Shadows}
 use Rattle.fv_walk_traces.specs.Violations.{Reached, Violation, IsViolation, nodes_to, onward, value_at}
@@ -162,4 +162,4 @@ module _ (m : Meanings) (now : ℤ) (old ds : Declarations) (from b : Bundled) (
       ∙ ap (λ (l : List ℕ). request.judging m ds now b l) is
 
   pub asked_for : AreViolations (request.judging m old now from gs) vs → (v : Violation) → IsIn vs v ↔ IsViolation (request_of m ds now b asked) v
-  asked_for h v = subst (λ (r : Request). IsIn vs v ↔ IsViolation r v) judging_is (h.exact v)
+  asked_for h v = subst (λ (r : GraphRequest). IsIn vs v ↔ IsViolation r v) judging_is (h.exact v)

@@ -3,8 +3,8 @@ use Rattle.std.proofs.Common.{◌≡◌, ◌<◌, ℕ, List, [], ◌∷◌, ◌+
 use Rattle.std.specs.Option.{option_map_or}
 use Rattle.fv_datum.specs.Data.{Data}
 use Rattle.fv_datum.specs.Name.{names}
-use Rattle.fv_extract.specs.Parts.{Locus, Part, parts_at}
-use Rattle.fv_extract.specs.Places.{Place}
+use Rattle.fv_extract.specs.Parts.{Locus, LocusPart, parts_at}
+use Rattle.fv_extract.specs.Places.{FieldPlace}
 use Rattle.fv_extract.specs.Views.{part_view}
 use Rattle.fv_extract.specs.declared.part.Part as code
 use Rattle.fv_graph.specs.Graph.{IsIn}
@@ -23,12 +23,12 @@ use Rattle.fv_walk.specs.Paths.{TakesField}
 use Rattle.fv_walk.proofs.Paths.{field_alone, last_dropped}
 
 -- what is known of the field of a part
-pub record IsNamed (object : Thing) (place : Place) (locus : Locus) (name : List ℕ) : Type 0 where
+pub record IsNamed (object : Thing) (place : FieldPlace) (locus : Locus) (name : List ℕ) : Type 0 where
   pub named : names name ≡ true
   pub led : leads place.steps locus ≡ true
   pub is : field_name object place.field ≡ name
 
-pub named_there : (object : Thing) (place : Place) (locus : Locus) (d : Data) (f : List ℕ × Data) → IsSound object → IsIn (parts_at object place) (locus, d) → slice_get object.fields place.field ≡ Some f → IsNamed object place locus f.0
+pub named_there : (object : Thing) (place : FieldPlace) (locus : Locus) (d : Data) (f : List ℕ × Data) → IsSound object → IsIn (parts_at object place) (locus, d) → slice_get object.fields place.field ≡ Some f → IsNamed object place locus f.0
 named_there object place locus d f sound h at =
     let part = part_there object place (locus, d) sound h in record {
       named = sound.named place.field f at;
@@ -47,7 +47,7 @@ no_more : (old : List PathNode) (n : PathNode) (ns : List PathNode) → old ++ n
 no_more [] n ns e = cc
 no_more (o ∷ old) n ns e = cc
 
-some_part : (ps : List code.Part) → 0 < length ps → (x : Part) × (rest : Locus) × (map part_view ps ≡ x ∷ rest)
+some_part : (ps : List code.Part) → 0 < length ps → (x : LocusPart) × (rest : Locus) × (map part_view ps ≡ x ∷ rest)
 some_part [] less = absurd (omega arith)
 some_part (p ∷ ps) less = (part_view p, map part_view ps, refl)
 
@@ -55,7 +55,7 @@ no_part : (ps : List code.Part) → length ps ≡ 0 → map part_view ps ≡ []
 no_part [] none = refl
 no_part (p ∷ ps) none = absurd (omega (arith, none))
 
-module _ (object : Thing) (place : Place) (ps : List code.Part) (name : List ℕ) (old whole : List PathNode) (led : leads place.steps (map part_view ps) ≡ true) (path : IsPath whole) (pushed : whole ≡ old ++ field name ∷ nodes_of place.steps (map part_view ps)) where
+module _ (object : Thing) (place : FieldPlace) (ps : List code.Part) (name : List ℕ) (old whole : List PathNode) (led : leads place.steps (map part_view ps) ≡ true) (path : IsPath whole) (pushed : whole ≡ old ++ field name ∷ nodes_of place.steps (map part_view ps)) where
   -- without a locus nothing is taken off
   pub way_alone : length ps ≡ 0 → (whole ≡ old ++ but_named (field name ∷ nodes_of place.steps (map part_view ps))) × TakesField whole
   way_alone none = field_alone old whole name place.steps (map part_view ps) led pushed path (no_part ps none)

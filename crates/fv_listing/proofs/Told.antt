@@ -18,7 +18,7 @@ use Rattle.fv_graph.proofs.Images.{in_map, from_map}
 use Rattle.fv_walk_traces.specs.Listing.{violation_at}
 use Rattle.fv_walk_traces.specs.OneObject.{IsLocalIn}
 use Rattle.fv_walk_traces.specs.Reaching.{at_object, violation}
-use Rattle.fv_walk_traces.specs.Requests.{Request}
+use Rattle.fv_walk_traces.specs.Requests.{GraphRequest}
 use Rattle.fv_walk_traces.specs.Turns.{LocalFailure, Fail, Free, Turns, ShadowsByRecursion}
 use Rattle.fv_walk_traces.specs.Violations.{Reached, Violation, nodes_to, onward, value_at}
 use Rattle.fv_walk.specs.FailureView as told
@@ -43,7 +43,7 @@ local_by m now c ds a t fails same is exact = record {
 }
 
 -- a failure at the object of a visit, by the path there
-pub told_is : (request : Request) (a : Arrival) (f : LocalFailure) (before path : List PathNode) (value : Data)
+pub told_is : (request : GraphRequest) (a : Arrival) (f : LocalFailure) (before path : List PathNode) (value : Data)
     → at_object before a.object ≡ fold (onward request) (at_object [] request.root) a.turns → path ≡ before ++ nodes_to request a.object f.spot → value ≡ value_at request a.object f.spot
     → ◌≡◌ {A = Violation} (record { path = path; node = f.node; value = value }) (violation_at request a.turns f)
 told_is request a f before path value there path_is value_is =
@@ -65,7 +65,7 @@ all_seen f (x ∷ xs) (suc k) past = ap (λ l. f x ∷ l) (all_seen f xs k (omeg
 -- ---- which visits fail
 
 -- something fails where the list isn't empty
-pub fails_if : (request : Request) (a : Arrival) (fs : List found.LocalFailure) (n : ℕ) (empty : Bool) → AreLocal request a (map failure_view fs) → n ≡ length fs → empty ≡ nat_eq n 0 → IsTrue (not empty) ↔ IsFailingAt request a
+pub fails_if : (request : GraphRequest) (a : Arrival) (fs : List found.LocalFailure) (n : ℕ) (empty : Bool) → AreLocal request a (map failure_view fs) → n ≡ length fs → empty ≡ nat_eq n 0 → IsTrue (not empty) ↔ IsFailingAt request a
 fails_if request a [] n empty local long is = (
   λ h. absurd (let e : empty ≡ true = grind (arith, long, is) in let clash : false ≡ true = ap not (sym e) ∙ h in cc),
   λ h. absurd ((local.exact h.failure).1 h.fails),
@@ -75,7 +75,7 @@ fails_if request a (f ∷ fs) n empty local long is = (
   λ h. (let e : empty ≡ false = grind (arith, long, is) in ap not e),
 )
 
-module _ (request : Request) where
+module _ (request : GraphRequest) where
   pub failing_none : AreFailing request [] []
   failing_none = record { exact = λ t. (λ h. absurd h, λ h. absurd h.1) }
 
@@ -136,9 +136,9 @@ seen_at f (y ∷ xs) (suc k) x less is = inr (seen_at f xs k x (omega arith) is)
 
 -- ---- what is told
 
-module _ (request : Request) where
+module _ (request : GraphRequest) where
   -- what fails at a visit, as it is told by another request
-  pub tells_all : (other : Request) (a : Arrival) (before after : List Violation) (fails : List LocalFailure) → ((f : LocalFailure) → violation_at other a.turns f ≡ violation_at request a.turns f) → AreLocal request a fails
+  pub tells_all : (other : GraphRequest) (a : Arrival) (before after : List Violation) (fails : List LocalFailure) → ((f : LocalFailure) → violation_at other a.turns f ≡ violation_at request a.turns f) → AreLocal request a fails
       → after ≡ before ++ map (violation_at other a.turns) fails → Tells request a before after
   tells_all other a before after fails alike local added = record {
     exact = λ v. (
@@ -198,7 +198,7 @@ module _ (request : Request) where
 
 -- ---- visit by visit
 
-module _ (request : Request) (visits : List Visit) (k : ℕ) where
+module _ (request : GraphRequest) (visits : List Visit) (k : ℕ) where
   pub failing_next : (v : Visit) (before after : List Turns) → k < length visits → v ≡ get_or visits k v → AreFailing request (map visit_view (take k visits)) before → AddsFailing request (visit_view v) before after
       → AreFailing request (map visit_view (take (k + 1) visits)) after
   failing_next v before after less is are adds =
@@ -217,8 +217,8 @@ module _ (request : Request) (visits : List Visit) (k : ℕ) where
     told_done vs past told = subst (λ (l : List Arrival). AreTold request failing l vs) (all_seen visit_view visits k past) told
 
 -- before the first
-pub failing_begun : (request : Request) (lists : List (Vec code.Turn Global)) → lists ≡ [] → AreFailing request [] (map turns_view lists)
+pub failing_begun : (request : GraphRequest) (lists : List (Vec code.Turn Global)) → lists ≡ [] → AreFailing request [] (map turns_view lists)
 failing_begun request lists none = subst (λ (l : List (Vec code.Turn Global)). AreFailing request [] (map turns_view l)) (sym none) (failing_none request)
 
-pub told_begun : (request : Request) (failing : List Turns) (vs : List Failure) → vs ≡ [] → AreTold request failing [] (map told.failure_view vs)
+pub told_begun : (request : GraphRequest) (failing : List Turns) (vs : List Failure) → vs ≡ [] → AreTold request failing [] (map told.failure_view vs)
 told_begun request failing vs none = subst (λ (l : List Failure). AreTold request failing [] (map told.failure_view l)) (sym none) (told_none request failing)

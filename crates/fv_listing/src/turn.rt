@@ -3,7 +3,7 @@ ghost use Rattle.std.specs.Prelude.{◌≡◌, ◌↔◌, IsTrue, map};
 ghost use Rattle.fv_extract.specs.Views.{part_view};
 ghost use Rattle.fv_declare_schema.specs.NumberViews.{valid_place_view};
 ghost use Rattle.fv_local.specs.Graphs.{way_view};
-ghost use Rattle.fv_local.specs.Ways.{place_of};
+ghost use Rattle.fv_local.specs.Ways.{way_place};
 ghost use Rattle.fv_walk_traces.specs.Turns.{IsSmallerRank, ShadowsByRecursion};
 ghost use Rattle.fv_listing.specs.Turns.{turn_view};
 
@@ -24,7 +24,7 @@ pub(crate) enum Turn<'a, 's, 'b> {
 
 /// Whether two places are the same one of their types.
 fn is_same_place(one: &ValidPlace, other: &ValidPlace) -> bool
-    ensures { IsTrue result ↔ (place_of (valid_place_view one.now) ≡ place_of (valid_place_view other.now)) }
+    ensures { IsTrue result ↔ (way_place (valid_place_view one.now) ≡ way_place (valid_place_view other.now)) }
 {
     one.field == other.field && one.steps == other.steps
 }

@@ -22,11 +22,11 @@ use Rattle.fv_local.specs.Loci.{leads}
 use Rattle.fv_local.specs.Paths.{field_name, nodes_of}
 use Rattle.fv_local.proofs.NodesApart.{locus_same}
 use Rattle.fv_graph.proofs.Images.{from_flat_map, from_map}
-use Rattle.fv_walk_traces.specs.Requests.{Own, Plain, InRanks, Request}
+use Rattle.fv_walk_traces.specs.Requests.{Own, Plain, InRanks, GraphRequest}
 use Rattle.fv_walk_traces.specs.Turns as turn
 use Rattle.fv_walk_traces.specs.Turns.{Spot, LocalFailure, Way}
 use Rattle.fv_walk_traces.specs.Violations.{Violation, but_named, nodes_to, value_at, IsViolation}
-use Rattle.fv_bundle.specs.Types.{number_of}
+use Rattle.fv_bundle.specs.Types.{number_of_type}
 use Rattle.fv_declare_schema.specs.Places.{Place, whole, field}
 use Rattle.fv_local.specs.Sound.{IsSound}
 use Rattle.fv_local.specs.Requests.{object_at, request_of}
@@ -74,7 +74,7 @@ module _ (m : Meanings) (ds : Declarations) (now : ℤ) (object : Thing) where
           in_groups type (below ds.groups rank.0) f (subst (λ (l : List LocalFailure). IsIn l f) (sym rank.1) k.3)
 
   pub of_use : (h : ℕ) (f : LocalFailure) → FailsIn (own_in m ds now object h) f → IsOfUse f
-  of_use h f = go (number_of ds.types object.type_name)
+  of_use h f = go (number_of_type ds.types object.type_name)
     where
       go : (o : Option ℕ) → FailsIn (option_map_or (λ type. own_at m ds now object type h) o (Plain [])) f → IsOfUse f
       go None k = absurd k
@@ -89,7 +89,7 @@ module _ (m : Meanings) (ds : Declarations) (now : ℤ) (object : Thing) where
       go whole s e (inl same) = e ∙ ap (λ (x : Standing). x.0) (sym same)
       go whole s e (inr k) = absurd k
       go (field number steps kind) s e k =
-          let place : at.Place = record { field = number; steps = steps } in
+          let place : at.FieldPlace = record { field = number; steps = steps } in
           let p = from_map (part_at place) (parts_at object place) s k in
           (p.0, p.2, e ∙ ap (λ (x : Standing). x.0) p.1)
 
@@ -99,7 +99,7 @@ name_same : (name other : List ℕ) (ns ms : List PathNode) → field_node name 
 name_same name other ns ms e = (cc, cc)
 
 module _ (m : Meanings) (ds : Declarations) (now : ℤ) (b : Bundled) (asked : List ℕ) (ordered : AreOrdered ds) (typed : IsWellTyped ds.types b) where
-  abbrev request : Request
+  abbrev request : GraphRequest
   request = request_of m ds now b asked
 
   abbrev sound : (i : ℕ) → IsSound (object_at b i)
@@ -127,14 +127,14 @@ module _ (m : Meanings) (ds : Declarations) (now : ℤ) (b : Bundled) (asked : L
   end_headed i whole s h = subst (λ (x : Spot). IsHeaded (nodes_to request i x)) (sym h) tt
   end_headed i (field number steps kind) s h = subst (λ (x : Spot). IsHeaded (nodes_to request i x)) (sym h.2) refl
 
-  spot_led : (i : ℕ) (place : at.Place) (p : Locus × Data) → IsIn (parts_at (object_at b i) place) p → leads place.steps p.0 ≡ true
+  spot_led : (i : ℕ) (place : at.FieldPlace) (p : Locus × Data) → IsIn (parts_at (object_at b i) place) p → leads place.steps p.0 ≡ true
   spot_led i place p h = (part_there (object_at b i) place p (sound i) h).led
 
   -- two spots at one place of an object, by their nodes
   same_spot : (i : ℕ) (place : Place) (s t : Spot) → StandsIn (object_at b i) place s → StandsIn (object_at b i) place t → nodes_to request i s ≡ nodes_to request i t → s ≡ t
   same_spot i whole s t h k e = h ∙ sym k
   same_spot i (field number steps kind) s t (p, p_in, s_is) (q, q_in, t_is) e =
-      let place : at.Place = record { field = number; steps = steps } in
+      let place : at.FieldPlace = record { field = number; steps = steps } in
       let name = field_name (object_at b i) number in
       let nodes = name_same name name (nodes_of steps p.0) (nodes_of steps q.0) (ap (nodes_to request i) (sym s_is) ∙ e ∙ ap (nodes_to request i) t_is) in
       s_is ∙ ap (λ (l : Locus). turn.at place l) (locus_same steps p.0 q.0 (spot_led i place p p_in) (spot_led i place q q_in) nodes.1) ∙ sym t_is
@@ -146,7 +146,7 @@ module _ (m : Meanings) (ds : Declarations) (now : ℤ) (b : Bundled) (asked : L
       let none : [] ≡ field_node _ ∷ _ = ap (nodes_to request i) (sym h) ∙ e ∙ path_head i w ws (nodes_to request last t) in
       cc
   not_past (field number steps kind) s t i last w ws way (p, p_in, s_is) (q, q_in, t_is) e =
-      let place : at.Place = record { field = number; steps = steps } in
+      let place : at.FieldPlace = record { field = number; steps = steps } in
       let end = nodes_to request last (turn.at place q.0) in
       let rest = path_along request w.target ws end in
       let named = but_named (nodes_of w.place.steps w.locus) in

@@ -4,7 +4,7 @@ use Rattle.std.proofs.lemmas.List.{append_assoc, append-nil}
 use Rattle.fv_graph.specs.Graph.{IsIn}
 use Rattle.fv_path.specs.Nodes.{PathNode}
 use Rattle.fv_walk_traces.specs.Reaching.{at_object, violation}
-use Rattle.fv_walk_traces.specs.Requests.{Own, Plain, InRanks, Request}
+use Rattle.fv_walk_traces.specs.Requests.{Own, Plain, InRanks, GraphRequest}
 use Rattle.fv_walk_traces.specs.Traces.{Carried, Arrives, OwnEnds, IsOwnEnd, IsTrace}
 use Rattle.fv_walk_traces.specs.Turns.{LocalFailure, Way, Step, Fail, Free, Turns}
 use Rattle.fv_walk_traces.specs.Violations.{Violation, Reached, but_named, nodes_to, value_at, onward, violation_of, IsViolation}
@@ -14,7 +14,7 @@ abbrev pub FailsIn : Own → LocalFailure → Type 0
 FailsIn (Plain fails) f = IsIn fails f
 FailsIn (InRanks lists) f = (i : ℕ) × (fails : List LocalFailure) × (slice_get lists i ≡ Some fails) × IsIn fails f
 
-module _ (request : Request) where
+module _ (request : GraphRequest) where
   -- the first of these references is one of an object, each other is one of the object that the one before it leads to, and they lead to the
   -- last object
   abbrev pub Leads : ℕ → List Way → ℕ → Type 0

@@ -16,7 +16,7 @@ use Rattle.fv_walk_traces.specs.OneField.{is_in_field, own_of_field}
 use Rattle.fv_walk_traces.specs.Requests.{Plain, InRanks}
 use Rattle.fv_walk_traces.specs.Turns.{LocalFailure}
 use Rattle.fv_graph.proofs.Images.{from_flat_map, from_map, from_filter}
-use Rattle.fv_bundle.specs.Types.{number_of}
+use Rattle.fv_bundle.specs.Types.{number_of_type}
 use Rattle.fv_declare_schema.specs.Places.{Place, whole, field}
 use Rattle.fv_local.specs.Failures.{Standing, standing_at, failures_of}
 use Rattle.fv_local.specs.Standings.{part_at, failures_at}
@@ -106,7 +106,7 @@ module _ (m : Meanings) (now : ℤ) (object : Thing) (n : ℕ) where
         go (Some ranks) true = ap InRanks (ranks_in_field ranks)
 
     -- what fails by a type's own constraints in the field is what fails of the uses there
-    pub own_of_field_is : (h : ℕ) → number_of ds.types object.type_name ≡ Some type → own_of_field n (own_in m ds now object h) ≡ own_by m now object ds type (stands_in n) (ranks_of ds type) h
+    pub own_of_field_is : (h : ℕ) → number_of_type ds.types object.type_name ≡ Some type → own_of_field n (own_in m ds now object h) ≡ own_by m now object ds type (stands_in n) (ranks_of ds type) h
     own_of_field_is h typed = ap (own_of_field n) (own_is m now object ds type h typed) ∙ own_in_field (ranks_of ds type) h
 
     -- ---- the uses in the field among those that groups reach

@@ -29,7 +29,7 @@ module _ (m : Meanings) (now : ℤ) (object : Thing) where
       let r = from_map _ (numbers_of m now (of_object object) us) x h in
       subst (λ (t : Told). IsThere object t.0.spot t.1) (sym r.1) tt
   there us (field number steps kind) x h =
-      let place : to.Place = record { field = number; steps = steps } in
+      let place : to.FieldPlace = record { field = number; steps = steps } in
       let p = from_flat_map (part_told m now us place) (parts_at object place) x h in
       let r = from_map (told_part place p.0) (numbers_of m now (of_datum p.0.1) us) x p.2 in
       subst (λ (t : Told). IsThere object t.0.spot t.1) (sym r.1) p.1

@@ -12,12 +12,12 @@ use Rattle.fv_declare_schema.specs.ValidPlaces.{ValidPlace}
 use Rattle.fv_bundle.specs.Bundles.{Thing, Things, Bundled}
 use Rattle.fv_graph.proofs.Images.{from_flat_map, from_map}
 use Rattle.fv_walk_traces.specs.Turns as turn
-use Rattle.fv_bundle.specs.Types.{number_of}
+use Rattle.fv_bundle.specs.Types.{number_of_type}
 use Rattle.fv_local.specs.declared.way.Way.{Way}
 use Rattle.fv_local.specs.Conversions.{convert, converted_among, valid_places_of, valid_places_at}
 use Rattle.fv_local.specs.Graphs.{Link, way_view, link_view, links_among, links_at, links_of, ways_view}
 use Rattle.fv_local.specs.Requests.{object_at}
-use Rattle.fv_local.specs.Ways.{place_of, ways_at, ways_of}
+use Rattle.fv_local.specs.Ways.{way_place, ways_at, ways_of}
 use Rattle.fv_local.proofs.Numbers.{each_in, from_filter}
 use Rattle.fv_local.proofs.Places.{places_apart, converts_at}
 
@@ -58,7 +58,7 @@ links_in ds os object l h =
     subst (IsIn (valid_places_at ds object)) (sym (ap (λ (x : Link). x.0) m.1)) k.1
 
 declared_in : (ds : Declarations) (object : Thing) (p : ValidPlace) → IsIn (valid_places_at ds object) p → IsIn ds.valid_places p
-declared_in ds object p h = go (number_of ds.types object.type_name) h
+declared_in ds object p h = go (number_of_type ds.types object.type_name) h
   where
     go : (o : Option ℕ) → IsIn (option_map_or (valid_places_of ds) o []) p → IsIn ds.valid_places p
     go None k = absurd k
@@ -73,9 +73,9 @@ module _ (ds : Declarations) (os : Things) (object : Thing) (ws : List Way) (kep
       all_mapped link_view (λ (l : Link). P l.0) ws
       (subst (λ (ls : List Link). AllByRecursion (λ l. P l.0) ls) (sym kept) (all_from_in (λ (l : Link). P l.0) (links_of ds os object) (λ l h. each l.0 (links_in ds os object l h))))
 
-  pub conversions_kept : AreOrdered ds → AllByRecursion (λ w. (g : ℕ) → convert (valid_place_view w.place.now).conversions g ≡ converted_among (valid_places_at ds object) (place_of (valid_place_view w.place.now)) g) ws
+  pub conversions_kept : AreOrdered ds → AllByRecursion (λ w. (g : ℕ) → convert (valid_place_view w.place.now).conversions g ≡ converted_among (valid_places_at ds object) (way_place (valid_place_view w.place.now)) g) ws
   conversions_kept ordered =
-      each_place (λ (p : ValidPlace). (g : ℕ) → convert p.conversions g ≡ converted_among (valid_places_at ds object) (place_of p) g)
+      each_place (λ (p : ValidPlace). (g : ℕ) → convert p.conversions g ≡ converted_among (valid_places_at ds object) (way_place p) g)
       (λ p h g. sym (converts_at (valid_places_at ds object) p g (places_apart ds object ordered) h))
 
   pub groups_kept : AreOrdered ds → AllByRecursion (λ w. AreConversions ds.groups (valid_place_view w.place.now).conversions) ws

@@ -6,7 +6,7 @@ use Rattle.fv_declare_schema.specs.ValidPlaces.{ValidPlace}
 use Rattle.fv_bundle.specs.Bundles.{Things}
 use Rattle.fv_walk_traces.specs.Turns.{Way}
 use Rattle.fv_local.specs.Graphs.{Link, links_among}
-use Rattle.fv_local.specs.Ways.{place_of, way_at}
+use Rattle.fv_local.specs.Ways.{way_place, way_at}
 
 pub map_join : {X Y : Type 0} (f : X → Y) (xs ys : List X) → map f (xs ++ ys) ≡ map f xs ++ map f ys
 map_join f [] ys = refl
@@ -23,5 +23,5 @@ filter_map_join {X} {Y} h (x ∷ xs) ys = go (h x) refl (filter_map_join h xs ys
 -- the references among some parts and others
 pub links_join : (os : Things) (p : ValidPlace) (parts others : List (Locus × Data)) → links_among os p (parts ++ others) ≡ links_among os p parts ++ links_among os p others
 links_join os p parts others =
-    ap (map (λ (w : Way). (p, w))) (filter_map_join (way_at os (place_of p)) parts others)
-    ∙ map_join (λ (w : Way). (p, w)) (filter_map (way_at os (place_of p)) parts) (filter_map (way_at os (place_of p)) others)
+    ap (map (λ (w : Way). (p, w))) (filter_map_join (way_at os (way_place p)) parts others)
+    ∙ map_join (λ (w : Way). (p, w)) (filter_map (way_at os (way_place p)) parts) (filter_map (way_at os (way_place p)) others)

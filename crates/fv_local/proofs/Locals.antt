@@ -23,7 +23,7 @@ use Rattle.fv_walk_traces.specs.Turns.{LocalFailure}
 use Rattle.fv_walk_traces.proofs.Ends.{to_local_in, from_local_in}
 use Rattle.fv_graph.proofs.Images.{in_flat_map, from_flat_map, in_map, from_map, from_filter}
 use Rattle.fv_walk_traces.proofs.Lists.{or_else_left, or_else_right, or_else_cases}
-use Rattle.fv_bundle.specs.Types.{number_of}
+use Rattle.fv_bundle.specs.Types.{number_of_type}
 use Rattle.fv_declare_schema.specs.Places.{Place, whole, field}
 use Rattle.fv_local.specs.FailureView.{failure_view}
 use Rattle.fv_local.specs.Failures.{Standing, standing_at, failures_of}
@@ -124,7 +124,7 @@ module _ (m : Meanings) (now : ℤ) (object : Thing) where
       let is : record { spot = turn.of_object; node = q.0.0 } ≡ f = ap (λ (s : Standing). record { spot = s.0; node = q.0.0 }) stands ∙ sym q.1 in
       (null, subst (λ (g : LocalFailure). IsIn (object_told m now (u ∷ []) object) (g, null)) is (in_map _ (numbers_of m now (of_object object) (u ∷ [])) q.0.0 number))
   failed_told u (field number steps kind) f h =
-      let place : to.Place = record { field = number; steps = steps } in
+      let place : to.FieldPlace = record { field = number; steps = steps } in
       let r = from_flat_map (λ (s : Standing). failures_at m now s u) (standing_at object (field number steps kind)) f h in
       let p = from_map (part_at place) (parts_at object place) r.0 r.1 in
       let q = from_map (λ (n : ℕ × Node). record { spot = r.0.0; node = n.0 }) (violated m now r.0.1 u.number u.tree) f r.2 in
@@ -142,7 +142,7 @@ module _ (m : Meanings) (now : ℤ) (object : Thing) where
       in_left _ [] x.0 (subst (λ (g : LocalFailure). IsIn (failures_at m now (turn.of_object, of_object object) u) g) is
       (in_map (λ (n : ℕ × Node). record { spot = turn.of_object; node = n.0 }) (violated m now (of_object object) u.number u.tree) v.0 v.2))
   told_failed u (field number steps kind) x h =
-      let place : to.Place = record { field = number; steps = steps } in
+      let place : to.FieldPlace = record { field = number; steps = steps } in
       let p = from_flat_map (part_told m now (u ∷ []) place) (parts_at object place) x h in
       let r = from_map (told_part place p.0) (numbers_of m now (of_datum p.0.1) (u ∷ [])) x p.2 in
       let v = from_map (λ (n : ℕ × Node). n.0) (violated m now (of_datum p.0.1) u.number u.tree) r.0 (from_one m now (of_datum p.0.1) u r.0 r.2) in
@@ -407,5 +407,5 @@ module _ (m : Meanings) (now : ℤ) (object : Thing) where
         )
 
   -- what fails by a type's own constraints, where every use is kept
-  pub own_is : (ds : Declarations) (type h : ℕ) → number_of ds.types object.type_name ≡ Some type → own_in m ds now object h ≡ own_by ds type (λ u. true) (ranks_of ds type) h
+  pub own_is : (ds : Declarations) (type h : ℕ) → number_of_type ds.types object.type_name ≡ Some type → own_in m ds now object h ≡ own_by ds type (λ u. true) (ranks_of ds type) h
   own_is ds type h typed = ap (λ o. option_map_or (λ t. own_at m ds now object t h) o (Plain [])) typed

@@ -19,7 +19,7 @@ locus_of (index i ∷ part ∷ ns) = at_index i ∷ locus_of ns
 locus_of (key k ∷ part ∷ ns) = at_key k ∷ locus_of ns
 locus_of _ = []
 
-locus_back : (steps : List to.Step) (l : Locus) → leads steps l ≡ true → locus_of (nodes_of steps l) ≡ l
+locus_back : (steps : List to.PlaceStep) (l : Locus) → leads steps l ≡ true → locus_of (nodes_of steps l) ≡ l
 locus_back [] [] h = refl
 locus_back (to.element ∷ steps) (at_index i ∷ l) h = ap (λ m. at_index i ∷ m) (locus_back steps l (and_parts (nat_lt i (2 ^ 32)) (leads steps l) h).1)
 locus_back (to.key ∷ []) (at_key k ∷ []) h = refl
@@ -28,14 +28,14 @@ locus_back (to.content ∷ steps) l h = locus_back steps l h
 locus_back _ _ h = cc
 
 -- two loci that the steps lead to have two lists of nodes
-pub locus_same : (steps : List to.Step) (l m : Locus) → leads steps l ≡ true → leads steps m ≡ true → nodes_of steps l ≡ nodes_of steps m → l ≡ m
+pub locus_same : (steps : List to.PlaceStep) (l m : Locus) → leads steps l ≡ true → leads steps m ≡ true → nodes_of steps l ≡ nodes_of steps m → l ≡ m
 locus_same steps l m one two e = sym (locus_back steps l one) ∙ ap locus_of e ∙ locus_back steps m two
 
 -- the nodes are two
-abbrev pub NodesDiffer : List to.Step → Locus × Data → Locus × Data → Type 0
+abbrev pub NodesDiffer : List to.PlaceStep → Locus × Data → Locus × Data → Type 0
 NodesDiffer steps p q = nodes_of steps p.0 ≢ nodes_of steps q.0
 
-module _ (steps : List to.Step) where
+module _ (steps : List to.PlaceStep) where
   nodes_after : (p : Locus × Data) (ps : List (Locus × Data)) → IsLedTo steps p → AllByRecursion (IsLedTo steps) ps → AllByRecursion (Differ p) ps → AllByRecursion (NodesDiffer steps p) ps
   nodes_after p [] one led differ = tt
   nodes_after p (q ∷ qs) one led differ = (λ e. differ.0 (locus_same steps p.0 q.0 one led.0 e), nodes_after p qs one led.1 differ.1)

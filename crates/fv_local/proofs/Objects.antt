@@ -16,7 +16,7 @@ use Rattle.fv_bundle.specs.Types.{DeclaredFields, Declared}
 use Rattle.fv_bundle.proofs.Back.{fits_writable}
 use Rattle.fv_local.specs.Sound.{IsSound}
 use Rattle.fv_local.specs.Requests.{object_at, object_name, object_number}
-use Rattle.fv_local.specs.Ways.{number_in}
+use Rattle.fv_local.specs.Ways.{object_number_in}
 use Rattle.fv_datum.proofs.Lists.{all_get}
 
 pub found_all : {X : Type 0} (P : X → Type 0) (name : List ℕ) (es : List (List ℕ × X)) (x : X) → AllByRecursion (λ e. P e.1) es → at_name name es ≡ Some x → P x
@@ -69,11 +69,11 @@ root_there b t e =
     ap (λ (c : Bool). slice_get b.objects (unwrap_or (cond c (Some n) None) 0)) (lt-ltb n (length b.objects) first.0) ∙ first.1
 
 -- the root has a number
-pub root_number : (b : Bundled) (t : Thing) → at_name b.root b.objects ≡ Some t → (number_in b.objects b.root ≡ Some (object_number b b.root)) × (object_number b b.root < length b.objects)
+pub root_number : (b : Bundled) (t : Thing) → at_name b.root b.objects ≡ Some t → (object_number_in b.objects b.root ≡ Some (object_number b b.root)) × (object_number b b.root < length b.objects)
 root_number b t e =
     let first = first_named b.root b.objects t e in
     let n = position_or_len (λ (o : List ℕ × Thing). bytes_eq b.root o.0) b.objects in
-    let found : number_in b.objects b.root ≡ Some n = ap (λ (c : Bool). cond c (Some n) None) (lt-ltb n (length b.objects) first.0) in
+    let found : object_number_in b.objects b.root ≡ Some n = ap (λ (c : Bool). cond c (Some n) None) (lt-ltb n (length b.objects) first.0) in
     let same : object_number b b.root ≡ n = ap (λ (o : Option ℕ). unwrap_or o 0) found in
     (found ∙ ap (λ (k : ℕ). Some k) (sym same), subst (λ (k : ℕ). k < length b.objects) (sym same) first.0)
 

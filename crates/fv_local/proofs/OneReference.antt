@@ -10,7 +10,7 @@ use Rattle.fv_datum.specs.declared.kind.Kind.TheVariants as kind
 use Rattle.fv_declare_schema.specs.Declarations.{Declarations}
 use Rattle.fv_declare_schema.specs.Ordered.{held_after, held_inside, IsValidIn, AreOrdered}
 use Rattle.fv_extract.specs.Parts.{Locus, parts_at}
-use Rattle.fv_extract.specs.Places.{Step, element, key, value, content, Place}
+use Rattle.fv_extract.specs.Places.{PlaceStep, element, key, value, content, FieldPlace}
 use Rattle.fv_graph.proofs.Lists.{eq_of}
 use Rattle.fv_graph.specs.Graph.{IsIn}
 use Rattle.fv_declare_schema.specs.ValidPlaces.{ValidPlace}
@@ -22,11 +22,11 @@ use Rattle.fv_graph.proofs.Images.{from_flat_map, from_filter_map}
 use Rattle.fv_walk_traces.specs.Turns.{Way}
 use Rattle.fv_walk_traces.specs.Violations.{but_named}
 use Rattle.fv_datum.specs.Ascending.{IsAscending}
-use Rattle.fv_bundle.specs.Types.{TypeUse, texts, integers, decimals, booleans, dates, instants, references, lists, maps, optionals, nested, kind_of, DeclaredFields, number_of}
+use Rattle.fv_bundle.specs.Types.{TypeUse, texts, integers, decimals, booleans, dates, instants, references, lists, maps, optionals, nested, kind_of, DeclaredFields, number_of_type}
 use Rattle.fv_local.specs.Conversions.{valid_places_of, valid_places_at}
-use Rattle.fv_local.specs.Requests.{object_at, datum_at}
+use Rattle.fv_local.specs.Requests.{object_at, datum_of_part}
 use Rattle.fv_local.specs.Sound.{IsSound}
-use Rattle.fv_local.specs.Ways.{place_of, target_of, way_at, ways_at, ways_of}
+use Rattle.fv_local.specs.Ways.{way_place, target_of, way_at, ways_at, ways_of}
 use Rattle.fv_local.proofs.Numbers.{each_in, from_filter}
 use Rattle.fv_local.proofs.Objects.{found_all}
 use Rattle.fv_datum.proofs.Lists.{all_get}
@@ -37,17 +37,17 @@ use Rattle.fv_local.proofs.Ways.{way_is}
 -- ---- in a type use one place at most holds references
 
 -- the steps lead in a type use to references
-abbrev LeadsToReferences : TypeUse → List Step → Type 0
+abbrev LeadsToReferences : TypeUse → List PlaceStep → Type 0
 LeadsToReferences u steps = option_map kind_of (held_inside steps u) ≡ Some kind.Ref
 
 -- the only steps that may
-abbrev steps_to : TypeUse → List Step
+abbrev steps_to : TypeUse → List PlaceStep
 steps_to (lists held) = element ∷ steps_to held
 steps_to (maps held) = value ∷ steps_to held
 steps_to (optionals held) = content ∷ steps_to held
 steps_to _ = []
 
-none_after : (s : Step) (u : TypeUse) → nested u ≡ 0 → held_after s u ≡ None
+none_after : (s : PlaceStep) (u : TypeUse) → nested u ≡ 0 → held_after s u ≡ None
 none_after element (lists held) e = cc
 none_after element _ e = refl
 none_after key (maps held) e = cc
@@ -57,29 +57,29 @@ none_after value _ e = refl
 none_after content (optionals held) e = cc
 none_after content _ e = refl
 
-no_steps : (u : TypeUse) (ss : List Step) → nested u ≡ 0 → LeadsToReferences u ss → ss ≡ []
+no_steps : (u : TypeUse) (ss : List PlaceStep) → nested u ≡ 0 → LeadsToReferences u ss → ss ≡ []
 no_steps u [] e h = refl
 no_steps u (s ∷ ss) e h =
     let none : option_map kind_of None ≡ Some kind.Ref = ap (λ (o : Option TypeUse). option_map kind_of (option_and_then (held_inside ss) o)) (sym (none_after s u e)) ∙ h in
     cc
 
 -- keys are texts
-no_key : (ss : List Step) → LeadsToReferences texts ss → ⊥
+no_key : (ss : List PlaceStep) → LeadsToReferences texts ss → ⊥
 no_key [] h = cc
 no_key (s ∷ ss) h = let none : s ∷ ss ≡ [] = no_steps texts (s ∷ ss) refl h in cc
 
-only_steps : (u : TypeUse) (ss : List Step) → LeadsToReferences u ss → ss ≡ steps_to u
-only_steps (lists held) (element ∷ ss) h = ap (λ (l : List Step). element ∷ l) (only_steps held ss h)
+only_steps : (u : TypeUse) (ss : List PlaceStep) → LeadsToReferences u ss → ss ≡ steps_to u
+only_steps (lists held) (element ∷ ss) h = ap (λ (l : List PlaceStep). element ∷ l) (only_steps held ss h)
 only_steps (lists held) [] h = cc
 only_steps (lists held) (key ∷ ss) h = cc
 only_steps (lists held) (value ∷ ss) h = cc
 only_steps (lists held) (content ∷ ss) h = cc
-only_steps (maps held) (value ∷ ss) h = ap (λ (l : List Step). value ∷ l) (only_steps held ss h)
+only_steps (maps held) (value ∷ ss) h = ap (λ (l : List PlaceStep). value ∷ l) (only_steps held ss h)
 only_steps (maps held) (key ∷ ss) h = absurd (no_key ss h)
 only_steps (maps held) [] h = cc
 only_steps (maps held) (element ∷ ss) h = cc
 only_steps (maps held) (content ∷ ss) h = cc
-only_steps (optionals held) (content ∷ ss) h = ap (λ (l : List Step). content ∷ l) (only_steps held ss h)
+only_steps (optionals held) (content ∷ ss) h = ap (λ (l : List PlaceStep). content ∷ l) (only_steps held ss h)
 only_steps (optionals held) [] h = cc
 only_steps (optionals held) (element ∷ ss) h = cc
 only_steps (optionals held) (key ∷ ss) h = cc
@@ -104,22 +104,22 @@ module _ (ds : Declarations) (ordered : AreOrdered ds) where
       go true e ih (inr k) = ih k
       go false e ih k = ih k
 
-  one_place : (p q : ValidPlace) → IsValidIn ds.types p → IsValidIn ds.types q → p.type ≡ q.type → p.field ≡ q.field → place_of p ≡ place_of q
+  one_place : (p q : ValidPlace) → IsValidIn ds.types p → IsValidIn ds.types q → p.type ≡ q.type → p.field ≡ q.field → way_place p ≡ way_place q
   one_place p q (t, t_is, (f, f_is, leads)) (u, u_is, (g, g_is, led)) type number =
       let same_type : t ≡ u = cc (t_is, u_is, type) in
       let same_field : f ≡ g = cc (f_is, g_is, number, same_type) in
       let steps : p.steps ≡ q.steps = only_steps f.1 p.steps leads ∙ ap (λ (x : List ℕ × TypeUse). steps_to x.1) same_field ∙ sym (only_steps g.1 q.steps led) in
-      ap₂ (λ (n : ℕ) (ss : List Step). record { field = n; steps = ss }) number steps
+      ap₂ (λ (n : ℕ) (ss : List PlaceStep). record { field = n; steps = ss }) number steps
 
-  pub same_place : (object : Thing) (p q : ValidPlace) → IsIn (valid_places_at ds object) p → IsIn (valid_places_at ds object) q → p.field ≡ q.field → place_of p ≡ place_of q
-  same_place object p q h k number = go (number_of ds.types object.type_name) h k
+  pub same_place : (object : Thing) (p q : ValidPlace) → IsIn (valid_places_at ds object) p → IsIn (valid_places_at ds object) q → p.field ≡ q.field → way_place p ≡ way_place q
+  same_place object p q h k number = go (number_of_type ds.types object.type_name) h k
     where
       of_type : (type : ℕ) (r : ValidPlace) → IsIn (valid_places_of ds type) r → (r.type ≡ type) × IsValidIn ds.types r
       of_type type r m =
           let test = λ (s : ValidPlace). nat_eq s.type type in
           (eq_of r.type type (kept test ds.valid_places r m), each_in (IsValidIn ds.types) ds.valid_places r ordered.valid (from_filter test ds.valid_places r m))
 
-      go : (o : Option ℕ) → IsIn (option_map_or (valid_places_of ds) o []) p → IsIn (option_map_or (valid_places_of ds) o []) q → place_of p ≡ place_of q
+      go : (o : Option ℕ) → IsIn (option_map_or (valid_places_of ds) o []) p → IsIn (option_map_or (valid_places_of ds) o []) q → way_place p ≡ way_place q
       go None h k = absurd h
       go (Some type) h k = let one = of_type type p h in let two = of_type type q k in one_place p q one.1 two.1 (one.0 ∙ sym two.0) number
 
@@ -179,7 +179,7 @@ module _ (ds : Declarations) (os : Things) (object : Thing) (ordered : AreOrdere
   pub record IsHeld (w : Way) : Type 0 where
     pub at : ValidPlace
     pub valid : IsIn (valid_places_at ds object) at
-    pub place : w.place ≡ place_of at
+    pub place : w.place ≡ way_place at
     pub datum : Data
     pub there : IsIn (parts_at object w.place) (w.locus, datum)
     pub target : target_of os datum ≡ Some w.target
@@ -187,7 +187,7 @@ module _ (ds : Declarations) (os : Things) (object : Thing) (ordered : AreOrdere
   pub held : (w : Way) → IsIn (ways_of ds os object) w → IsHeld w
   held w h =
       let p = from_flat_map (ways_at os object) (valid_places_at ds object) w h in
-      let place = place_of p.0 in
+      let place = way_place p.0 in
       let part = from_filter_map (way_at os place) (parts_at object place) w p.2 in
       let is = way_is os place part.0 w part.2 in
       let here = subst (λ (l : Locus). IsIn (parts_at object place) (l, part.0.1)) (sym is.1) part.1 in
@@ -196,7 +196,7 @@ module _ (ds : Declarations) (os : Things) (object : Thing) (ordered : AreOrdere
         valid = p.1;
         place = is.0;
         datum = part.0.1;
-        there = subst (λ (x : Place). IsIn (parts_at object x) (w.locus, part.0.1)) (sym is.0) here;
+        there = subst (λ (x : FieldPlace). IsIn (parts_at object x) (w.locus, part.0.1)) (sym is.0) here;
         target = is.2;
       }
 
@@ -210,11 +210,11 @@ module _ (ds : Declarations) (os : Things) (object : Thing) (ordered : AreOrdere
       let one = part_there object w.place (w.locus, h.datum) sound h.there in
       let two = part_there object v.place (v.locus, k.datum) sound k.there in
       let number : w.place.field ≡ v.place.field = apart w.place.field v.place.field one.of two.of one.there two.there (sym one.name ∙ name ∙ two.name) in
-      let numbers : h.at.field ≡ k.at.field = ap (λ (x : Place). x.field) (sym h.place) ∙ number ∙ ap (λ (x : Place). x.field) k.place in
+      let numbers : h.at.field ≡ k.at.field = ap (λ (x : FieldPlace). x.field) (sym h.place) ∙ number ∙ ap (λ (x : FieldPlace). x.field) k.place in
       let place : w.place ≡ v.place = h.place ∙ same_place ds ordered object h.at k.at h.valid k.valid numbers ∙ sym k.place in
-      let led : leads w.place.steps v.locus ≡ true = ap (λ (x : Place). leads x.steps v.locus) place ∙ two.led in
-      let named = nodes ∙ ap (λ (x : Place). but_named (nodes_of x.steps v.locus)) (sym place) in
+      let led : leads w.place.steps v.locus ≡ true = ap (λ (x : FieldPlace). leads x.steps v.locus) place ∙ two.led in
+      let named = nodes ∙ ap (λ (x : FieldPlace). but_named (nodes_of x.steps v.locus)) (sym place) in
       let locus : w.locus ≡ v.locus = named_locus_same w.place.steps w.locus v.locus one.led led named in
-      let datum : h.datum ≡ k.datum = sym one.datum ∙ ap₂ (λ (x : Place) (l : Locus). datum_at object x l) place locus ∙ two.datum in
+      let datum : h.datum ≡ k.datum = sym one.datum ∙ ap₂ (λ (x : FieldPlace) (l : Locus). datum_of_part object x l) place locus ∙ two.datum in
       let target : ◌≡◌ {A = Option ℕ} (Some w.target) (Some v.target) = sym h.target ∙ ap (target_of os) datum ∙ k.target in
       cc

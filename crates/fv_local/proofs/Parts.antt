@@ -8,8 +8,8 @@ use Rattle.std.specs.Option.{option_map_or, unwrap_or}
 use Rattle.fv_datum.specs.Data.{Data, null}
 use Rattle.fv_extract.proofs.Loci.{parts_differ}
 use Rattle.fv_extract.specs.Pairs.{Pairwise, Differ}
-use Rattle.fv_extract.specs.Parts.{Part, at_index, at_key, Locus, parts_of, parts_at}
-use Rattle.fv_extract.specs.Places.{Place}
+use Rattle.fv_extract.specs.Parts.{LocusPart, at_index, at_key, Locus, parts_of, parts_at}
+use Rattle.fv_extract.specs.Places.{FieldPlace}
 use Rattle.fv_graph.proofs.Lists.{eq_of, eq_same}
 use Rattle.fv_graph.specs.Graph.{IsIn}
 use Rattle.fv_bundle.specs.Bundles.{Thing}
@@ -17,16 +17,16 @@ use Rattle.fv_local.specs.Loci.{leads}
 use Rattle.fv_local.specs.Paths.{field_name}
 use Rattle.fv_local.proofs.Leading.{IsLedTo, parts_led}
 use Rattle.fv_local.specs.Sound.{IsSound}
-use Rattle.fv_local.specs.Requests.{is_same_part, datum_at}
+use Rattle.fv_local.specs.Requests.{is_same_part, datum_of_part}
 use Rattle.fv_local.proofs.Numbers.{each_in}
 
-part_same : (p q : Part) → is_same_part p q ≡ true → p ≡ q
+part_same : (p q : LocusPart) → is_same_part p q ≡ true → p ≡ q
 part_same (at_index i) (at_index j) e = ap at_index (eq_of i j e)
 part_same (at_key k) (at_key l) e = ap at_key ((bytes_eq-Decides k l).0 e)
 part_same (at_index i) (at_key l) e = absurd (false≢true e)
 part_same (at_key k) (at_index j) e = absurd (false≢true e)
 
-same_part : (p : Part) → is_same_part p p ≡ true
+same_part : (p : LocusPart) → is_same_part p p ≡ true
 same_part (at_index i) = eq_same i
 same_part (at_key k) = (bytes_eq-Decides k k).1 refl
 
@@ -58,14 +58,14 @@ among (q ∷ qs) p differ (inr k) = go (pointwise is_same_part q.0 p.0) refl (am
     go false e ih = ih
 
 -- what is known of a part of an object
-pub record IsPart (object : Thing) (place : Place) (p : Locus × Data) : Type 0 where
+pub record IsPart (object : Thing) (place : FieldPlace) (p : Locus × Data) : Type 0 where
   pub of : List ℕ × Data
   pub there : slice_get object.fields place.field ≡ Some of
   pub name : field_name object place.field ≡ of.0
   pub led : leads place.steps p.0 ≡ true
-  pub datum : datum_at object place p.0 ≡ p.1
+  pub datum : datum_of_part object place p.0 ≡ p.1
 
-pub part_there : (object : Thing) (place : Place) (p : Locus × Data) → IsSound object → IsIn (parts_at object place) p → IsPart object place p
+pub part_there : (object : Thing) (place : FieldPlace) (p : Locus × Data) → IsSound object → IsIn (parts_at object place) p → IsPart object place p
 part_there object place p sound h = go (slice_get object.fields place.field) refl h
   where
     go : (o : Option (List ℕ × Data)) → slice_get object.fields place.field ≡ o → IsIn (option_map_or (λ f. parts_of place.steps f.1) o []) p → IsPart object place p
@@ -82,7 +82,7 @@ part_there object place p sound h = go (slice_get object.fields place.field) ref
         }
 
 -- the parts at a place have loci of their own
-pub parts_apart : (object : Thing) (place : Place) → IsSound object → Pairwise Differ (parts_at object place)
+pub parts_apart : (object : Thing) (place : FieldPlace) → IsSound object → Pairwise Differ (parts_at object place)
 parts_apart object place sound = go (slice_get object.fields place.field) refl
   where
     go : (o : Option (List ℕ × Data)) → slice_get object.fields place.field ≡ o → Pairwise Differ (option_map_or (λ f. parts_of place.steps f.1) o [])

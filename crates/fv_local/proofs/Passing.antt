@@ -5,7 +5,7 @@ use Rattle.std.specs.List.{All, AllByRecursion, flat_map}
 use Rattle.fv_datum.specs.View.{view, items_view}
 use Rattle.fv_datum.specs.declared.datum.Datum.{Datum}
 use Rattle.fv_declare_schema.specs.Declarations.{Placed}
-use Rattle.fv_extract.specs.Parts.{Locus, at_index, items_from, below}
+use Rattle.fv_extract.specs.Parts.{Locus, at_index, items_from, parts_below}
 use Rattle.fv_extract.specs.Places as object
 use Rattle.fv_constraint_tree.proofs.Laws.{empty_is}
 use Rattle.fv_constraint_tree.specs.Nodes.{Node}
@@ -43,11 +43,11 @@ module _ (m : Meanings) (now : ℤ) where
         All-from_recursion (Passes (picked us (take (k + 1) asked))) ds
         (each ds (recursion_from_All (Passes (picked us (take k asked))) ds before) (recursion_from_All (Good u) ds good))
 
-  module _ (us : List Placed) (place : object.Place) (l : Locus) where
-    none_from : (i : ℕ) (ds : List Datum) → AllByRecursion (Passes us) ds → flat_map (part_told m now us place) (map (below l) (items_from i (items_view ds))) ≡ []
+  module _ (us : List Placed) (place : object.FieldPlace) (l : Locus) where
+    none_from : (i : ℕ) (ds : List Datum) → AllByRecursion (Passes us) ds → flat_map (part_told m now us place) (map (parts_below l) (items_from i (items_view ds))) ≡ []
     none_from i [] all = refl
     none_from i (d ∷ ds) all =
-        ap (λ (ns : List ℕ). told_of_numbers place (below l (at_index i ∷ [], view d)) ns ++ flat_map (part_told m now us place) (map (below l) (items_from (i + 1) (items_view ds)))) all.0
+        ap (λ (ns : List ℕ). told_of_numbers place (parts_below l (at_index i ∷ [], view d)) ns ++ flat_map (part_told m now us place) (map (parts_below l) (items_from (i + 1) (items_view ds)))) all.0
         ∙ none_from (i + 1) ds all.1
 
     behind : (n : ℕ) (ds : List Datum) → AllByRecursion (Passes us) ds → AllByRecursion (Passes us) (drop n ds)
@@ -56,5 +56,5 @@ module _ (m : Meanings) (now : ℤ) where
     behind (suc n) (d ∷ ds) all = behind n ds all.1
 
     -- of the items of a list from one on nothing is told
-    pub none_told : (n : ℕ) (ds : List Datum) → All (Passes us) ds → flat_map (part_told m now us place) (map (below l) (items_from n (items_view (drop n ds)))) ≡ []
+    pub none_told : (n : ℕ) (ds : List Datum) → All (Passes us) ds → flat_map (part_told m now us place) (map (parts_below l) (items_from n (items_view (drop n ds)))) ≡ []
     none_told n ds all = none_from n (drop n ds) (behind n ds (recursion_from_All (Passes us) ds all))

@@ -20,7 +20,7 @@ use Rattle.fv_registry.specs.Rules.{Known}
 use Rattle.fv_walk_traces.specs.OneField.{own_of_field}
 use Rattle.fv_walk_traces.specs.OneObject.{IsLocalIn}
 use Rattle.fv_walk_traces.specs.Turns.{LocalFailure}
-use Rattle.fv_bundle.specs.Types.{number_of}
+use Rattle.fv_bundle.specs.Types.{number_of_type}
 use Rattle.fv_local.specs.FailureView.{failure_view, IsFoundIn}
 use Rattle.fv_local.specs.Fields.{stands_in}
 use Rattle.fv_local.specs.Own.{own_in}
@@ -95,14 +95,14 @@ module _ (m : Meanings) (ds : Declarations) (now : ℤ) (object : Thing) (type :
   abbrev pub HasTold : List ℕ → List (List ℕ) → List code.LocalFailure → Type 0
   HasTold is lists v = (x : Told) → (IsIn (map told_view v) x → IsToldIn m now object ds.occurrences is lists x) × (IsToldIn m now object ds.occurrences is lists x → IsIn (map told_view v) x)
 
-  pub local_all : {E : Type 0} (g : ℕ) (is : List ℕ) (lists : List (List ℕ)) (r : Result (Vec code.LocalFailure Global) E) → number_of ds.types object.type_name ≡ Some type
+  pub local_all : {E : Type 0} (g : ℕ) (is : List ℕ) (lists : List (List ℕ)) (r : Result (Vec code.LocalFailure Global) E) → number_of_type ds.types object.type_name ≡ Some type
       → AreReached ds type (plain_groups ds type g) is → AreRanksIn ds type (below ds.groups g) lists
       → IfOk r (λ v. HasTold is lists v.items) → IfOk r (λ v. HasAll (IsLocalIn (below ds.groups g) (own_in m ds now object)) v.items)
   local_all g is lists r typed plain ranked told =
       if_ok (λ v. HasTold is lists v.items) (λ v. HasAll (IsLocalIn (below ds.groups g) (own_in m ds now object)) v.items) r
       (λ v h. all_local m now object ds type (λ u. true) (own_in m ds now object) g is lists v.items (λ k. own_is m now object ds type k typed) plain ranked h) told
 
-  pub field_all : {E : Type 0} (n g : ℕ) (is : List ℕ) (lists : List (List ℕ)) (r : Result (Vec code.LocalFailure Global) E) → number_of ds.types object.type_name ≡ Some type
+  pub field_all : {E : Type 0} (n g : ℕ) (is : List ℕ) (lists : List (List ℕ)) (r : Result (Vec code.LocalFailure Global) E) → number_of_type ds.types object.type_name ≡ Some type
       → AreKept m now object ds type (stands_in n) (plain_groups ds type g) is → AreKeptRanks m now object ds type (stands_in n) (below ds.groups g) lists
       → IfOk r (λ v. HasTold is lists v.items) → IfOk r (λ v. HasAll (IsLocalIn (below ds.groups g) (λ h. own_of_field n (own_in m ds now object h))) v.items)
   field_all n g is lists r typed plain ranked told =

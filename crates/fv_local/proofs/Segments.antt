@@ -58,7 +58,7 @@ segments_same ns ms rest other none no_more headed so e = (
 -- ---- the nodes of a part
 
 -- none of them is a field
-pub none_of_part : (steps : List to.Step) (l : Locus) → leads steps l ≡ true → HaveNoField (nodes_of steps l)
+pub none_of_part : (steps : List to.PlaceStep) (l : Locus) → leads steps l ≡ true → HaveNoField (nodes_of steps l)
 none_of_part [] [] h = tt
 none_of_part (to.element ∷ steps) (at_index i ∷ l) h = (refl, (refl, none_of_part steps l (and_parts (nat_lt i (2 ^ 32)) (leads steps l) h).1))
 none_of_part (to.key ∷ []) (at_key k ∷ []) h = (refl, (refl, tt))
@@ -76,7 +76,7 @@ none_but_named (n ∷ []) none = go (is_part n)
 none_but_named (n ∷ m ∷ ns) none = (none.0, none_but_named (m ∷ ns) none.1)
 
 -- nor of those but the last
-pub none_of_named : (steps : List to.Step) (l : Locus) → leads steps l ≡ true → HaveNoField (but_named (nodes_of steps l))
+pub none_of_named : (steps : List to.PlaceStep) (l : Locus) → leads steps l ≡ true → HaveNoField (but_named (nodes_of steps l))
 none_of_named steps l h = none_but_named (nodes_of steps l) (none_of_part steps l h)
 
 -- the field in front of them stays
@@ -109,7 +109,7 @@ locus_stays [] = refl
 locus_stays (n ∷ []) = last_adds n
 locus_stays (n ∷ m ∷ ns) = ap (λ (l : Locus). adds n ++ l) (locus_stays (m ∷ ns))
 
-locus_back : (steps : List to.Step) (l : Locus) → leads steps l ≡ true → locus_of (nodes_of steps l) ≡ l
+locus_back : (steps : List to.PlaceStep) (l : Locus) → leads steps l ≡ true → locus_of (nodes_of steps l) ≡ l
 locus_back [] [] h = refl
 locus_back (to.element ∷ steps) (at_index i ∷ l) h = ap (λ m. at_index i ∷ m) (locus_back steps l (and_parts (nat_lt i (2 ^ 32)) (leads steps l) h).1)
 locus_back (to.key ∷ []) (at_key k ∷ []) h = refl
@@ -118,7 +118,7 @@ locus_back (to.content ∷ steps) l h = locus_back steps l h
 locus_back _ _ h = cc
 
 -- two loci that the steps lead to have two lists of nodes, also without the last that only names a part
-pub named_locus_same : (steps : List to.Step) (l m : Locus) → leads steps l ≡ true → leads steps m ≡ true → but_named (nodes_of steps l) ≡ but_named (nodes_of steps m) → l ≡ m
+pub named_locus_same : (steps : List to.PlaceStep) (l m : Locus) → leads steps l ≡ true → leads steps m ≡ true → but_named (nodes_of steps l) ≡ but_named (nodes_of steps m) → l ≡ m
 named_locus_same steps l m one two e = sym (back l one) ∙ ap locus_of e ∙ back m two
   where
     back : (l : Locus) → leads steps l ≡ true → locus_of (but_named (nodes_of steps l)) ≡ l

@@ -53,13 +53,13 @@ module _ (m : Meanings) (now : ℤ) where
   numbers_join : (s : Subject) (us : List Placed) (u : Placed) (n : ℕ) → IsIn us u → IsIn (numbers_of m now s (u ∷ [])) n → IsIn (numbers_of m now s us) n
   numbers_join s us u n h k = in_flat_map (λ (v : Placed). map (λ (r : ℕ × Node). r.0) (violated m now s v.number v.tree)) us u n h (from_one s u n k)
 
-  part_split : (us : List Placed) (place : to.Place) (p : Locus × Data) (x : Told) → IsIn (part_told m now us place p) x → (u : Placed) × IsIn us u × IsIn (part_told m now (u ∷ []) place p) x
+  part_split : (us : List Placed) (place : to.FieldPlace) (p : Locus × Data) (x : Told) → IsIn (part_told m now us place p) x → (u : Placed) × IsIn us u × IsIn (part_told m now (u ∷ []) place p) x
   part_split us place p x h =
       let r = from_map (told_part place p) (numbers_of m now (of_datum p.1) us) x h in
       let s = numbers_split (of_datum p.1) us r.0 r.2 in
       (s.0, s.1, subst (λ (y : Told). IsIn (part_told m now (s.0 ∷ []) place p) y) (sym r.1) (in_map (told_part place p) (numbers_of m now (of_datum p.1) (s.0 ∷ [])) r.0 s.2))
 
-  part_join : (us : List Placed) (place : to.Place) (p : Locus × Data) (u : Placed) (x : Told) → IsIn us u → IsIn (part_told m now (u ∷ []) place p) x → IsIn (part_told m now us place p) x
+  part_join : (us : List Placed) (place : to.FieldPlace) (p : Locus × Data) (u : Placed) (x : Told) → IsIn us u → IsIn (part_told m now (u ∷ []) place p) x → IsIn (part_told m now us place p) x
   part_join us place p u x h k =
       let r = from_map (told_part place p) (numbers_of m now (of_datum p.1) (u ∷ [])) x k in
       subst (λ (y : Told). IsIn (part_told m now us place p) y) (sym r.1) (in_map (told_part place p) (numbers_of m now (of_datum p.1) us) r.0 (numbers_join (of_datum p.1) us u r.0 h r.2))
@@ -70,7 +70,7 @@ module _ (m : Meanings) (now : ℤ) where
       let s = numbers_split (of_object object) us r.0 r.2 in
       (s.0, s.1, subst (λ (y : Told). IsIn (object_told m now (s.0 ∷ []) object) y) (sym r.1) (in_map _ (numbers_of m now (of_object object) (s.0 ∷ [])) r.0 s.2))
   told_split us object (field number steps kind) x h =
-      let place : to.Place = record { field = number; steps = steps } in
+      let place : to.FieldPlace = record { field = number; steps = steps } in
       let r = from_flat_map (part_told m now us place) (parts_at object place) x h in
       let s = part_split us place r.0 x r.2 in
       (s.0, s.1, in_flat_map (part_told m now (s.0 ∷ []) place) (parts_at object place) r.0 x r.1 s.2)
@@ -80,7 +80,7 @@ module _ (m : Meanings) (now : ℤ) where
       let r = from_map _ (numbers_of m now (of_object object) (u ∷ [])) x k in
       subst (λ (y : Told). IsIn (object_told m now us object) y) (sym r.1) (in_map _ (numbers_of m now (of_object object) us) r.0 (numbers_join (of_object object) us u r.0 h r.2))
   told_join us object (field number steps kind) u x h k =
-      let place : to.Place = record { field = number; steps = steps } in
+      let place : to.FieldPlace = record { field = number; steps = steps } in
       let r = from_flat_map (part_told m now (u ∷ []) place) (parts_at object place) x k in
       in_flat_map (part_told m now us place) (parts_at object place) r.0 x r.1 (part_join us place r.0 u x h r.2)
 
@@ -91,7 +91,7 @@ module _ (m : Meanings) (now : ℤ) where
   same_told us object (field n steps kind) whole same = absurd same
   same_told us object (field n steps kind) (field o others other) same =
       ap (λ (i : ℕ). field_told m now us object (record { field = i; steps = steps })) same.0
-      ∙ ap (λ (l : List to.Step). field_told m now us object (record { field = o; steps = l })) same.1
+      ∙ ap (λ (l : List to.PlaceStep). field_told m now us object (record { field = o; steps = l })) same.1
 
   -- ---- runs
 

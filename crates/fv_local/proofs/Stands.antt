@@ -9,7 +9,7 @@ use Rattle.fv_extract.specs.Views.{part_view, step_view}
 use Rattle.fv_extract.specs.declared.part.Part.{Part as CodePart}
 use Rattle.fv_extract.specs.declared.place.Step.{Step as CodeStep}
 use Rattle.fv_extract.specs.declared.place.Step.TheVariants as step
-use Rattle.fv_extract.specs.Parts.{Part, at_index, at_key, Locus}
+use Rattle.fv_extract.specs.Parts.{LocusPart, at_index, at_key, Locus}
 use Rattle.fv_extract.specs.Places as to
 use Rattle.fv_local.specs.Loci.{leads}
 use Rattle.fv_local.specs.Paths.{nodes_of}
@@ -55,18 +55,18 @@ pair_open ns n m h takes =
 -- ---- a step
 
 -- the step is one to a content
-abbrev pub is_content : to.Step → Bool
+abbrev pub is_content : to.PlaceStep → Bool
 is_content to.content = true
 is_content _ = false
 
 -- what the nodes of a step are to those of all
-pub record Turn (step : to.Step) (steps : List to.Step) (part : Part) (l : Locus) (ns : List PathNode) : Type 0 where
+pub record Turn (step : to.PlaceStep) (steps : List to.PlaceStep) (part : LocusPart) (l : Locus) (ns : List PathNode) : Type 0 where
   pub here : leads (step ∷ []) (part ∷ []) ≡ true
   pub later : leads steps l ≡ true
   pub nodes : nodes_of (step ∷ steps) (part ∷ l) ≡ nodes_of (step ∷ []) (part ∷ []) ++ nodes_of steps l
   pub opened : 0 < length steps → IsPath (ns ++ nodes_of (step ∷ []) (part ∷ [])) → IsOpen (ns ++ nodes_of (step ∷ []) (part ∷ []))
 
-pub turn : (step : to.Step) (steps : List to.Step) (part : Part) (l : Locus) (ns : List PathNode) → is_content step ≡ false → leads (step ∷ steps) (part ∷ l) ≡ true → Turn step steps part l ns
+pub turn : (step : to.PlaceStep) (steps : List to.PlaceStep) (part : LocusPart) (l : Locus) (ns : List PathNode) → is_content step ≡ false → leads (step ∷ steps) (part ∷ l) ≡ true → Turn step steps part l ns
 turn to.element steps (at_index i) l ns plain led =
     let parts = and_parts (nat_lt i (2 ^ 32)) (leads steps l) led in
     record {
@@ -81,7 +81,7 @@ turn to.content steps part l ns plain led = cc
 turn _ _ _ _ ns plain led = absurd (false≢true led)
 
 -- no step to another part than a content leads to the empty locus
-pub none_led : (step : to.Step) (steps : List to.Step) → is_content step ≡ false → leads (step ∷ steps) [] ≡ true → ⊥
+pub none_led : (step : to.PlaceStep) (steps : List to.PlaceStep) → is_content step ≡ false → leads (step ∷ steps) [] ≡ true → ⊥
 none_led to.element steps plain led = false≢true led
 none_led to.key [] plain led = false≢true led
 none_led to.key (s ∷ steps) plain led = false≢true led
@@ -114,12 +114,12 @@ plain_step step.Value differs = refl
 plain_step step.Content differs = absurd (differs refl)
 
 -- the nodes up to a step and its part, and those that are still to come
-pub record Standing (steps : List to.Step) (l : Locus) (ns all : List PathNode) : Type 0 where
+pub record Standing (steps : List to.PlaceStep) (l : Locus) (ns all : List PathNode) : Type 0 where
   pub led : leads steps l ≡ true
   pub nodes : ns ++ nodes_of steps l ≡ all
   pub room : 0 < length steps → IsOpen ns
 
-pub turned : (step : to.Step) (steps : List to.Step) (part : Part) (l : Locus) (ns more all : List PathNode) → is_content step ≡ false → leads (step ∷ steps) (part ∷ l) ≡ true
+pub turned : (step : to.PlaceStep) (steps : List to.PlaceStep) (part : LocusPart) (l : Locus) (ns more all : List PathNode) → is_content step ≡ false → leads (step ∷ steps) (part ∷ l) ≡ true
     → ns ++ nodes_of (step ∷ steps) (part ∷ l) ≡ all → more ≡ ns ++ nodes_of (step ∷ []) (part ∷ []) → IsPath more → Standing steps l more all
 turned step steps part l ns more all plain led nodes is path =
     let t = turn step steps part l ns plain led in

@@ -24,7 +24,7 @@ use Rattle.fv_walk_traces.specs.Finite.{IsTidy, IsProperOwn}
 use Rattle.fv_walk_traces.specs.Requests.{Own, Plain, InRanks}
 use Rattle.fv_walk_traces.specs.Turns as turn
 use Rattle.fv_walk_traces.specs.Turns.{LocalFailure}
-use Rattle.fv_bundle.specs.Types.{number_of}
+use Rattle.fv_bundle.specs.Types.{number_of_type}
 use Rattle.fv_declare_schema.specs.Places.{Place, whole, field}
 use Rattle.fv_local.specs.Sound.{IsSound}
 use Rattle.fv_local.specs.Requests.{object_at, asked_or_default, asked_groups, judging, visiting, request_of}
@@ -35,10 +35,10 @@ use Rattle.fv_local.proofs.Members.{once_differs}
 use Rattle.fv_local.proofs.Parts.{parts_apart}
 use Rattle.fv_local.proofs.Ways.{ways_within, ways_differ}
 
-part_same : (place : at.Place) (p q : Locus × Data) → turn.at place p.0 ≡ turn.at place q.0 → p.0 ≡ q.0
+part_same : (place : at.FieldPlace) (p q : Locus × Data) → turn.at place p.0 ≡ turn.at place q.0 → p.0 ≡ q.0
 part_same place p q e = cc
 
-module _ (place : at.Place) where
+module _ (place : at.FieldPlace) where
   spots_after : (p : Locus × Data) (ps : List (Locus × Data)) → AllByRecursion (Differ p) ps → AllByRecursion (λ t. (part_at place p).0 ≢ t.0) (map (part_at place) ps)
   spots_after p [] differ = tt
   spots_after p (q ∷ qs) differ = (λ e. differ.0 (part_same place p q e), spots_after p qs differ.1)
@@ -50,7 +50,7 @@ module _ (place : at.Place) where
 standing_apart : (object : Thing) (place : Place) → IsSound object → Pairwise (λ s t. s.0 ≢ t.0) (standing_at object place)
 standing_apart object whole sound = (tt, tt)
 standing_apart object (field number steps kind) sound =
-    let place : at.Place = record { field = number; steps = steps } in
+    let place : at.FieldPlace = record { field = number; steps = steps } in
     spots_apart place (parts_at object place) (parts_apart object place sound)
 
 module _ (m : Meanings) (ds : Declarations) (now : ℤ) (ordered : AreOrdered ds) where
@@ -77,7 +77,7 @@ module _ (m : Meanings) (ds : Declarations) (now : ℤ) (ordered : AreOrdered ds
             subst AllDiffer (sym k.1) (failures_differ type (below ds.groups k.0)))
 
     own_proper : (h : ℕ) → IsProperOwn (own_in m ds now object h)
-    own_proper h = go (number_of ds.types object.type_name)
+    own_proper h = go (number_of_type ds.types object.type_name)
       where
         go : (o : Option ℕ) → IsProperOwn (option_map_or (λ type. own_at m ds now object type h) o (Plain []))
         go None = tt

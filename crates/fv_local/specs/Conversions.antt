@@ -3,10 +3,10 @@ use Rattle.std.specs.Prelude.{ℕ, List, [], ◌∷◌, Bool, true, false, ◌&&
 use Rattle.std.specs.Cmp.Lexicographic.{pointwise}
 use Rattle.std.specs.Option.{option_map_or}
 use Rattle.fv_declare_schema.specs.Declarations.{Declarations}
-use Rattle.fv_extract.specs.Places.{Step, element, key, value, content, Place}
+use Rattle.fv_extract.specs.Places.{PlaceStep, element, key, value, content, FieldPlace}
 use Rattle.fv_declare_schema.specs.ValidPlaces.{ValidPlace}
 use Rattle.fv_bundle.specs.Bundles.{Thing}
-use Rattle.fv_bundle.specs.Types.{number_of}
+use Rattle.fv_bundle.specs.Types.{number_of_type}
 
 -- the group that these conversions make of a group: that of the first of exactly this group, applied once; the group itself where none is
 -- of it
@@ -15,7 +15,7 @@ convert [] group = group
 convert (c ∷ cs) group = cond (nat_eq c.0 group) c.1 (convert cs group)
 
 -- the same step
-abbrev pub is_same_step : Step → Step → Bool
+abbrev pub is_same_step : PlaceStep → PlaceStep → Bool
 is_same_step element element = true
 is_same_step key key = true
 is_same_step value value = true
@@ -23,11 +23,11 @@ is_same_step content content = true
 is_same_step _ _ = false
 
 -- the valid place is this place of its type: the field, and the same steps one after the other
-abbrev pub stands_at : Place → ValidPlace → Bool
+abbrev pub stands_at : FieldPlace → ValidPlace → Bool
 stands_at place p = nat_eq p.field place.field && pointwise is_same_step p.steps place.steps
 
 -- the group that is made of a group by the one of these valid places that stands there; the group itself where none does
-abbrev pub converted_among : List ValidPlace → Place → ℕ → ℕ
+abbrev pub converted_among : List ValidPlace → FieldPlace → ℕ → ℕ
 converted_among [] place group = group
 converted_among (p ∷ ps) place group = cond (stands_at place p) (convert p.conversions group) (converted_among ps place group)
 
@@ -37,4 +37,4 @@ valid_places_of ds type = filter (λ p. nat_eq p.type type) ds.valid_places
 
 -- those of an object's type; none where its type isn't declared
 abbrev pub valid_places_at : Declarations → Thing → List ValidPlace
-valid_places_at ds object = option_map_or (valid_places_of ds) (number_of ds.types object.type_name) []
+valid_places_at ds object = option_map_or (valid_places_of ds) (number_of_type ds.types object.type_name) []

@@ -21,7 +21,7 @@ Standing = turn.Spot × Subject
 abbrev pub standing_at : Thing → Place → List Standing
 standing_at o whole = (turn.of_object, of_object o) ∷ []
 standing_at o (field number steps kind) =
-    let place : object.Place = record { field = number; steps = steps } in map (λ p. (turn.at place p.0, of_datum p.1)) (parts_at o place)
+    let place : object.FieldPlace = record { field = number; steps = steps } in map (λ p. (turn.at place p.0, of_datum p.1)) (parts_at o place)
 
 -- what fails of a use: the nodes of its tree that are reported of what stands at its place
 abbrev pub failures_of : Meanings → ℤ → Thing → Placed → List LocalFailure

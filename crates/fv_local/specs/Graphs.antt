@@ -15,11 +15,11 @@ use Rattle.fv_local.specs.declared.graph.ObjectGraph.{ObjectGraph}
 use Rattle.fv_local.specs.declared.way.Way.{Way}
 use Rattle.fv_local.specs.Conversions.{valid_places_at}
 use Rattle.fv_local.specs.Requests.{object_number}
-use Rattle.fv_local.specs.Ways.{place_of, way_at}
+use Rattle.fv_local.specs.Ways.{way_place, way_at}
 
 -- a reference, without where it lies in memory
 abbrev pub way_view : Way → turn.Way
-way_view w = record { place = place_of (valid_place_view w.place.now); locus = map part_view w.locus.items; target = w.target }
+way_view w = record { place = way_place (valid_place_view w.place.now); locus = map part_view w.locus.items; target = w.target }
 
 -- a reference with the valid place at which it stands
 abbrev pub Link : Type 0
@@ -30,11 +30,11 @@ link_view w = (valid_place_view w.place.now, way_view w)
 
 -- those among some parts at a valid place
 abbrev pub links_among : Things → ValidPlace → List (Locus × Data) → List Link
-links_among os p parts = map (λ w. (p, w)) (filter_map (way_at os (place_of p)) parts)
+links_among os p parts = map (λ w. (p, w)) (filter_map (way_at os (way_place p)) parts)
 
 -- those that an object holds at a valid place
 abbrev pub links_at : Things → Thing → ValidPlace → List Link
-links_at os object p = links_among os p (parts_at object (place_of p))
+links_at os object p = links_among os p (parts_at object (way_place p))
 
 -- those that it holds at the valid places of its type
 abbrev pub links_of : Declarations → Things → Thing → List Link

@@ -44,11 +44,11 @@ module _ {R : Type 0} {rules : Ghosts R} (judge : Judge R rules) where
   numbers_of subject = told.numbers_of rules.meaning judge.moment subject asked_uses
 
   -- what is told of a part at a place
-  abbrev pub part_told : object.Place → Locus × Data → List Told
+  abbrev pub part_told : object.FieldPlace → Locus × Data → List Told
   part_told place part = told.part_told rules.meaning judge.moment asked_uses place part
 
   -- what is told of the parts of an object at a place
-  abbrev pub field_told : Thing → object.Place → List Told
+  abbrev pub field_told : Thing → object.FieldPlace → List Told
   field_told thing place = told.field_told rules.meaning judge.moment asked_uses thing place
 
   -- what is told of an object itself

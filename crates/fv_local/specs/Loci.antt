@@ -6,7 +6,7 @@ use Rattle.fv_extract.specs.Places as to
 
 -- the locus is one that the steps lead to: an index, of at most 4294967295, for each element and a key for each value of a map; no step
 -- follows a step to a key
-abbrev pub leads : List to.Step → Locus → Bool
+abbrev pub leads : List to.PlaceStep → Locus → Bool
 leads [] [] = true
 leads (to.element ∷ steps) (at_index i ∷ l) = nat_lt i (2 ^ 32) && leads steps l
 leads (to.key ∷ []) (at_key k ∷ []) = true

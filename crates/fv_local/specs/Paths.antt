@@ -8,7 +8,7 @@ use Rattle.fv_path.specs.Nodes.{PathNode, index, key, list_element, map_key, map
 
 -- the nodes from a field to a part of its datum, by the steps to it and its locus: the index of an element and that it is one, the key in
 -- front of a map's key or value and which of them it is; the content of an optional adds nothing
-abbrev pub nodes_of : List to.Step → Locus → List PathNode
+abbrev pub nodes_of : List to.PlaceStep → Locus → List PathNode
 nodes_of (to.element ∷ steps) (at_index i ∷ l) = index i ∷ list_element ∷ nodes_of steps l
 nodes_of (to.key ∷ steps) (at_key k ∷ l) = key k ∷ map_key ∷ nodes_of steps l
 nodes_of (to.value ∷ steps) (at_key k ∷ l) = key k ∷ map_value ∷ nodes_of steps l

@@ -12,7 +12,7 @@ use Rattle.fv_walk_traces.specs.Turns as turn
 use Rattle.fv_walk_traces.specs.Turns.{LocalFailure}
 
 -- a part of an object at a place
-abbrev pub part_at : object.Place → Locus × Data → Standing
+abbrev pub part_at : object.FieldPlace → Locus × Data → Standing
 part_at place p = (turn.at place p.0, of_datum p.1)
 
 -- the nodes of a use's tree that are reported of what stands there

@@ -45,19 +45,19 @@ abbrev pub numbers_of : Meanings → ℤ → Subject → List Placed → List �
 numbers_of m now s us = flat_map (λ u. map (λ n. n.0) (violated m now s u.number u.tree)) us
 
 -- the failure of a node at a part, with its datum
-abbrev pub told_part : object.Place → Locus × Data → ℕ → Told
+abbrev pub told_part : object.FieldPlace → Locus × Data → ℕ → Told
 told_part place p n = (record { spot = turn.at place p.0; node = n }, p.1)
 
 -- those of nodes
-abbrev pub told_of_numbers : object.Place → Locus × Data → List ℕ → List Told
+abbrev pub told_of_numbers : object.FieldPlace → Locus × Data → List ℕ → List Told
 told_of_numbers place p ns = map (told_part place p) ns
 
 -- what uses tell of a part at a place
-abbrev pub part_told : Meanings → ℤ → List Placed → object.Place → Locus × Data → List Told
+abbrev pub part_told : Meanings → ℤ → List Placed → object.FieldPlace → Locus × Data → List Told
 part_told m now us place p = told_of_numbers place p (numbers_of m now (of_datum p.1) us)
 
 -- what they tell of the parts at a place
-abbrev pub field_told : Meanings → ℤ → List Placed → Thing → object.Place → List Told
+abbrev pub field_told : Meanings → ℤ → List Placed → Thing → object.FieldPlace → List Told
 field_told m now us object place = flat_map (part_told m now us place) (parts_at object place)
 
 -- the failure of a node at the object itself

@@ -4,7 +4,7 @@ ghost use Rattle.std.specs.List.{flat_map};
 ghost use Rattle.fv_datum.specs.Moments.{IsMoment};
 ghost use Rattle.fv_datum.specs.View.{view};
 ghost use Rattle.fv_extract.specs.FoundView.{found_view};
-ghost use Rattle.fv_extract.specs.Parts.{below, further};
+ghost use Rattle.fv_extract.specs.Parts.{parts_below, further};
 ghost use Rattle.fv_extract.specs.Views.{part_view, inside_view, step_view, place_view};
 ghost use Rattle.fv_local.specs.Judges.{Adds, AsksKnownUses, CanAsk, part_told, field_told};
 ghost use Rattle.fv_local.specs.Told.{told_of_numbers};
@@ -53,7 +53,7 @@ fn add_part<'a, R: RuleSet>(
     requires within { AsksKnownUses judge.now }
     requires can { CanAsk judge.now }
     ensures { OnOk result (Adds failures.old.items failures.new.items
-        (part_told judge.now (place_view place.entry) (below (map part_view locus.now) (inside_view part.entry)))) }
+        (part_told judge.now (place_view place.entry) (parts_below (map part_view locus.now) (inside_view part.entry)))) }
 {
     let (added, datum) = part;
     let numbers = judge.numbers(alloc, datum)?;

@@ -6,7 +6,7 @@ ghost use Rattle.fv_extract.specs.Views.{part_view};
 ghost use Rattle.fv_declare_schema.specs.NumberViews.{valid_place_view};
 ghost use Rattle.fv_bundle.specs.Views.{object_view, objects_view};
 ghost use Rattle.fv_local.specs.Graphs.{links_among, links_at, links_of, link_view};
-ghost use Rattle.fv_local.specs.Ways.{name_of, number_in, target_of};
+ghost use Rattle.fv_local.specs.Ways.{name_of, object_number_in, target_of};
 
 use fv_bundle::{Object, Objects};
 use fv_datum::Datum;
@@ -35,7 +35,7 @@ fn name_of(datum: &Datum) -> Option<&str>
 
 /// The number of the object of a name.
 pub(crate) fn number_in(objects: &Objects, name: &str) -> Option<usize>
-    ensures { result ≡ number_in (objects_view objects.now) name.now }
+    ensures { result ≡ object_number_in (objects_view objects.now) name.now }
 {
     objects.get_index_of(name)
 }

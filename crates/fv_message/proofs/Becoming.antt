@@ -9,7 +9,7 @@ use Rattle.fv_graph.specs.Graph.{IsIn, Leads, IsCyclic, MeetsCycle}
 use Rattle.fv_graph.specs.Weight.{weighed, weight}
 use Rattle.fv_graph.proofs.Chains.{meets_from}
 use Rattle.fv_graph.proofs.Unfolding.{unfolds_at}
-use Rattle.fv_message.specs.Template.{Piece, plain, parameter, Spells, IsTemplate, is_parameter_name}
+use Rattle.fv_message.specs.Template.{Piece, plain, parameter, SpellsPieces, IsTemplate, is_parameter_name}
 use Rattle.fv_message.specs.Reading.{pieces_of, pieces, is_template}
 use Rattle.fv_message.specs.Table.{Messages}
 use Rattle.fv_message.specs.Numbers.{number_of, text_at, keys_in, next_keys, AreReadable}
@@ -34,13 +34,13 @@ unread t e (ps, s) = no (sym e ∙ ap is_some ((spelled_read t ps).1 s))
 pub spelled_template : (t : List ℕ) → IsTemplate t → is_template t ≡ true
 spelled_template t (ps, s) = ap is_some ((spelled_read t ps).1 s)
 
-pub spelled_pieces : (t : List ℕ) (ps : List Piece) → Spells ps t → pieces t ≡ ps
+pub spelled_pieces : (t : List ℕ) (ps : List Piece) → SpellsPieces ps t → pieces t ≡ ps
 spelled_pieces t ps s = ap (λ (o : Option (List Piece)). unwrap_or o []) ((spelled_read t ps).1 s)
 
-pub template_spelled : (t : List ℕ) → is_template t ≡ true → Spells (pieces t) t
+pub template_spelled : (t : List ℕ) → is_template t ≡ true → SpellsPieces (pieces t) t
 template_spelled t is = go (pieces_of t) refl is
   where
-    go : (o : Option (List Piece)) → pieces_of t ≡ o → is_some o ≡ true → Spells (unwrap_or o []) t
+    go : (o : Option (List Piece)) → pieces_of t ≡ o → is_some o ≡ true → SpellsPieces (unwrap_or o []) t
     go None e f = absurd (cc)
     go (Some ps) e f = (spelled_read t ps).0 e
 

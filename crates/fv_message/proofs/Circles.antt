@@ -5,13 +5,13 @@ use Rattle.std.proofs.lemmas.Slice.Eq.{bytes_eq-Decides}
 use Rattle.fv_datum.specs.Attributes.{Attributes}
 use Rattle.fv_graph.specs.Graph.{IsIn, IsCyclic}
 use Rattle.fv_graph.specs.Graph as graph
-use Rattle.fv_message.specs.Template.{Piece, plain, parameter, Spells}
+use Rattle.fv_message.specs.Template.{Piece, plain, parameter, SpellsPieces}
 use Rattle.fv_message.specs.Reading.{pieces, is_template}
 use Rattle.fv_message.specs.Table.{Messages}
 use Rattle.fv_message.specs.Numbers.{number_of, text_at, keys_in, next_keys, AreReadable}
 use Rattle.fv_message.specs.Full.{IsTextOf}
 use Rattle.fv_message.specs.Evaluated.{full_text}
-use Rattle.fv_message.specs.Judged.{HasParameter, LeadsIn, IsCircular}
+use Rattle.fv_message.specs.Judged.{HasParameter, LeadsAmong, IsCircular}
 use Rattle.fv_message.proofs.Becoming.{template_spelled, spelled_pieces, named_text, text_named, text_of}
 use Rattle.fv_message.proofs.Cycles.{unread_pieces}
 
@@ -64,11 +64,11 @@ module _ (ms : Messages) where
       let same : text_at ms i ≡ template = cc in
       subst (λ (l : List Piece). IsIn (keys_in ms l) j) (sym (ap pieces same ∙ spelled_pieces template ps s)) (number_in ps name j m h)
 
-  start : (more : ℕ) (key name : List ℕ) → LeadsIn ms more key name → (i : ℕ) × (number_of ms key ≡ Some i)
+  start : (more : ℕ) (key name : List ℕ) → LeadsAmong ms more key name → (i : ℕ) × (number_of ms key ≡ Some i)
   start zero key name h = key_number key name h
   start (suc more) key name (next, h, l) = key_number key next h
 
-  chain_of : (more : ℕ) (key name : List ℕ) (i j : ℕ) → number_of ms key ≡ Some i → number_of ms name ≡ Some j → LeadsIn ms more key name → graph.LeadsIn (next_keys ms) more i j
+  chain_of : (more : ℕ) (key name : List ℕ) (i j : ℕ) → number_of ms key ≡ Some i → number_of ms name ≡ Some j → LeadsAmong ms more key name → graph.LeadsIn (next_keys ms) more i j
   chain_of zero key name i j n m h = edge_of key name i j n m h
   chain_of (suc more) key name i j n m (next, h, l) =
       let k = start more next name l in
@@ -95,11 +95,11 @@ module _ (ms : Messages) where
       let r = name_in (pieces (text_at ms i)) j h in
       (r.0, r.2, (text_at ms i, pieces (text_at ms i), named_text ms key i n, go (is_template (text_at ms i)) refl, r.1))
     where
-      go : (b : Bool) → is_template (text_at ms i) ≡ b → Spells (pieces (text_at ms i)) (text_at ms i)
+      go : (b : Bool) → is_template (text_at ms i) ≡ b → SpellsPieces (pieces (text_at ms i)) (text_at ms i)
       go true e = template_spelled (text_at ms i) e
       go false e = absurd (subst (λ (l : List Piece). IsIn (keys_in ms l) j) (unread_pieces (text_at ms i) e) h)
 
-  names_of : (more i j : ℕ) (key : List ℕ) → number_of ms key ≡ Some i → graph.LeadsIn (next_keys ms) more i j → (name : List ℕ) × (number_of ms name ≡ Some j) × LeadsIn ms more key name
+  names_of : (more i j : ℕ) (key : List ℕ) → number_of ms key ≡ Some i → graph.LeadsIn (next_keys ms) more i j → (name : List ℕ) × (number_of ms name ≡ Some j) × LeadsAmong ms more key name
   names_of zero i j key n h = parameter_of i j key n h
   names_of (suc more) i j key n (k, h, l) =
       let p = parameter_of i k key n h in
@@ -115,7 +115,7 @@ module _ (ms : Messages) where
       let a = last_name more i i l in
       let q = names_of more i i a.0 a.1 l in
       let same : q.0 ≡ a.0 = number_same ms q.0 a.0 i q.1 a.1 in
-      (a.0, more, subst (λ (x : List ℕ). LeadsIn ms more a.0 x) same q.2)
+      (a.0, more, subst (λ (x : List ℕ). LeadsAmong ms more a.0 x) same q.2)
 
 -- what the function makes, of keys that don't lead to themselves and texts that are templates
 pub written : (ms : Messages) (attributes : Attributes) (template s : List ℕ) → AreReadable ms × (IsCircular ms → ⊥) → s ≡ full_text ms attributes template → IsTextOf ms attributes template s

@@ -3,7 +3,7 @@ use Rattle.std.proofs.Common.{◌≡◌, ℕ, suc, List, [], ◌∷◌, length, 
 use Rattle.std.specs.Option.{option_or}
 use Rattle.fv_first.specs.First.{first_from, IsFirstFrom}
 use Rattle.fv_first.proofs.Laws.{or_none, map_told, where_told, first_told}
-use Rattle.fv_message.specs.Judged.{fits, has_long}
+use Rattle.fv_message.specs.Judged.{fits, has_long_text}
 use Rattle.fv_message.specs.Judging.{is_misspelt, misspelt_at, misspelt_in}
 use Rattle.fv_message.specs.Reading.{is_template, pieces}
 use Rattle.fv_message.specs.Table.{Messages}
@@ -17,7 +17,7 @@ either_told : (a : Bool) (p : MessagesAt) (o : Option MessagesAt) → is_some (o
 either_told true p o = refl
 either_told false p o = or_none o
 
-pub large_told : (user : Messages) → is_some (large_in user) ≡ (nat_lt 1024 (length user) || has_long user)
+pub large_told : (user : Messages) → is_some (large_in user) ≡ (nat_lt 1024 (length user) || has_long_text user)
 large_told user =
     either_told (nat_lt 1024 (length user)) at.Messages (option_map at.Text (first_long user))
     ∙ ap (λ (b : Bool). nat_lt 1024 (length user) || b) (map_told at.Text (first_long user) ∙ where_told (λ (m : List ℕ × List ℕ). not (fits m.1)) user)

@@ -7,7 +7,7 @@ use Rattle.std.specs.Option.{option_map_or}
 use mathlib.Core.Logic.{◌⊎◌}
 use Rattle.fv_datum.specs.Attributes.{AttributeValue, integer, text, boolean, texts, Attributes}
 use Rattle.fv_datum.specs.Lookup.{at_name}
-use Rattle.fv_message.specs.Template.{Piece, plain, parameter, Spells, IsTemplate}
+use Rattle.fv_message.specs.Template.{Piece, plain, parameter, SpellsPieces, IsTemplate}
 use Rattle.fv_message.specs.Table.{Messages}
 
 -- the text of an attribute's value: an integer in decimal, a text as it is, `true` or `false`, texts as `[a, b]`
@@ -26,14 +26,14 @@ shown attributes name = option_map_or attribute_text (at_name name attributes) (
 pub data Become (ms : Messages) (attributes : Attributes) : List Piece → List ℕ → Type 0 where
   nothing : Become ms attributes [] []
   byte : {b : ℕ} {ps : List Piece} {rest : List ℕ} → Become ms attributes ps rest → Become ms attributes (plain b ∷ ps) (b ∷ rest)
-  key : {name template full rest : List ℕ} {qs ps : List Piece} → at_name name ms ≡ Some template → Spells qs template → Become ms attributes qs full
+  key : {name template full rest : List ℕ} {qs ps : List Piece} → at_name name ms ≡ Some template → SpellsPieces qs template → Become ms attributes qs full
       → Become ms attributes ps rest → Become ms attributes (parameter name ∷ ps) (full ++ rest)
   other : {name rest : List ℕ} {ps : List Piece} → at_name name ms ≡ None → Become ms attributes ps rest
       → Become ms attributes (parameter name ∷ ps) (shown attributes name ++ rest)
 
 -- a template's full text
 abbrev pub IsFullText : Messages → Attributes → List ℕ → List ℕ → Type 0
-IsFullText ms attributes template full = (ps : List Piece) × Spells ps template × Become ms attributes ps full
+IsFullText ms attributes template full = (ps : List Piece) × SpellsPieces ps template × Become ms attributes ps full
 
 -- what a text becomes: the full text of a template, and nothing where it is none
 abbrev pub IsTextOf : Messages → Attributes → List ℕ → List ℕ → Type 0

@@ -4,7 +4,7 @@ use Rattle.std.specs.List.{list_any}
 use mathlib.Core.Logic.{◌⊎◌}
 use Rattle.fv_datum.specs.Lookup.{at_name}
 use Rattle.fv_graph.specs.Graph.{IsIn}
-use Rattle.fv_message.specs.Template.{Piece, parameter, Spells, IsTemplate, is_parameter_name}
+use Rattle.fv_message.specs.Template.{Piece, parameter, SpellsPieces, IsTemplate, is_parameter_name}
 use Rattle.fv_message.specs.Table.{Messages, all_messages}
 use Rattle.fv_message.specs.Full.{IsFullText}
 use Rattle.fv_message.specs.declared.fault.MessageFault.{MessageFault}
@@ -15,8 +15,8 @@ abbrev pub fits : List ℕ → Bool
 fits template = nat_le (length template) 4096
 
 -- one of the texts is too long for a template
-abbrev pub has_long : Messages → Bool
-has_long user = list_any (λ m. not (fits m.1)) user
+abbrev pub has_long_text : Messages → Bool
+has_long_text user = list_any (λ m. not (fits m.1)) user
 
 -- some message's text becomes too long, with no attributes: more than 65536 bytes
 abbrev pub HasLongKey : Messages → Type 0
@@ -31,20 +31,20 @@ IsMisspelt user =
 -- a key's text has a parameter of that name
 abbrev pub HasParameter : Messages → List ℕ → List ℕ → Type 0
 HasParameter ms key name =
-    (template : List ℕ) × (ps : List Piece) × (at_name key ms ≡ Some template) × Spells ps template × IsIn ps (parameter name)
+    (template : List ℕ) × (ps : List Piece) × (at_name key ms ≡ Some template) × SpellsPieces ps template × IsIn ps (parameter name)
 
 -- a key's text leads to a parameter of that name, through so many other keys
-abbrev pub LeadsIn : Messages → ℕ → List ℕ → List ℕ → Type 0
-LeadsIn ms zero key name = HasParameter ms key name
-LeadsIn ms (suc more) key name = (next : List ℕ) × HasParameter ms key next × LeadsIn ms more next name
+abbrev pub LeadsAmong : Messages → ℕ → List ℕ → List ℕ → Type 0
+LeadsAmong ms zero key name = HasParameter ms key name
+LeadsAmong ms (suc more) key name = (next : List ℕ) × HasParameter ms key next × LeadsAmong ms more next name
 
 -- some key's text leads back to that key
 abbrev pub IsCircular : Messages → Type 0
-IsCircular ms = (key : List ℕ) × (more : ℕ) × LeadsIn ms more key key
+IsCircular ms = (key : List ℕ) × (more : ℕ) × LeadsAmong ms more key key
 
 -- a limit is passed: there are more than 1024 messages, or a text is too long for a template, or becomes too long
 abbrev pub IsLarge : Messages → Type 0
-IsLarge user = (1024 < length user) ⊎ (has_long user ≡ true) ⊎ HasLongKey (all_messages user)
+IsLarge user = (1024 < length user) ⊎ (has_long_text user ≡ true) ⊎ HasLongKey (all_messages user)
 
 -- the user's messages within the limits, with texts that are templates, and no key whose text leads back to it
 pub record AreSound (user : Messages) : Type 0 where

@@ -41,15 +41,15 @@ SpellsPlain b rest text =
     ((text ≡ b ∷ rest) × (stands_plain b rest ≡ true)) ⊎ ((text ≡ 92 ∷ b ∷ rest) × (is_special b ≡ true))
 
 -- the grammar: a text that spells these pieces, one after the other; a parameter in `{` and `}`
-abbrev pub Spells : List Piece → List ℕ → Type 0
-Spells [] text = text ≡ []
-Spells (plain b ∷ ps) text = (rest : List ℕ) × SpellsPlain b rest text × Spells ps rest
-Spells (parameter name ∷ ps) text =
-    (rest : List ℕ) × (text ≡ 123 ∷ name ++ 125 ∷ rest) × (is_parameter_name name ≡ true) × Spells ps rest
+abbrev pub SpellsPieces : List Piece → List ℕ → Type 0
+SpellsPieces [] text = text ≡ []
+SpellsPieces (plain b ∷ ps) text = (rest : List ℕ) × SpellsPlain b rest text × SpellsPieces ps rest
+SpellsPieces (parameter name ∷ ps) text =
+    (rest : List ℕ) × (text ≡ 123 ∷ name ++ 125 ∷ rest) × (is_parameter_name name ≡ true) × SpellsPieces ps rest
 
 -- a text is a template
 abbrev pub IsTemplate : List ℕ → Type 0
-IsTemplate text = (ps : List Piece) × Spells ps text
+IsTemplate text = (ps : List Piece) × SpellsPieces ps text
 
 -- a text as it stands in a template, each special byte behind `\`
 abbrev pub escaped : List ℕ → List ℕ

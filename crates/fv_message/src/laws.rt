@@ -10,11 +10,11 @@ ghost use Rattle.fv_message.specs.Full.{attribute_text, Become, IsFullText};
 ghost use Rattle.fv_message.specs.Judged.{IsCircular};
 ghost use Rattle.fv_message.specs.Reading.{pieces_of};
 ghost use Rattle.fv_message.specs.Table.{Messages};
-ghost use Rattle.fv_message.specs.Template.{Piece, plain, parameter, Spells, IsTemplate, escaped};
+ghost use Rattle.fv_message.specs.Template.{Piece, plain, parameter, SpellsPieces, IsTemplate, escaped};
 
 /// A text is read as the pieces that it spells, and as no others.
 pub fn pieces_are_spelled()
-    ensures { (text : List ℕ) (ps : List Piece) → (pieces_of text ≡ Some ps) ↔ Spells ps text }
+    ensures { (text : List ℕ) (ps : List Piece) → (pieces_of text ≡ Some ps) ↔ SpellsPieces ps text }
 {}
 
 /// A template has at most one full text, the one that the function makes; and it has it where each
@@ -37,8 +37,8 @@ pub fn key_becomes_its_text()
 /// attributes are; and every text has such a template.
 pub fn plain_text_stays()
     ensures unescaped { (ms : Messages) (attributes : Attributes) (template text : List ℕ)
-        → Spells (map plain text) template → IsFullText ms attributes template text }
-    ensures escaped { (text : List ℕ) → Spells (map plain text) (escaped text) }
+        → SpellsPieces (map plain text) template → IsFullText ms attributes template text }
+    ensures escaped { (text : List ℕ) → SpellsPieces (map plain text) (escaped text) }
 {}
 
 /// A parameter that is an attribute and no key becomes the attribute's text, whatever the messages are.

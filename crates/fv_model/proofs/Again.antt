@@ -22,8 +22,8 @@ use Rattle.fv_datum.proofs.Bools.{or_left, or_right}
 use Rattle.fv_bundle.proofs.Members.{AreAscending, ascending_put, same_members, each_found, each_put}
 use Rattle.fv_bundle.proofs.PlainJson.{IsPlain, fits_flat}
 use Rattle.fv_bundle.specs.Bundles.{IsAscending, Thing, Things, Bundled}
-use Rattle.fv_model.specs.Draft.{Drafted}
-use Rattle.fv_model.specs.Reading.{has_flaw, datum_at, field_of, fields_of, object_of, bundle_of, bundle_read}
+use Rattle.fv_model.specs.Draft.{BundleDraft}
+use Rattle.fv_model.specs.Reading.{has_flaw, datum_at, given_field, fields_of, object_of, bundle_of, bundle_read}
 use Rattle.fv_model.specs.Views.{bundle_view}
 use Rattle.fv_bundle.specs.WellTyped.{NamesObject, FitsUse, FieldsAre, FitsType, IsWellTyped}
 use Rattle.fv_model.specs.Writing.{IsWritten, datum_json, thing_json, bundle_json, named_written, bundle_written}
@@ -63,20 +63,20 @@ shown_put true q d ms none = none
 shown_put false q d ms none = get_member-put q d ms
 
 -- the fields that are read have the names of the type's
-names_read : (q : List ℕ) (g : json.Members) (ds : DeclaredFields) → AllByRecursion (λ e. e.0 ≢ q) ds → AllByRecursion (λ f. q ≢ f.0) (map (field_of g) ds)
+names_read : (q : List ℕ) (g : json.Members) (ds : DeclaredFields) → AllByRecursion (λ e. e.0 ≢ q) ds → AllByRecursion (λ f. q ≢ f.0) (map (given_field g) ds)
 names_read q g [] h = tt
 names_read q g (d ∷ ds) h = (λ e. h.0 (sym e), names_read q g ds h.1)
 
 -- at the name of a field, what is written of its datum
 pub found_added : (q : List ℕ) (u : TypeUse) (g : json.Members) (ds : DeclaredFields) (ms : json.Members) → AreApart ds → at_name q ds ≡ Some u → get_member q ms ≡ None
-    → get_member q (added ms (map (field_of g) ds)) ≡ shown (datum_at u (get_member q g))
+    → get_member q (added ms (map (given_field g) ds)) ≡ shown (datum_at u (get_member q g))
 found_added q u g [] ms apart is none = cc
 found_added q u g (d ∷ ds) ms apart is none = elim (chosen (bytes_eq q d.0) d.1 (at_name q ds) u is) [
   | inl here ↦ (
       let same : q ≡ d.0 = (bytes_eq-Decides q d.0).0 here.0 in
       let x : Data = datum_at d.1 (get_member d.0 g) in
       let now : json.Members = cond (is_null x) ms (json.put d.0 (datum_json x) ms) in
-      let kept : get_member d.0 (added now (map (field_of g) ds)) ≡ get_member d.0 now = added_other d.0 (map (field_of g) ds) now (names_read d.0 g ds (apart-head d ds apart)) in
+      let kept : get_member d.0 (added now (map (given_field g) ds)) ≡ get_member d.0 now = added_other d.0 (map (given_field g) ds) now (names_read d.0 g ds (apart-head d ds apart)) in
       rw (same, ← here.1) (kept ∙ shown_put (is_null x) d.0 (datum_json x) ms (rw same at none))
       )
   | inr more ↦ (
@@ -94,8 +94,8 @@ none_named q (d ∷ ds) none =
     (λ same. true≢false (sym ((bytes_eq-Decides q d.0).1 (sym same)) ∙ parts.0), none_named q ds parts.1)
 
 -- and at another, what was there before
-pub other_added : (q : List ℕ) (g : json.Members) (ds : DeclaredFields) (ms : json.Members) → at_name q ds ≡ None → get_member q (added ms (map (field_of g) ds)) ≡ get_member q ms
-other_added q g ds ms none = added_other q (map (field_of g) ds) ms (names_read q g ds (none_named q ds none))
+pub other_added : (q : List ℕ) (g : json.Members) (ds : DeclaredFields) (ms : json.Members) → at_name q ds ≡ None → get_member q (added ms (map (given_field g) ds)) ≡ get_member q ms
+other_added q g ds ms none = added_other q (map (given_field g) ds) ms (names_read q g ds (none_named q ds none))
 
 -- ---- the fields of one object
 
@@ -124,7 +124,7 @@ none_found None h = refl
 none_found (Some j) h = absurd (h j refl)
 
 same_found : (ds : DeclaredFields) (g : json.Members) (q : List ℕ) (o : Option TypeUse) → at_name q ds ≡ o → AreApart ds → IsGiven g → flaw_among undeclared ds (pairs g) ≡ false → flaw_among misfits ds (pairs g) ≡ false
-    → get_member q (added json.no_members (map (field_of g) ds)) ≡ get_member q g
+    → get_member q (added json.no_members (map (given_field g) ds)) ≡ get_member q g
 same_found ds g q (Some u) is apart given declared fit =
     found_added q u g ds json.no_members apart is refl
     ∙ found_again u (get_member q g) (λ j found. (rw is at (none_at (λ m. misfits (at_name m.0 ds) m.1) q g j found fit), each_found IsGivenJson q g j given.each found))
@@ -133,9 +133,9 @@ same_found ds g q None is apart given declared fit =
     ∙ none_found (get_member q g) (λ j found. true≢false (rw is at (none_at (λ m. undeclared (at_name m.0 ds) m.1) q g j found declared)))
 
 -- where each given field is declared, and of its kind, the fields that are read are written as they were given
-pub fields_again : (ds : DeclaredFields) (g : json.Members) → AreApart ds → IsGiven g → flaw_among undeclared ds (pairs g) ≡ false → flaw_among misfits ds (pairs g) ≡ false → added json.no_members (map (field_of g) ds) ≡ g
+pub fields_again : (ds : DeclaredFields) (g : json.Members) → AreApart ds → IsGiven g → flaw_among undeclared ds (pairs g) ≡ false → flaw_among misfits ds (pairs g) ≡ false → added json.no_members (map (given_field g) ds) ≡ g
 fields_again ds g apart given declared fit =
-    same_members (added json.no_members (map (field_of g) ds)) g (ascending_added (map (field_of g) ds) json.no_members tt) given.ordered (λ q. same_found ds g q (at_name q ds) refl apart given declared fit)
+    same_members (added json.no_members (map (given_field g) ds)) g (ascending_added (map (given_field g) ds) json.no_members tt) given.ordered (λ q. same_found ds g q (at_name q ds) refl apart given declared fit)
 
 field_given : (os : Things) (u : TypeUse) (d : Data) → FitsUse os u d → is_null d ≡ false → IsGivenJson (datum_json d)
 field_given os u d fits some = ((fits_flat (NamesObject os) u d fits).0, not_null d some (fits_writable (NamesObject os) u d fits))
@@ -161,7 +161,7 @@ object_again old ts os o apart fits typed declared fit =
     let found = some_of (at_name o.1.type_name ts) typed in
     let ds : DeclaredFields = found.0 in
     let g : json.Members = added json.no_members o.1.fields in
-    let again : added json.no_members (map (field_of g) ds) ≡ g =
+    let again : added json.no_members (map (given_field g) ds) ≡ g =
     fields_again ds g (found_apart o.1.type_name ts ds apart found.1) (fields_given os fits.fields o.1.fields fits.fit) (sym (flaw_known undeclared ts (part_for o) ds found.1) ∙ declared) (sym (flaw_known misfits ts (part_for o) ds found.1) ∙ fit) in
     rw found.1 (ap (λ (ms : json.Members). (o.0, (o.1.type_name, ms))) again)
 
@@ -177,7 +177,7 @@ objects_again old ts all (o ∷ os) apart fits typed declared fit =
 
 -- ---- the bundle
 
-abbrev drafted : Bundled → Drafted
+abbrev drafted : Bundled → BundleDraft
 drafted a = record { root = a.root; objects = map part_for a.objects }
 
 -- what is read of what was written of a well-typed bundle is that draft, in which nothing is wrong
@@ -228,7 +228,7 @@ field_written g d (Some j) h = at (datum_of d.1 j) refl
     at None is = rw is refl
     at (Some x) is = rw (is, written_again d.1 j x (h j refl) is) refl
 
-fields_written : (g : json.Members) (ds : DeclaredFields) → IsGiven g → AllByRecursion (λ f. IsWritten f.1) (map (field_of g) ds)
+fields_written : (g : json.Members) (ds : DeclaredFields) → IsGiven g → AllByRecursion (λ f. IsWritten f.1) (map (given_field g) ds)
 fields_written g [] given = tt
 fields_written g (d ∷ ds) given = (field_written g d (get_member d.0 g) (λ j found. (each_found IsGivenJson d.0 g j given.each found).0), fields_written g ds given)
 

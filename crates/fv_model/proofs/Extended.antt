@@ -14,9 +14,9 @@ use Rattle.fv_bundle.proofs.Apart.{found_apart}
 use Rattle.fv_datum.proofs.Bools.{or_false}
 use Rattle.fv_datum.proofs.Lists.{each_of, none_made}
 use Rattle.fv_bundle.specs.Bundles.{Thing, Things, Bundled}
-use Rattle.fv_model.specs.Draft.{Part, Drafted}
+use Rattle.fv_model.specs.Draft.{ObjectDraft, BundleDraft}
 use Rattle.fv_model.specs.Extends.{Extends}
-use Rattle.fv_model.specs.Reading.{object_types, has_flaw, conditions, bundle_of, bundle_read}
+use Rattle.fv_model.specs.Reading.{object_types, has_flaw, bundle_conditions, bundle_of, bundle_read}
 use Rattle.fv_bundle.specs.WellTyped.{FitsType, IsWellTyped, HasRootType}
 use Rattle.fv_model.specs.Writing.{bundle_json}
 use Rattle.fv_model.proofs.Conditions.{root_missing, large_datum, draft_fault, judged}
@@ -39,7 +39,7 @@ object_taken old ts os types o extends apart agree fits_type =
     let es : DeclaredFields = found.0 in
     let known = each_of (λ e. at_name e.0 ds ≡ Some e.1) (λ e. at_name e.0 es ≡ Some e.1) ds (λ e is. found.2 e.0 e.1 is) (found_each ds (found_apart o.1.type_name old ds apart fits_type.declared)) in
     let all : Taken types es fs = taken os types es ds fs agree fits_type.fit known in
-    let part : Part = part_for o in
+    let part : ObjectDraft = part_for o in
     record {
       typed = rw found.1 refl;
       declared = flaw_known undeclared ts part es found.1 ∙ any_added (λ g. not (is_some (at_name g.0 es))) fs json.no_members all.declared refl;
@@ -54,15 +54,15 @@ pub read_extended : (old ts : Declared) (asked : Option (List ℕ)) (a : Bundled
     → bundle_read ts asked (bundle_json a) ≡ Ok (bundle_of ts (record { root = a.root; objects = map part_for a.objects }))
 read_extended old ts asked a extends apart well rooted =
     let os = a.objects in
-    let ps : List Part = map part_for os in
-    let d : Drafted = record { root = a.root; objects = ps } in
+    let ps : List ObjectDraft = map part_for os in
+    let d : BundleDraft = record { root = a.root; objects = ps } in
     let types = object_types ps in
     let all : AllByRecursion (IsTaken ts types) os = each_of (λ o. FitsType old os o.1) (IsTaken ts types) os (λ o fits. object_taken old ts os types o extends apart (types_agree os) fits) well.typed in
     let few : nat_lt 256 (length ps) ≡ false = rw length-map (le-ltb 256 (length os) well.few) in
     let long : large_datum ts ps ≡ false = none_made (has_flaw is_large ts) part_for (IsTaken ts types) os (λ o is. is.short) all in
     let there : root_missing a.root ps ≡ false = rw (types_agree os a.root) (is_there (at_name a.root os) well.rooted) in
     let none : draft_fault ts asked d ≡ None =
-    no_first (conditions ts asked d) (
+    no_first (bundle_conditions ts asked d) (
       none_made (λ p. not (names p.name)) part_for (λ o. names o.0 ≡ true) os (λ o named. rw named refl) well.named,
       (
         there,

@@ -12,7 +12,7 @@ use Rattle.serde_json.specs.Find.{get_member}
 use Rattle.fv_datum.specs.Lookup.{at_name}
 use Rattle.fv_datum.specs.Members.{pairs}
 use Rattle.fv_bundle.specs.Bundles.{IsAscending}
-use Rattle.fv_model.specs.Draft.{Part}
+use Rattle.fv_model.specs.Draft.{ObjectDraft}
 use Rattle.fv_model.specs.Fitting.{misfits_given, field_misfits, part_misfits}
 use Rattle.fv_model.specs.Ascents.{AscendsFor, Ascends}
 use Rattle.fv_bundle.specs.Flaws.{misfits}
@@ -73,14 +73,14 @@ given_fit all given (g ∷ gs) none found =
 
 -- ---- the objects
 
-part_same : (ts : Declared) (p : Part) (o : Option DeclaredFields) → at_name p.type_name ts ≡ o → FieldsApart ts → AscendsFor o p.given → part_misfits ts p ≡ has_flaw misfits ts p
+part_same : (ts : Declared) (p : ObjectDraft) (o : Option DeclaredFields) → at_name p.type_name ts ≡ o → FieldsApart ts → AscendsFor o p.given → part_misfits ts p ≡ has_flaw misfits ts p
 unfolding has_flaw
 part_same ts p None is apart ascends = rw is refl
 part_same ts p (Some ds) is apart ascends =
     let known = found_each ds (found_apart p.type_name ts ds apart is) in
     rw is (same_bool (list_any (field_misfits p.given) ds) (flaw_among misfits ds (pairs p.given)) (λ none. given_fit ds p.given (pairs p.given) none (found_members p.given ascends)) (λ none. fields_fit ds ds p.given none known))
 
-pub wrong_same : (ts : Declared) (ps : List Part) → FieldsApart ts → AllByRecursion (Ascends ts) ps → list_any (part_misfits ts) ps ≡ wrong_kind ts ps
+pub wrong_same : (ts : Declared) (ps : List ObjectDraft) → FieldsApart ts → AllByRecursion (Ascends ts) ps → list_any (part_misfits ts) ps ≡ wrong_kind ts ps
 wrong_same ts [] apart ascends = refl
 wrong_same ts (p ∷ ps) apart ascends =
     ap (λ b. b || list_any (part_misfits ts) ps) (part_same ts p (at_name p.type_name ts) refl apart ascends.0)

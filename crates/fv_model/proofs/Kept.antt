@@ -11,7 +11,7 @@ use Rattle.fv_datum.proofs.Lists.{each_of}
 use Rattle.fv_bundle.specs.Bundles.{Thing, Things, Bundled}
 use Rattle.fv_bundle.specs.Replaced.{changed_at, thing_with, bundle_with}
 use Rattle.fv_bundle.specs.WellTyped.{NamesObject, FitsUse, FieldsAre, FitsType, IsWellTyped, HasRootType}
-use Rattle.fv_model.specs.Setting.{use_of}
+use Rattle.fv_model.specs.Setting.{field_use_of}
 use Rattle.fv_model.proofs.Sound.{Is}
 
 -- ---- references to the objects of one bundle, in another
@@ -109,19 +109,19 @@ module _ (os qs : Things) (more : (type name : List ℕ) → NamesObject os type
     fields_with [] (f ∷ fs) u holds new fit = absurd fit
     fields_with (d ∷ ds) [] u holds new fit = absurd fit
 
-    type_with : (ts : Declared) (t : Thing) (u : TypeUse) → use_of ts field t ≡ Some u → FitsUse qs u x → FitsType ts os t → FitsType ts qs (thing_with field x t)
+    type_with : (ts : Declared) (t : Thing) (u : TypeUse) → field_use_of ts field t ≡ Some u → FitsUse qs u x → FitsType ts os t → FitsType ts qs (thing_with field x t)
     type_with ts t u holds new h =
         let found : at_name field h.fields ≡ Some u = rw h.declared at holds in
         record { fields = h.fields; declared = h.declared; fit = fields_with h.fields t.fields u found new h.fit }
 
-    typed_at : (ts : Declared) (object : List ℕ) (b : Bool) (o : List ℕ × Thing) (ps rs : Things) (t : Thing) (u : TypeUse) → cond b (Some o.1) (at_name object ps) ≡ Some t → use_of ts field t ≡ Some u → FitsUse qs u x → FitsType ts os o.1
+    typed_at : (ts : Declared) (object : List ℕ) (b : Bool) (o : List ℕ × Thing) (ps rs : Things) (t : Thing) (u : TypeUse) → cond b (Some o.1) (at_name object ps) ≡ Some t → field_use_of ts field t ≡ Some u → FitsUse qs u x → FitsType ts os o.1
         → AllByRecursion (λ p. FitsType ts qs p.1) ps → (at_name object ps ≡ Some t → AllByRecursion (λ p. FitsType ts qs p.1) rs) → AllByRecursion (λ p. FitsType ts qs p.1) (cond b ((o.0, thing_with field x o.1) ∷ ps) (o ∷ rs))
     typed_at ts object true o ps rs t u there holds new typed rest other =
         let here : t ≡ o.1 = cc in
-        (type_with ts o.1 u (ap (use_of ts field) (sym here) ∙ holds) new typed, rest)
+        (type_with ts o.1 u (ap (field_use_of ts field) (sym here) ∙ holds) new typed, rest)
     typed_at ts object false o ps rs t u there holds new typed rest other = (type_kept ts o.1 typed, other there)
 
-    typed_with : (ts : Declared) (object : List ℕ) (ps : Things) (t : Thing) (u : TypeUse) → at_name object ps ≡ Some t → use_of ts field t ≡ Some u → FitsUse qs u x → AllByRecursion (λ p. FitsType ts os p.1) ps
+    typed_with : (ts : Declared) (object : List ℕ) (ps : Things) (t : Thing) (u : TypeUse) → at_name object ps ≡ Some t → field_use_of ts field t ≡ Some u → FitsUse qs u x → AllByRecursion (λ p. FitsType ts os p.1) ps
         → AllByRecursion (λ p. FitsType ts qs p.1) (changed_at object (thing_with field x) ps)
     typed_with ts object [] t u there holds new typed = tt
     typed_with ts object (o ∷ ps) t u there holds new typed =

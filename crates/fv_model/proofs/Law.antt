@@ -24,8 +24,8 @@ use Rattle.fv_bundle.specs.Names.{ObjectTypes}
 use Rattle.fv_bundle.proofs.Back.{read_back, none_large, none_refers}
 use Rattle.fv_bundle.specs.Bundles.{IsAscending, Thing, Things, Bundled}
 use Rattle.fv_datum.specs.Members.{pairs, each_some}
-use Rattle.fv_model.specs.Draft.{Part, Drafted, part_of, draft_of}
-use Rattle.fv_model.specs.Reading.{object_types, has_flaw, conditions, datum_at, field_of, object_of, bundle_of, bundle_read}
+use Rattle.fv_model.specs.Draft.{ObjectDraft, BundleDraft, object_draft, bundle_draft_of}
+use Rattle.fv_model.specs.Reading.{object_types, has_flaw, bundle_conditions, datum_at, given_field, object_of, bundle_of, bundle_read}
 use Rattle.fv_bundle.specs.Types.{TypeUse, DeclaredFields, Declared, AreApart, FieldsApart, name_at}
 use Rattle.fv_bundle.specs.WellTyped.{NamesObject, FitsUse, FieldsAre, FitsType, IsWellTyped, HasRootType}
 use Rattle.fv_model.specs.Writing.{datum_json, thing_json, bundle_json}
@@ -69,7 +69,7 @@ none_put b k d ms [] other none = tt
 none_put b k d ms (e ∷ ds) other none = (put_if b e.0 k d ms other.0 ∙ none.0, none_put b k d ms ds other.1 none.1)
 
 fields_back : (os : Things) (ds : DeclaredFields) (fs : List (List ℕ × Data)) (ms : json.Members) → AreApart ds → FieldsAre (NamesObject os) ds fs → AllByRecursion (λ e. get_member e.0 ms ≡ None) ds
-    → map (field_of (added ms fs)) ds ≡ fs
+    → map (given_field (added ms fs)) ds ≡ fs
 fields_back os [] [] ms apart fit none = refl
 fields_back os (d ∷ ds) (f ∷ fs) ms apart fit none =
     let now = cond (is_null f.1) ms (json.put f.0 (datum_json f.1) ms) in
@@ -79,8 +79,8 @@ fields_back os (d ∷ ds) (f ∷ fs) ms apart fit none =
     let kept : get_member d.0 (added now fs) ≡ get_member f.0 now = rw (← same) (added_other f.0 fs now (same_names os f.0 ds fs fit.1 others)) in
     let datum : datum_at d.1 (get_member d.0 (added now fs)) ≡ f.1 = ap (datum_at d.1) kept ∙ at_put os (is_null f.1) d.1 f.0 f.1 ms refl fit.0.1 here in
     let tail = fields_back os ds fs now (apart-tail d ds apart) fit.1 (none_put (is_null f.1) f.0 (datum_json f.1) ms ds others none.1) in
-    let head : field_of (added now fs) d ≡ f = ap (λ x. (x, datum_at d.1 (get_member d.0 (added now fs)))) (sym same) ∙ ap (λ x. (f.0, x)) datum in
-    ap (λ x. x ∷ map (field_of (added now fs)) ds) head ∙ ap (λ xs. f ∷ xs) tail
+    let head : given_field (added now fs) d ≡ f = ap (λ x. (x, datum_at d.1 (get_member d.0 (added now fs)))) (sym same) ∙ ap (λ x. (f.0, x)) datum in
+    ap (λ x. x ∷ map (given_field (added now fs)) ds) head ∙ ap (λ xs. f ∷ xs) tail
 fields_back os [] (f ∷ fs) ms apart fit none = absurd fit
 fields_back os (d ∷ ds) [] ms apart fit none = absurd fit
 
@@ -177,7 +177,7 @@ none_there (d ∷ ds) = (refl, none_there ds)
 -- ---- one object
 
 -- an object of a declared type has a flaw where its data have it
-pub flaw_known : (flaw : Flaw) (ts : Declared) (p : Part) (ds : DeclaredFields) → at_name p.type_name ts ≡ Some ds → has_flaw flaw ts p ≡ flaw_among flaw ds (pairs p.given)
+pub flaw_known : (flaw : Flaw) (ts : Declared) (p : ObjectDraft) (ds : DeclaredFields) → at_name p.type_name ts ≡ Some ds → has_flaw flaw ts p ≡ flaw_among flaw ds (pairs p.given)
 unfolding has_flaw
 flaw_known flaw ts p ds is = rw is refl
 
@@ -185,7 +185,7 @@ abbrev the_thing : List ℕ → List (List ℕ × Data) → Thing
 the_thing type fields = record { type_name = type; fields = fields }
 
 -- an object as it is given by what is written of it
-abbrev pub part_for : List ℕ × Thing → Part
+abbrev pub part_for : List ℕ × Thing → ObjectDraft
 part_for o = record { name = o.0; type_name = o.1.type_name; given = added json.no_members o.1.fields }
 
 -- no fault at an object, which is read as it was
@@ -204,9 +204,9 @@ object_back ts os types o ts_apart agree fits_type =
     let ds : DeclaredFields = fits_type.fields in
     let is : at_name o.1.type_name ts ≡ Some ds = fits_type.declared in
     let apart : AreApart ds = found_apart o.1.type_name ts ds ts_apart is in
-    let part : Part = part_for o in
+    let part : ObjectDraft = part_for o in
     let all = taken os types ds ds fs agree fits_type.fit (found_each ds apart) in
-    let back : map (field_of (added json.no_members fs)) ds ≡ fs = fields_back os ds fs json.no_members apart fits_type.fit (none_there ds) in
+    let back : map (given_field (added json.no_members fs)) ds ≡ fs = fields_back os ds fs json.no_members apart fits_type.fit (none_there ds) in
     record {
       typed = rw is refl;
       declared = flaw_known undeclared ts part ds is ∙ any_added (λ g. not (is_some (at_name g.0 ds))) fs json.no_members all.declared refl;
@@ -257,16 +257,16 @@ json_named : (os : Things) → keys_of (map json_of os) ≡ keys_of os
 json_named [] = refl
 json_named (o ∷ os) = ap (λ ns. o.0 ∷ ns) (json_named os)
 
-each_part : (os : Things) → each_some part_of (map json_of os) ≡ Some (map part_for os)
+each_part : (os : Things) → each_some object_draft (map json_of os) ≡ Some (map part_for os)
 each_part [] = refl
 each_part (o ∷ os) = rw (each_part os) refl
 
-parts_back : (os : Things) → IsAscending (keys_of os) → each_some part_of (pairs (objects_added json.no_members os)) ≡ Some (map part_for os)
+parts_back : (os : Things) → IsAscending (keys_of os) → each_some object_draft (pairs (objects_added json.no_members os)) ≡ Some (map part_for os)
 parts_back os ascending =
     let names : IsAscending (keys_of (map json_of os)) = subst (λ (ns : List (List ℕ)). IsAscending ns) (sym (json_named os)) ascending in
-    ap (each_some part_of) (written_last os json.no_members names) ∙ each_part os
+    ap (each_some object_draft) (written_last os json.no_members names) ∙ each_part os
 
-pub draft_back : (root : List ℕ) (os : Things) → IsAscending (keys_of os) → draft_of (bundle_json (record { root = root; objects = os })) ≡ Some (record { root = root; objects = map part_for os })
+pub draft_back : (root : List ℕ) (os : Things) → IsAscending (keys_of os) → bundle_draft_of (bundle_json (record { root = root; objects = os })) ≡ Some (record { root = root; objects = map part_for os })
 draft_back root os ascending = rw (parts_back os ascending) refl
 
 -- ---- the bundle
@@ -286,20 +286,20 @@ is_there (Some t) e = refl
 is_there None e = absurd (true≢false (sym e))
 
 -- what is given as it is written of a well-typed bundle
-abbrev pub draft_for : Bundled → Drafted
+abbrev pub draft_for : Bundled → BundleDraft
 draft_for b = record { root = b.root; objects = map part_for b.objects }
 
 pub drafted_back : (ts : Declared) (asked : Option (List ℕ)) (b : Bundled) → FieldsApart ts → IsWellTyped ts b → ((type : List ℕ) → asked ≡ Some type → HasRootType type b) → judged ts asked (Some (draft_for b)) ≡ Ok b
 drafted_back ts asked b apart well rooted =
     let os = b.objects in
-    let ps : List Part = map part_for os in
+    let ps : List ObjectDraft = map part_for os in
     let types = object_types ps in
     let all : AllByRecursion (IsBack ts types) os = each_of (λ o. FitsType ts os o.1) (IsBack ts types) os (λ o fits. object_back ts os types o apart (types_agree os) fits) well.typed in
     let few : nat_lt 256 (length ps) ≡ false = rw length-map (le-ltb 256 (length os) well.few) in
     let long : large_datum ts ps ≡ false = none_made (has_flaw is_large ts) part_for (IsBack ts types) os (λ o back. back.short) all in
     let there : root_missing b.root ps ≡ false = rw (types_agree os b.root) (is_there (at_name b.root os) well.rooted) in
     let none : draft_fault ts asked (record { root = b.root; objects = ps }) ≡ None =
-    no_first (conditions ts asked (record { root = b.root; objects = ps })) (
+    no_first (bundle_conditions ts asked (record { root = b.root; objects = ps })) (
       none_made (λ p. not (names p.name)) part_for (λ o. names o.0 ≡ true) os (λ o named. rw named refl) well.named,
       (
         there,

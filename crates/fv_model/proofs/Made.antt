@@ -5,9 +5,9 @@ use Rattle.std.specs.Map.{keys_of}
 use Rattle.fv_datum.specs.Data.{Data}
 use Rattle.fv_datum.specs.Lookup.{at_name}
 use Rattle.fv_bundle.specs.Bundles.{Thing}
-use Rattle.fv_model.specs.Draft.{Part}
+use Rattle.fv_model.specs.Draft.{ObjectDraft}
 use Rattle.fv_model.specs.Fitting.{field_misfits, part_misfits, unless_wrong}
-use Rattle.fv_model.specs.Reading.{field_of, object_of}
+use Rattle.fv_model.specs.Reading.{given_field, object_of}
 use Rattle.fv_bundle.specs.Types.{DeclaredFields, Declared, name_at, fields_at}
 
 -- each element's images by two functions, side by side
@@ -16,8 +16,8 @@ zip-maps f g [] = refl
 zip-maps f g (x ∷ xs) = ap (λ rest. (f x, g x) ∷ rest) (zip-maps f g xs)
 
 -- an object of the type of a number, whose data are those of its fields
-pub object_made : (ts : Declared) (p : Part) (n : ℕ) (fs : DeclaredFields) (ds : List Data) → at_name p.type_name ts ≡ Some fs → slice_get ts n ≡ Some (p.type_name, fs) → list_any (field_misfits p.given) fs ≡ false → map (λ f. (field_of p.given f).1) fs ≡ ds
+pub object_made : (ts : Declared) (p : ObjectDraft) (n : ℕ) (fs : DeclaredFields) (ds : List Data) → at_name p.type_name ts ≡ Some fs → slice_get ts n ≡ Some (p.type_name, fs) → list_any (field_misfits p.given) fs ≡ false → map (λ f. (given_field p.given f).1) fs ≡ ds
     → unless_wrong (part_misfits ts p) (object_of ts p).1 ≡ Ok (record { type_name = name_at ts n; fields = zip (keys_of (fields_at ts n)) ds })
 object_made ts p n fs ds known placed fit made =
     let with_fields : List (List ℕ × Data) → Thing = λ xs. record { type_name = p.type_name; fields = xs } in
-    rw (known, placed, fit, ← made) (ap (λ xs. Ok (with_fields xs)) (sym (zip-maps (λ f. f.0) (λ f. (field_of p.given f).1) fs)))
+    rw (known, placed, fit, ← made) (ap (λ xs. Ok (with_fields xs)) (sym (zip-maps (λ f. f.0) (λ f. (given_field p.given f).1) fs)))

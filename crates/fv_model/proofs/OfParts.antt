@@ -14,7 +14,7 @@ use Rattle.fv_bundle.specs.Bundles.{IsAscending, Things, Bundled}
 use Rattle.fv_bundle.specs.Typing.{ascend_behind}
 use Rattle.fv_bundle.specs.WellTyped.{IsWellTyped}
 use Rattle.fv_bundle.specs.declared.bundle.Bundle.{Bundle}
-use Rattle.fv_model.specs.Draft.{Part, Drafted, part_written}
+use Rattle.fv_model.specs.Draft.{ObjectDraft, BundleDraft, part_written}
 use Rattle.fv_model.specs.Reading.{object_types, objects_read}
 use Rattle.fv_model.specs.Views.{bundle_view}
 use Rattle.fv_model.specs.Writing.{named_written, bundle_written}
@@ -63,14 +63,14 @@ ascends_told (n ∷ ns) ordered = told_behind n ns ordered.0 ordered.1
 -- ---- the parts
 
 -- what is given as it is written of objects
-parts_are : (ps : List Part) (os : Things) → map part_written ps ≡ map named_written os → ps ≡ map part_for os
+parts_are : (ps : List ObjectDraft) (os : Things) → map part_written ps ≡ map named_written os → ps ≡ map part_for os
 parts_are [] [] is = refl
 parts_are [] (o ∷ os) is = cc
 parts_are (p ∷ ps) [] is = cc
 parts_are (p ∷ ps) (o ∷ os) is =
     let here : part_written p ≡ named_written o = cc in
     let more : map part_written ps ≡ map named_written os = cc in
-    ap₂ (λ (x : Part) xs. x ∷ xs) (ap (λ (w : List ℕ × (List ℕ × json.Members)). record { name = w.0; type_name = w.1.0; given = w.1.1 }) here) (parts_are ps os more)
+    ap₂ (λ (x : ObjectDraft) xs. x ∷ xs) (ap (λ (w : List ℕ × (List ℕ × json.Members)). record { name = w.0; type_name = w.1.0; given = w.1.1 }) here) (parts_are ps os more)
 
 parts_named : (os : Things) → keys_of (object_types (map part_for os)) ≡ keys_of os
 parts_named [] = refl
@@ -82,16 +82,16 @@ unless_apart : (ascend : Bool) (r : Result Bundled BundleFault) (b : Bundled) �
 unless_apart true r b e = e
 unless_apart false r b e = cc
 
-pub typed_of : (r : Result Bundle BundleFault) (ts : Declared) (d : Drafted) → FieldsApart ts → IfOk r (λ b. IsAscending (keys_of (bundle_view b).objects)) → Gives Memory bundle_view r (objects_read ts d) → IfOk r (λ b. IsWellTyped ts (bundle_view b))
+pub typed_of : (r : Result Bundle BundleFault) (ts : Declared) (d : BundleDraft) → FieldsApart ts → IfOk r (λ b. IsAscending (keys_of (bundle_view b).objects)) → Gives Memory bundle_view r (objects_read ts d) → IfOk r (λ b. IsWellTyped ts (bundle_view b))
 typed_of (Ok b) ts d apart ascending given =
     judged_well_typed ts None (Some d) (bundle_view b) apart ascending (objects_written b.objects.entries) (unless_apart (ascend_behind None (keys_of (object_types d.objects))) (judged ts None (Some d)) (bundle_view b) given)
 typed_of (Err e) ts d apart ascending given = tt
 
 -- objects that are given as those of a well-typed bundle are written
-pub back_of : (ts : Declared) (root : List ℕ) (ps : List Part) (b : Bundled) → FieldsApart ts → IsWellTyped ts b → (root, map part_written ps) ≡ bundle_written b → objects_read ts (record { root = root; objects = ps }) ≡ Ok b
+pub back_of : (ts : Declared) (root : List ℕ) (ps : List ObjectDraft) (b : Bundled) → FieldsApart ts → IsWellTyped ts b → (root, map part_written ps) ≡ bundle_written b → objects_read ts (record { root = root; objects = ps }) ≡ Ok b
 back_of ts root ps b apart well is =
     let named : root ≡ b.root = ap (λ (w : List ℕ × List (List ℕ × (List ℕ × json.Members))). w.0) is in
     let same : ps ≡ map part_for b.objects = parts_are ps b.objects (ap (λ (w : List ℕ × List (List ℕ × (List ℕ × json.Members))). w.1) is) in
     let ascend : ascend_behind None (keys_of (object_types (map part_for b.objects))) ≡ true = ap (ascend_behind None) (parts_named b.objects) ∙ ascends_told (keys_of b.objects) well.ascending in
-    ap₂ (λ (r : List ℕ) (qs : List Part). objects_read ts (record { root = r; objects = qs })) named same
+    ap₂ (λ (r : List ℕ) (qs : List ObjectDraft). objects_read ts (record { root = r; objects = qs })) named same
     ∙ ap (λ (a : Bool). if a then judged ts None (Some (draft_for b)) else Err Shape) ascend ∙ drafted_back ts None b apart well (λ type asked. cc)

@@ -22,7 +22,7 @@ use Rattle.fv_model.proofs.Typed.{chosen}
 use Rattle.fv_model.proofs.Wrong.{right}
 use Rattle.fv_model.specs.declared.fault.BundleFault.{BundleFault}
 use Rattle.fv_model.specs.declared.fault.BundleFault.TheVariants.{UnknownField, WrongKind, DanglingRef, RefType, TooLarge, NoObject}
-use Rattle.fv_model.specs.Setting.{use_of, conditions, datum_for, datum_given, datum_in_use}
+use Rattle.fv_model.specs.Setting.{field_use_of, set_conditions, datum_for, datum_given, datum_in_use}
 use Rattle.fv_model.proofs.Conditions.{types_of}
 
 some_of : {X : Type 0} (o : Option X) → not (is_some o) ≡ false → (x : X) × (o ≡ Some x)
@@ -64,7 +64,7 @@ pub record Is (ts : Declared) (os : Things) (field : List ℕ) (there : Option T
   pub object : Thing
   pub is_there : there ≡ Some object
   pub holds : TypeUse
-  pub declared : use_of ts field object ≡ Some holds
+  pub declared : field_use_of ts field object ≡ Some holds
   pub fits : FitsUse os holds d
 
 parts : (a b c e : Bool) (x y : Data) → unless_fault (first ((a, WrongKind) ∷ (b, DanglingRef) ∷ (c, RefType) ∷ (e, TooLarge) ∷ (false, NoObject) ∷ [])) x ≡ Ok y → (a ≡ false) × (b ≡ false) × (c ≡ false) × (e ≡ false) × (x ≡ y)
@@ -83,8 +83,8 @@ fits_use os u j d can is =
     let free : IsFree (missing (types_of os)) (other (types_of os)) u j = record { first = none.1; second = none.2; small = none.3 } in
     spelled_fits (NamesObject os) (missing (types_of os)) (other (types_of os)) u j d (λ type name k of there own. refers_at os type name (as_str k) of there own) (spelled.1 ∙ ap (λ x. Some x) same) can free
 
-at_use : (ts : Declared) (os : Things) (field : List ℕ) (j : json.Data) (t : Thing) (d : Data) (o : Option TypeUse) → use_of ts field t ≡ o → IsWritten d
-    → unless_fault (first (conditions ts (types_of os) field j (Some t))) (datum_for ts field j (Some t)) ≡ Ok d → Is ts os field (Some t) d
+at_use : (ts : Declared) (os : Things) (field : List ℕ) (j : json.Data) (t : Thing) (d : Data) (o : Option TypeUse) → field_use_of ts field t ≡ o → IsWritten d
+    → unless_fault (first (set_conditions ts (types_of os) field j (Some t))) (datum_for ts field j (Some t)) ≡ Ok d → Is ts os field (Some t) d
 at_use ts os field j t d None holds can is =
     let never : Err UnknownField ≡ Ok d = rw holds at is in
     cc
@@ -97,9 +97,9 @@ at_use ts os field j t d (Some u) holds can is = record {
 }
 
 sound : (ts : Declared) (os : Things) (field : List ℕ) (j : json.Data) (there : Option Thing) (d : Data) → IsWritten d
-    → unless_fault (first (conditions ts (types_of os) field j there)) (datum_for ts field j there) ≡ Ok d → Is ts os field there d
+    → unless_fault (first (set_conditions ts (types_of os) field j there)) (datum_for ts field j there) ≡ Ok d → Is ts os field there d
 sound ts os field j None d can is = cc
-sound ts os field j (Some t) d can is = at_use ts os field j t d (use_of ts field t) refl can is
+sound ts os field j (Some t) d can is = at_use ts os field j t d (field_use_of ts field t) refl can is
 
 -- the datum that is given for a field, where nothing is wrong with it
 pub sound_given : (ts : Declared) (b : Bundled) (object field : List ℕ) (j : json.Data) (d : Data) → IsWritten d → datum_given ts b object field j ≡ Ok d → Is ts b.objects field (at_name object b.objects) d

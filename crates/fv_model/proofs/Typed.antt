@@ -21,8 +21,8 @@ use Rattle.fv_bundle.specs.Spelled.{datum_of}
 use Rattle.fv_bundle.proofs.Fitted.{IsFree, spelled_fits}
 use Rattle.fv_bundle.specs.Bundles.{IsAscending, Bundled}
 use Rattle.fv_datum.specs.Members.{pairs}
-use Rattle.fv_model.specs.Draft.{Part, Drafted, draft_of}
-use Rattle.fv_model.specs.Reading.{has_flaw, object_types, conditions, datum_at, field_of, object_of, bundle_of, bundle_read}
+use Rattle.fv_model.specs.Draft.{ObjectDraft, BundleDraft, bundle_draft_of}
+use Rattle.fv_model.specs.Reading.{has_flaw, object_types, bundle_conditions, datum_at, given_field, object_of, bundle_of, bundle_read}
 use Rattle.fv_bundle.specs.Types.{TypeUse, DeclaredFields, Declared, FieldsApart, name_at}
 use Rattle.fv_model.specs.Views.{bundle_view}
 use Rattle.fv_bundle.specs.WellTyped.{NamesObject, FitsUse, FieldsAre, FitsType, IsWellTyped, HasRootType}
@@ -48,7 +48,7 @@ chosen true x rest y e = inl (refl, cc)
 chosen false x rest y e = inr (refl, e)
 
 -- where a name stands among the names of types, an object of that type has it
-named_object : (ts : Declared) (ps : List Part) (name type : List ℕ) → at_name name (object_types ps) ≡ Some type → NamesObject (map (object_of ts) ps) type name
+named_object : (ts : Declared) (ps : List ObjectDraft) (name type : List ℕ) → at_name name (object_types ps) ≡ Some type → NamesObject (map (object_of ts) ps) type name
 named_object ts [] name type e = cc
 named_object ts (p ∷ ps) name type e = elim (chosen (bytes_eq name p.name) p.type_name (at_name name (object_types ps)) type e) [
   | inl here ↦ ((object_of ts p).1, rw here.0 refl, here.1)
@@ -58,7 +58,7 @@ named_object ts (p ∷ ps) name type e = elim (chosen (bytes_eq name p.name) p.t
 same_name : (x y : List ℕ) → not (bytes_eq x y) ≡ false → x ≡ y
 same_name x y e = (bytes_eq-Decides x y).0 (not_false (bytes_eq x y) e)
 
-refers_at : (ts : Declared) (ps : List Part) (type name : List ℕ) (o : Option (List ℕ)) → option_map_or (λ n. not (is_some (at_name n (object_types ps)))) o false ≡ false → option_map_or (λ n. is_other type (at_name n (object_types ps))) o false ≡ false → o ≡ Some name → NamesObject (map (object_of ts) ps) type name
+refers_at : (ts : Declared) (ps : List ObjectDraft) (type name : List ℕ) (o : Option (List ℕ)) → option_map_or (λ n. not (is_some (at_name n (object_types ps)))) o false ≡ false → option_map_or (λ n. is_other type (at_name n (object_types ps))) o false ≡ false → o ≡ Some name → NamesObject (map (object_of ts) ps) type name
 refers_at ts ps type name None there own is = cc
 refers_at ts ps type name (Some s) there own is =
     let same : s ≡ name = cc in
@@ -98,14 +98,14 @@ missing types = referring (λ type name. not (is_some (at_name name types)))
 abbrev other : ObjectTypes → TypeUse → json.Data → Bool
 other types = referring (λ type name. is_other type (at_name name types))
 
-fits_some : (ts : Declared) (ps : List Part) (type : TypeUse) (j : json.Data) → IsSound (object_types ps) (Some type) j → IsWritten (datum_at type (Some j)) → FitsUse (map (object_of ts) ps) type (datum_at type (Some j))
+fits_some : (ts : Declared) (ps : List ObjectDraft) (type : TypeUse) (j : json.Data) → IsSound (object_types ps) (Some type) j → IsWritten (datum_at type (Some j)) → FitsUse (map (object_of ts) ps) type (datum_at type (Some j))
 fits_some ts ps type j sound can =
     let found = some_of (datum_of type j) sound.fits in
     let free : IsFree (missing (object_types ps)) (other (object_types ps)) type j = record { first = sound.there; second = sound.own; small = sound.short } in
     let written : IsWritten found.0 = rw found.1 at can in
     rw found.1 (spelled_fits (NamesObject (map (object_of ts) ps)) (missing (object_types ps)) (other (object_types ps)) type j found.0 (λ of name k is there own. refers_at ts ps of name (as_str k) there own is) found.1 written free)
 
-fits_at : (ts : Declared) (ps : List Part) (type : TypeUse) (o : Option json.Data) → ((j : json.Data) → o ≡ Some j → IsSound (object_types ps) (Some type) j) → IsWritten (datum_at type o) → FitsUse (map (object_of ts) ps) type (datum_at type o)
+fits_at : (ts : Declared) (ps : List ObjectDraft) (type : TypeUse) (o : Option json.Data) → ((j : json.Data) → o ≡ Some j → IsSound (object_types ps) (Some type) j) → IsWritten (datum_at type o) → FitsUse (map (object_of ts) ps) type (datum_at type o)
 fits_at ts ps type None h can = inl refl
 fits_at ts ps type (Some j) h can = fits_some ts ps type j (h j refl) can
 
@@ -116,7 +116,7 @@ record AreSound (types : ObjectTypes) (all : DeclaredFields) (given : List (List
   own : flaw_among (strays types) all given ≡ false
   short : flaw_among is_large all given ≡ false
 
-fits_found : (ts : Declared) (ps : List Part) (all : DeclaredFields) (given : json.Members) (f : List ℕ × TypeUse) → AreSound (object_types ps) all (pairs given) → at_name f.0 all ≡ Some f.1 → IsWritten (datum_at f.1 (get_member f.0 given)) → FitsUse (map (object_of ts) ps) f.1 (datum_at f.1 (get_member f.0 given))
+fits_found : (ts : Declared) (ps : List ObjectDraft) (all : DeclaredFields) (given : json.Members) (f : List ℕ × TypeUse) → AreSound (object_types ps) all (pairs given) → at_name f.0 all ≡ Some f.1 → IsWritten (datum_at f.1 (get_member f.0 given)) → FitsUse (map (object_of ts) ps) f.1 (datum_at f.1 (get_member f.0 given))
 fits_found ts ps all given f sound found can =
     fits_at ts ps f.1 (get_member f.0 given) (λ j is. record {
       fits = rw found at (none_at (λ g. misfits (at_name g.0 all) g.1) f.0 given j is sound.fits);
@@ -125,27 +125,27 @@ fits_found ts ps all given f sound found can =
       short = rw found at (none_at (λ g. is_large (at_name g.0 all) g.1) f.0 given j is sound.short);
     }) can
 
-fields_fit : (ts : Declared) (ps : List Part) (all ds : DeclaredFields) (given : json.Members) → AreSound (object_types ps) all (pairs given) → AllByRecursion (λ e. at_name e.0 all ≡ Some e.1) ds → AllByRecursion (λ f. IsWritten f.1) (map (field_of given) ds)
-    → FieldsAre (NamesObject (map (object_of ts) ps)) ds (map (field_of given) ds)
+fields_fit : (ts : Declared) (ps : List ObjectDraft) (all ds : DeclaredFields) (given : json.Members) → AreSound (object_types ps) all (pairs given) → AllByRecursion (λ e. at_name e.0 all ≡ Some e.1) ds → AllByRecursion (λ f. IsWritten f.1) (map (given_field given) ds)
+    → FieldsAre (NamesObject (map (object_of ts) ps)) ds (map (given_field given) ds)
 fields_fit ts ps all [] given sound known can = tt
 fields_fit ts ps all (d ∷ ds) given sound known can = ((refl, fits_found ts ps all given d sound known.0 can.0), fields_fit ts ps all ds given sound known.1 can.1)
 
 -- ---- the object
 
 -- no fault at an object
-record IsSoundPart (ts : Declared) (types : ObjectTypes) (p : Part) : Type 0 where
+record IsSoundPart (ts : Declared) (types : ObjectTypes) (p : ObjectDraft) : Type 0 where
   typed : not (is_some (at_name p.type_name ts)) ≡ false
   fits : has_flaw misfits ts p ≡ false
   there : has_flaw (dangles types) ts p ≡ false
   own : has_flaw (strays types) ts p ≡ false
   short : has_flaw is_large ts p ≡ false
 
-fits_known : (ts : Declared) (ps : List Part) (p : Part) (ds : DeclaredFields) → FieldsApart ts → at_name p.type_name ts ≡ Some ds → AreSound (object_types ps) ds (pairs p.given) → AreWritten (object_of ts p) → FitsType ts (map (object_of ts) ps) (object_of ts p).1
+fits_known : (ts : Declared) (ps : List ObjectDraft) (p : ObjectDraft) (ds : DeclaredFields) → FieldsApart ts → at_name p.type_name ts ≡ Some ds → AreSound (object_types ps) ds (pairs p.given) → AreWritten (object_of ts p) → FitsType ts (map (object_of ts) ps) (object_of ts p).1
 fits_known ts ps p ds apart is given can =
     let fit = fields_fit ts ps ds ds p.given given (found_each ds (found_apart p.type_name ts ds apart is)) (rw is at can) in
     record { fields = ds; declared = is; fit = rw is fit }
 
-fits_type : (ts : Declared) (ps : List Part) (p : Part) → FieldsApart ts → IsSoundPart ts (object_types ps) p → AreWritten (object_of ts p) → FitsType ts (map (object_of ts) ps) (object_of ts p).1
+fits_type : (ts : Declared) (ps : List ObjectDraft) (p : ObjectDraft) → FieldsApart ts → IsSoundPart ts (object_types ps) p → AreWritten (object_of ts p) → FitsType ts (map (object_of ts) ps) (object_of ts p).1
 fits_type ts ps p apart sound can =
     let found = some_of (at_name p.type_name ts) sound.typed in
     fits_known ts ps p found.0 apart found.1 (record {
@@ -158,7 +158,7 @@ fits_type ts ps p apart sound can =
 -- ---- the bundle
 
 -- none of the faults
-pub record IsFaultless (ts : Declared) (asked : Option (List ℕ)) (root : List ℕ) (ps : List Part) : Type 0 where
+pub record IsFaultless (ts : Declared) (asked : Option (List ℕ)) (root : List ℕ) (ps : List ObjectDraft) : Type 0 where
   pub named : bad_name ps ≡ false
   pub rooted : root_missing root ps ≡ false
   pub typed : unknown_type ts ps ≡ false
@@ -178,16 +178,16 @@ all_false : {E : Type 0} (cs : List (Bool × E)) → first cs ≡ None → AllBy
 all_false [] e = tt
 all_false (c ∷ cs) e = let parts = head_false c.0 c.1 (first cs) e in (parts.0, all_false cs parts.1)
 
-pub faultless : (ts : Declared) (asked : Option (List ℕ)) (d : Drafted) → draft_fault ts asked d ≡ None → IsFaultless ts asked d.root d.objects
+pub faultless : (ts : Declared) (asked : Option (List ℕ)) (d : BundleDraft) → draft_fault ts asked d ≡ None → IsFaultless ts asked d.root d.objects
 faultless ts asked d e =
-    let all = all_false (conditions ts asked d) e in
+    let all = all_false (bundle_conditions ts asked d) e in
     record { named = all.0; rooted = all.1.0; typed = all.1.1.0; declared = all.1.1.1.0; fits = all.1.1.1.1.0; there = all.1.1.1.1.1.0; own = all.1.1.1.1.1.1.0; small = all.1.1.1.1.1.1.1.0; type = all.1.1.1.1.1.1.1.1.0 }
 
 pub unless_none : {E Y : Type 0} (o : Option E) (y b : Y) → unless_fault o y ≡ Ok b → (o ≡ None) × (y ≡ b)
 unless_none None y b e = (refl, cc)
 unless_none (Some f) y b e = cc
 
-judged_ok : (ts : Declared) (asked : Option (List ℕ)) (o : Option Drafted) (b : Bundled) → judged ts asked o ≡ Ok b → (d : Drafted) × IsFaultless ts asked d.root d.objects × (bundle_of ts d ≡ b)
+judged_ok : (ts : Declared) (asked : Option (List ℕ)) (o : Option BundleDraft) (b : Bundled) → judged ts asked o ≡ Ok b → (d : BundleDraft) × IsFaultless ts asked d.root d.objects × (bundle_of ts d ≡ b)
 judged_ok ts asked None b e = cc
 judged_ok ts asked (Some d) b e =
     let found = unless_none (draft_fault ts asked d) (bundle_of ts d) b e in
@@ -197,7 +197,7 @@ all_of : {X Y : Type 0} (t : X → Bool) (f : X → Y) (P : Y → Type 0) (xs : 
 all_of t f P [] each none = tt
 all_of t f P (x ∷ xs) each none = (each x (or_left (t x) (list_any t xs) none), all_of t f P xs each (or_right (t x) (list_any t xs) none))
 
-typed_all : (ts : Declared) (all ps : List Part) → FieldsApart ts → unknown_type ts ps ≡ false → wrong_kind ts ps ≡ false → some_flawed (dangles (object_types all)) ts ps ≡ false → some_flawed (strays (object_types all)) ts ps ≡ false → large_datum ts ps ≡ false
+typed_all : (ts : Declared) (all ps : List ObjectDraft) → FieldsApart ts → unknown_type ts ps ≡ false → wrong_kind ts ps ≡ false → some_flawed (dangles (object_types all)) ts ps ≡ false → some_flawed (strays (object_types all)) ts ps ≡ false → large_datum ts ps ≡ false
     → AllByRecursion AreWritten (map (object_of ts) ps) → AllByRecursion (λ o. FitsType ts (map (object_of ts) all) o.1) (map (object_of ts) ps)
 typed_all ts all [] apart typed fits there own short can = tt
 typed_all ts all (p ∷ ps) apart typed fits there own short can =
@@ -213,7 +213,7 @@ typed_all ts all (p ∷ ps) apart typed fits there own short can =
           (or_right (has_flaw (strays (object_types all)) ts p) _ own) (or_right (has_flaw is_large ts p) _ short) can.1,
     )
 
-well_typed_of : (ts : Declared) (asked : Option (List ℕ)) (root : List ℕ) (ps : List Part) → FieldsApart ts → IsFaultless ts asked root ps → IsAscending (keys_of (map (object_of ts) ps)) → AllByRecursion AreWritten (map (object_of ts) ps) → IsWellTyped ts (record { root = root; objects = map (object_of ts) ps })
+well_typed_of : (ts : Declared) (asked : Option (List ℕ)) (root : List ℕ) (ps : List ObjectDraft) → FieldsApart ts → IsFaultless ts asked root ps → IsAscending (keys_of (map (object_of ts) ps)) → AllByRecursion AreWritten (map (object_of ts) ps) → IsWellTyped ts (record { root = root; objects = map (object_of ts) ps })
 well_typed_of ts asked root ps apart ok ascending can =
     let few : length ps ≤ 256 = ltb-false 256 (length ps) (or_left (nat_lt 256 (length ps)) (large_datum ts ps) ok.small) in
     let root_is = some_of (at_name root (object_types ps)) ok.rooted in
@@ -226,24 +226,24 @@ well_typed_of ts asked root ps apart ok ascending can =
       typed = typed_all ts ps ps apart ok.typed ok.fits ok.there ok.own (or_right (nat_lt 256 (length ps)) (large_datum ts ps) ok.small) can;
     }
 
-root_of : (ts : Declared) (type root : List ℕ) (ps : List Part) → IsFaultless ts (Some type) root ps → HasRootType type (record { root = root; objects = map (object_of ts) ps })
+root_of : (ts : Declared) (type root : List ℕ) (ps : List ObjectDraft) → IsFaultless ts (Some type) root ps → HasRootType type (record { root = root; objects = map (object_of ts) ps })
 root_of ts type root ps ok =
     let root_is = some_of (at_name root (object_types ps)) ok.rooted in
     let own : not (bytes_eq type root_is.0) ≡ false = rw root_is.1 at ok.type in
     named_object ts ps root type (rw (same_name type root_is.0 own) root_is.1)
 
-pub judged_well_typed : (ts : Declared) (asked : Option (List ℕ)) (o : Option Drafted) (b : Bundled) → FieldsApart ts → IsAscending (keys_of b.objects) → AllByRecursion AreWritten b.objects → judged ts asked o ≡ Ok b → IsWellTyped ts b
+pub judged_well_typed : (ts : Declared) (asked : Option (List ℕ)) (o : Option BundleDraft) (b : Bundled) → FieldsApart ts → IsAscending (keys_of b.objects) → AllByRecursion AreWritten b.objects → judged ts asked o ≡ Ok b → IsWellTyped ts b
 judged_well_typed ts asked o b apart ascending can e =
     let found = judged_ok ts asked o b e in
     subst (λ (c : Bundled). IsWellTyped ts c) found.2 (well_typed_of ts asked found.0.root found.0.objects apart found.1 (subst (λ (c : Bundled). IsAscending (keys_of c.objects)) (sym found.2) ascending)
     (subst (λ (c : Bundled). AllByRecursion AreWritten c.objects) (sym found.2) can))
 
 pub read_well_typed : (ts : Declared) (asked : Option (List ℕ)) (j : json.Data) (b : Bundled) → FieldsApart ts → IsAscending (keys_of b.objects) → AllByRecursion AreWritten b.objects → bundle_read ts asked j ≡ Ok b → IsWellTyped ts b
-read_well_typed ts asked j b apart ascending can e = judged_well_typed ts asked (draft_of j) b apart ascending can e
+read_well_typed ts asked j b apart ascending can e = judged_well_typed ts asked (bundle_draft_of j) b apart ascending can e
 
 pub read_root : (ts : Declared) (type : List ℕ) (j : json.Data) (b : Bundled) → bundle_read ts (Some type) j ≡ Ok b → HasRootType type b
 read_root ts type j b e =
-    let found = judged_ok ts (Some type) (draft_of j) b e in
+    let found = judged_ok ts (Some type) (bundle_draft_of j) b e in
     subst (λ (c : Bundled). HasRootType type c) found.2 (root_of ts type found.0.root found.0.objects found.1)
 
 -- ---- what the call answers

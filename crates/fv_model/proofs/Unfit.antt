@@ -16,7 +16,7 @@ use Rattle.fv_datum.proofs.Bools.{or_false}
 use Rattle.fv_datum.proofs.Lists.{none_made}
 use Rattle.fv_bundle.proofs.Small.{IsSmall, fits_small, never_large}
 use Rattle.fv_bundle.specs.Bundles.{Thing, Things, Bundled}
-use Rattle.fv_model.specs.Draft.{Drafted}
+use Rattle.fv_model.specs.Draft.{BundleDraft}
 use Rattle.fv_model.specs.Reading.{has_flaw, bundle_of, bundle_read}
 use Rattle.fv_model.specs.Unfit.{is_of_types}
 use Rattle.fv_bundle.specs.WellTyped.{NamesObject, FieldsAre, FitsType, IsWellTyped}
@@ -69,7 +69,7 @@ pub refused_for_types : (old ts : Declared) (asked : Option (List ℕ)) (a : Bun
 refused_for_types old ts asked a why typed e =
     let os = a.objects in
     let ps = map part_for os in
-    let d : Drafted = record { root = a.root; objects = ps } in
+    let d : BundleDraft = record { root = a.root; objects = ps } in
     let read : judged ts asked (Some d) ≡ Err why = ap (judged ts asked) (sym (draft_back a.root os typed.ascending)) ∙ e in
     let fault : draft_fault ts asked d ≡ Some why = fault_of (draft_fault ts asked d) (bundle_of ts d) why read in
     let named : bad_name ps ≡ false = none_made (λ p. not (names p.name)) part_for (λ o. names o.0 ≡ true) os (λ o is. rw is refl) typed.named in

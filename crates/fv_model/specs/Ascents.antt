@@ -6,7 +6,7 @@ use Rattle.fv_datum.specs.Lookup.{at_name}
 use Rattle.fv_datum.specs.Members.{pairs}
 use Rattle.fv_datum.specs.Ascending.{IsAscending}
 use Rattle.fv_bundle.specs.Types.{DeclaredFields, Declared}
-use Rattle.fv_model.specs.Draft.{Part}
+use Rattle.fv_model.specs.Draft.{ObjectDraft}
 
 -- members of which each is below those after it, where there are fields for them
 abbrev pub AscendsFor : Option DeclaredFields → json.Members → Type 0
@@ -14,5 +14,5 @@ AscendsFor None given = Unit {0}
 AscendsFor (Some fields) given = IsAscending (keys_of (pairs given))
 
 -- the same, of what an object of a declared type gives
-abbrev pub Ascends : Declared → Part → Type 0
+abbrev pub Ascends : Declared → ObjectDraft → Type 0
 Ascends ts p = AscendsFor (at_name p.type_name ts) p.given

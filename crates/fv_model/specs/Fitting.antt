@@ -3,7 +3,7 @@ use Rattle.std.specs.Prelude.{ℕ, List, Bool, false, Option, Some, None, Result
 use Rattle.std.specs.List.{list_any}
 use Rattle.serde_json.specs.Data as json
 use Rattle.serde_json.specs.Find.{get_member}
-use Rattle.fv_model.specs.Draft.{Part}
+use Rattle.fv_model.specs.Draft.{ObjectDraft}
 use Rattle.fv_bundle.specs.Flaws.{misfits}
 use Rattle.fv_bundle.specs.Types.{TypeUse, Declared}
 use Rattle.fv_model.specs.Reading.{fields_of}
@@ -20,7 +20,7 @@ abbrev pub field_misfits : json.Members → List ℕ × TypeUse → Bool
 field_misfits given f = misfits_given f.1 (get_member f.0 given)
 
 -- the same, of one of an object's fields
-abbrev pub part_misfits : Declared → Part → Bool
+abbrev pub part_misfits : Declared → ObjectDraft → Bool
 part_misfits ts p = list_any (field_misfits p.given) (fields_of ts p.type_name)
 
 -- the value, unless a datum is of another kind

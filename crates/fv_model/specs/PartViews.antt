@@ -16,5 +16,5 @@ given_view None = json.no_members
 given_view (Some m) = members_view m.now.entries
 
 -- an object of a draft
-abbrev pub part_view : Part → spec.Part
+abbrev pub part_view : Part → spec.ObjectDraft
 part_view p = record { name = p.name.now; type_name = p.type_name.now; given = given_view p.given }

@@ -17,7 +17,7 @@ use Rattle.fv_bundle.specs.Limits.{most_objects}
 use Rattle.fv_bundle.specs.Typing.{ascend_behind}
 use Rattle.fv_bundle.specs.Bundles.{Thing, Bundled}
 use Rattle.fv_datum.specs.Members.{pairs}
-use Rattle.fv_model.specs.Draft.{Part, Drafted, draft_of}
+use Rattle.fv_model.specs.Draft.{ObjectDraft, BundleDraft, bundle_draft_of}
 use Rattle.fv_model.specs.declared.fault.BundleFault.{BundleFault}
 use Rattle.fv_model.specs.declared.fault.BundleFault.TheVariants.{Shape, BadName, RootMissing, UnknownType, UnknownField, WrongKind, DanglingRef, RefType, TooLarge, RootType}
 
@@ -26,18 +26,18 @@ abbrev pub fields_of : Declared → List ℕ → DeclaredFields
 fields_of ts type = unwrap_or (at_name type ts) []
 
 -- the names of the objects that are given, each with the name of its type
-abbrev pub object_types : List Part → ObjectTypes
+abbrev pub object_types : List ObjectDraft → ObjectTypes
 object_types = map (λ p. (p.name, p.type_name))
 
 -- ---- what can be wrong
 
 -- one of the data that are given for an object's fields has the flaw; none where its type isn't declared
-unfoldable pub has_flaw : Flaw → Declared → Part → Bool
+unfoldable pub has_flaw : Flaw → Declared → ObjectDraft → Bool
 has_flaw flaw ts p = option_map_or (λ fields. list_any (λ g. flaw (at_name g.0 fields) g.1) (pairs p.given)) (at_name p.type_name ts) false
 
 -- what can be wrong, in the order in which it is answered
-abbrev pub conditions : Declared → Option (List ℕ) → Drafted → List (Bool × BundleFault)
-conditions ts asked d =
+abbrev pub bundle_conditions : Declared → Option (List ℕ) → BundleDraft → List (Bool × BundleFault)
+bundle_conditions ts asked d =
     (list_any (λ p. not (names p.name)) d.objects, BadName)  -- B1: an object's name is no name
     ∷ (not (is_some (at_name d.root (object_types d.objects))), RootMissing)  -- B2: the root names no object
     ∷ (list_any (λ p. not (is_some (at_name p.type_name ts))) d.objects, UnknownType)  -- B3: an object's type isn't declared
@@ -56,15 +56,15 @@ abbrev pub datum_at : TypeUse → Option json.Data → Data
 datum_at type_use given = unwrap_or (option_and_then (datum_of type_use) given) null
 
 -- a field with its datum among those that are given
-abbrev pub field_of : json.Members → List ℕ × TypeUse → List ℕ × Data
-field_of given f = (f.0, datum_at f.1 (get_member f.0 given))
+abbrev pub given_field : json.Members → List ℕ × TypeUse → List ℕ × Data
+given_field given f = (f.0, datum_at f.1 (get_member f.0 given))
 
 -- an object with its name: each field of its type, in the type's order
-abbrev pub object_of : Declared → Part → List ℕ × Thing
-object_of ts p = (p.name, record { type_name = p.type_name; fields = map (field_of p.given) (fields_of ts p.type_name) })
+abbrev pub object_of : Declared → ObjectDraft → List ℕ × Thing
+object_of ts p = (p.name, record { type_name = p.type_name; fields = map (given_field p.given) (fields_of ts p.type_name) })
 
 -- the bundle that a draft is
-abbrev pub bundle_of : Declared → Drafted → Bundled
+abbrev pub bundle_of : Declared → BundleDraft → Bundled
 bundle_of ts d = record { root = d.root; objects = map (object_of ts) d.objects }
 
 -- ---- a datum by itself
@@ -78,9 +78,9 @@ value_read type_use j =
 
 -- the bundle that a JSON value spells, its root of the asked type, or the first fault: B0 where it hasn't the form of a bundle
 abbrev pub bundle_read : Declared → Option (List ℕ) → json.Data → Result Bundled BundleFault
-bundle_read ts asked j = option_map_or (λ d. unless_fault (first (conditions ts asked d)) (bundle_of ts d)) (draft_of j) (Err Shape)
+bundle_read ts asked j = option_map_or (λ d. unless_fault (first (bundle_conditions ts asked d)) (bundle_of ts d)) (bundle_draft_of j) (Err Shape)
 
 -- the bundle of objects that are given one by one, or the first fault: B0 where their names don't ascend
-abbrev pub objects_read : Declared → Drafted → Result Bundled BundleFault
+abbrev pub objects_read : Declared → BundleDraft → Result Bundled BundleFault
 objects_read ts d =
-    if ascend_behind None (keys_of (object_types d.objects)) then unless_fault (first (conditions ts None d)) (bundle_of ts d) else Err Shape
+    if ascend_behind None (keys_of (object_types d.objects)) then unless_fault (first (bundle_conditions ts None d)) (bundle_of ts d) else Err Shape

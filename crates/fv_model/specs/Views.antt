@@ -6,5 +6,5 @@ use Rattle.fv_model.specs.Draft as spec
 use Rattle.fv_model.specs.declared.parts.Draft.{Draft}
 
 -- a draft
-abbrev pub draft_view : Draft → spec.Drafted
+abbrev pub draft_view : Draft → spec.BundleDraft
 draft_view d = record { root = d.root.now; objects = map part_view d.objects.items }

@@ -10,7 +10,7 @@ ghost use Rattle.fv_datum.specs.View.{view};
 ghost use Rattle.fv_bundle.specs.Bundles.{IsAscending};
 ghost use Rattle.fv_bundle.specs.Types.{type_use_view, fields_view};
 ghost use Rattle.fv_model.specs.Views.{types_view, given_view, part_view, draft_view, object_view, objects_view, bundle_view};
-ghost use Rattle.fv_model.specs.Reading.{object_types, datum_at, field_of, object_of, bundle_of};
+ghost use Rattle.fv_model.specs.Reading.{object_types, datum_at, given_field, object_of, bundle_of};
 ghost use Rattle.fv_model.specs.Fitting.{misfits_given, field_misfits, part_misfits, unless_wrong};
 ghost use Rattle.fv_model.specs.Writing.{IsWritten};
 
@@ -53,7 +53,7 @@ fn data_for(
 ) -> Result<Vec<Datum>, BundleFault>
     ensures exact { Gives BundleFault.Memory (λ v. map view v.items) result (unless_wrong
         (list_any (field_misfits (given_view given.entry)) (fields_view fields.now))
-        (map (λ f. (field_of (given_view given.entry) f).1) (fields_view fields.now))) }
+        (map (λ f. (given_field (given_view given.entry) f).1) (fields_view fields.now))) }
     ensures written { IfOk result (λ v. All (λ d. IsWritten (view d)) v.items) }
 {
     let mut out = Vec::with_capacity(alloc, fields.len())?;

@@ -8,7 +8,7 @@ ghost use Rattle.serde_json.specs.Data.{no_members};
 ghost use Rattle.serde_json.specs.Find.{as_object};
 ghost use Rattle.serde_json.specs.View.{view as json_view, members_view};
 ghost use Rattle.fv_datum.specs.Members.{pairs, each_some};
-ghost use Rattle.fv_model.specs.Draft.{part_of as spec_part, draft_of as spec_draft};
+ghost use Rattle.fv_model.specs.Draft.{object_draft as spec_part, bundle_draft_of as spec_draft};
 ghost use Rattle.fv_bundle.specs.Bundles.{IsAscending};
 ghost use Rattle.fv_model.specs.Reading.{object_types};
 ghost use Rattle.fv_model.specs.Views.{given_view, object_types_view, part_view, draft_view};

@@ -9,7 +9,7 @@ ghost use Rattle.fv_bundle.specs.Flaws.{is_other};
 ghost use Rattle.fv_bundle.specs.Types.{name_at};
 ghost use Rattle.fv_model.specs.Views.{types_view, part_view, draft_view};
 ghost use Rattle.fv_bundle.specs.Tells.{Tells};
-ghost use Rattle.fv_model.specs.Reading.{has_flaw, object_types, conditions};
+ghost use Rattle.fv_model.specs.Reading.{has_flaw, object_types, bundle_conditions};
 
 use crate::fault::BundleFault;
 use crate::parts::{Draft, Part};
@@ -61,7 +61,7 @@ fn root_type(type_name: &str, draft: &Draft) -> bool
 
 /// The first fault of a draft's names and types.
 pub(crate) fn name_fault(types: &Types, draft: &Draft) -> Option<BundleFault>
-    ensures { result ≡ first (take 3 (conditions (types_view types.now) None (draft_view draft.now))) }
+    ensures { result ≡ first (take 3 (bundle_conditions (types_view types.now) None (draft_view draft.now))) }
 {
     if bad_name(&draft.objects) {
         return Some(BundleFault::BadName);
@@ -84,7 +84,7 @@ pub(crate) fn late_fault(
 ) -> Option<BundleFault>
     requires { Tells flaws (object_types (draft_view draft.now).objects)
         (λ flaw. list_any (has_flaw flaw (types_view types.now)) (draft_view draft.now).objects) }
-    ensures { result ≡ first (drop 5 (conditions (types_view types.now) (option_map
+    ensures { result ≡ first (drop 5 (bundle_conditions (types_view types.now) (option_map
         (λ t. name_at (types_view types.now) t.index) asked) (draft_view draft.now))) }
 {
     if flaws.dangling {

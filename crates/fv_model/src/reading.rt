@@ -4,7 +4,7 @@ ghost use Rattle.serde_json.specs.View.{view as json_view};
 ghost use Rattle.fv_datum.specs.Outcomes.{Gives, first, unless_fault};
 ghost use Rattle.fv_bundle.specs.Types.{Declared, name_at};
 ghost use Rattle.fv_model.specs.Views.{types_view, draft_view, bundle_view};
-ghost use Rattle.fv_model.specs.Reading.{conditions, bundle_of, bundle_read};
+ghost use Rattle.fv_model.specs.Reading.{bundle_conditions, bundle_of, bundle_read};
 ghost use Rattle.std.specs.Map.{keys_of};
 ghost use Rattle.fv_bundle.specs.Bundles.{Bundled, IsAscending};
 ghost use Rattle.fv_bundle.specs.WellTyped.{IsWellTyped, HasRootType};
@@ -75,7 +75,7 @@ pub(crate) fn judged(
     draft: &Draft,
 ) -> Result<Bundle, BundleFault>
     ensures exact { Gives BundleFault.Memory bundle_view result
-        (unless_fault (first (conditions (types_view types.now) (option_map (λ t. name_at (types_view types.now) t.index) asked)
+        (unless_fault (first (bundle_conditions (types_view types.now) (option_map (λ t. name_at (types_view types.now) t.index) asked)
         (draft_view draft.now))) (bundle_of (types_view types.now) (draft_view draft.now))) }
     ensures ascending { IfOk result (λ b. IsAscending (keys_of (bundle_view b).objects)) }
 {

@@ -5,7 +5,7 @@ use Rattle.fv_bundle.specs.Bundles.{Bundled, Thing}
 use Rattle.fv_bundle.specs.Replaced.{bundle_with}
 use Rattle.fv_datum.specs.Lookup.{at_name}
 use Rattle.fv_datum.specs.Outcomes.{first}
-use Rattle.fv_model.specs.Setting.{use_of, is_flawed, conditions, datum_for, bundle_set}
+use Rattle.fv_model.specs.Setting.{field_use_of, is_flawed, set_conditions, datum_for, bundle_set}
 use Rattle.fv_model.specs.declared.fault.BundleFault.{BundleFault}
 use Rattle.fv_model.specs.declared.fault.BundleFault.TheVariants.{Shape, BadName, RootMissing, UnknownType, UnknownField, WrongKind, DanglingRef, RefType, TooLarge, RootType, NoObject, Memory}
 use Rattle.fv_bundle.specs.Names.{ObjectTypes}
@@ -29,11 +29,11 @@ has : (ts : Declared) (b : Bundled) (object field : List ℕ) (j : json.Data) (f
 unfolding has_fault
 has ts b object field j fault is =
     let there = at_name object b.objects in
-    holds (has_fault ts (types_of b) field j there) (conditions ts (types_of b) field j there) fault (refl, (refl, (refl, (refl, (refl, (refl, tt))))))
-    (fault_of (first (conditions ts (types_of b) field j there)) (bundle_with object field (datum_for ts field j there) b) fault is)
+    holds (has_fault ts (types_of b) field j there) (set_conditions ts (types_of b) field j there) fault (refl, (refl, (refl, (refl, (refl, (refl, tt))))))
+    (fault_of (first (set_conditions ts (types_of b) field j there)) (bundle_with object field (datum_for ts field j there) b) fault is)
 
 -- of an object that is there
-has_flaw : (ts : Declared) (types : ObjectTypes) (field : List ℕ) (j : json.Data) (t : Thing) (fault : BundleFault) → has_fault ts types field j (Some t) fault ≡ flaw_of fault types (use_of ts field t) j
+has_flaw : (ts : Declared) (types : ObjectTypes) (field : List ℕ) (j : json.Data) (t : Thing) (fault : BundleFault) → has_fault ts types field j (Some t) fault ≡ flaw_of fault types (field_use_of ts field t) j
 unfolding has_fault
 has_flaw ts types field j t Shape = refl
 has_flaw ts types field j t BadName = refl
@@ -50,7 +50,7 @@ has_flaw ts types field j t Memory = refl
 
 -- where the object is there, its datum has the flaw
 pub in_field : (ts : Declared) (b : Bundled) (object field : List ℕ) (j : json.Data) (fault : BundleFault) (t : Thing) (u : Option TypeUse)
-    → bundle_set ts b object field j ≡ Err fault → at_name object b.objects ≡ Some t → use_of ts field t ≡ u → flaw_of fault (types_of b) u j ≡ true
+    → bundle_set ts b object field j ≡ Err fault → at_name object b.objects ≡ Some t → field_use_of ts field t ≡ u → flaw_of fault (types_of b) u j ≡ true
 in_field ts b object field j fault t u refused is declared =
     ap (λ (v : Option TypeUse). flaw_of fault (types_of b) v j) (sym declared)
     ∙ sym (has_flaw ts (types_of b) field j t fault)

@@ -3,7 +3,7 @@ use Rattle.std.specs.Prelude.{◌≡◌, ℕ, List, map, Some, None}
 use Rattle.serde_json.specs.Data as json
 use Rattle.fv_bundle.specs.Bundles.{Bundled, Thing}
 use Rattle.fv_datum.specs.Lookup.{at_name}
-use Rattle.fv_model.specs.Setting.{use_of}
+use Rattle.fv_model.specs.Setting.{field_use_of}
 use Rattle.fv_model.specs.declared.fault.BundleFault.{BundleFault}
 use Rattle.fv_model.specs.declared.fault.BundleFault.TheVariants.{UnknownField, NoObject}
 use Rattle.fv_bundle.specs.Names.{ObjectTypes}
@@ -26,7 +26,7 @@ pub record IsInDatum (ts : Declared) (b : Bundled) (object field : List ℕ) (j 
   pub thing : Thing
   pub held : TypeUse
   pub there : at_name object b.objects ≡ Some thing
-  pub declared : use_of ts field thing ≡ Some held
+  pub declared : field_use_of ts field thing ≡ Some held
   pub flawed : HasFlaw (flaw_of fault (types_of b)) (Some held) j p
   pub alone : IsAlone p
 
@@ -34,5 +34,5 @@ pub record IsInDatum (ts : Declared) (b : Bundled) (object field : List ℕ) (j 
 abbrev pub IsInSet : Declared → Bundled → List ℕ → List ℕ → json.Data → BundleFault → SetPlace → Type 0
 IsInSet ts b object field j fault at_object = (fault ≡ NoObject) × (at_name object b.objects ≡ None)  -- B10: there is no such object
 IsInSet ts b object field j fault at_field =  -- B4: there is, and its type doesn't have the field
-    (thing : Thing) × (fault ≡ UnknownField) × (at_name object b.objects ≡ Some thing) × (use_of ts field thing ≡ None)
+    (thing : Thing) × (fault ≡ UnknownField) × (at_name object b.objects ≡ Some thing) × (field_use_of ts field thing ≡ None)
 IsInSet ts b object field j fault (in_datum p) = IsInDatum ts b object field j fault p  -- B5 to B8

@@ -4,7 +4,7 @@ use Rattle.std.specs.List.{list_all}
 use Rattle.std.proofs.lemmas.Bool.{and_parts, and_from, false≢true}
 use Rattle.fv_path.specs.Nodes.{PathNode, field, index, key, list_element, map_key, map_value, is_node, is_field}
 use Rattle.fv_path.specs.Paths.{is_chain, IsPath}
-use Rattle.fv_path.specs.Texts.{node_text, nodes_text, text_of}
+use Rattle.fv_path.specs.Texts.{node_text, nodes_text, path_text_of}
 use Rattle.fv_path.specs.Reading.{stops, closes}
 use Rattle.fv_path.proofs.Determined.{named, is_told, told_node, determined}
 
@@ -75,14 +75,14 @@ dotted_field map_key r e sound = absurd (false≢true e)
 dotted_field map_value r e sound = absurd (false≢true e)
 
 -- the nodes' text of a path that has nodes is its text behind a dot
-pub dotted : (n : PathNode) (ns : List PathNode) → IsPath (n ∷ ns) → nodes_text (n ∷ ns) ≡ 46 ∷ text_of (n ∷ ns)
+pub dotted : (n : PathNode) (ns : List PathNode) → IsPath (n ∷ ns) → nodes_text (n ∷ ns) ≡ 46 ∷ path_text_of (n ∷ ns)
 dotted n ns path =
     let s = starts n ns path in
     let d = dotted_field n (nodes_text ns) s.first s.sound in
     rw d.2 refl
 
 -- only the path without nodes has no text
-pub text_some : (n : PathNode) (ns : List PathNode) → IsPath (n ∷ ns) → text_of (n ∷ ns) ≡ [] → ⊥
+pub text_some : (n : PathNode) (ns : List PathNode) → IsPath (n ∷ ns) → path_text_of (n ∷ ns) ≡ [] → ⊥
 text_some n ns path e =
     let s = starts n ns path in
     let d = dotted_field n (nodes_text ns) s.first s.sound in
@@ -90,7 +90,7 @@ text_some n ns path e =
     cc
 
 -- two paths with one text are equal
-pub text_same : (ns ms : List PathNode) → IsPath ns → IsPath ms → text_of ns ≡ text_of ms → ns ≡ ms
+pub text_same : (ns ms : List PathNode) → IsPath ns → IsPath ms → path_text_of ns ≡ path_text_of ms → ns ≡ ms
 text_same [] [] one two e = refl
 text_same [] (m ∷ ms) one two e = absurd (text_some m ms two (sym e))
 text_same (n ∷ ns) [] one two e = absurd (text_some n ns one e)

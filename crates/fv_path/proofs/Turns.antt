@@ -8,7 +8,7 @@ use Rattle.std.proofs.lemmas.Bool.{and_parts, and_from, both_ways}
 use Rattle.std.proofs.lemmas.List.Concat.{flat_map-append}
 use Rattle.fv_path.specs.Nodes.{PathNode, is_node, is_field}
 use Rattle.fv_path.specs.Paths.{may_stand, is_chain, is_path, IsPath}
-use Rattle.fv_path.specs.Texts.{node_text, nodes_text, text_of}
+use Rattle.fv_path.specs.Texts.{node_text, nodes_text, path_text_of}
 use Rattle.fv_path.specs.Reading.{Begins, BeginsWithNone}
 use Rattle.fv_path.proofs.Determined.{told_node, determined}
 use Rattle.fv_path.proofs.Joined.{closes_nodes, starts, dotted}
@@ -126,19 +126,19 @@ read_all begun path rest text read end = (read.done, read.nodes, sym (append-nil
 -- ---- the first node
 
 -- the text of a path that has nodes begins with the field that is its first
-pub first_begins : (n : PathNode) (ms : List PathNode) (text : List ℕ) → IsPath (n ∷ ms) → text_of (n ∷ ms) ≡ text → (is_field n ≡ true) × Begins (46 ∷ text) n (nodes_text ms)
+pub first_begins : (n : PathNode) (ms : List PathNode) (text : List ℕ) → IsPath (n ∷ ms) → path_text_of (n ∷ ms) ≡ text → (is_field n ≡ true) × Begins (46 ∷ text) n (nodes_text ms)
 first_begins n ms text path e =
     let s = starts n ms path in
     (s.first, record { node = s.sound; split = ap (λ l. 46 ∷ l) (sym e) ∙ sym (dotted n ms path); closed = closes_nodes n ms })
 
 -- a text that no field begins is of no path, unless it is empty
-pub none_first : (text : List ℕ) → (text ≡ [] → ⊥) → BeginsWithNone is_field (46 ∷ text) → (ns : List PathNode) → IsPath ns → text_of ns ≡ text → ⊥
+pub none_first : (text : List ℕ) → (text ≡ [] → ⊥) → BeginsWithNone is_field (46 ∷ text) → (ns : List PathNode) → IsPath ns → path_text_of ns ≡ text → ⊥
 none_first text some none [] path e = some (sym e)
 none_first text some none (n ∷ ms) path e = let b = first_begins n ms text path e in none n (nodes_text ms) b.0 b.1
 
 -- where the first node is read, and nothing goes on with it as the rest does, the text is of no path
 pub none_behind : (text rest : List ℕ) (n : PathNode) → (text ≡ [] → ⊥) → Begins (46 ∷ text) n rest
-    → ((ms : List PathNode) → IsPath (n ∷ ms) → nodes_text ms ≡ rest → ⊥) → (ns : List PathNode) → IsPath ns → text_of ns ≡ text → ⊥
+    → ((ms : List PathNode) → IsPath (n ∷ ms) → nodes_text ms ≡ rest → ⊥) → (ns : List PathNode) → IsPath ns → path_text_of ns ≡ text → ⊥
 none_behind text rest n some b none [] path e = some (sym e)
 none_behind text rest n some b none (m ∷ ms) path e =
     let c = first_begins m ms text path e in
@@ -146,14 +146,14 @@ none_behind text rest n some b none (m ∷ ms) path e =
     none ms (subst (λ x. IsPath (x ∷ ms)) same.0 path) same.1
 
 -- a path of the first node and of those that the rest reads as has the text
-pub text_whole : (text rest : List ℕ) (n : PathNode) (ms ns : List PathNode) → Begins (46 ∷ text) n rest → ns ≡ n ∷ ms → nodes_text ms ≡ rest → text_of ns ≡ text
-text_whole text rest n ms ns b all e = ap text_of all ∙ ap (drop 1) (ap (λ l. node_text n ++ l) e ∙ sym b.split)
+pub text_whole : (text rest : List ℕ) (n : PathNode) (ms ns : List PathNode) → Begins (46 ∷ text) n rest → ns ≡ n ∷ ms → nodes_text ms ≡ rest → path_text_of ns ≡ text
+text_whole text rest n ms ns b all e = ap path_text_of all ∙ ap (drop 1) (ap (λ l. node_text n ++ l) e ∙ sym b.split)
 
 -- what is read behind the first node is what the whole text reads as
 pub read_whole : {E : Type 0} (text rest : List ℕ) (n : PathNode) (begun : List PathNode) (r : Result (Option (List PathNode)) E) → (text ≡ [] → ⊥) → Begins (46 ∷ text) n rest → begun ≡ n ∷ []
     → IfOk r (λ o. MatchOption o ⊤ IsPath)
     → IfOk r (λ o. MatchOption o ((ms : List PathNode) → IsPath (begun ++ ms) → nodes_text ms ≡ rest → ⊥) (λ p. (ms : List PathNode) × (p ≡ begun ++ ms) × (nodes_text ms ≡ rest)))
-    → IfOk r (λ o. MatchOption o ((ns : List PathNode) → IsPath ns → text_of ns ≡ text → ⊥) (λ p. IsPath p × (text_of p ≡ text)))
+    → IfOk r (λ o. MatchOption o ((ns : List PathNode) → IsPath ns → path_text_of ns ≡ text → ⊥) (λ p. IsPath p × (path_text_of p ≡ text)))
 read_whole text rest n begun (Err e) some b is path clause = tt
 read_whole text rest n begun (Ok None) some b is path clause =
     none_behind text rest n some b (λ ms whole e. clause ms (subst (λ ns. IsPath (ns ++ ms)) (sym is) whole) e)

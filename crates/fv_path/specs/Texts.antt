@@ -18,5 +18,5 @@ abbrev pub nodes_text : List PathNode → List ℕ
 nodes_text = flat_map node_text
 
 -- the text of a path: that of its nodes, without the dot of the first, which is a field
-abbrev pub text_of : List PathNode → List ℕ
-text_of ns = drop 1 (nodes_text ns)
+abbrev pub path_text_of : List PathNode → List ℕ
+path_text_of ns = drop 1 (nodes_text ns)

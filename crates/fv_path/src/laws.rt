@@ -2,7 +2,7 @@
 //! may cite.
 ghost use Rattle.std.specs.Prelude.{◌≡◌, true};
 ghost use Rattle.fv_path.specs.Nodes.{is_node};
-ghost use Rattle.fv_path.specs.Texts.{text_of};
+ghost use Rattle.fv_path.specs.Texts.{path_text_of};
 ghost use Rattle.fv_path.specs.Views.{node_view};
 
 use crate::node::Node;
@@ -28,7 +28,7 @@ pub(crate) fn node_is_sound(node: &Node)
 
 /// Two paths with one text are equal.
 pub fn text_is_injective(left: &Path, right: &Path)
-    ensures { text_of left.now ≡ text_of right.now → left.now ≡ right.now }
+    ensures { path_text_of left.now ≡ path_text_of right.now → left.now ≡ right.now }
 {
     let _left = left.nodes();
     let _right = right.nodes();

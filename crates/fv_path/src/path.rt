@@ -1,6 +1,6 @@
 ghost use Rattle.std.specs.Prelude.{◌≡◌, [], ◌∷◌, ◌++◌, map, IfOk, OnOk, OnErr, MatchOption, string_bytes};
 ghost use Rattle.fv_path.specs.Paths.{is_path, IsPath};
-ghost use Rattle.fv_path.specs.Texts.{text_of};
+ghost use Rattle.fv_path.specs.Texts.{path_text_of};
 ghost use Rattle.fv_path.specs.Views.{node_view};
 
 use crate::laws::node_is_sound;
@@ -79,7 +79,7 @@ impl Path {
     /// brackets; a key is its compact JSON string in brackets; the others are `.<list element>`,
     /// `.<map key>` and `.<map value>`. No two paths have one text.
     pub fn write(&self, alloc: Global) -> Result<String, AllocError>
-        ensures { IfOk result (λ s. string_bytes s ≡ text_of self.now) }
+        ensures { IfOk result (λ s. string_bytes s ≡ path_text_of self.now) }
     {
         let mut text = String::new(alloc);
         let Some((first, others)) = self.nodes.split_first() else {

@@ -6,7 +6,7 @@ ghost use Rattle.fv_datum.specs.Name.{continues_name};
 ghost use Rattle.fv_path.specs.Nodes.{PathNode, is_field, is_index, is_key, is_part};
 ghost use Rattle.fv_path.specs.Paths.{IsPath};
 ghost use Rattle.fv_path.specs.Reading.{FindsNode};
-ghost use Rattle.fv_path.specs.Texts.{nodes_text, text_of};
+ghost use Rattle.fv_path.specs.Texts.{nodes_text, path_text_of};
 
 use crate::key::{key_of, string_len};
 use crate::node::Node;
@@ -18,8 +18,8 @@ use std::str;
 /// The path that a text is: none where it is the text of no path.
 pub fn read(alloc: Global, text: &str) -> Result<Option<Path>, AllocError>
     ensures { IfOk result (λ o. MatchOption o
-        ((ns : List PathNode) → IsPath ns → text_of ns ≡ text.now → ⊥)
-        (λ p. IsPath p × (text_of p ≡ text.now))) }
+        ((ns : List PathNode) → IsPath ns → path_text_of ns ≡ text.now → ⊥)
+        (λ p. IsPath p × (path_text_of p ≡ text.now))) }
 {
     let mut path = Path::new(alloc);
     if text.is_empty() {

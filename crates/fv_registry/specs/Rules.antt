@@ -29,8 +29,8 @@ lists_kind rule kind [] = false
 lists_kind rule kind (v ∷ vs) = if v.0 == rule then list_any (λ k. same_kind k kind) v.1 else lists_kind rule kind vs
 
 -- the rule of that number is registered for data and lists the kind
-abbrev pub takes : ℕ → Kind → Known → Bool
-takes rule kind k = lists_kind rule kind k.fields
+abbrev pub rule_takes_kind : ℕ → Kind → Known → Bool
+rule_takes_kind rule kind k = lists_kind rule kind k.fields
 
 -- ---- why a registry is refused
 

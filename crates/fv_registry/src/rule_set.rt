@@ -3,7 +3,7 @@ ghost use Rattle.std.specs.Prelude.{◌≡◌, map};
 ghost use Rattle.fv_datum.specs.View.{view};
 ghost use Rattle.fv_bundle.specs.Views.{object_view};
 ghost use Rattle.fv_registry.specs.Meanings.{Meanings, FieldsMean, ObjectsMean, answered, object_answered};
-ghost use Rattle.fv_registry.specs.Rules.{Known, knows_field, knows_object, takes};
+ghost use Rattle.fv_registry.specs.Rules.{Known, knows_field, knows_object, rule_takes_kind};
 
 use crate::meaning::Meaning;
 use crate::registry::Registry;
@@ -36,7 +36,7 @@ pub trait RuleSet {
 
     /// Whether a rule of data is there and takes data of the kind.
     fn takes(&self, rule: u32, kind: Kind) -> bool
-        ensures { result ≡ takes rule kind (known self.now) };
+        ensures { result ≡ rule_takes_kind rule kind (known self.now) };
 
     /// Whether a rule of data is there.
     fn knows_field(&self, rule: u32) -> bool

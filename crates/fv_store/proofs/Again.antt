@@ -9,7 +9,7 @@ use Rattle.fv_model.specs.Writing.{bundle_json, bundle_written}
 use Rattle.fv_model.proofs.Again.{alike, again_typed}
 use Rattle.fv_model.proofs.Typed.{read_root}
 use Rattle.fv_store.specs.Again.{with_bundle, all_read, ReadsUnder, AllRead}
-use Rattle.fv_store.specs.Records.{Kept, Records, Roots, Fits, Contents, AllFit, with_record, without_record}
+use Rattle.fv_store.specs.Records.{Kept, Records, Roots, RecordFits, Contents, AllFit, with_record, without_record}
 use Rattle.fv_store.specs.Written.{written_of, writings, with_written, without_written}
 
 -- ---- one record
@@ -18,7 +18,7 @@ use Rattle.fv_store.specs.Written.{written_of, writings, with_written, without_w
 abbrev IsReadAs : Declared → Roots → Kept → Bundled → Type 0
 IsReadAs types forms k b = (root : List ℕ) × (at_name k.form forms ≡ Some root) × (bundle_read types (Some root) (bundle_json k.bundle) ≡ Ok b)
 
-pub record_fits : (old types : Declared) (roots forms : Roots) (k : Kept) (b : Bundled) → FieldsApart types → Fits old roots k → IsReadAs types forms k b → Fits types forms (with_bundle k b)
+pub record_fits : (old types : Declared) (roots forms : Roots) (k : Kept) (b : Bundled) → FieldsApart types → RecordFits old roots k → IsReadAs types forms k b → RecordFits types forms (with_bundle k b)
 record_fits old types roots forms k b apart fits is = record {
   root = is.0;
   declared = is.1;
@@ -26,7 +26,7 @@ record_fits old types roots forms k b apart fits is = record {
   rooted = read_root types is.0 (bundle_json k.bundle) b is.2;
 }
 
-pub record_written : (old types : Declared) (roots forms : Roots) (k : Kept) (b : Bundled) → FieldsApart types → Fits old roots k → IsReadAs types forms k b → written_of (with_bundle k b) ≡ written_of k
+pub record_written : (old types : Declared) (roots forms : Roots) (k : Kept) (b : Bundled) → FieldsApart types → RecordFits old roots k → IsReadAs types forms k b → written_of (with_bundle k b) ≡ written_of k
 record_written old types roots forms k b apart fits is =
     let same : bundle_written b ≡ bundle_written k.bundle = alike old types (Some is.0) k.bundle b apart fits.typed is.2 in
     ap (λ w. record { form = k.form; root = w.0; objects = w.1 }) same
@@ -46,7 +46,7 @@ pub all_read_fit : (c : Contents) (bytes : List ℕ) (types : Declared) (forms :
     → AllFit (record { bytes = bytes; types = types; roots = forms; records = all_read read c.records })
 all_read_fit c bytes types forms read apart reads fit id k is =
     let parts = read_parts read (c.records id) k is in
-    subst (λ (x : Kept). Fits types forms x) parts.4 (record_fits c.types types c.roots forms parts.0 parts.1 apart (fit id parts.0 parts.2) (reads parts.0 parts.1 parts.3))
+    subst (λ (x : Kept). RecordFits types forms x) parts.4 (record_fits c.types types c.roots forms parts.0 parts.1 apart (fit id parts.0 parts.2) (reads parts.0 parts.1 parts.3))
 
 -- where each can be read, the same is written of all
 pub all_read_written : (c : Contents) (types : Declared) (forms : Roots) (read : Kept → Option Bundled) → FieldsApart types → ReadsUnder types forms read → AllFit c → AllRead read c.records → writings (all_read read c.records) ≡ writings c.records

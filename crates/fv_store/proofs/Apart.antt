@@ -11,10 +11,10 @@ use Rattle.fv_bundle.specs.Views.{named_view}
 use Rattle.fv_model.specs.Writing.{named_written}
 use Rattle.fv_bundle.specs.declared.bundle.Object.{Object}
 use Rattle.fv_store.specs.Written.{object_kept}
-use Rattle.fv_tables.specs.Changes.{AreApart, Things, has_name}
+use Rattle.fv_tables.specs.Changes.{AreApart, AllTexts, has_name}
 
 -- what the rows keep of a map's objects
-abbrev pub rows_of : List (String Global × Object) → Things
+abbrev pub rows_of : List (String Global × Object) → AllTexts
 rows_of es = map object_kept (map named_written (map named_view es))
 
 other_way : (a b : List ℕ) → bytes_eq a b ≡ false → bytes_eq b a ≡ false

@@ -19,7 +19,7 @@ use Rattle.fv_store.specs.declared.written.Written.{Written}
 use Rattle.sqlite.specs.declared.error.Error.{Error}
 use Rattle.fv_store.specs.Faults.{fault_of}
 use Rattle.fv_store.specs.Changes.{after, after_all, changed, ChangeFits, ChangesFit}
-use Rattle.fv_store.specs.Records.{Kept, Records, Contents, Fits, AllFit, with_record, without_record, with_thing, with_object, with_records}
+use Rattle.fv_store.specs.Records.{Kept, Records, Contents, RecordFits, AllFit, with_record, without_record, with_thing, with_object, with_records}
 use Rattle.fv_store.specs.Steps.{Keeps, IsRefusal}
 use Rattle.fv_store.specs.Written.{Writings, writings, entries, entry_of, written_of}
 use Rattle.fv_store.proofs.Kept.{all_kept}
@@ -27,9 +27,9 @@ use Rattle.fv_store.proofs.Named.{all_named}
 use Rattle.fv_tables.specs.Changes.{AllNamed}
 use Rattle.fv_tables.specs.Stands as tables
 use Rattle.fv_tables.specs.Stored.{rows_view}
-use Rattle.fv_store.specs.Stands.{Frame, Holds, about_rows}
+use Rattle.fv_store.specs.Stands.{Frame, HoldsRecords, about_rows}
 use Rattle.sqlite.specs.Order.{Row}
-use Rattle.fv_tables.specs.Stands.{Entries}
+use Rattle.fv_tables.specs.Stands.{TableEntries}
 use Rattle.fv_store.specs.Stock.{Stock}
 use Rattle.fv_store.specs.Stored.{stored_view, text_of, text_view, untyped, written_view}
 use Rattle.fv_store.proofs.Openings.{keeps_of, holds_as, holds_after}
@@ -48,26 +48,26 @@ given_is (Ok x) o h = cc
 
 module _ (s : State) (id : List ℕ) (clean : HasCleanDisk s) (live : IsTrue s.is_open) where
   pub rows_out : (r : Result (Option RecordRows) StoreFault)
-      → IfOk r (λ found. (d : List Row) (m : Entries) → tables.Keeps s d m → AllNamed m → option_map rows_view found ≡ m id)
-      → IfOk r (λ found. (c : Contents) → Holds s c → option_map rows_view found ≡ option_map entry_of (option_map written_of (c.records id)))
+      → IfOk r (λ found. (d : List Row) (m : TableEntries) → tables.Keeps s d m → AllNamed m → option_map rows_view found ≡ m id)
+      → IfOk r (λ found. (c : Contents) → HoldsRecords s c → option_map rows_view found ≡ option_map entry_of (option_map written_of (c.records id)))
   rows_out (Err e) h = tt
   rows_out (Ok found) h = λ c holds. h (about_rows c.bytes) (all_kept c.records) (keeps_of s c holds) (all_named c (holds clean live).0.fit)
 
 -- ---- what is written of a record
 
 module _ (s : State) (id : List ℕ) (found : Option RecordRows) (clean : HasCleanDisk s) (live : IsTrue s.is_open)
-    (shown : (c : Contents) → Holds s c → option_map rows_view found ≡ option_map entry_of (option_map written_of (c.records id))) where
+    (shown : (c : Contents) → HoldsRecords s c → option_map rows_view found ≡ option_map entry_of (option_map written_of (c.records id))) where
   pub text_out : (r : Result (Option Written) StoreFault)
       → IfOk r (λ w. (types : Declared) (o : Option Kept) → ForSome o (λ k. IsWellTyped types k.bundle)
       → option_map rows_view found ≡ option_map entry_of (option_map written_of o) → option_map text_view w ≡ option_map text_of o)
-      → IfOk r (λ w. (c : Contents) → Holds s c → option_map text_view w ≡ option_map text_of (c.records id))
+      → IfOk r (λ w. (c : Contents) → HoldsRecords s c → option_map text_view w ≡ option_map text_of (c.records id))
   text_out (Err e) h = tt
   text_out (Ok w) h = λ c holds. h c.types (c.records id) (λ k known. ((holds clean live).0.fit id k known).typed) (shown c holds)
 
   pub written_out : (r : Result (Option Written) StoreFault)
       → IfOk r (λ w. (types : Declared) (o : Option Kept) → has_deep types ≡ false → ForSome o (λ k. IsWellTyped types k.bundle)
       → option_map rows_view found ≡ option_map entry_of (option_map written_of o) → option_map written_view w ≡ option_map untyped o)
-      → IfOk r (λ w. (c : Contents) → has_deep c.types ≡ false → Holds s c → option_map written_view w ≡ option_map untyped (c.records id))
+      → IfOk r (λ w. (c : Contents) → has_deep c.types ≡ false → HoldsRecords s c → option_map written_view w ≡ option_map untyped (c.records id))
   written_out (Err e) h = tt
   written_out (Ok w) h = λ c few holds.
       h c.types (c.records id) few (λ k known. ((holds clean live).0.fit id k known).typed) (shown c holds)
@@ -75,26 +75,26 @@ module _ (s : State) (id : List ℕ) (found : Option RecordRows) (clean : HasCle
 -- ---- a record read under types
 
 module _ (s : State) (types : Declared) (id : List ℕ) (found : Option RecordRows) (r : Result (Option Stored) StoreFault) (clean : HasCleanDisk s) (live : IsTrue s.is_open)
-    (shown : (c : Contents) → Holds s c → option_map rows_view found ≡ option_map entry_of (option_map written_of (c.records id)))
+    (shown : (c : Contents) → HoldsRecords s c → option_map rows_view found ≡ option_map entry_of (option_map written_of (c.records id)))
     (gives : (o : Option Kept) → ForSome o (λ k. IsWellTyped types k.bundle) → option_map rows_view found ≡ option_map entry_of (option_map written_of o) → Gives Memory (option_map stored_view) r (Ok o)) where
-  handed : (c : Contents) → c.types ≡ types → Holds s c → Gives Memory (option_map stored_view) r (Ok (c.records id))
+  handed : (c : Contents) → c.types ≡ types → HoldsRecords s c → Gives Memory (option_map stored_view) r (Ok (c.records id))
   handed c same holds = gives (c.records id) (λ k known. subst (λ (ts : Declared). IsWellTyped ts k.bundle) same ((holds clean live).0.fit id k known).typed)
       (shown c holds)
 
-  pub handed_out : IfOk r (λ o. (c : Contents) → c.types ≡ types → Holds s c → option_map stored_view o ≡ c.records id)
+  pub handed_out : IfOk r (λ o. (c : Contents) → c.types ≡ types → HoldsRecords s c → option_map stored_view o ≡ c.records id)
   handed_out = go r handed
     where
-      go : (q : Result (Option Stored) StoreFault) → ((c : Contents) → c.types ≡ types → Holds s c → Gives Memory (option_map stored_view) q (Ok (c.records id)))
-          → IfOk q (λ o. (c : Contents) → c.types ≡ types → Holds s c → option_map stored_view o ≡ c.records id)
+      go : (q : Result (Option Stored) StoreFault) → ((c : Contents) → c.types ≡ types → HoldsRecords s c → Gives Memory (option_map stored_view) q (Ok (c.records id)))
+          → IfOk q (λ o. (c : Contents) → c.types ≡ types → HoldsRecords s c → option_map stored_view o ≡ c.records id)
       go (Err e) h = tt
       go (Ok x) h = λ c same holds. given_is (Ok x) (c.records id) (h c same holds)
 
   -- what is held is refused for want of memory alone
-  pub never_refused : (F : Type 0) → IfErr r (λ e. e ≡ Store → (c : Contents) → c.types ≡ types → Holds s c → F)
+  pub never_refused : (F : Type 0) → IfErr r (λ e. e ≡ Store → (c : Contents) → c.types ≡ types → HoldsRecords s c → F)
   never_refused F = go r handed
     where
-      go : (q : Result (Option Stored) StoreFault) → ((c : Contents) → c.types ≡ types → Holds s c → Gives Memory (option_map stored_view) q (Ok (c.records id)))
-          → IfErr q (λ e. e ≡ Store → (c : Contents) → c.types ≡ types → Holds s c → F)
+      go : (q : Result (Option Stored) StoreFault) → ((c : Contents) → c.types ≡ types → HoldsRecords s c → Gives Memory (option_map stored_view) q (Ok (c.records id)))
+          → IfErr q (λ e. e ≡ Store → (c : Contents) → c.types ≡ types → HoldsRecords s c → F)
       go (Ok x) h = tt
       go (Err e) h = λ is c same holds. absurd (let wrong = h c same holds (λ memory. let other : Store ≡ Memory = sym is ∙ memory in cc) in cc)
 
@@ -103,27 +103,27 @@ is_refusal e is memory = let wrong : Memory ≡ Store = sym (ap fault_of memory)
 
 -- ---- changes
 
-fits_with : (k : Contents) (id : List ℕ) (kept : Kept) → Fits k.types k.roots kept → AllFit k → AllFit (with_records (with_record id kept k.records) k)
+fits_with : (k : Contents) (id : List ℕ) (kept : Kept) → RecordFits k.types k.roots kept → AllFit k → AllFit (with_records (with_record id kept k.records) k)
 fits_with k id kept fits fit other e known = go (bytes_eq other id) (k.records other) (fit other e) known
   where
-    go : (b : Bool) (o : Option Kept) → (o ≡ Some e → Fits k.types k.roots e) → cond b (Some kept) o ≡ Some e → Fits k.types k.roots e
-    go true o were is = let same : kept ≡ e = cc in subst (Fits k.types k.roots) same fits
+    go : (b : Bool) (o : Option Kept) → (o ≡ Some e → RecordFits k.types k.roots e) → cond b (Some kept) o ≡ Some e → RecordFits k.types k.roots e
+    go true o were is = let same : kept ≡ e = cc in subst (RecordFits k.types k.roots) same fits
     go false o were is = were is
 
 fits_without : (k : Contents) (id : List ℕ) → AllFit k → AllFit (with_records (without_record id k.records) k)
 fits_without k id fit other e known = go (bytes_eq other id) (k.records other) (fit other e) known
   where
-    go : (b : Bool) (o : Option Kept) → (o ≡ Some e → Fits k.types k.roots e) → cond b None o ≡ Some e → Fits k.types k.roots e
+    go : (b : Bool) (o : Option Kept) → (o ≡ Some e → RecordFits k.types k.roots e) → cond b None o ≡ Some e → RecordFits k.types k.roots e
     go true o were is = cc
     go false o were is = were is
 
-fits_with_object : (k : Contents) (id name : List ℕ) (t : Thing) → ((kept : Kept) → k.records id ≡ Some kept → Fits k.types k.roots (with_thing name t kept)) → AllFit k
+fits_with_object : (k : Contents) (id name : List ℕ) (t : Thing) → ((kept : Kept) → k.records id ≡ Some kept → RecordFits k.types k.roots (with_thing name t kept)) → AllFit k
     → AllFit (with_records (with_object id name t k.records) k)
 fits_with_object k id name t fits fit other e known = elim (cases_Bool (bytes_eq other id)) [
   | inl same ↦
       let is = (bytes_eq-Decides other id).0 same in
       let from = changed_from (k.records other) (rw same at known) in
-      subst (Fits k.types k.roots) from.2 (fits from.0 (subst (λ i. k.records i ≡ Some from.0) is from.1))
+      subst (RecordFits k.types k.roots) from.2 (fits from.0 (subst (λ i. k.records i ≡ Some from.0) is from.1))
   | inr apart ↦ fit other e (rw apart at known)
 ]
   where
@@ -142,15 +142,15 @@ fits_after_all (c ∷ cs) k fits fit = fits_after_all cs (with_records (after c 
 
 module _ (old new : State) (frame : Frame old new) where
   pub commit_made : (cs : List Change) → ((d : List ℕ) (m : Records) → Keeps old d m → Keeps new d (after_all cs m))
-      → (k : Contents) → AllFit (changed cs k) → Holds old k → Holds new (changed cs k)
+      → (k : Contents) → AllFit (changed cs k) → HoldsRecords old k → HoldsRecords new (changed cs k)
   commit_made cs h k fit = holds_after old new k (after_all cs k.records) frame (h k.bytes k.records) (λ _. fit)
 
   pub commit_done : (cs : List Change) → ((d : List ℕ) (m : Records) → Keeps old d m → Keeps new d (after_all cs m))
-      → (k : Contents) → ChangesFit k.types k.roots cs k.records → Holds old k → Holds new (changed cs k)
+      → (k : Contents) → ChangesFit k.types k.roots cs k.records → HoldsRecords old k → HoldsRecords new (changed cs k)
   commit_done cs h k fits = holds_after old new k (after_all cs k.records) frame (h k.bytes k.records) (fits_after_all cs k fits)
 
   pub commit_undone : {X E : Type 0} (q : Result X E) → ((d : List ℕ) (m : Records) → Keeps old d m → Keeps new d m)
-      → OnErr q ((k : Contents) → Holds old k → Holds new k)
+      → OnErr q ((k : Contents) → HoldsRecords old k → HoldsRecords new k)
   commit_undone (Ok x) h = tt
   commit_undone (Err e) h = λ k. holds_after old new k k.records frame (h k.bytes k.records) (λ fit. fit)
 
@@ -158,7 +158,7 @@ module _ (old new : State) (frame : Frame old new) where
 
   -- other contents of which the same is written, under these declarations
   pub declared : (text : List ℕ) → ((d : List ℕ) (m : Records) → Keeps old d m → Keeps new text m)
-      → (k after : Contents) → after.bytes ≡ text → writings after.records ≡ writings k.records → AllFit after → Holds old k → Holds new after
+      → (k after : Contents) → after.bytes ≡ text → writings after.records ≡ writings k.records → AllFit after → HoldsRecords old k → HoldsRecords new after
   declared text h k after is same fit = holds_as old new k after frame
       (λ keeps. subst (λ (d : List ℕ). Keeps new d after.records) (sym is) (subst (λ (ws : Writings). tables.Keeps new (about_rows text) (entries ws)) (sym same) (h k.bytes k.records keeps)))
       (λ _. fit)

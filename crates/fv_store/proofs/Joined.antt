@@ -12,13 +12,13 @@ use Rattle.fv_store.specs.Texts.{bundle_text, object_text, objects_text, rows_te
 use Rattle.fv_store.specs.Written.{fields_text, object_kept}
 use Rattle.fv_store.specs.Records.{Kept}
 use Rattle.fv_store.specs.Written.{written_of, entry_of}
-use Rattle.fv_tables.specs.Changes.{Things}
-use Rattle.fv_tables.specs.Stands.{Entry, Part}
+use Rattle.fv_tables.specs.Changes.{AllTexts}
+use Rattle.fv_tables.specs.Stands.{Entry, ObjectTexts}
 use Rattle.fv_tables.specs.Stored.{rows_view, things_view}
 use Rattle.fv_tables.specs.declared.entry.RecordRows.{RecordRows}
 
 -- what the rows keep of objects
-abbrev pub kept : List (List ℕ × Thing) → Things
+abbrev pub kept : List (List ℕ × Thing) → AllTexts
 kept os = map object_kept (map named_written os)
 
 object_is : (name : List ℕ) (t : Thing) (rest : List ℕ) → quoted name ++ 58 ∷ (compact_text (thing_json t) ++ rest) ≡ object_text (object_kept (named_written (name, t))) ++ rest
@@ -48,7 +48,7 @@ pub kept_text : (k : Kept) (rows : RecordRows) (text : List ℕ) → text ≡ ro
 kept_text k rows text is ascending same = is ∙ ap (λ (e : Entry). rows_text e.root e.objects) same ∙ text_is k.bundle ascending
 
 -- one object more
-pub one_behind : (left front after new : List ℕ) (o : List ℕ × Part) (os : Things) → after ≡ left ++ front → new ≡ after ++ object_text o
+pub one_behind : (left front after new : List ℕ) (o : List ℕ × ObjectTexts) (os : AllTexts) → after ≡ left ++ front → new ≡ after ++ object_text o
     → new ++ objects_text (codes ",") os ≡ left ++ objects_text front (o ∷ os)
 one_behind left front after new o os pushed added =
     let text = object_text o in

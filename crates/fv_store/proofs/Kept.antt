@@ -7,14 +7,14 @@ use Rattle.fv_model.specs.Writing.{named_written}
 use Rattle.fv_store.specs.Records.{Kept, Records, with_record, without_record, with_thing, with_object}
 use Rattle.fv_store.specs.Written.{written_of, writings, entry_of, entries, object_kept}
 use Rattle.fv_tables.specs.Changes as change
-use Rattle.fv_tables.specs.Stands.{Part, Entry, Entries, with_entry, without_entry}
+use Rattle.fv_tables.specs.Stands.{ObjectTexts, Entry, TableEntries, with_entry, without_entry}
 
 -- what the rows keep of a record
 abbrev pub rows_kept : Kept → Entry
 rows_kept k = entry_of (written_of k)
 
 -- and of each
-abbrev pub all_kept : Records → Entries
+abbrev pub all_kept : Records → TableEntries
 all_kept m = entries (writings m)
 
 put_at : (b : Bool) (k : Kept) (o : Option Kept) → option_map entry_of (option_map written_of (cond b (Some k) o)) ≡ cond b (Some (rows_kept k)) (option_map entry_of (option_map written_of o))
@@ -34,14 +34,14 @@ kept_without id m = fun_ext (λ other. gone_at (bytes_eq other id) (m other))
 -- ---- one object
 
 -- the row of an object of that type and of these fields
-abbrev pub part_kept : List ℕ → Thing → Part
+abbrev pub part_kept : List ℕ → Thing → ObjectTexts
 part_kept name t = (object_kept (named_written (name, t))).1
 
 object_at : (name : List ℕ) (t : Thing) (os : List (List ℕ × Thing)) → map object_kept (map named_written (changed_at name (λ _. t) os)) ≡ change.with_object name (part_kept name t) (map object_kept (map named_written os))
 object_at name t [] = refl
 object_at name t (o ∷ os) = at (bytes_eq name o.0) (object_at name t os)
   where
-    rest : List (List ℕ × Part)
+    rest : List (List ℕ × ObjectTexts)
     rest = map object_kept (map named_written os)
 
     at : (b : Bool) → map object_kept (map named_written (changed_at name (λ _. t) os)) ≡ change.with_object name (part_kept name t) rest

@@ -8,9 +8,9 @@ use Rattle.fv_store.specs.Records.{Kept, Contents, AllFit}
 use Rattle.fv_store.specs.Written.{written_of, entry_of, object_kept}
 use Rattle.fv_store.proofs.Kept.{rows_kept, all_kept}
 use Rattle.fv_tables.specs.Changes.{AllNamed}
-use Rattle.fv_tables.specs.Stands.{Entry, Part}
+use Rattle.fv_tables.specs.Stands.{Entry, ObjectTexts}
 
-same_names : (os : List (List ℕ × Thing)) → map (λ (o : List ℕ × Part). o.0) (map object_kept (map named_written os)) ≡ keys_of os
+same_names : (os : List (List ℕ × Thing)) → map (λ (o : List ℕ × ObjectTexts). o.0) (map object_kept (map named_written os)) ≡ keys_of os
 same_names [] = refl
 same_names (o ∷ os) = ap (λ l. o.0 ∷ l) (same_names os)
 
@@ -23,4 +23,4 @@ pub all_named : (c : Contents) → AllFit c → AllNamed (all_kept c.records)
 all_named c fit id e is =
     let from = kept_from (c.records id) e is in
     let k = from.0 in
-    subst (λ (x : Entry). IsAscending (map (λ (o : List ℕ × Part). o.0) x.objects)) from.2 (subst IsAscending (sym (same_names k.bundle.objects)) (fit id k from.1).typed.ascending)
+    subst (λ (x : Entry). IsAscending (map (λ (o : List ℕ × ObjectTexts). o.0) x.objects)) from.2 (subst IsAscending (sym (same_names k.bundle.objects)) (fit id k from.1).typed.ascending)

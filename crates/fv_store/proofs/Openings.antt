@@ -12,7 +12,7 @@ use Rattle.fv_store.specs.Faults.{about_fault, open_fault_of, IsAboutFault}
 use Rattle.fv_store.specs.Records.{Kept, Records, Contents, AllFit, no_records, with_records}
 use Rattle.fv_tables.specs.About.{ShowsAbout, shown_about}
 use Rattle.fv_tables.specs.Tables.{store_schema}
-use Rattle.fv_store.specs.Stands.{Frame, Stands, StandsFirst, Holds, HoldsFirst, Opens, IsBlank, MayBeFirst, Stays, TellsAbout, about_rows, first_version, olds, tables_version}
+use Rattle.fv_store.specs.Stands.{Frame, Stands, StandsFirst, HoldsRecords, HoldsFirst, Opens, IsBlank, MayBeFirst, Stays, TellsAbout, about_rows, first_version, olds, tables_version}
 use Rattle.fv_store.specs.Steps.{Keeps, IsTaken, IsTakenAs, IsCaused, IsRefusal, IsOpenExcused, IsUpgraded}
 use Rattle.fv_store.specs.Stored.{Told, told}
 use Rattle.fv_store.proofs.Upgraded.{upgraded_olds}
@@ -98,19 +98,19 @@ never_blank db blank is = zero_is_not_three (ap (λ (s : Schema). length s.table
 
 -- ---- what stands
 
-pub keeps_of : (s : State) (k : Contents) → Holds s k → Keeps s k.bytes k.records
+pub keeps_of : (s : State) (k : Contents) → HoldsRecords s k → Keeps s k.bytes k.records
 keeps_of s k holds clean live = let it = holds clean live in (it.0.spells, it.1.spells)
 
 -- what is kept of records that fit stands
 pub holds_as : (old new : State) (k after : Contents) → Frame old new
-    → (Keeps old k.bytes k.records → Keeps new after.bytes after.records) → (AllFit k → AllFit after) → Holds old k → Holds new after
+    → (Keeps old k.bytes k.records → Keeps new after.bytes after.records) → (AllFit k → AllFit after) → HoldsRecords old k → HoldsRecords new after
 holds_as old new k after frame keeps fit holds sure live =
     let was = holds (frame.clean sure) (frame.was_open sure live) in
     let now = keeps (keeps_of old k holds) sure live in
     (record { spells = now.0; fit = fit was.0.fit }, record { spells = now.1; fit = fit was.1.fit })
 
 pub holds_after : (old new : State) (k : Contents) (after : Records) → Frame old new
-    → (Keeps old k.bytes k.records → Keeps new k.bytes after) → (AllFit k → AllFit (with_records after k)) → Holds old k → Holds new (with_records after k)
+    → (Keeps old k.bytes k.records → Keeps new k.bytes after) → (AllFit k → AllFit (with_records after k)) → HoldsRecords old k → HoldsRecords new (with_records after k)
 holds_after old new k after = holds_as old new k (with_records after k)
 
 no_record : (o : Option Kept) → o ≡ None → (kept : Kept) → o ≡ Some kept → ⊥
@@ -128,11 +128,11 @@ second_is_not_first : ◌≢◌ {A = ℕ} tables_version first_version
 second_is_not_first e = cc
 
 module _ (old new : State) (frame : Frame old new) where
-  pub holds_still : ((d : List ℕ) (m : Records) → Keeps old d m → Keeps new d m) → (k : Contents) → Holds old k → Holds new k
+  pub holds_still : ((d : List ℕ) (m : Records) → Keeps old d m → Keeps new d m) → (k : Contents) → HoldsRecords old k → HoldsRecords new k
   holds_still stays k = holds_after old new k k.records frame (stays k.bytes k.records) (λ fit. fit)
 
   -- what stands by version 2 stays
-  holds_stays : ((IsBlank old.now → ⊥) → Stays old new ⊎ (HasCleanDisk new → MayBeFirst old.now)) → (k : Contents) → Holds old k → Holds new k
+  holds_stays : ((IsBlank old.now → ⊥) → Stays old new ⊎ (HasCleanDisk new → MayBeFirst old.now)) → (k : Contents) → HoldsRecords old k → HoldsRecords new k
   holds_stays still k holds sure live =
       let was = holds (frame.clean sure) (frame.was_open sure live) in
       at was (still (λ blank. never_blank old.now blank was.0.spells.schema))
@@ -144,18 +144,18 @@ module _ (old new : State) (frame : Frame old new) where
       at was (inr first) = absurd (second_is_not_first ((first sure).1 tables_version k.bytes (tells_second k was.0)))
 
   -- and what stands by version 1 is migrated
-  holds_first : IsUpgraded old new → (k : Contents) → has_deep k.types ≡ false → HoldsFirst old k → Holds new k
+  holds_first : IsUpgraded old new → (k : Contents) → has_deep k.types ≡ false → HoldsFirst old k → HoldsRecords new k
   holds_first made k shallow holds sure live =
       let was = holds (frame.clean sure) (frame.was_open sure live) in
       let it = (made k.bytes (olds k.records) (λ clean is. let w = holds clean is in (w.0.spells, w.1.spells))).1 sure live in
       let same = upgraded_olds k.types k.records shallow (λ id kept known. (was.0.fit id kept known).typed) in (
-        record { spells = subst (tables.Stands new.now (about_rows k.bytes)) same it.0; fit = was.0.fit },
-        record { spells = subst (tables.Stands new.committed (about_rows k.bytes)) same it.1; fit = was.1.fit },
+        record { spells = subst (tables.TablesStand new.now (about_rows k.bytes)) same it.0; fit = was.0.fit },
+        record { spells = subst (tables.TablesStand new.committed (about_rows k.bytes)) same it.1; fit = was.1.fit },
       )
 
   -- what is opened over a blank database, or over one that stands, stands
   pub opens_ok : (given text : List ℕ) → (IsBlank old.now → (text ≡ given) × Keeps new given no_records) → ((IsBlank old.now → ⊥) → Stays old new ⊎ (HasCleanDisk new → MayBeFirst old.now))
-      → IsUpgraded old new → (k : Contents) → has_deep k.types ≡ false → Opens old given k → Holds new k
+      → IsUpgraded old new → (k : Contents) → has_deep k.types ≡ false → Opens old given k → HoldsRecords new k
   opens_ok given text fresh still made k shallow (inr (inl holds)) = holds_stays still k holds
   opens_ok given text fresh still made k shallow (inr (inr holds)) = holds_first made k shallow holds
   opens_ok given text fresh still made k shallow (inl blank) = λ sure live.

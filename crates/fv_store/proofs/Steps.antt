@@ -23,7 +23,7 @@ use Rattle.fv_tables.specs.Changes.{AreApart, object_view, objects_view, with_pa
 use Rattle.fv_tables.specs.Causes.{IsShortHead}
 use Rattle.fv_tables.specs.Causes as tables_short
 use Rattle.fv_tables.specs.Stands as tables
-use Rattle.fv_tables.specs.Stands.{Entry, Entries}
+use Rattle.fv_tables.specs.Stands.{Entry, TableEntries}
 use Rattle.fv_tables.specs.declared.text.ObjectText.{ObjectText}
 use Rattle.fv_tables.specs.Steps.{Always, Turns}
 use Rattle.fv_tables.proofs.Composed.{fewer_rooms}
@@ -47,16 +47,16 @@ module _ (id : List ℕ) (k : Kept) (objects : List ObjectText) (same : objects_
   put_makes x y turns d m spelled =
       let it = turns (about_rows d) (all_kept m) spelled apart in
       let is : given ≡ rows_kept k = ap (λ os. record { form = k.form; root = k.bundle.root; objects = os }) same in
-      let made = subst (λ (e : Entry). tables.Stands y (about_rows d) (tables.with_entry id e (all_kept m))) is it.0 in
+      let made = subst (λ (e : Entry). tables.TablesStand y (about_rows d) (tables.with_entry id e (all_kept m))) is it.0 in
       let count = so_many objects k same in
-      (subst (tables.Stands y (about_rows d)) (sym (kept_with id k m)) made, λ n room. it.1 n (fewer_rooms (n + (1 + length objects)) (n + (1 + length k.bundle.objects)) x (omega (arith, count)) room))
+      (subst (tables.TablesStand y (about_rows d)) (sym (kept_with id k m)) made, λ n room. it.1 n (fewer_rooms (n + (1 + length objects)) (n + (1 + length k.bundle.objects)) x (omega (arith, count)) room))
 
   pub put_made : (old new : State) (r : Result (Unit {0}) Error) → OnOk r (Advances old new (Turns (1 + length objects) (λ _. AreApart (objects_view objects)) (tables.with_entry id given)))
       → OnOk r (Advances old new (Makes (1 + length k.bundle.objects) (with_record id k)))
   put_made old new r = led_on_ok old new r put_makes
 
   pub put_excused : (old new : State) (r : Result (Unit {0}) Error)
-      → IfErr r (λ e. (d : List Row) (m : Entries) → tables.Stands old.now d m → AreApart (objects_view objects) → HasRooms (1 + length objects) old.now
+      → IfErr r (λ e. (d : List Row) (m : TableEntries) → tables.TablesStand old.now d m → AreApart (objects_view objects) → HasRooms (1 + length objects) old.now
       → IsShortHead id (record { form = k.form; root = k.bundle.root }) → tables_short.AreShort id (objects_view objects) → IsExcused old new e)
       → IfErr r (λ e. (d : List ℕ) (m : Records) → Spells old.now d (writings m) → HasRooms (1 + length k.bundle.objects) old.now → IsShort id k → IsExcused old new e)
   put_excused old new (Ok x) h = tt
@@ -68,7 +68,7 @@ module _ (id : List ℕ) (k : Kept) (objects : List ObjectText) (same : objects_
 set_makes : (id name : List ℕ) (t : Thing) (x y : Database) → Turns 0 Always (with_part_of id name (part_kept name t)) x y → Makes 0 (with_object id name t) x y
 set_makes id name t x y turns d m spelled =
     let it = turns (about_rows d) (all_kept m) spelled tt in
-    (subst (tables.Stands y (about_rows d)) (sym (kept_set id name t m)) it.0, it.1)
+    (subst (tables.TablesStand y (about_rows d)) (sym (kept_set id name t m)) it.0, it.1)
 
 pub set_made : (id name : List ℕ) (t : Thing) (old new : State) (r : Result (Unit {0}) Error) → OnOk r (Advances old new (Turns 0 Always (with_part_of id name (part_kept name t))))
     → OnOk r (Advances old new (Makes 0 (with_object id name t)))
@@ -77,13 +77,13 @@ set_made id name t old new r = led_on_ok old new r (set_makes id name t)
 remove_makes : (id : List ℕ) (x y : Database) → Turns 0 Always (tables.without_entry id) x y → Makes 0 (without_record id) x y
 remove_makes id x y turns d m spelled =
     let it = turns (about_rows d) (all_kept m) spelled tt in
-    (subst (tables.Stands y (about_rows d)) (sym (kept_without id m)) it.0, it.1)
+    (subst (tables.TablesStand y (about_rows d)) (sym (kept_without id m)) it.0, it.1)
 
 pub remove_made : (id : List ℕ) (old new : State) (r : Result (Unit {0}) Error) → OnOk r (Advances old new (Turns 0 Always (tables.without_entry id))) → OnOk r (Advances old new (Makes 0 (without_record id)))
 remove_made id old new r = led_on_ok old new r (remove_makes id)
 
 -- why a statement is refused, said of the records that its tables keep
-pub of_records : (s : State) (Refuses : Error → Type 0) (r : Result (Unit {0}) Error) → IfErr r (λ e. (d : List Row) (m : Entries) → tables.Stands s.now d m → Refuses e)
+pub of_records : (s : State) (Refuses : Error → Type 0) (r : Result (Unit {0}) Error) → IfErr r (λ e. (d : List Row) (m : TableEntries) → tables.TablesStand s.now d m → Refuses e)
     → IfErr r (λ e. (d : List ℕ) (m : Records) → Spells s.now d (writings m) → Refuses e)
 of_records s Refuses (Ok x) h = tt
 of_records s Refuses (Err e) h = λ d m. h (about_rows d) (all_kept m)
@@ -196,7 +196,7 @@ make_cause old mid new cs clean up e h d m keeps room short refused = elim (case
 
 -- the declarations were refused, and the transaction was undone
 pub declare_cause : (old mid new : State) (text : List ℕ) → HasCleanDisk old → mid.faults ≤ new.faults → (e : Error)
-    → ((d : List ℕ) (m : Entries) → tables.Stands old.now (about_rows d) m → IsShortAbout text → IsExcused (record old { in_transaction = true }) mid e)
+    → ((d : List ℕ) (m : TableEntries) → tables.TablesStand old.now (about_rows d) m → IsShortAbout text → IsExcused (record old { in_transaction = true }) mid e)
     → (d : List ℕ) (m : Records) → Keeps old d m → IsShortAbout text → IsExcused old new e
 declare_cause old mid new text clean up e h d m keeps short refused = elim (cases_Bool old.is_open) [
   | inl live ↦ failed_still old mid new up (h d (all_kept m) (keeps clean live).0 short refused)

@@ -18,7 +18,7 @@ use Rattle.fv_store.specs.Records.{Kept, Records}
 use Rattle.fv_store.specs.Stands.{old_of, olds}
 use Rattle.fv_store.specs.Written.{entries, fields_text, object_kept, written_of, writings}
 use Rattle.fv_store.specs.Written as kept
-use Rattle.fv_upgrade.specs.Upgraded.{bundle_in, entry_in, entry_of, object_in, upgraded}
+use Rattle.fv_upgrade.specs.Upgraded.{bundle_in, entry_in, upgraded_entry, object_in, upgraded}
 
 -- ---- plain JSON has no number that isn't whole
 
@@ -69,8 +69,8 @@ bundle_is types b shallow typed =
 
 record_is : (types : Declared) (k : Kept) → has_deep types ≡ false → IsWellTyped types k.bundle → entry_in (old_of k) ≡ Some (kept.entry_of (written_of k))
 record_is types k shallow typed =
-    ap (λ o. option_map (entry_of k.form) (option_and_then bundle_in o)) (bundle_back types k.bundle shallow typed)
-    ∙ ap (option_map (entry_of k.form)) (bundle_is types k.bundle shallow typed)
+    ap (λ o. option_map (upgraded_entry k.form) (option_and_then bundle_in o)) (bundle_back types k.bundle shallow typed)
+    ∙ ap (option_map (upgraded_entry k.form)) (bundle_is types k.bundle shallow typed)
 
 pub upgraded_olds : (types : Declared) (m : Records) → has_deep types ≡ false → ((id : List ℕ) (k : Kept) → m id ≡ Some k → IsWellTyped types k.bundle) → upgraded (olds m) ≡ entries (writings m)
 upgraded_olds types m shallow typed = fun_ext (λ id. at (m id) (typed id))

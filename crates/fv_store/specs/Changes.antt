@@ -5,7 +5,7 @@ use Rattle.fv_bundle.specs.Views.{object_view}
 use Rattle.fv_store.specs.declared.change.Change.{Change}
 use Rattle.fv_store.specs.declared.change.Change.TheVariants.{Put, Object, Remove}
 use Rattle.fv_store.specs.Stored.{stored_view}
-use Rattle.fv_store.specs.Records.{Kept, Records, Roots, Fits, Contents, with_record, without_record, with_thing, with_object, with_records}
+use Rattle.fv_store.specs.Records.{Kept, Records, Roots, RecordFits, Contents, with_record, without_record, with_thing, with_object, with_records}
 
 -- after one change: what is put is the record of its id, an object is the one of its name in its record, and what is removed is gone
 abbrev pub after : Change → Records → Records
@@ -24,9 +24,9 @@ changed cs c = with_records (after_all cs c.records) c
 
 -- what is put fits, and so does the record with an object in it
 abbrev pub ChangeFits : Declared → Roots → Change → Records → Type 0
-ChangeFits types roots (Put id s) m = Fits types roots (stored_view s)
+ChangeFits types roots (Put id s) m = RecordFits types roots (stored_view s)
 ChangeFits types roots (Object id name object) m =
-    (k : Kept) → m (string_bytes id) ≡ Some k → Fits types roots (with_thing (string_bytes name) (object_view object) k)
+    (k : Kept) → m (string_bytes id) ≡ Some k → RecordFits types roots (with_thing (string_bytes name) (object_view object) k)
 ChangeFits types roots (Remove id) m = Unit {0}
 
 -- the same of each change, made of the records that those before it leave

@@ -5,10 +5,10 @@ use Rattle.serde_json.specs.Find.{as_object}
 use Rattle.serde_json.specs.Read.{read}
 use Rattle.serde_json.specs.View.{view as json_view}
 use Rattle.fv_store.specs.declared.reading.ReadRow.{ReadRow}
-use Rattle.fv_tables.specs.Changes.{Thing}
+use Rattle.fv_tables.specs.Changes.{NamedTexts}
 
 -- the object's name, its type's name and its fields' JSON; none where their text isn't that of a JSON object
-abbrev pub row_read : Thing → Option (List ℕ × (List ℕ × json.Members))
+abbrev pub row_read : NamedTexts → Option (List ℕ × (List ℕ × json.Members))
 row_read o = option_map (λ fields. (o.0, (o.1.kind, fields))) (option_and_then as_object (read o.1.fields))
 
 -- as the code has it

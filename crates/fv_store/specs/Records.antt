@@ -41,7 +41,7 @@ abbrev pub Roots : Type 0
 Roots = List (List ℕ × List ℕ)
 
 -- the form has a root type, and the bundle is well-typed with a root of that type
-pub record Fits (types : Declared) (roots : Roots) (k : Kept) : Type 0 where
+pub record RecordFits (types : Declared) (roots : Roots) (k : Kept) : Type 0 where
   pub root : List ℕ
   pub declared : at_name k.form roots ≡ Some root
   pub typed : IsWellTyped types k.bundle
@@ -60,4 +60,4 @@ with_records m c = record { bytes = c.bytes; types = c.types; roots = c.roots; r
 
 -- every record fits
 abbrev pub AllFit : Contents → Type 0
-AllFit c = (id : List ℕ) (k : Kept) → c.records id ≡ Some k → Fits c.types c.roots k
+AllFit c = (id : List ℕ) (k : Kept) → c.records id ≡ Some k → RecordFits c.types c.roots k

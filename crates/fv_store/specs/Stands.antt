@@ -30,7 +30,7 @@ about_rows declarations = tables.about_row tables_version declarations ∷ []
 
 -- The tables, with the declarations, a row of `record` for each record and a row of `object` for each of its objects: what is written of it.
 abbrev pub Spells : Database → List ℕ → Writings → Type 0
-Spells db declarations ws = tables.Stands db (about_rows declarations) (entries ws)
+Spells db declarations ws = tables.TablesStand db (about_rows declarations) (entries ws)
 
 -- the database spells what is written of the records, under their declarations, and each fits
 pub record Stands (db : Database) (c : Contents) : Type 0 where
@@ -38,8 +38,8 @@ pub record Stands (db : Database) (c : Contents) : Type 0 where
   pub fit : AllFit c
 
 -- What a connection outside a transaction stands for, now and as committed. It says nothing once the disk has lied or has shut the connection.
-abbrev pub Holds : State → Contents → Type 0
-Holds s c = HasCleanDisk s → IsTrue s.is_open → Stands s.now c × Stands s.committed c
+abbrev pub HoldsRecords : State → Contents → Type 0
+HoldsRecords s c = HasCleanDisk s → IsTrue s.is_open → Stands s.now c × Stands s.committed c
 
 -- ---- files of version 1
 
@@ -57,14 +57,14 @@ first_rows declarations = tables.about_row first_version declarations ∷ []
 
 -- what a connection outside a transaction keeps in tables of version 1, now and as committed: the declarations, and rows of records
 abbrev pub KeepsFirst : State → List ℕ → Olds → Type 0
-KeepsFirst s declarations = first.KeepsFirst s (first_rows declarations)
+KeepsFirst s declarations = first.KeepsOlds s (first_rows declarations)
 
 -- the tables of version 1, with the declarations and a row of `record` for each record, and each record fits
 pub record StandsFirst (db : Database) (c : Contents) : Type 0 where
   pub spells : first.SpellsFirst db (first_rows c.bytes) (olds c.records)
   pub fit : AllFit c
 
--- what a connection to a file of version 1 stands for, as `Holds` says it of version 2
+-- what a connection to a file of version 1 stands for, as `HoldsRecords` says it of version 2
 abbrev pub HoldsFirst : State → Contents → Type 0
 HoldsFirst s c = HasCleanDisk s → IsTrue s.is_open → StandsFirst s.now c × StandsFirst s.committed c
 
@@ -93,4 +93,4 @@ MayBeFirst db = HasFirstTables db × ((version : ℕ) (stored : List ℕ) → Te
 -- What a database hands to a store that is opened over it, with these declarations for a blank one: no record and these where it is blank, else what
 -- it stands for, under its own, by the tables of either version.
 abbrev pub Opens : State → List ℕ → Contents → Type 0
-Opens s given c = (HasCleanDisk s → IsTrue s.is_open → IsBlank s.now × (c.bytes ≡ given) × (c.records ≡ no_records)) ⊎ (Holds s c ⊎ HoldsFirst s c)
+Opens s given c = (HasCleanDisk s → IsTrue s.is_open → IsBlank s.now × (c.bytes ≡ given) × (c.records ≡ no_records)) ⊎ (HoldsRecords s c ⊎ HoldsFirst s c)

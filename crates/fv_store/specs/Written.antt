@@ -4,7 +4,7 @@ use Rattle.std.specs.Str.{bytes_eq}
 use Rattle.serde_json.specs.Data as json
 use Rattle.serde_json.specs.Written.{compact_text}
 use Rattle.fv_model.specs.Writing.{named_written}
-use Rattle.fv_tables.specs.Stands.{Part, Entry, Entries}
+use Rattle.fv_tables.specs.Stands.{ObjectTexts, Entry, TableEntries}
 use Rattle.fv_store.specs.Records.{Kept, Records}
 
 -- what is written of a record: its form, its root's name, and its objects by their names, each with its type's name and its fields' JSON
@@ -40,7 +40,7 @@ unfoldable pub fields_text : json.Members → List ℕ
 fields_text fields = compact_text (json.object fields)
 
 -- what the row of an object keeps beside its record's id: its name, its type's name and its fields' text
-abbrev pub object_kept : List ℕ × (List ℕ × json.Members) → List ℕ × Part
+abbrev pub object_kept : List ℕ × (List ℕ × json.Members) → List ℕ × ObjectTexts
 object_kept o = (o.0, record { kind = o.1.0; fields = fields_text o.1.1 })
 
 -- what the rows of a record keep beside its id
@@ -48,5 +48,5 @@ abbrev pub entry_of : Written → Entry
 entry_of w = record { form = w.form; root = w.root; objects = map object_kept w.objects }
 
 -- the same of each record
-abbrev pub entries : Writings → Entries
+abbrev pub entries : Writings → TableEntries
 entries ws id = option_map entry_of (ws id)

@@ -8,7 +8,7 @@ ghost use Rattle.fv_bundle.specs.Views.{bundle_view};
 ghost use Rattle.fv_bundle.specs.WellTyped.{IsWellTyped};
 ghost use Rattle.fv_store.specs.Causes.{AreShort, HasFailed, HasRooms, IsShortAbout, LeavesRoom, rows_of_all};
 ghost use Rattle.fv_store.specs.Changes.{changed, ChangesFit};
-ghost use Rattle.fv_store.specs.Stands.{first_version, Frame, Holds, IsBlank, IsLive, MayBeFirst, KeepsFirst, Opens, Stays, TellsAbout};
+ghost use Rattle.fv_store.specs.Stands.{first_version, Frame, HoldsRecords, IsBlank, IsLive, MayBeFirst, KeepsFirst, Opens, Stays, TellsAbout};
 ghost use Rattle.fv_store.specs.Steps.{IsUpgraded};
 ghost use Rattle.fv_tables.specs.Olds.{Olds};
 ghost use Rattle.fv_upgrade.specs.Upgraded.{AllShort, AllUpgrade, HasFew, upgraded};
@@ -86,7 +86,7 @@ impl<S: Alter + Drop> Store<S> {
             (λ e. Frame (state S.Store connection) (state S.Store e.1)) }
         ensures open { IfOk result (λ s. IsLive (stock_state S.Store s)) }
         ensures opened { IfOk result (λ s. (c : _) → has_deep c.types ≡ false
-            → Opens (state S.Store connection) declarations.now c → Holds (stock_state S.Store s) c) }
+            → Opens (state S.Store connection) declarations.now c → HoldsRecords (stock_state S.Store s) c) }
         ensures in_force { IfOk result (λ s. HasCleanDisk (stock_state S.Store s) → (c : _)
             → Opens (state S.Store connection) declarations.now c → s.text ≡ c.bytes) }
         ensures fresh { IfOk result (λ s. IsBlank (state S.Store connection).now → s.text ≡ declarations.now) }
@@ -152,17 +152,17 @@ impl<S: Alter> Store<S> {
         ensures text { self.new.text ≡ self.old.text }
         ensures open { OnOk result (IsLive (stock_state S.Store self.new)) }
         ensures found { HasCleanDisk (stock_state S.Store self.new)
-            → IfOk result (λ o. (c : _) → c.types ≡ types_view types.now → Holds (stock_state S.Store self.old) c
+            → IfOk result (λ o. (c : _) → c.types ≡ types_view types.now → HoldsRecords (stock_state S.Store self.old) c
             → option_map stored_view o ≡ c.records id.now) }
         ensures typed { IfOk result (λ o. IfSome o (λ s. IsWellTyped (types_view types.now) (bundle_view s.bundle))) }
         ensures cause { HasCleanDisk (stock_state S.Store self.new) → IfErr result (λ e. e ≡ StoreFault.Store → (c : _)
-            → c.types ≡ types_view types.now → Holds (stock_state S.Store self.old) c
+            → c.types ≡ types_view types.now → HoldsRecords (stock_state S.Store self.old) c
             → HasFailed (stock_state S.Store self.old) (stock_state S.Store self.new)) }
         ensures same { HasCleanDisk (stock_state S.Store self.new) → OnOk result ((c : _)
-            → Holds (stock_state S.Store self.old) c
+            → HoldsRecords (stock_state S.Store self.old) c
             → (stock_state S.Store self.new).now ≡ (stock_state S.Store self.old).now) }
-        ensures stays { (c : _) → Holds (stock_state S.Store self.old) c → Holds (stock_state S.Store self.new) c }
-        ensures untouched { (c : _) → Holds (stock_state S.Store self.old) c
+        ensures stays { (c : _) → HoldsRecords (stock_state S.Store self.old) c → HoldsRecords (stock_state S.Store self.new) c }
+        ensures untouched { (c : _) → HoldsRecords (stock_state S.Store self.old) c
             → Stays (stock_state S.Store self.old) (stock_state S.Store self.new) }
     {
         let found = self.rows(alloc, id)?;
@@ -175,16 +175,16 @@ impl<S: Alter> Store<S> {
         ensures text { self.new.text ≡ self.old.text }
         ensures open { OnOk result (IsLive (stock_state S.Store self.new)) }
         ensures found { HasCleanDisk (stock_state S.Store self.new)
-            → IfOk result (λ o. (c : _) → Holds (stock_state S.Store self.old) c
+            → IfOk result (λ o. (c : _) → HoldsRecords (stock_state S.Store self.old) c
             → option_map rows_view o ≡ option_map entry_of (option_map written_of (c.records id.now))) }
         ensures cause { HasCleanDisk (stock_state S.Store self.new) → IfErr result (λ e. e ≡ StoreFault.Store → (c : _)
-            → Holds (stock_state S.Store self.old) c
+            → HoldsRecords (stock_state S.Store self.old) c
             → HasFailed (stock_state S.Store self.old) (stock_state S.Store self.new)) }
         ensures same { HasCleanDisk (stock_state S.Store self.new) → OnOk result ((c : _)
-            → Holds (stock_state S.Store self.old) c
+            → HoldsRecords (stock_state S.Store self.old) c
             → (stock_state S.Store self.new).now ≡ (stock_state S.Store self.old).now) }
-        ensures stays { (c : _) → Holds (stock_state S.Store self.old) c → Holds (stock_state S.Store self.new) c }
-        ensures untouched { (c : _) → Holds (stock_state S.Store self.old) c
+        ensures stays { (c : _) → HoldsRecords (stock_state S.Store self.old) c → HoldsRecords (stock_state S.Store self.new) c }
+        ensures untouched { (c : _) → HoldsRecords (stock_state S.Store self.old) c
             → Stays (stock_state S.Store self.old) (stock_state S.Store self.new) }
     {
         prove!(self.connection.is_autocommit());
@@ -200,19 +200,19 @@ impl<S: Alter> Store<S> {
         ensures text { self.new.text ≡ self.old.text }
         ensures open { OnOk result (IsLive (stock_state S.Store self.new)) }
         ensures found { HasCleanDisk (stock_state S.Store self.new)
-            → IfOk result (λ o. (c : _) → has_deep c.types ≡ false → Holds (stock_state S.Store self.old) c
+            → IfOk result (λ o. (c : _) → has_deep c.types ≡ false → HoldsRecords (stock_state S.Store self.old) c
             → option_map written_view o ≡ option_map untyped (c.records id.now)) }
         ensures as_text { HasCleanDisk (stock_state S.Store self.new)
-            → IfOk result (λ o. (c : _) → Holds (stock_state S.Store self.old) c
+            → IfOk result (λ o. (c : _) → HoldsRecords (stock_state S.Store self.old) c
             → option_map text_view o ≡ option_map text_of (c.records id.now)) }
         ensures cause { HasCleanDisk (stock_state S.Store self.new) → IfErr result (λ e. e ≡ StoreFault.Store → (c : _)
-            → Holds (stock_state S.Store self.old) c
+            → HoldsRecords (stock_state S.Store self.old) c
             → HasFailed (stock_state S.Store self.old) (stock_state S.Store self.new)) }
         ensures same { HasCleanDisk (stock_state S.Store self.new) → OnOk result ((c : _)
-            → Holds (stock_state S.Store self.old) c
+            → HoldsRecords (stock_state S.Store self.old) c
             → (stock_state S.Store self.new).now ≡ (stock_state S.Store self.old).now) }
-        ensures stays { (c : _) → Holds (stock_state S.Store self.old) c → Holds (stock_state S.Store self.new) c }
-        ensures untouched { (c : _) → Holds (stock_state S.Store self.old) c
+        ensures stays { (c : _) → HoldsRecords (stock_state S.Store self.old) c → HoldsRecords (stock_state S.Store self.new) c }
+        ensures untouched { (c : _) → HoldsRecords (stock_state S.Store self.old) c
             → Stays (stock_state S.Store self.old) (stock_state S.Store self.new) }
     {
         let found = self.rows(alloc, id)?;
@@ -235,14 +235,14 @@ impl<S: Alter> Store<S> {
         ensures text { self.new.text ≡ self.old.text }
         ensures open { OnOk result (IsLive (stock_state S.Store self.new)) }
         ensures found { HasCleanDisk (stock_state S.Store self.new)
-            → IfOk result (λ ids. (c : _) → Holds (stock_state S.Store self.old) c
+            → IfOk result (λ ids. (c : _) → HoldsRecords (stock_state S.Store self.old) c
             → Lists c.records form.now (unwrap_or (option_map (λ s. s.now) after.entry) []) limit
             (map string_bytes ids.items)) }
         ensures cause { HasCleanDisk (stock_state S.Store self.new) → IfErr result (λ e. e ≡ StoreFault.Store → (c : _)
-            → Holds (stock_state S.Store self.old) c
+            → HoldsRecords (stock_state S.Store self.old) c
             → HasFailed (stock_state S.Store self.old) (stock_state S.Store self.new)) }
-        ensures stays { (c : _) → Holds (stock_state S.Store self.old) c → Holds (stock_state S.Store self.new) c }
-        ensures untouched { (c : _) → Holds (stock_state S.Store self.old) c
+        ensures stays { (c : _) → HoldsRecords (stock_state S.Store self.old) c → HoldsRecords (stock_state S.Store self.new) c }
+        ensures untouched { (c : _) → HoldsRecords (stock_state S.Store self.old) c
             → Stays (stock_state S.Store self.old) (stock_state S.Store self.new) }
     {
         prove!(self.connection.is_autocommit());
@@ -265,14 +265,14 @@ impl<S: Alter> Store<S> {
         ensures text { self.new.text ≡ self.old.text }
         ensures open { OnOk result (IsLive (stock_state S.Store self.new)) }
         ensures found { HasCleanDisk (stock_state S.Store self.new)
-            → IfOk result (λ ids. (c : _) → Holds (stock_state S.Store self.old) c
+            → IfOk result (λ ids. (c : _) → HoldsRecords (stock_state S.Store self.old) c
             → ListsOf c.records (λ k. Unit {0}) (unwrap_or (option_map (λ s. s.now) after.entry) []) limit
             (map string_bytes ids.items)) }
         ensures cause { HasCleanDisk (stock_state S.Store self.new) → IfErr result (λ e. e ≡ StoreFault.Store → (c : _)
-            → Holds (stock_state S.Store self.old) c
+            → HoldsRecords (stock_state S.Store self.old) c
             → HasFailed (stock_state S.Store self.old) (stock_state S.Store self.new)) }
-        ensures stays { (c : _) → Holds (stock_state S.Store self.old) c → Holds (stock_state S.Store self.new) c }
-        ensures untouched { (c : _) → Holds (stock_state S.Store self.old) c
+        ensures stays { (c : _) → HoldsRecords (stock_state S.Store self.old) c → HoldsRecords (stock_state S.Store self.new) c }
+        ensures untouched { (c : _) → HoldsRecords (stock_state S.Store self.old) c
             → Stays (stock_state S.Store self.old) (stock_state S.Store self.new) }
     {
         prove!(self.connection.is_autocommit());
@@ -290,19 +290,19 @@ impl<S: Alter> Store<S> {
         ensures frame { Frame (stock_state S.Store self.old) (stock_state S.Store self.new) }
         ensures text { self.new.text ≡ self.old.text }
         ensures open { OnOk result (IsLive (stock_state S.Store self.new)) }
-        ensures made { OnOk result ((c : _) → AllFit (changed changes.now c) → Holds (stock_state S.Store self.old) c
-            → Holds (stock_state S.Store self.new) (changed changes.now c)) }
+        ensures made { OnOk result ((c : _) → AllFit (changed changes.now c) → HoldsRecords (stock_state S.Store self.old) c
+            → HoldsRecords (stock_state S.Store self.new) (changed changes.now c)) }
         ensures done { OnOk result ((c : _) → ChangesFit c.types c.roots changes.now c.records
-            → Holds (stock_state S.Store self.old) c
-            → Holds (stock_state S.Store self.new) (changed changes.now c)) }
+            → HoldsRecords (stock_state S.Store self.old) c
+            → HoldsRecords (stock_state S.Store self.new) (changed changes.now c)) }
         ensures room { HasCleanDisk (stock_state S.Store self.new) → OnOk result ((c : _)
-            → Holds (stock_state S.Store self.old) c → LeavesRoom (rows_of_all changes.now)
+            → HoldsRecords (stock_state S.Store self.old) c → LeavesRoom (rows_of_all changes.now)
             (stock_state S.Store self.old).now (stock_state S.Store self.new).now) }
-        ensures undone { OnErr result ((c : _) → Holds (stock_state S.Store self.old) c
-            → Holds (stock_state S.Store self.new) c) }
+        ensures undone { OnErr result ((c : _) → HoldsRecords (stock_state S.Store self.old) c
+            → HoldsRecords (stock_state S.Store self.new) c) }
         ensures untouched { OnErr result (Stays (stock_state S.Store self.old) (stock_state S.Store self.new)) }
         ensures cause { HasCleanDisk (stock_state S.Store self.new) → IfErr result (λ e. e ≡ StoreFault.Store → (c : _)
-            → Holds (stock_state S.Store self.old) c → HasRooms (rows_of_all changes.now) (stock_state S.Store self.old).now
+            → HoldsRecords (stock_state S.Store self.old) c → HasRooms (rows_of_all changes.now) (stock_state S.Store self.old).now
             → AreShort changes.now → HasFailed (stock_state S.Store self.old) (stock_state S.Store self.new)) }
     {
         prove!(self.connection.is_autocommit());
@@ -319,18 +319,18 @@ impl<S: Alter> Store<S> {
         ensures frame { Frame (stock_state S.Store self.old) (stock_state S.Store self.new) }
         ensures open { OnOk result (IsLive (stock_state S.Store self.new)) }
         ensures made { OnOk result ((c d : Contents) → d.bytes ≡ declarations.now
-            → writings d.records ≡ writings c.records → AllFit d → Holds (stock_state S.Store self.old) c
-            → Holds (stock_state S.Store self.new) d) }
+            → writings d.records ≡ writings c.records → AllFit d → HoldsRecords (stock_state S.Store self.old) c
+            → HoldsRecords (stock_state S.Store self.new) d) }
         ensures text { OnOk result (self.new.text ≡ declarations.now) }
         ensures room { HasCleanDisk (stock_state S.Store self.new) → OnOk result ((c : _)
-            → Holds (stock_state S.Store self.old) c
+            → HoldsRecords (stock_state S.Store self.old) c
             → LeavesRoom 0 (stock_state S.Store self.old).now (stock_state S.Store self.new).now) }
-        ensures undone { OnErr result ((c : _) → Holds (stock_state S.Store self.old) c
-            → Holds (stock_state S.Store self.new) c) }
+        ensures undone { OnErr result ((c : _) → HoldsRecords (stock_state S.Store self.old) c
+            → HoldsRecords (stock_state S.Store self.new) c) }
         ensures same_text { OnErr result (self.new.text ≡ self.old.text) }
         ensures untouched { OnErr result (Stays (stock_state S.Store self.old) (stock_state S.Store self.new)) }
         ensures cause { HasCleanDisk (stock_state S.Store self.new) → IfErr result (λ e. e ≡ StoreFault.Store → (c : _)
-            → Holds (stock_state S.Store self.old) c → IsShortAbout declarations.now
+            → HoldsRecords (stock_state S.Store self.old) c → IsShortAbout declarations.now
             → HasFailed (stock_state S.Store self.old) (stock_state S.Store self.new)) }
     {
         let text = declarations.to_vec(alloc)?;
@@ -343,7 +343,7 @@ impl<S: Alter> Store<S> {
     /// The connection, its database as it is. It takes no memory.
     pub fn into_connection(self) -> Connection<S>
         ensures same { result ≡ self.connection }
-        ensures holds { (c : _) → Holds (stock_state S.Store self) c → Holds (state S.Store result) c }
+        ensures holds { (c : _) → HoldsRecords (stock_state S.Store self) c → HoldsRecords (state S.Store result) c }
     {
         let Store {
             connection: inner,

@@ -2,8 +2,8 @@
 use Rattle.std.proofs.Common.{◌++◌, ◌≤◌, zero, suc, take, ℕ, List, [], ◌∷◌, IsSome, Ok, Err, Result, IfErr}
 use Rattle.sqlite.specs.Effect.{Database}
 use Rattle.fv_tables.specs.declared.text.ObjectText.{ObjectText}
-use Rattle.fv_tables.specs.Stands.{Part, Maps, IsOwned, added}
-use Rattle.fv_tables.specs.Changes.{Things, all_added, objects_view}
+use Rattle.fv_tables.specs.Stands.{ObjectTexts, Maps, IsOwned, added}
+use Rattle.fv_tables.specs.Changes.{AllTexts, all_added, objects_view}
 use Rattle.fv_tables.specs.Causes.{HasRooms, IsShortPart, AreShort}
 use Rattle.fv_tables.proofs.Rooms.{fewer}
 use Rattle.fv_tables.proofs.Writes.{owned_added}
@@ -16,7 +16,7 @@ pub more_on_err : {X E : Type 0} (P Q : E → Type 0) (r : Result X E) → ((e :
 more_on_err P Q (Ok x) h known = tt
 more_on_err P Q (Err e) h known = h e known
 
-pub owned_all : (id : List ℕ) (os : Things) (t : Maps) → IsOwned t → IsSome (t.heads id) → IsOwned (all_added id os t)
+pub owned_all : (id : List ℕ) (os : AllTexts) (t : Maps) → IsOwned t → IsSome (t.heads id) → IsOwned (all_added id os t)
 owned_all id [] t own has = own
 owned_all id (o ∷ os) t own has = owned_all id os (added (id, o.0) o.1 t) (owned_added (id, o.0) o.1 t own has) has
 
@@ -25,6 +25,6 @@ short_taken id zero os short = tt
 short_taken id (suc n) [] short = tt
 short_taken id (suc n) (o ∷ os) short = (short.0, short_taken id n os short.1)
 
-pub short_last : (id : List ℕ) (os : Things) (o : List ℕ × Part) → AreShort id (os ++ o ∷ []) → IsShortPart (id, o.0) o.1
+pub short_last : (id : List ℕ) (os : AllTexts) (o : List ℕ × ObjectTexts) → AreShort id (os ++ o ∷ []) → IsShortPart (id, o.0) o.1
 short_last id [] o short = short.0
 short_last id (x ∷ os) o short = short_last id os o short.1

@@ -22,7 +22,7 @@ use Rattle.sqlite.proofs.Callers.{IsPlain, command_of, statement_of, runs_as, on
 use Rattle.sqlite_schema.specs.declared.schema.Keys.TheVariants.{Enforced}
 use Rattle.fv_tables.specs.Tables.{about_text, record_text, object_text, about, record_table, object_table, no_schema, bare_schema, half_schema, store_schema}
 use Rattle.fv_tables.specs.Rows.{HasRows}
-use Rattle.fv_tables.specs.Stands.{about_row, Spells, head_row, part_row, IsTextHead, IsTextPart, tables_of}
+use Rattle.fv_tables.specs.Stands.{about_row, SpellsTables, head_row, part_row, IsTextHead, IsTextPart, tables_of}
 use Rattle.fv_tables.specs.Steps.{Advances}
 use Rattle.fv_tables.specs.Creating.{IsBlank, IsBare, IsHalf, IsMade, IsEmpty, no_entries, Leads, Builds}
 use Rattle.fv_tables.proofs.Texts.{about_is, record_is, object_is, made_about_is, made_about_plain, made_record_is, made_record_plain, made_object_is, made_object_plain, first_text, first_terms, first_is, first_plain}
@@ -104,7 +104,7 @@ pub three_is_not_zero : ◌≢◌ {A = ℕ} 3 0
 three_is_not_zero e = cc
 
 module _ (limit : Option ℕ) (db : Trees) (d : List ℕ) (no_about : db 0 ≡ []) (no_record : db 1 ≡ []) (no_object : db 3 ≡ []) where
-  pub first_writes : (w : Written) → Inserts (task_of limit about (Blob d ∷ [])) (Values first_terms 4) db (Ok w) → Spells (at_trees w.trees) (about_row 2 d ∷ []) (tables_of no_entries)
+  pub first_writes : (w : Written) → Inserts (task_of limit about (Blob d ∷ [])) (Values first_terms 4) db (Ok w) → SpellsTables (at_trees w.trees) (about_row 2 d ∷ []) (tables_of no_entries)
   first_writes w h =
       let given = went h in
       let written = went (went given.2).2 in

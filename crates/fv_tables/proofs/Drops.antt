@@ -25,7 +25,7 @@ use Rattle.sqlite_typing.specs.Types.{accepts_program}
 use Rattle.sqlite_tied.specs.Compute.{everything}
 use Rattle.fv_tables.specs.Tables.{store_schema, kept_object}
 use Rattle.fv_tables.specs.Rows.{HasRows}
-use Rattle.fv_tables.specs.Stands.{Place, Maps, same_place, head_row, part_row, IsTextHead, IsTextPart, Spells, IsOwned, dropped}
+use Rattle.fv_tables.specs.Stands.{ObjectKey, Maps, same_place, head_row, part_row, IsTextHead, IsTextPart, SpellsTables, IsOwned, dropped}
 use Rattle.fv_tables.specs.Causes.{HasRoom, IsExcused}
 use Rattle.fv_tables.specs.Steps.{Advances, Makes, Anyhow}
 use Rattle.fv_tables.proofs.Texts.{drop_text, drop_query, drop_is, drop_plain, drop_whole, by_both}
@@ -44,18 +44,18 @@ works_drop : (gone : List Row) → works store_schema Enforced 0 3 gone [] ≡ [
 unfolding same_name joined
 works_drop gone = refl
 
-abbrev drop_params : Place → Row
+abbrev drop_params : ObjectKey → Row
 drop_params at = Text at.0 ∷ Text at.1 ∷ []
 
-module _ (limit : Option ℕ) (db : Trees) (place : Place) (d : List Row) (t : Maps) (spelled : Spells (at_trees db) d t) where
-  abbrev gone : Place → Bool
+module _ (limit : Option ℕ) (db : Trees) (place : ObjectKey) (d : List Row) (t : Maps) (spelled : SpellsTables (at_trees db) d t) where
+  abbrev gone : ObjectKey → Bool
   gone k = same_place k place
 
   are_parts : (rows : List Row) → IsAnswer drop_query (overlay db []) (drop_params place) rows → AreOf part_row (db 3) gone (ids_of rows)
   are_parts rows a = found part_row IsTextPart same_place parts 3 db refl t.parts spelled.parts by_both (drop_params place) gone (part_by_place t.parts place []) rows a
 
   drop_writes : (w : Written) → Deletes (task_of limit kept_object (drop_params place)) (record { lets = []; body = drop_query }) db (Ok w)
-      → Spells (at_trees w.trees) d (dropped place t) × (w.trees 1 ≡ db 1) × ((row : Row) → Has (w.trees 3) row → Has (db 3) row)
+      → SpellsTables (at_trees w.trees) d (dropped place t) × (w.trees 1 ≡ db 1) × ((row : Row) → Has (w.trees 3) row → Has (db 3) row)
   drop_writes w h =
       let given = went h in
       let written = went given.2 in
@@ -75,8 +75,8 @@ module _ (limit : Option ℕ) (db : Trees) (place : Place) (d : List Row) (t : M
         λ row there. (left_from ids (db 3) row (subst (λ rs. Has rs row) all there)).0,
       )
 
-drops : (old new : State) (place : Place) (count : ℕ) (d : List Row) (t : Maps) → Spells old.now d t → Executes drop_text (drop_params place) old new (Ok count)
-    → Spells new.now d (dropped place t) × (new.now.trees 1 ≡ old.now.trees 1) × ((row : Row) → Has (new.now.trees 3) row → Has (old.now.trees 3) row)
+drops : (old new : State) (place : ObjectKey) (count : ℕ) (d : List Row) (t : Maps) → SpellsTables old.now d t → Executes drop_text (drop_params place) old new (Ok count)
+    → SpellsTables new.now d (dropped place t) × (new.now.trees 1 ≡ old.now.trees 1) × ((row : Row) → Has (new.now.trees 3) row → Has (old.now.trees 3) row)
 drops old new place count d t spelled h =
     let params = drop_params place in
     let command = Delete 2 (record { lets = []; body = drop_query }) in
@@ -85,9 +85,9 @@ drops old new place count d t spelled h =
     let done = went (subst (λ s. Does old.step_limit (mode_of old) params (record old.now { schema = s }) text None command (Ok (w.tally, new.now))) spelled.schema w.changed) in
     let now : new.now ≡ at_trees done.0.trees = ap (λ (p : Tally × Database). p.1) (same_value (went (went done.2).2).2) in
     let wrote = drop_writes old.step_limit old.now.trees place d t (in_place old.now d t spelled) done.0 done.1 in
-    subst (λ b. Spells b d (dropped place t) × (b.trees 1 ≡ old.now.trees 1) × ((row : Row) → Has (b.trees 3) row → Has (old.now.trees 3) row)) (sym now) wrote
+    subst (λ b. SpellsTables b d (dropped place t) × (b.trees 1 ≡ old.now.trees 1) × ((row : Row) → Has (b.trees 3) row → Has (old.now.trees 3) row)) (sym now) wrote
 
-pub drop_step : (old new : State) (place : Place) (r : Result ℕ Error) → ExecutesInside 0 drop_text (drop_params place) old new r → OnOk r (Advances old new (Makes 0 Anyhow (dropped place)))
+pub drop_step : (old new : State) (place : ObjectKey) (r : Result ℕ Error) → ExecutesInside 0 drop_text (drop_params place) old new r → OnOk r (Advances old new (Makes 0 Anyhow (dropped place)))
 drop_step old new place (Err e) h = tt
 drop_step old new place (Ok count) h = record {
   was_open = λ _. h.1.was_open;
@@ -100,7 +100,7 @@ drop_step old new place (Ok count) h = record {
 
 -- ---- the cause
 
-pub owned_dropped : (at : Place) (t : Maps) → IsOwned t → IsOwned (dropped at t)
+pub owned_dropped : (at : ObjectKey) (t : Maps) → IsOwned t → IsOwned (dropped at t)
 owned_dropped at t owned other p is = elim (cases_Bool (same_place other at)) [
   | inl same ↦ absurd (let never : None ≡ Some p = rw same at is in cc)
   | inr apart ↦ owned other p (rw apart at is)
@@ -110,7 +110,7 @@ drop_accepted : (id name : List ℕ) → accepts_program store_schema [] drop_qu
 unfolding everything
 drop_accepted id name = refl
 
-module _ (s : State) (none : s.step_limit ≡ None) (place : Place) (d : List Row) (t : Maps) (spelled : Spells (at_trees s.now.trees) d t) (owned : IsOwned t) where
+module _ (s : State) (none : s.step_limit ≡ None) (place : ObjectKey) (d : List Row) (t : Maps) (spelled : SpellsTables (at_trees s.now.trees) d t) (owned : IsOwned t) where
   abbrev db : Trees
   db = s.now.trees
 
@@ -131,8 +131,8 @@ module _ (s : State) (none : s.step_limit ≡ None) (place : Place) (d : List Ro
   never_dropped sql stop (inr (w, done, concluded)) =
       never_concluded s kept_object (drop_params place) w d (dropped place t) (drop_writes s.step_limit db place d t spelled w done).0 (owned_dropped place t owned) stop concluded
 
-pub drop_cause : (old new : State) → old.step_limit ≡ None → (place : Place) (r : Result ℕ Error) → ExecutesInside 0 drop_text (drop_params place) old new r
-    → IfErr r (λ e. (d : List Row) (t : Maps) → Spells old.now d t → IsOwned t → IsExcused old new e)
+pub drop_cause : (old new : State) → old.step_limit ≡ None → (place : ObjectKey) (r : Result ℕ Error) → ExecutesInside 0 drop_text (drop_params place) old new r
+    → IfErr r (λ e. (d : List Row) (t : Maps) → SpellsTables old.now d t → IsOwned t → IsExcused old new e)
 drop_cause old new none place (Ok count) h = tt
 drop_cause old new none place (Err e) h = λ d t spelled owned refused.
     let params = drop_params place in

@@ -39,7 +39,7 @@ use Rattle.sqlite.proofs.Callers.{reads_as}
 use Rattle.fv_tables.specs.Lists.{AreListed, HasForm, HasRecord, ShowsIds, id_row}
 use Rattle.fv_tables.specs.Causes.{IsExcused}
 use Rattle.fv_tables.specs.Rows.{IsRowOf, HasRows}
-use Rattle.fv_tables.specs.Stands.{Head, Entry, Entries, Keeps, head_row, IsTextHead, head_of}
+use Rattle.fv_tables.specs.Stands.{Head, Entry, TableEntries, Keeps, head_row, IsTextHead, head_of}
 use Rattle.fv_tables.specs.Tables.{store_schema}
 use Rattle.fv_tables.proofs.Texts.{by_id, ids_where, IdsMean, ids_text, ids_tests, ids_mean, all_ids_text, all_ids_tests, all_ids_mean}
 use Rattle.fv_tables.proofs.OneTable.{kept, truth_of, equal_texts, and_true, ordered_sound, ordered_complete}
@@ -143,17 +143,17 @@ each_taken P (suc n) (x ∷ xs) each = (each x (inl refl), each_taken P n xs (λ
 -- ---- what a query of ids finds
 
 -- The text shows the ids above one, so many at most, of the rows that pass its tests: those of a head that is wanted, which is said of the records too.
-pub record Finds (text : List ℕ) (given : Row) (above : List ℕ) (n : ℕ) (Wanted : Entries → List ℕ → Type 0) : Type 0 where
+pub record Finds (text : List ℕ) (given : Row) (above : List ℕ) (n : ℕ) (Wanted : TableEntries → List ℕ → Type 0) : Type 0 where
   pub tests : List Term
   pub limit : Term
   pub wanted : Head → Bool
   pub means : IdsMean text tests limit given
   pub paged : (xs : List Row) → page (ids_where tests limit) given xs ≡ take n xs
   pub tested : (i : ℤ) (id : List ℕ) (h : Head) → list_all (holds (given ∷ head_row i id h ∷ [])) tests ≡ (wanted h && is_gt (slice_cmp nat_cmp id above))
-  pub sound : (m : Entries) (id : List ℕ) (h : Head) → head_of (m id) ≡ Some h → wanted h ≡ true → Wanted m id
-  pub complete : (m : Entries) (id : List ℕ) → Wanted m id → (h : Head) × (head_of (m id) ≡ Some h) × (wanted h ≡ true)
+  pub sound : (m : TableEntries) (id : List ℕ) (h : Head) → head_of (m id) ≡ Some h → wanted h ≡ true → Wanted m id
+  pub complete : (m : TableEntries) (id : List ℕ) → Wanted m id → (h : Head) × (head_of (m id) ≡ Some h) × (wanted h ≡ true)
 
-module _ (text : List ℕ) (given : Row) (above : List ℕ) (n : ℕ) (Wanted : Entries → List ℕ → Type 0) (f : Finds text given above n Wanted) (db : Trees) (m : Entries) (rows : List Row)
+module _ (text : List ℕ) (given : Row) (above : List ℕ) (n : ℕ) (Wanted : TableEntries → List ℕ → Type 0) (f : Finds text given above n Wanted) (db : Trees) (m : TableEntries) (rows : List Row)
     (s : HasRows head_row IsTextHead (db 1) (λ id. head_of (m id))) (a : IsAnswer (ids_where f.tests f.limit) (overlay db []) given rows) where
   abbrev q : Query
   q = ids_where f.tests f.limit
@@ -234,14 +234,14 @@ module _ (text : List ℕ) (given : Row) (above : List ℕ) (n : ℕ) (Wanted : 
       let all : AreListed (Wanted m) above ids = record { ascending = ascending a.ordered next_above; sound = λ id h. let it = listed_at id h in (it.0, it.1); complete = ids_complete } in
       (take n ids, (ids, all, refl), each_taken IsUtf8 n ids (λ id h. (listed_at id h).2), rows_are)
 
-module _ (text : List ℕ) (given : Row) (above : List ℕ) (n : ℕ) (Wanted : Entries → List ℕ → Type 0) (f : Finds text given above n Wanted) (old new : State) (clean : HasCleanDisk old) (r : Result (Vec Row Global) Error) where
+module _ (text : List ℕ) (given : Row) (above : List ℕ) (n : ℕ) (Wanted : TableEntries → List ℕ → Type 0) (f : Finds text given above n Wanted) (old new : State) (clean : HasCleanDisk old) (r : Result (Vec Row Global) Error) where
   abbrev command : Command
   command = Select (record { lets = []; body = ids_where f.tests f.limit }) (codes "id" ∷ [])
 
-  pub ids_shown : IfOk r (λ rows. Shown text given old new rows.items) → IfOk r (λ rows. IsTrue old.is_open × ((d : List Row) (m : Entries) → Keeps old d m → ShowsIds rows.items (Wanted m) above n))
-  ids_shown h = more_on_ok (λ rows. Shown text given old new rows.items) (λ rows. IsTrue old.is_open × ((d : List Row) (m : Entries) → Keeps old d m → ShowsIds rows.items (Wanted m) above n)) r shown h
+  pub ids_shown : IfOk r (λ rows. Shown text given old new rows.items) → IfOk r (λ rows. IsTrue old.is_open × ((d : List Row) (m : TableEntries) → Keeps old d m → ShowsIds rows.items (Wanted m) above n))
+  ids_shown h = more_on_ok (λ rows. Shown text given old new rows.items) (λ rows. IsTrue old.is_open × ((d : List Row) (m : TableEntries) → Keeps old d m → ShowsIds rows.items (Wanted m) above n)) r shown h
     where
-      shown : (rows : Vec Row Global) → Shown text given old new rows.items → IsTrue old.is_open × ((d : List Row) (m : Entries) → Keeps old d m → ShowsIds rows.items (Wanted m) above n)
+      shown : (rows : Vec Row Global) → Shown text given old new rows.items → IsTrue old.is_open × ((d : List Row) (m : TableEntries) → Keeps old d m → ShowsIds rows.items (Wanted m) above n)
       shown rows h =
           let live = shown_open _ _ old new rows.items h in (
             live,
@@ -256,10 +256,10 @@ module _ (text : List ℕ) (given : Row) (above : List ℕ) (n : ℕ) (Wanted : 
   never_refused has none e (inr (inl h)) = no_sum (old.now.trees 1) h.1
   never_refused has none e (inr (inr h)) = never_steps old.step_limit none h.1
 
-  pub ids_cause : old.step_limit ≡ None → IfErr r (FailsToQuery text given old new) → IfErr r (λ e. (d : List Row) (m : Entries) → Keeps old d m → IsExcused old new e)
+  pub ids_cause : old.step_limit ≡ None → IfErr r (FailsToQuery text given old new) → IfErr r (λ e. (d : List Row) (m : TableEntries) → Keeps old d m → IsExcused old new e)
   ids_cause none h = go r h
     where
-      go : (o : Result (Vec Row Global) Error) → IfErr o (FailsToQuery text given old new) → IfErr o (λ e. (d : List Row) (m : Entries) → Keeps old d m → IsExcused old new e)
+      go : (o : Result (Vec Row Global) Error) → IfErr o (FailsToQuery text given old new) → IfErr o (λ e. (d : List Row) (m : TableEntries) → Keeps old d m → IsExcused old new e)
       go (Ok rows) h = tt
       go (Err e) h = λ d m keeps refused. elim (cases_Bool old.is_open) [
         | inl live ↦ let has = (keeps clean live).0.schema in query_cause text given old new store_schema has f.means.plain f.means.whole command f.means.is f.means.unlisted (never_refused has none) e h refused

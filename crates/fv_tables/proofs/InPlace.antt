@@ -25,7 +25,7 @@ use Rattle.sqlite_rules.specs.Lists.{Has}
 use Rattle.sqlite_rules.specs.Calls.{ids_of}
 use Rattle.fv_tables.specs.Tables.{store_schema, kept_record, kept_object}
 use Rattle.fv_tables.specs.Rows.{HasRows}
-use Rattle.fv_tables.specs.Stands.{Head, Part, Place, Maps, same_place, head_row, part_row, IsTextHead, IsTextPart, Spells, put, added}
+use Rattle.fv_tables.specs.Stands.{Head, ObjectTexts, ObjectKey, Maps, same_place, head_row, part_row, IsTextHead, IsTextPart, SpellsTables, put, added}
 use Rattle.fv_tables.specs.Causes.{HasRoom, HasRooms}
 use Rattle.fv_tables.specs.Steps.{Advances, Lacks, LacksPart, HasPart, UpdatesHead, UpdatesPart}
 use Rattle.fv_tables.proofs.Texts.{change_text, change_terms, change_query, change_is, change_plain, set_text, set_terms, set_query, set_is, set_plain, by_first, by_both}
@@ -52,7 +52,7 @@ same_rooms db new one three n room = (subst (HasRoom n) (sym one) room.0, subst 
 
 -- ---- the row of an object
 
-module _ (db : Trees) (m : Place → Option Part) (at : Place) (it : Part) (rows : List Row) (s : HasRows part_row IsTextPart (db 3) m) (a : IsAnswer set_query (overlay db []) (part_params at it) rows) where
+module _ (db : Trees) (m : ObjectKey → Option ObjectTexts) (at : ObjectKey) (it : ObjectTexts) (rows : List Row) (s : HasRows part_row IsTextPart (db 3) m) (a : IsAnswer set_query (overlay db []) (part_params at it) rows) where
   pub edits_none : m at ≡ None → edit_by db rows ≡ exchange [] []
   edits_none none =
       ap (edit_by db) (none_shown 3 by_both set_terms [] (overlay db []) (part_params at it) rows a (λ row there.
@@ -78,7 +78,7 @@ module _ (limit : Option ℕ) (db : Trees) (query : Query) (params : Row) (gone 
       )
 
 -- what it leaves where it finds no row
-pub none_exchanged : (db : Trees) (w : Written) (d : List Row) (t : Maps) → Spells (at_trees db) d t → w.trees 0 ≡ db 0 → w.trees 1 ≡ db 1 → w.trees 3 ≡ db 3 → Spells (at_trees w.trees) d t
+pub none_exchanged : (db : Trees) (w : Written) (d : List Row) (t : Maps) → SpellsTables (at_trees db) d t → w.trees 0 ≡ db 0 → w.trees 1 ≡ db 1 → w.trees 3 ≡ db 3 → SpellsTables (at_trees w.trees) d t
 none_exchanged db w d t spelled zero one three = record {
   schema = refl;
   about = zero ∙ spelled.about;
@@ -87,9 +87,9 @@ none_exchanged db w d t spelled zero one three = record {
 }
 
 -- and where it finds the row of an object
-module _ (db : Trees) (place : Place) (p it : Part) (n : ℤ) (there : Has (db 3) (part_row n place p)) (good : IsTextPart place it) (w : Written) (d : List Row) (t : Maps) (spelled : Spells (at_trees db) d t)
+module _ (db : Trees) (place : ObjectKey) (p it : ObjectTexts) (n : ℤ) (there : Has (db 3) (part_row n place p)) (good : IsTextPart place it) (w : Written) (d : List Row) (t : Maps) (spelled : SpellsTables (at_trees db) d t)
     (zero : w.trees 0 ≡ db 0) (one : w.trees 1 ≡ db 1) (three : w.trees 3 ≡ put_all (without_all (db 3) (n ∷ [])) (part_row n place it ∷ [])) where
-  pub part_exchanged : Spells (at_trees w.trees) d (added place it t)
+  pub part_exchanged : SpellsTables (at_trees w.trees) d (added place it t)
   part_exchanged = record {
     schema = refl;
     about = zero ∙ spelled.about;
@@ -103,14 +103,14 @@ module _ (db : Trees) (place : Place) (p it : Part) (n : ℤ) (there : Has (db 3
     room_kept (db 3) (w.trees 3) (n ∷ []) (part_row n place it ∷ []) (λ r put_in. elim put_in [ inl same ↦ (part_row n place p, there, ap rowid same) | inr never ↦ absurd never ]) three k room.1,
   )
 
-module _ (limit : Option ℕ) (db : Trees) (place : Place) (it : Part) (d : List Row) (t : Maps) (spelled : Spells (at_trees db) d t) (good : IsTextPart place it) where
+module _ (limit : Option ℕ) (db : Trees) (place : ObjectKey) (it : ObjectTexts) (d : List Row) (t : Maps) (spelled : SpellsTables (at_trees db) d t) (good : IsTextPart place it) where
   pub set_either : (w : Written) → Runs (task_of limit kept_object (part_params place it)) (record { lets = []; body = set_query }) (part_params place it) db (Ok w)
-      → ((LacksPart place t × (length w.rows ≡ 0) × Spells (at_trees w.trees) d t) ⊎ (HasPart place t × (length w.rows ≡ 1) × Spells (at_trees w.trees) d (added place it t)))
+      → ((LacksPart place t × (length w.rows ≡ 0) × SpellsTables (at_trees w.trees) d t) ⊎ (HasPart place t × (length w.rows ≡ 1) × SpellsTables (at_trees w.trees) d (added place it t)))
       × ((n : ℕ) → HasRooms n (at_trees db) → HasRooms n (at_trees w.trees))
   set_either w h = go (t.parts place) refl
     where
-      go : (o : Option Part) → t.parts place ≡ o
-          → ((LacksPart place t × (length w.rows ≡ 0) × Spells (at_trees w.trees) d t) ⊎ (HasPart place t × (length w.rows ≡ 1) × Spells (at_trees w.trees) d (added place it t)))
+      go : (o : Option ObjectTexts) → t.parts place ≡ o
+          → ((LacksPart place t × (length w.rows ≡ 0) × SpellsTables (at_trees w.trees) d t) ⊎ (HasPart place t × (length w.rows ≡ 1) × SpellsTables (at_trees w.trees) d (added place it t)))
           × ((n : ℕ) → HasRooms n (at_trees db) → HasRooms n (at_trees w.trees))
       go None none =
           let wrote = set_exchanged limit db set_query (part_params place it) [] [] no_parts (λ rows a. edits_none db t.parts place it rows spelled.parts a none) w h in
@@ -125,7 +125,7 @@ module _ (limit : Option ℕ) (db : Trees) (place : Place) (it : Part) (d : List
             room_exchanged db place p it n there.1 good w d t spelled wrote.0 wrote.1 wrote.2,
           )
 
-pub part_updates : (old new : State) (place : Place) (it : Part) (count : ℕ) → IsTextPart place it → Executes set_text (part_params place it) old new (Ok count) → UpdatesPart place it count old.now new.now
+pub part_updates : (old new : State) (place : ObjectKey) (it : ObjectTexts) (count : ℕ) → IsTextPart place it → Executes set_text (part_params place it) old new (Ok count) → UpdatesPart place it count old.now new.now
 part_updates old new place it count good h d t spelled =
     let params = part_params place it in
     let command = Update 2 (record { lets = []; body = set_query }) in
@@ -136,9 +136,9 @@ part_updates old new place it count good h d t spelled =
     let now : new.now ≡ at_trees done.0.trees = ap (λ (p : Tally × Database). p.1) end in
     let counted : count ≡ length done.0.rows = w.counted ∙ ap (λ (p : Tally × Database). unwrap_or p.0.rows 0) end in
     let wrote = set_either old.step_limit old.now.trees place it d t (in_place old.now d t spelled) good done.0 done.1 in
-    subst₂ (λ (k : ℕ) (b : Database). ((LacksPart place t × (k ≡ 0) × Spells b d t) ⊎ (HasPart place t × (k ≡ 1) × Spells b d (added place it t))) × ((n : ℕ) → HasRooms n old.now → HasRooms n b)) (sym counted) (sym now) wrote
+    subst₂ (λ (k : ℕ) (b : Database). ((LacksPart place t × (k ≡ 0) × SpellsTables b d t) ⊎ (HasPart place t × (k ≡ 1) × SpellsTables b d (added place it t))) × ((n : ℕ) → HasRooms n old.now → HasRooms n b)) (sym counted) (sym now) wrote
 
-pub part_step : (old new : State) (place : Place) (it : Part) (r : Result ℕ Error) → IsTextPart place it → ExecutesInside 0 set_text (part_params place it) old new r → IfOk r (λ count. Advances old new (UpdatesPart place it count))
+pub part_step : (old new : State) (place : ObjectKey) (it : ObjectTexts) (r : Result ℕ Error) → IsTextPart place it → ExecutesInside 0 set_text (part_params place it) old new r → IfOk r (λ count. Advances old new (UpdatesPart place it count))
 part_step old new place it (Err e) good h = tt
 part_step old new place it (Ok count) good h = record { was_open = λ _. h.1.was_open; mode = h.1.mode; committed = h.1.committed_is; change = part_updates old new place it count good h.0 }
 
@@ -193,14 +193,14 @@ module _ (limit : Option ℕ) (db : Trees) (id : List ℕ) (it : Head) (gone : L
         ap (λ (x : Written). length x.rows) made ∙ ap (λ (e : Edit). length e.news) edit,
       )
 
-module _ (limit : Option ℕ) (db : Trees) (id : List ℕ) (it : Head) (d : List Row) (t : Maps) (spelled : Spells (at_trees db) d t) (good : IsTextHead id it) where
+module _ (limit : Option ℕ) (db : Trees) (id : List ℕ) (it : Head) (d : List Row) (t : Maps) (spelled : SpellsTables (at_trees db) d t) (good : IsTextHead id it) where
   pub change_either : (w : Written) → Runs (task_of limit kept_record (head_params id it)) (record { lets = []; body = change_query }) (head_params id it) db (Ok w)
-      → ((Lacks id t × (length w.rows ≡ 0) × Spells (at_trees w.trees) d t) ⊎ (IsSome (t.heads id) × (length w.rows ≡ 1) × Spells (at_trees w.trees) d (put id it t)))
+      → ((Lacks id t × (length w.rows ≡ 0) × SpellsTables (at_trees w.trees) d t) ⊎ (IsSome (t.heads id) × (length w.rows ≡ 1) × SpellsTables (at_trees w.trees) d (put id it t)))
       × ((n : ℕ) → HasRooms n (at_trees db) → HasRooms n (at_trees w.trees))
   change_either w h = go (t.heads id) refl
     where
       go : (o : Option Head) → t.heads id ≡ o
-          → ((Lacks id t × (length w.rows ≡ 0) × Spells (at_trees w.trees) d t) ⊎ (IsSome (t.heads id) × (length w.rows ≡ 1) × Spells (at_trees w.trees) d (put id it t)))
+          → ((Lacks id t × (length w.rows ≡ 0) × SpellsTables (at_trees w.trees) d t) ⊎ (IsSome (t.heads id) × (length w.rows ≡ 1) × SpellsTables (at_trees w.trees) d (put id it t)))
           × ((n : ℕ) → HasRooms n (at_trees db) → HasRooms n (at_trees w.trees))
       go None none =
           let wrote = change_exchanged limit db id it [] [] no_heads (λ rows a. head_edits_none db t.heads id it rows spelled.heads a none) w h in (
@@ -249,7 +249,7 @@ head_updates old new id it count good h d t spelled =
     let now : new.now ≡ at_trees done.0.trees = ap (λ (p : Tally × Database). p.1) end in
     let counted : count ≡ length done.0.rows = w.counted ∙ ap (λ (p : Tally × Database). unwrap_or p.0.rows 0) end in
     let wrote = change_either old.step_limit old.now.trees id it d t (in_place old.now d t spelled) good done.0 done.1 in
-    subst₂ (λ (k : ℕ) (b : Database). ((Lacks id t × (k ≡ 0) × Spells b d t) ⊎ (IsSome (t.heads id) × (k ≡ 1) × Spells b d (put id it t))) × ((n : ℕ) → HasRooms n old.now → HasRooms n b)) (sym counted) (sym now) wrote
+    subst₂ (λ (k : ℕ) (b : Database). ((Lacks id t × (k ≡ 0) × SpellsTables b d t) ⊎ (IsSome (t.heads id) × (k ≡ 1) × SpellsTables b d (put id it t))) × ((n : ℕ) → HasRooms n old.now → HasRooms n b)) (sym counted) (sym now) wrote
 
 pub head_step : (old new : State) (id : List ℕ) (it : Head) (r : Result ℕ Error) → IsTextHead id it → ExecutesInside 0 change_text (head_params id it) old new r → IfOk r (λ count. Advances old new (UpdatesHead id it count))
 head_step old new id it (Err e) good h = tt

@@ -24,7 +24,7 @@ use Rattle.sqlite_rules.specs.declared.error.Refusal.TheVariants.{Violates, Mism
 use Rattle.sqlite_typing.specs.Types.{accepts_program}
 use Rattle.sqlite_tied.specs.Compute.{everything}
 use Rattle.fv_tables.specs.Tables.{store_schema, kept_record, kept_object}
-use Rattle.fv_tables.specs.Stands.{Head, Part, Place, Maps, head_row, part_row, IsTextHead, IsTextPart, Spells, IsOwned, put, added}
+use Rattle.fv_tables.specs.Stands.{Head, ObjectTexts, ObjectKey, Maps, head_row, part_row, IsTextHead, IsTextPart, SpellsTables, IsOwned, put, added}
 use Rattle.fv_tables.specs.Causes.{HasRoom, HasRooms, IsShortHead, IsShortPart, IsExcused}
 use Rattle.fv_tables.proofs.Texts.{change_text, change_query, change_is, change_plain, change_whole, set_text, set_query, set_is, set_plain, set_whole}
 use Rattle.fv_tables.proofs.RowEdits.{spells_replaced, fresh_again}
@@ -43,7 +43,7 @@ change_accepted : (id form root : List ℕ) → accepts_program store_schema [] 
 unfolding everything
 change_accepted id form root = refl
 
-module _ (db : Trees) (d : List Row) (t : Maps) (spelled : Spells (at_trees db) d t) (id : List ℕ) (h k : Head) (n : ℤ) (there : Has (db 1) (head_row n id k)) (good : IsTextHead id h) (fits : fits_i64 n ≡ true) where
+module _ (db : Trees) (d : List Row) (t : Maps) (spelled : SpellsTables (at_trees db) d t) (id : List ℕ) (h k : Head) (n : ℤ) (there : Has (db 1) (head_row n id k)) (good : IsTextHead id h) (fits : fits_i64 n ≡ true) where
   change_allowed : (why : Refusal) → IsRefused store_schema Enforced db (head_exchange (n ∷ []) (head_row n id h ∷ [])) why → ⊥
   unfolding same_name joined
   change_allowed (Violates Datatype) w = never_false w
@@ -58,11 +58,11 @@ module _ (db : Trees) (d : List Row) (t : Maps) (spelled : Spells (at_trees db) 
   change_allowed BadReference w = never_false w
   change_allowed TooDeep w = w
 
-module _ (s : State) (none : s.step_limit ≡ None) (d : List Row) (t : Maps) (spelled : Spells (at_trees s.now.trees) d t) (owned : IsOwned t) where
+module _ (s : State) (none : s.step_limit ≡ None) (d : List Row) (t : Maps) (spelled : SpellsTables (at_trees s.now.trees) d t) (owned : IsOwned t) where
   abbrev db : Trees
   db = s.now.trees
 
-  module _ (at : Place) (p : Part) (good : IsTextPart at p) (room : HasRoom 0 (db 3)) (short : IsShortPart at p) where
+  module _ (at : ObjectKey) (p : ObjectTexts) (good : IsTextPart at p) (room : HasRoom 0 (db 3)) (short : IsShortPart at p) where
     never_queried : (stop : Option Error) → Queried s.step_limit (at_trees db) (record { lets = []; body = set_query }) (part_params at p) (Err stop) → ⊥
     never_queried None w = w
     never_queried (Some e) (inl w) = never_false (sym (set_accepted at.0 at.1 p.kind p.fields) ∙ w.1)
@@ -72,7 +72,7 @@ module _ (s : State) (none : s.step_limit ≡ None) (d : List Row) (t : Maps) (s
     never_exchanged : (rows : List Row) → IsAnswer set_query (overlay db []) (part_params at p) rows → (stop : Option Error) → Edited store_schema Enforced db (edit_by db rows) (Err stop) → ⊥
     never_exchanged rows answer stop w = go (t.parts at) refl
       where
-        go : (o : Option Part) → t.parts at ≡ o → ⊥
+        go : (o : Option ObjectTexts) → t.parts at ≡ o → ⊥
         go None lacks =
             never_edited db (exchange [] []) no_parts (parts_allowed db (heads_apart db d t spelled) (parts_apart db d t spelled) []) (λ row never _. never) stop
             (subst (λ (e : Edit). Edited store_schema Enforced db e (Err stop)) (edits_none db t.parts at p rows spelled.parts answer lacks) w)
@@ -125,8 +125,8 @@ module _ (s : State) (none : s.step_limit ≡ None) (d : List Row) (t : Maps) (s
     ]
 
 module _ (old new : State) (none : old.step_limit ≡ None) where
-  pub part_cause : (at : Place) (p : Part) → IsTextPart at p → (r : Result ℕ Error) → ExecutesInside 0 set_text (part_params at p) old new r
-      → IfErr r (λ e. (d : List Row) (t : Maps) → Spells old.now d t → IsOwned t → HasRooms 0 old.now → IsShortPart at p → IsExcused old new e)
+  pub part_cause : (at : ObjectKey) (p : ObjectTexts) → IsTextPart at p → (r : Result ℕ Error) → ExecutesInside 0 set_text (part_params at p) old new r
+      → IfErr r (λ e. (d : List Row) (t : Maps) → SpellsTables old.now d t → IsOwned t → HasRooms 0 old.now → IsShortPart at p → IsExcused old new e)
   part_cause at p good (Ok count) ran = tt
   part_cause at p good (Err e) ran = λ d t spelled owned room short refused.
       let params = part_params at p in
@@ -137,7 +137,7 @@ module _ (old new : State) (none : old.step_limit ≡ None) where
       (subst (λ sc. Does old.step_limit (mode_of old) params (record old.now { schema = sc }) text None command (Err stop)) spelled.schema does)) e ran refused
 
   pub head_cause : (id : List ℕ) (h : Head) → IsTextHead id h → (r : Result ℕ Error) → ExecutesInside 0 change_text (head_params id h) old new r
-      → IfErr r (λ e. (d : List Row) (t : Maps) → Spells old.now d t → IsOwned t → HasRooms 0 old.now → IsShortHead id h → IsExcused old new e)
+      → IfErr r (λ e. (d : List Row) (t : Maps) → SpellsTables old.now d t → IsOwned t → HasRooms 0 old.now → IsShortHead id h → IsExcused old new e)
   head_cause id h good (Ok count) ran = tt
   head_cause id h good (Err e) ran = λ d t spelled owned room short refused.
       let params = head_params id h in

@@ -21,7 +21,7 @@ use Rattle.sqlite.specs.State.{State, mode_of, Executes}
 use Rattle.sqlite.proofs.Callers.{statement_of, runs_as, one_step}
 use Rattle.fv_tables.specs.Tables.{store_schema, kept_record}
 use Rattle.fv_tables.specs.Rows.{HasRows}
-use Rattle.fv_tables.specs.Stands.{Head, Part, Place, Maps, head_row, part_row, IsTextHead, IsTextPart, Spells, put}
+use Rattle.fv_tables.specs.Stands.{Head, ObjectTexts, ObjectKey, Maps, head_row, part_row, IsTextHead, IsTextPart, SpellsTables, put}
 use Rattle.fv_tables.specs.Steps.{Lacks}
 use Rattle.fv_tables.proofs.Texts.{put_text, put_terms, put_is, put_plain}
 use Rattle.fv_tables.proofs.RowEdits.{spells_put}
@@ -46,14 +46,14 @@ one_is_not_three e = cc
 abbrev pub head_params : List ℕ → Head → Row
 head_params id h = Text id ∷ Text h.form ∷ Text h.root ∷ []
 
-abbrev pub part_params : Place → Part → Row
+abbrev pub part_params : ObjectKey → ObjectTexts → Row
 part_params at p = Text at.0 ∷ Text at.1 ∷ Text p.kind ∷ Text p.fields ∷ []
 
 -- the database of these trees
 abbrev pub at_trees : Trees → Database
 at_trees db = record { schema = store_schema; trees = db }
 
-pub in_place : (db : Database) (d : List Row) (t : Maps) → Spells db d t → Spells (at_trees db.trees) d t
+pub in_place : (db : Database) (d : List Row) (t : Maps) → SpellsTables db d t → SpellsTables (at_trees db.trees) d t
 in_place db d t s = record { schema = refl; about = s.about; heads = s.heads; parts = s.parts }
 
 abbrev pub task_of : Option ℕ → Table → Row → Task
@@ -61,13 +61,13 @@ task_of limit table params = record { limit = limit; keys = Enforced; schema = s
 
 -- ---- the row of a record
 
-module _ (limit : Option ℕ) (db : Trees) (id : List ℕ) (it : Head) (d : List Row) (t : Maps) (spelled : Spells (at_trees db) d t) (none : Lacks id t) (good : IsTextHead id it) where
+module _ (limit : Option ℕ) (db : Trees) (id : List ℕ) (it : Head) (d : List Row) (t : Maps) (spelled : SpellsTables (at_trees db) d t) (none : Lacks id t) (good : IsTextHead id it) where
   abbrev put_new : Row
   put_new = head_row (next_rowid (db 1)) id it
 
   -- the row is put in under the next rowid, and the other tables are as before
   pub put_writes : (w : Written) → Inserts (task_of limit kept_record (head_params id it)) (Values put_terms 4) db (Ok w)
-      → Spells (at_trees w.trees) d (put id it t) × (w.trees 1 ≡ put_all (db 1) (put_new ∷ [])) × (w.trees 3 ≡ db 3)
+      → SpellsTables (at_trees w.trees) d (put id it t) × (w.trees 1 ≡ put_all (db 1) (put_new ∷ [])) × (w.trees 3 ≡ db 3)
   put_writes w h =
       let given = went h in
       let written = went (went given.2).2 in
@@ -92,8 +92,8 @@ module _ (limit : Option ℕ) (db : Trees) (id : List ℕ) (it : Head) (d : List
         others,
       )
 
-module _ (old new : State) (id : List ℕ) (it : Head) (count : ℕ) (d : List Row) (t : Maps) (spelled : Spells old.now d t) (none : Lacks id t) (good : IsTextHead id it) (h : Executes put_text (head_params id it) old new (Ok count)) where
-  pub puts : Spells new.now d (put id it t) × (new.now.trees 1 ≡ put_all (old.now.trees 1) (head_row (next_rowid (old.now.trees 1)) id it ∷ [])) × (new.now.trees 3 ≡ old.now.trees 3)
+module _ (old new : State) (id : List ℕ) (it : Head) (count : ℕ) (d : List Row) (t : Maps) (spelled : SpellsTables old.now d t) (none : Lacks id t) (good : IsTextHead id it) (h : Executes put_text (head_params id it) old new (Ok count)) where
+  pub puts : SpellsTables new.now d (put id it t) × (new.now.trees 1 ≡ put_all (old.now.trees 1) (head_row (next_rowid (old.now.trees 1)) id it ∷ [])) × (new.now.trees 3 ≡ old.now.trees 3)
   puts =
       let params = head_params id it in
       let command = Insert 1 (Values put_terms 4) in
@@ -102,4 +102,4 @@ module _ (old new : State) (id : List ℕ) (it : Head) (count : ℕ) (d : List R
       let done = went (subst (λ s. Does old.step_limit (mode_of old) params (record old.now { schema = s }) text None command (Ok (w.tally, new.now))) spelled.schema w.changed) in
       let now : new.now ≡ at_trees done.0.trees = ap (λ (p : Tally × Database). p.1) (same_value (went (went done.2).2).2) in
       let wrote = put_writes old.step_limit old.now.trees id it d t (in_place old.now d t spelled) none good done.0 done.1 in
-      subst (λ b. Spells b d (put id it t) × (b.trees 1 ≡ put_all (old.now.trees 1) (head_row (next_rowid (old.now.trees 1)) id it ∷ [])) × (b.trees 3 ≡ old.now.trees 3)) (sym now) wrote
+      subst (λ b. SpellsTables b d (put id it t) × (b.trees 1 ≡ put_all (old.now.trees 1) (head_row (next_rowid (old.now.trees 1)) id it ∷ [])) × (b.trees 3 ≡ old.now.trees 3)) (sym now) wrote

@@ -3,7 +3,7 @@ use Rattle.std.proofs.Common.{◌≡◌, ℕ, true, List, bytes_eq, refl, ap, ap
 use Rattle.std.proofs.lemmas.Bool.{and_parts, and_from}
 use Rattle.std.proofs.lemmas.Slice.Eq.{bytes_eq-Decides}
 use Rattle.sqlite.specs.Order.{Row, column, bytes}
-use Rattle.fv_tables.specs.Stands.{Place, same_place, head_row, part_row}
+use Rattle.fv_tables.specs.Stands.{ObjectKey, same_place, head_row, part_row}
 use Rattle.fv_tables.proofs.RowEdits.{Shows}
 
 abbrev cell : ℕ → Row → List ℕ
@@ -17,15 +17,15 @@ heads = record {
   decides = λ k l. bytes_eq-Decides k l;
 }
 
-pub place_is : (a b : Place) → same_place a b ≡ true → a ≡ b
+pub place_is : (a b : ObjectKey) → same_place a b ≡ true → a ≡ b
 place_is a b h =
     let parts = and_parts (bytes_eq a.0 b.0) (bytes_eq a.1 b.1) h in
     let one = (bytes_eq-Decides a.0 b.0).0 parts.0 in
     let two = (bytes_eq-Decides a.1 b.1).0 parts.1 in
     ap₂ (λ (x y : List ℕ). (x, y)) one two
 
-pub same_place_is : (a b : Place) → a ≡ b → same_place a b ≡ true
-same_place_is a b e = and_from _ _ ((bytes_eq-Decides a.0 b.0).1 (ap (λ (p : Place). p.0) e)) ((bytes_eq-Decides a.1 b.1).1 (ap (λ (p : Place). p.1) e))
+pub same_place_is : (a b : ObjectKey) → a ≡ b → same_place a b ≡ true
+same_place_is a b e = and_from _ _ ((bytes_eq-Decides a.0 b.0).1 (ap (λ (p : ObjectKey). p.0) e)) ((bytes_eq-Decides a.1 b.1).1 (ap (λ (p : ObjectKey). p.1) e))
 
 pub parts : Shows part_row same_place
 parts = record {

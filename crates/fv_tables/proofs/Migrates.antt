@@ -12,7 +12,7 @@ use Rattle.sqlite.proofs.Callers.{statement_of, runs_as}
 use Rattle.fv_tables.specs.Tables.{bare_schema}
 use Rattle.fv_tables.specs.FirstTables.{old_schema}
 use Rattle.fv_tables.specs.Rows.{HasRows}
-use Rattle.fv_tables.specs.Stands.{Stands, about_row, head_row, part_row, IsTextHead, IsTextPart, tables_of}
+use Rattle.fv_tables.specs.Stands.{TablesStand, about_row, head_row, part_row, IsTextHead, IsTextPart, tables_of}
 use Rattle.fv_tables.specs.Steps.{Advances}
 use Rattle.fv_tables.specs.Creating.{IsBare, IsMade, IsEmpty, no_entries, Builds}
 use Rattle.fv_tables.specs.Olds.{IsOld, IsVacant, Renews, Empties}
@@ -49,7 +49,7 @@ drop_record_step old new (Ok count) h = record {
 -- ---- the version
 
 -- tables with no row spell no record
-pub made_stands : (rows : List Row) (db : Database) → IsMade rows db → Stands db rows no_entries
+pub made_stands : (rows : List Row) (db : Database) → IsMade rows db → TablesStand db rows no_entries
 made_stands rows db made = record {
   schema = made.0;
   about = made.1;

@@ -10,8 +10,8 @@ use Rattle.sqlite.specs.State.{State, HasCleanDisk, ExecutesInside}
 use Rattle.sqlite_rules.specs.Lists.{Has}
 use Rattle.sqlite_rules.proofs.ListLemmas.{has_left}
 use Rattle.fv_tables.specs.declared.text.ObjectText.{ObjectText}
-use Rattle.fv_tables.specs.Stands.{Head, Part, Maps, Spells, Frame, IsOwned, added}
-use Rattle.fv_tables.specs.Changes.{Things, AreApart, has_name, all_added, object_view, objects_view, IsFree}
+use Rattle.fv_tables.specs.Stands.{Head, ObjectTexts, Maps, SpellsTables, Frame, IsOwned, added}
+use Rattle.fv_tables.specs.Changes.{AllTexts, AreApart, has_name, all_added, object_view, objects_view, IsFree}
 use Rattle.fv_tables.specs.Causes.{HasRooms, IsExcused, IsShortPart, AreShort}
 use Rattle.fv_tables.specs.Inserting.{AreNew, IsRun, insert_of, object_values, row_values}
 use Rattle.fv_tables.specs.Steps.{Advances, LacksPart, Makes}
@@ -23,43 +23,43 @@ use Rattle.fv_tables.proofs.Steps.{failed_then, led_on_ok}
 
 -- ---- of two lists
 
-none_behind : (name : List ℕ) (xs ys : Things) → has_name name (xs ++ ys) ≡ false → has_name name ys ≡ false
+none_behind : (name : List ℕ) (xs ys : AllTexts) → has_name name (xs ++ ys) ≡ false → has_name name ys ≡ false
 none_behind name [] ys none = none
 none_behind name (x ∷ xs) ys none = none_behind name xs ys (neither (bytes_eq x.0 name) (has_name name (xs ++ ys)) none).1
 
-none_before : (name : List ℕ) (xs ys : Things) → has_name name (xs ++ ys) ≡ false → has_name name xs ≡ false
+none_before : (name : List ℕ) (xs ys : AllTexts) → has_name name (xs ++ ys) ≡ false → has_name name xs ≡ false
 none_before name [] ys none = refl
 none_before name (x ∷ xs) ys none = let it = neither (bytes_eq x.0 name) (has_name name (xs ++ ys)) none in rw it.0 (none_before name xs ys it.1)
 
-apart_behind : (xs ys : Things) → AreApart (xs ++ ys) → AreApart ys
+apart_behind : (xs ys : AllTexts) → AreApart (xs ++ ys) → AreApart ys
 apart_behind [] ys apart = apart
 apart_behind (x ∷ xs) ys apart = apart_behind xs ys apart.1
 
-apart_before : (xs ys : Things) → AreApart (xs ++ ys) → AreApart xs
+apart_before : (xs ys : AllTexts) → AreApart (xs ++ ys) → AreApart xs
 apart_before [] ys apart = tt
 apart_before (x ∷ xs) ys apart = (none_before x.0 xs ys apart.0, apart_before xs ys apart.1)
 
-apart_across : (xs ys : Things) → AreApart (xs ++ ys) → (a : List ℕ × Part) → Has xs a → (b : List ℕ × Part) → Has ys b → bytes_eq b.0 a.0 ≡ false
+apart_across : (xs ys : AllTexts) → AreApart (xs ++ ys) → (a : List ℕ × ObjectTexts) → Has xs a → (b : List ℕ × ObjectTexts) → Has ys b → bytes_eq b.0 a.0 ≡ false
 apart_across [] ys apart a h b among = absurd h
-apart_across (x ∷ xs) ys apart a (inl is) b among = subst (λ (e : List ℕ × Part). bytes_eq b.0 e.0 ≡ false) (sym is) (others_apart x.0 ys (none_behind x.0 xs ys apart.0) b among)
+apart_across (x ∷ xs) ys apart a (inl is) b among = subst (λ (e : List ℕ × ObjectTexts). bytes_eq b.0 e.0 ≡ false) (sym is) (others_apart x.0 ys (none_behind x.0 xs ys apart.0) b among)
 apart_across (x ∷ xs) ys apart a (inr later) b among = apart_across xs ys apart.1 a later b among
 
-short_behind : (id : List ℕ) (xs ys : Things) → AreShort id (xs ++ ys) → AreShort id ys
+short_behind : (id : List ℕ) (xs ys : AllTexts) → AreShort id (xs ++ ys) → AreShort id ys
 short_behind id [] ys short = short
 short_behind id (x ∷ xs) ys short = short_behind id xs ys short.1
 
-short_before : (id : List ℕ) (xs ys : Things) → AreShort id (xs ++ ys) → AreShort id xs
+short_before : (id : List ℕ) (xs ys : AllTexts) → AreShort id (xs ++ ys) → AreShort id xs
 short_before id [] ys short = tt
 short_before id (x ∷ xs) ys short = (short.0, short_before id xs ys short.1)
 
-all_added-append : (id : List ℕ) (xs ys : Things) (t : Maps) → all_added id (xs ++ ys) t ≡ all_added id ys (all_added id xs t)
+all_added-append : (id : List ℕ) (xs ys : AllTexts) (t : Maps) → all_added id (xs ++ ys) t ≡ all_added id ys (all_added id xs t)
 all_added-append id [] ys t = refl
 all_added-append id (x ∷ xs) ys t = all_added-append id xs ys (added (id, x.0) x.1 t)
 
 -- ---- a run more
 
 -- a run is new once those before it are there
-run_new : (id : List ℕ) (done run behind : Things) (t : Maps) → AreApart (done ++ (run ++ behind)) → ((name : List ℕ) → t.parts (id, name) ≡ None) → AreNew id run (all_added id done t)
+run_new : (id : List ℕ) (done run behind : AllTexts) (t : Maps) → AreApart (done ++ (run ++ behind)) → ((name : List ℕ) → t.parts (id, name) ≡ None) → AreNew id run (all_added id done t)
 run_new id done run behind t apart none = (
   apart_before run behind (apart_behind done (run ++ behind) apart),
   λ o h. unseen id done o.0 t (λ x among. apart_across done (run ++ behind) apart x among o (has_left run behind o h)) (none o.0),
@@ -79,12 +79,12 @@ module _ (id : List ℕ) (all done run behind : List ObjectText) (split : done +
       let two = q d (all_added id (objects_view done) t) one.0 (run_new id (objects_view done) (objects_view run) (objects_view behind) t (subst AreApart whole free.0) free.1) in
       let is : all_added id (objects_view (done ++ run)) t ≡ all_added id (objects_view run) (all_added id (objects_view done) t) =
       ap (λ os. all_added id os t) (map-append object_view done run) ∙ all_added-append id (objects_view done) (objects_view run) t in
-      (subst (Spells z d) (sym is) two.0, both_rooms (length done) (length run) (length (done ++ run)) x y z (sym (length-append done run)) one.1 two.1)
+      (subst (SpellsTables z d) (sym is) two.0, both_rooms (length done) (length run) (length (done ++ run)) x y z (sym (length-append done run)) one.1 two.1)
 
   -- those before it were put, and the run was refused
   pub run_more_cause : (a b c : State) → HasCleanDisk c → Frame a b → Frame b c → Advances a b (Makes (length done) (IsFree id (objects_view all)) (all_added id (objects_view done))) → (e : Error)
-      → ((d : List Row) (t : Maps) → Spells b.now d t → IsOwned t → AreNew id (objects_view run) t → IsSome (t.heads id) → HasRooms (length run) b.now → AreShort id (objects_view run) → IsExcused b c e)
-      → (d : List Row) (t : Maps) → Spells a.now d t → IsOwned t → IsFree id (objects_view all) t → IsSome (t.heads id) → HasRooms (length all) a.now → AreShort id (objects_view all) → IsExcused a c e
+      → ((d : List Row) (t : Maps) → SpellsTables b.now d t → IsOwned t → AreNew id (objects_view run) t → IsSome (t.heads id) → HasRooms (length run) b.now → AreShort id (objects_view run) → IsExcused b c e)
+      → (d : List Row) (t : Maps) → SpellsTables a.now d t → IsOwned t → IsFree id (objects_view all) t → IsSome (t.heads id) → HasRooms (length all) a.now → AreShort id (objects_view all) → IsExcused a c e
   run_more_cause a b c clean before after made e h d t spelled own free has room short refused =
       let os = objects_view done in
       let it = made.change d t spelled free in
@@ -106,7 +106,7 @@ next_taken all run behind i within is =
     sym (take_at (take i all ++ run) behind (i + length run) long) ∙ ap (take (i + length run)) (append_assoc (take i all) run behind ∙ is)
 
 -- no object yet
-pub none_yet : (s : State) (id : List ℕ) (os : Things) → IsTrue s.in_transaction → Advances s s (Makes 0 (IsFree id os) (all_added id []))
+pub none_yet : (s : State) (id : List ℕ) (os : AllTexts) → IsTrue s.in_transaction → Advances s s (Makes 0 (IsFree id os) (all_added id []))
 none_yet s id os inside = record {
   was_open = λ live. live;
   mode = inside;
@@ -123,7 +123,7 @@ texts_of id good (o ∷ os) = ((good, IsUtf8-had _ o.name_text, IsUtf8-had _ o.k
 
 module _ (old new : State) (id : List ℕ) (good : IsUtf8 id) (os : List ObjectText) (run : IsRun (length os)) (text : List ℕ) (is : text ≡ insert_of (length os)) (params : Row) (given : params ≡ row_values id (objects_view os))
     (r : Result ℕ Error) (ran : ExecutesInside 0 text params old new r) where
-  abbrev things : Things
+  abbrev things : AllTexts
   things = objects_view os
 
   count : length things ≡ length os
@@ -136,27 +136,27 @@ module _ (old new : State) (id : List ℕ) (good : IsUtf8 id) (os : List ObjectT
   objects_step = subst (λ k. OnOk r (Advances old new (Makes k (AreNew id things) (all_added id things)))) count (run_step old new id things (subst IsRun (sym count) run) (texts_of id good os) r ran_so)
 
   pub objects_refused : old.step_limit ≡ None
-      → IfErr r (λ e. (d : List Row) (t : Maps) → Spells old.now d t → IsOwned t → AreNew id things t → IsSome (t.heads id) → HasRooms (length os) old.now → AreShort id things → IsExcused old new e)
+      → IfErr r (λ e. (d : List Row) (t : Maps) → SpellsTables old.now d t → IsOwned t → AreNew id things t → IsSome (t.heads id) → HasRooms (length os) old.now → AreShort id things → IsExcused old new e)
   objects_refused none =
-      subst (λ k. IfErr r (λ e. (d : List Row) (t : Maps) → Spells old.now d t → IsOwned t → AreNew id things t → IsSome (t.heads id) → HasRooms k old.now → AreShort id things → IsExcused old new e)) count
+      subst (λ k. IfErr r (λ e. (d : List Row) (t : Maps) → SpellsTables old.now d t → IsOwned t → AreNew id things t → IsSome (t.heads id) → HasRooms k old.now → AreShort id things → IsExcused old new e)) count
       (run_refused old new none id things (subst IsRun (sym count) run) (texts_of id good os) r ran_so)
 
 -- ---- a run of one
 
-one_new : (id : List ℕ) (o : List ℕ × Part) (t : Maps) → LacksPart (id, o.0) t → AreNew id (o ∷ []) t
-one_new id o t lacks = ((refl, tt), λ x h. elim h [ inl is ↦ subst (λ (e : List ℕ × Part). t.parts (id, e.0) ≡ None) (sym is) lacks | inr never ↦ absurd never ])
+one_new : (id : List ℕ) (o : List ℕ × ObjectTexts) (t : Maps) → LacksPart (id, o.0) t → AreNew id (o ∷ []) t
+one_new id o t lacks = ((refl, tt), λ x h. elim h [ inl is ↦ subst (λ (e : List ℕ × ObjectTexts). t.parts (id, e.0) ≡ None) (sym is) lacks | inr never ↦ absurd never ])
 
-pub one_added : (a b : State) (id : List ℕ) (o : List ℕ × Part) (r : Result ℕ Error) → OnOk r (Advances a b (Makes 1 (AreNew id (o ∷ [])) (all_added id (o ∷ [])))) → OnOk r (Advances a b (Makes 1 (LacksPart (id, o.0)) (added (id, o.0) o.1)))
+pub one_added : (a b : State) (id : List ℕ) (o : List ℕ × ObjectTexts) (r : Result ℕ Error) → OnOk r (Advances a b (Makes 1 (AreNew id (o ∷ [])) (all_added id (o ∷ [])))) → OnOk r (Advances a b (Makes 1 (LacksPart (id, o.0)) (added (id, o.0) o.1)))
 one_added a b id o r = led_on_ok a b r (λ x y made d t spelled lacks. made d t spelled (one_new id o t lacks))
 
-pub one_refused : (a b : State) (id : List ℕ) (o : List ℕ × Part) (r : Result ℕ Error)
-    → IfErr r (λ e. (d : List Row) (t : Maps) → Spells a.now d t → IsOwned t → AreNew id (o ∷ []) t → IsSome (t.heads id) → HasRooms 1 a.now → AreShort id (o ∷ []) → IsExcused a b e)
-    → IfErr r (λ e. (d : List Row) (t : Maps) → Spells a.now d t → IsOwned t → LacksPart (id, o.0) t → IsSome (t.heads id) → HasRooms 1 a.now → IsShortPart (id, o.0) o.1 → IsExcused a b e)
+pub one_refused : (a b : State) (id : List ℕ) (o : List ℕ × ObjectTexts) (r : Result ℕ Error)
+    → IfErr r (λ e. (d : List Row) (t : Maps) → SpellsTables a.now d t → IsOwned t → AreNew id (o ∷ []) t → IsSome (t.heads id) → HasRooms 1 a.now → AreShort id (o ∷ []) → IsExcused a b e)
+    → IfErr r (λ e. (d : List Row) (t : Maps) → SpellsTables a.now d t → IsOwned t → LacksPart (id, o.0) t → IsSome (t.heads id) → HasRooms 1 a.now → IsShortPart (id, o.0) o.1 → IsExcused a b e)
 one_refused a b id o r = more_on_err _ _ r (λ e h d t spelled owned lacks has room short. h d t spelled owned (one_new id o t lacks) has room (short, tt))
 
 -- ---- its parameters
 
-object_values-append : (xs ys : Things) → object_values (xs ++ ys) ≡ object_values xs ++ object_values ys
+object_values-append : (xs ys : AllTexts) → object_values (xs ++ ys) ≡ object_values xs ++ object_values ys
 object_values-append [] ys = refl
 object_values-append (x ∷ xs) ys = ap (λ (l : Row). Text x.0 ∷ Text x.1.kind ∷ Text x.1.fields ∷ l) (object_values-append xs ys)
 

@@ -7,8 +7,8 @@ use Rattle.std.proofs.lemmas.Slice.Eq.{bytes_eq-Decides}
 use Rattle.sqlite.specs.Effect.{Database}
 use Rattle.sqlite_rules.specs.Lists.{Has}
 use Rattle.fv_tables.specs.declared.text.ObjectText.{ObjectText}
-use Rattle.fv_tables.specs.Stands.{Head, Part, Place, Maps, Entry, Entries, Spells, IsOwned, same_place, put, added, removed, part_at, head_of, part_of, tables_of, with_entry, without_entry}
-use Rattle.fv_tables.specs.Changes.{Things, AreApart, has_name, all_added, written, IsReady, with_object, changed, with_part_of, objects_view}
+use Rattle.fv_tables.specs.Stands.{Head, ObjectTexts, ObjectKey, Maps, Entry, TableEntries, SpellsTables, IsOwned, same_place, put, added, removed, part_at, head_of, object_texts, tables_of, with_entry, without_entry}
+use Rattle.fv_tables.specs.Changes.{AllTexts, AreApart, has_name, all_added, written, IsReady, with_object, changed, with_part_of, objects_view}
 use Rattle.fv_tables.specs.Causes.{HasRooms}
 use Rattle.fv_tables.proofs.Rooms.{fewer}
 use Rattle.fv_tables.specs.Steps.{Always, Makes, Turns, UpdatesPart}
@@ -27,7 +27,7 @@ below_apart a b less = false_from_ne_true _ (λ same.
     let tied = tied_itself nat_list_cmp_total a in
     let again : slice_cmp nat_cmp a a ≡ Less = subst (λ x. slice_cmp nat_cmp a x ≡ Less) is less in cc (tied, again))
 
-pub all_added-push : (id : List ℕ) (os : Things) (o : List ℕ × Part) (t : Maps) → all_added id (os ++ o ∷ []) t ≡ added (id, o.0) o.1 (all_added id os t)
+pub all_added-push : (id : List ℕ) (os : AllTexts) (o : List ℕ × ObjectTexts) (t : Maps) → all_added id (os ++ o ∷ []) t ≡ added (id, o.0) o.1 (all_added id os t)
 all_added-push id [] o t = refl
 all_added-push id (x ∷ os) o t = all_added-push id os o (added (id, x.0) x.1 t)
 
@@ -35,7 +35,7 @@ pub other_name : (id name other : List ℕ) → bytes_eq name other ≡ false �
 other_name id name other apart = rw apart (and_false (bytes_eq id id))
 
 -- an object with another name than all that are added is still not there
-pub unseen : (id : List ℕ) (os : Things) (name : List ℕ) (t : Maps) → ((o : List ℕ × Part) → Has os o → bytes_eq name o.0 ≡ false) → t.parts (id, name) ≡ None → (all_added id os t).parts (id, name) ≡ None
+pub unseen : (id : List ℕ) (os : AllTexts) (name : List ℕ) (t : Maps) → ((o : List ℕ × ObjectTexts) → Has os o → bytes_eq name o.0 ≡ false) → t.parts (id, name) ≡ None → (all_added id os t).parts (id, name) ≡ None
 unseen id [] name t apart none = none
 unseen id (o ∷ os) name t apart none = unseen id os name (added (id, o.0) o.1 t) (λ x h. apart x (inr h)) (rw (other_name id name o.0 (apart o (inl refl))) none)
 
@@ -49,13 +49,13 @@ neither false b is = (refl, is)
 pub apart_back : (a b : List ℕ) → bytes_eq a b ≡ false → bytes_eq b a ≡ false
 apart_back a b apart = false_from_ne_true _ (λ same. let is = (bytes_eq-Decides b a).0 same in let also = (bytes_eq-Decides a b).1 (sym is) in cc (apart, also))
 
-last_other : (name : List ℕ) (os : Things) (x : List ℕ × Part) → has_name name (os ++ x ∷ []) ≡ false → bytes_eq x.0 name ≡ false
+last_other : (name : List ℕ) (os : AllTexts) (x : List ℕ × ObjectTexts) → has_name name (os ++ x ∷ []) ≡ false → bytes_eq x.0 name ≡ false
 last_other name [] x none = (neither (bytes_eq x.0 name) false none).0
 last_other name (o ∷ os) x none = last_other name os x (neither (bytes_eq o.0 name) (has_name name (os ++ x ∷ [])) none).1
 
-pub last_apart : (os : Things) (x : List ℕ × Part) → AreApart (os ++ x ∷ []) → (o : List ℕ × Part) → Has os o → bytes_eq x.0 o.0 ≡ false
+pub last_apart : (os : AllTexts) (x : List ℕ × ObjectTexts) → AreApart (os ++ x ∷ []) → (o : List ℕ × ObjectTexts) → Has os o → bytes_eq x.0 o.0 ≡ false
 last_apart [] x apart o h = absurd h
-last_apart (y ∷ os) x apart o (inl is) = subst (λ (e : List ℕ × Part). bytes_eq x.0 e.0 ≡ false) (sym is) (last_other y.0 os x apart.0)
+last_apart (y ∷ os) x apart o (inl is) = subst (λ (e : List ℕ × ObjectTexts). bytes_eq x.0 e.0 ≡ false) (sym is) (last_other y.0 os x apart.0)
 last_apart (y ∷ os) x apart o (inr later) = last_apart os x apart.1 o later
 
 none_taken : (name : List ℕ) (n : ℕ) (os : List ObjectText) → has_name name (objects_view os) ≡ false → has_name name (objects_view (take n os)) ≡ false
@@ -84,26 +84,26 @@ both_rooms i j k x y z is one two n room = two n (one (n + j) (fewer (n + j + i)
 
 -- ---- what the tables keep of records
 
-pub heads_added : (id : List ℕ) (os : Things) (t : Maps) → (all_added id os t).heads ≡ t.heads
+pub heads_added : (id : List ℕ) (os : AllTexts) (t : Maps) → (all_added id os t).heads ≡ t.heads
 heads_added id [] t = refl
 heads_added id (o ∷ os) t = heads_added id os (added (id, o.0) o.1 t)
 
-abbrev or_else : Option Part → Option Part → Option Part
+abbrev or_else : Option ObjectTexts → Option ObjectTexts → Option ObjectTexts
 or_else None o = o
 or_else (Some p) o = Some p
 
-or_none : (o : Option Part) → or_else o None ≡ o
+or_none : (o : Option ObjectTexts) → or_else o None ≡ o
 or_none None = refl
 or_none (Some p) = refl
 
-absent : (name : List ℕ) (os : Things) → has_name name os ≡ false → part_at name os ≡ None
+absent : (name : List ℕ) (os : AllTexts) → has_name name os ≡ false → part_at name os ≡ None
 absent name [] none = refl
 absent name (o ∷ os) none =
     let it = neither (bytes_eq o.0 name) (has_name name os) none in
     rw (apart_back o.0 name it.0) (absent name os it.1)
 
 -- an object of the record is the one that was added, if one was
-parts_added : (id : List ℕ) (os : Things) → AreApart os → (t : Maps) (name : List ℕ) → (all_added id os t).parts (id, name) ≡ or_else (part_at name os) (t.parts (id, name))
+parts_added : (id : List ℕ) (os : AllTexts) → AreApart os → (t : Maps) (name : List ℕ) → (all_added id os t).parts (id, name) ≡ or_else (part_at name os) (t.parts (id, name))
 parts_added id [] apart t name = refl
 parts_added id (o ∷ os) apart t name =
     let later = parts_added id os apart.1 (added (id, o.0) o.1 t) name in
@@ -116,14 +116,14 @@ parts_added id (o ∷ os) apart t name =
     ]
 
 -- those of another record are as before
-parts_others : (id : List ℕ) (os : Things) (t : Maps) (at : Place) → bytes_eq at.0 id ≡ false → (all_added id os t).parts at ≡ t.parts at
+parts_others : (id : List ℕ) (os : AllTexts) (t : Maps) (at : ObjectKey) → bytes_eq at.0 id ≡ false → (all_added id os t).parts at ≡ t.parts at
 parts_others id [] t at other = refl
 parts_others id (o ∷ os) t at other = parts_others id os (added (id, o.0) o.1 t) at other ∙ rw other refl
 
-pub both : (a b : Maps) → a.heads ≡ b.heads → ((at : Place) → a.parts at ≡ b.parts at) → a ≡ b
+pub both : (a b : Maps) → a.heads ≡ b.heads → ((at : ObjectKey) → a.parts at ≡ b.parts at) → a ≡ b
 both a b one two = λ i. record { heads = one i; parts = λ at. two at i }
 
-pub tables_put : (id : List ℕ) (k : Entry) (m : Entries) → AreApart k.objects → tables_of (with_entry id k m) ≡ written id (record { form = k.form; root = k.root }) k.objects (tables_of m)
+pub tables_put : (id : List ℕ) (k : Entry) (m : TableEntries) → AreApart k.objects → tables_of (with_entry id k m) ≡ written id (record { form = k.form; root = k.root }) k.objects (tables_of m)
 tables_put id k m apart =
     let h : Head = record { form = k.form; root = k.root } in
     let t = put id h (removed id (tables_of m)) in
@@ -142,28 +142,28 @@ tables_put id k m apart =
     at_head true o = refl
     at_head false o = refl
 
-pub tables_removed : (id : List ℕ) (m : Entries) → tables_of (without_entry id m) ≡ removed id (tables_of m)
+pub tables_removed : (id : List ℕ) (m : TableEntries) → tables_of (without_entry id m) ≡ removed id (tables_of m)
 tables_removed id m = both (tables_of (without_entry id m)) (removed id (tables_of m)) (λ i other. at_head (bytes_eq other id) (m other) i) (λ at. at_part at.1 (bytes_eq at.0 id) (m at.0))
   where
     at_head : (b : Bool) (o : Option Entry) → head_of (cond b None o) ≡ cond b None (head_of o)
     at_head true o = refl
     at_head false o = refl
 
-    at_part : (name : List ℕ) (b : Bool) (o : Option Entry) → part_of name (cond b None o) ≡ cond b None (part_of name o)
+    at_part : (name : List ℕ) (b : Bool) (o : Option Entry) → object_texts name (cond b None o) ≡ cond b None (object_texts name o)
     at_part name true o = refl
     at_part name false o = refl
 
 -- each object of records has its record
-pub owned : (m : Entries) → IsOwned (tables_of m)
+pub owned : (m : TableEntries) → IsOwned (tables_of m)
 owned m at p is = go (m at.0) is
   where
-    go : (o : Option Entry) → part_of at.1 o ≡ Some p → Rattle.std.proofs.Common.IsSome (head_of o)
+    go : (o : Option Entry) → object_texts at.1 o ≡ Some p → Rattle.std.proofs.Common.IsSome (head_of o)
     go None is = absurd cc
     go (Some k) is = refl
 
 -- ---- an object that is there is changed
 
-set_at : (os : Things) (name n : List ℕ) (p q : Part) → part_at name os ≡ Some q → part_at n (with_object name p os) ≡ cond (bytes_eq n name) (Some p) (part_at n os)
+set_at : (os : AllTexts) (name n : List ℕ) (p q : ObjectTexts) → part_at name os ≡ Some q → part_at n (with_object name p os) ≡ cond (bytes_eq n name) (Some p) (part_at n os)
 set_at [] name n p q is = absurd cc
 set_at (o ∷ os) name n p q is = elim (cases_Bool (bytes_eq name o.0)) [
   | inl here ↦
@@ -183,15 +183,15 @@ set_at (o ∷ os) name n p q is = elim (cases_Bool (bytes_eq name o.0)) [
       ]
 ]
   where
-    twice : (b : Bool) (x y : Part) (o : Option Part) → cond b (Some x) o ≡ cond b (Some x) (cond b (Some y) o)
+    twice : (b : Bool) (x y : ObjectTexts) (o : Option ObjectTexts) → cond b (Some x) o ≡ cond b (Some x) (cond b (Some y) o)
     twice true x y o = refl
     twice false x y o = refl
 
-pub tables_set : (id name : List ℕ) (p q : Part) (m : Entries) → part_of name (m id) ≡ Some q → tables_of (with_part_of id name p m) ≡ added (id, name) p (tables_of m)
+pub tables_set : (id name : List ℕ) (p q : ObjectTexts) (m : TableEntries) → object_texts name (m id) ≡ Some q → tables_of (with_part_of id name p m) ≡ added (id, name) p (tables_of m)
 tables_set id name p q m has = both (tables_of (with_part_of id name p m)) (added (id, name) p (tables_of m)) (λ i other. at_head (bytes_eq other id) (m other) i) (λ at. elim (cases_Bool (bytes_eq at.0 id)) [
   | inl same ↦
       let is = (bytes_eq-Decides at.0 id).0 same in
-      rw same (at_part at.1 (m at.0) (ap (λ i. part_of name (m i)) is ∙ has))
+      rw same (at_part at.1 (m at.0) (ap (λ i. object_texts name (m i)) is ∙ has))
   | inr other ↦ rw other refl
 ])
   where
@@ -200,44 +200,44 @@ tables_set id name p q m has = both (tables_of (with_part_of id name p m)) (adde
     at_head true (Some k) = refl
     at_head false o = refl
 
-    at_part : (n : List ℕ) (o : Option Entry) → part_of name o ≡ Some q → part_of n (changed name p o) ≡ cond (bytes_eq n name) (Some p) (part_of n o)
+    at_part : (n : List ℕ) (o : Option Entry) → object_texts name o ≡ Some q → object_texts n (changed name p o) ≡ cond (bytes_eq n name) (Some p) (object_texts n o)
     at_part n None none = absurd cc
     at_part n (Some k) there = set_at k.objects name n p q there
 
 -- ---- an object that isn't there isn't changed
 
-unset_at : (os : Things) (name : List ℕ) (p : Part) → part_at name os ≡ None → with_object name p os ≡ os
+unset_at : (os : AllTexts) (name : List ℕ) (p : ObjectTexts) → part_at name os ≡ None → with_object name p os ≡ os
 unset_at [] name p none = refl
 unset_at (o ∷ os) name p none = elim (cases_Bool (bytes_eq name o.0)) [
   | inl here ↦ absurd (let wrong : Some o.1 ≡ None = rw here at none in cc)
   | inr other ↦ rw other (ap (λ l. o ∷ l) (unset_at os name p (rw other at none)))
 ]
 
-unchanged : (name : List ℕ) (p : Part) (o : Option Entry) → part_of name o ≡ None → changed name p o ≡ o
+unchanged : (name : List ℕ) (p : ObjectTexts) (o : Option Entry) → object_texts name o ≡ None → changed name p o ≡ o
 unchanged name p None none = refl
-unchanged name p (Some k) none = ap (λ (os : Things). Some (record { form = k.form; root = k.root; objects = os })) (unset_at k.objects name p none)
+unchanged name p (Some k) none = ap (λ (os : AllTexts). Some (record { form = k.form; root = k.root; objects = os })) (unset_at k.objects name p none)
 
-unset : (id name : List ℕ) (p : Part) (m : Entries) → part_of name (m id) ≡ None → with_part_of id name p m ≡ m
+unset : (id name : List ℕ) (p : ObjectTexts) (m : TableEntries) → object_texts name (m id) ≡ None → with_part_of id name p m ≡ m
 unset id name p m none = λ i other. go other (cases_Bool (bytes_eq other id)) i
   where
     go : (other : List ℕ) → (bytes_eq other id ≡ true) ⊎ (bytes_eq other id ≡ false) → with_part_of id name p m other ≡ m other
-    go other (inl same) = rw same (unchanged name p (m other) (ap (λ k. part_of name (m k)) ((bytes_eq-Decides other id).0 same) ∙ none))
+    go other (inl same) = rw same (unchanged name p (m other) (ap (λ k. object_texts name (m k)) ((bytes_eq-Decides other id).0 same) ∙ none))
     go other (inr apart) = rw apart refl
 
 -- ---- what the changes make of the records
 
 pub turns_put : (id : List ℕ) (k : Entry) (i : ℕ) (x y : Database) → Makes i (IsReady k.objects) (written id (record { form = k.form; root = k.root }) k.objects) x y → Turns i (λ _. AreApart k.objects) (with_entry id k) x y
-turns_put id k i x y p d m stands apart = let it = p d (tables_of m) stands (apart, owned m) in (subst (Spells y d) (sym (tables_put id k m apart)) it.0, it.1)
+turns_put id k i x y p d m stands apart = let it = p d (tables_of m) stands (apart, owned m) in (subst (SpellsTables y d) (sym (tables_put id k m apart)) it.0, it.1)
 
 pub turns_removed : (id : List ℕ) (x y : Database) → Makes 0 IsOwned (removed id) x y → Turns 0 Always (without_entry id) x y
-turns_removed id x y p d m stands _ = let it = p d (tables_of m) stands (owned m) in (subst (Spells y d) (sym (tables_removed id m)) it.0, it.1)
+turns_removed id x y p d m stands _ = let it = p d (tables_of m) stands (owned m) in (subst (SpellsTables y d) (sym (tables_removed id m)) it.0, it.1)
 
-pub turns_set : (id name : List ℕ) (p : Part) (count : ℕ) (x y : Database) → UpdatesPart (id, name) p count x y → Turns 0 Always (with_part_of id name p) x y
+pub turns_set : (id name : List ℕ) (p : ObjectTexts) (count : ℕ) (x y : Database) → UpdatesPart (id, name) p count x y → Turns 0 Always (with_part_of id name p) x y
 turns_set id name p count x y made d m stands _ =
     let it = made d (tables_of m) stands in (
       elim it.0 [
-        | inl lacks ↦ subst (Spells y d) (sym (ap tables_of (unset id name p m lacks.0))) lacks.2
-        | inr set ↦ subst (Spells y d) (sym (tables_set id name p set.0.0 m set.0.1)) set.2
+        | inl lacks ↦ subst (SpellsTables y d) (sym (ap tables_of (unset id name p m lacks.0))) lacks.2
+        | inr set ↦ subst (SpellsTables y d) (sym (tables_set id name p set.0.0 m set.0.1)) set.2
       ],
       λ n room. it.1 n (fewer n (n + 0) (x.trees 1) (omega arith) room.0, fewer n (n + 0) (x.trees 3) (omega arith) room.1),
     )

@@ -27,7 +27,7 @@ use Rattle.sqlite_rules.proofs.ListLemmas.{all_has, all_from, has_right}
 use Rattle.sqlite_rules.proofs.ProbeLemmas.{has_mapped, mapped_has}
 use Rattle.sqlite_trees.proofs.ListLemmas.{all-permutation}
 use Rattle.fv_tables.specs.Rows.{IsRowOf, HasRows}
-use Rattle.fv_tables.specs.Stands.{Head, Part, Place, same_place, head_row, part_row, IsTextHead, IsTextPart}
+use Rattle.fv_tables.specs.Stands.{Head, ObjectTexts, ObjectKey, same_place, head_row, part_row, IsTextHead, IsTextPart}
 use Rattle.fv_tables.proofs.Texts.{over_table, one_table, by_first, by_both}
 use Rattle.fv_tables.proofs.RowEdits.{Shows, AreOf}
 
@@ -150,10 +150,10 @@ and_true false = refl
 pub head_by_id : (m : List ℕ → Option Head) (id : List ℕ) (more row : Row) (it : IsRowOf head_row IsTextHead m row) → list_all (holds ((Text id ∷ more) ∷ row ∷ [])) by_first ≡ bytes_eq it.key id
 head_by_id m id more row it = rw (it.is, equal_texts it.key id) (and_true (bytes_eq it.key id))
 
-pub part_by_id : (m : Place → Option Part) (id : List ℕ) (more row : Row) (it : IsRowOf part_row IsTextPart m row) → list_all (holds ((Text id ∷ more) ∷ row ∷ [])) by_first ≡ bytes_eq it.key.0 id
+pub part_by_id : (m : ObjectKey → Option ObjectTexts) (id : List ℕ) (more row : Row) (it : IsRowOf part_row IsTextPart m row) → list_all (holds ((Text id ∷ more) ∷ row ∷ [])) by_first ≡ bytes_eq it.key.0 id
 part_by_id m id more row it = rw (it.is, equal_texts it.key.0 id) (and_true (bytes_eq it.key.0 id))
 
-pub part_by_place : (m : Place → Option Part) (at : Place) (more row : Row) (it : IsRowOf part_row IsTextPart m row)
+pub part_by_place : (m : ObjectKey → Option ObjectTexts) (at : ObjectKey) (more row : Row) (it : IsRowOf part_row IsTextPart m row)
     → list_all (holds ((Text at.0 ∷ Text at.1 ∷ more) ∷ row ∷ [])) by_both ≡ same_place it.key at
 part_by_place m at more row it = rw (it.is, equal_texts it.key.0 at.0, equal_texts it.key.1 at.1, and_true (bytes_eq it.key.1 at.1)) refl
 

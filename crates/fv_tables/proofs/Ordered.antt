@@ -25,15 +25,15 @@ use Rattle.sqlite.specs.Term.{holds}
 use Rattle.sqlite.specs.Query.{Output, output, output_cmp, matches, inner, end, IsAnswer}
 use Rattle.sqlite.specs.Program.{overlay}
 use Rattle.fv_tables.specs.Rows.{IsRowOf, HasRows}
-use Rattle.fv_tables.specs.Stands.{Part, Place, part_row, IsTextPart, part_at, shown_part}
-use Rattle.fv_tables.specs.Changes.{Things, IsNamed}
+use Rattle.fv_tables.specs.Stands.{ObjectTexts, ObjectKey, part_row, IsTextPart, part_at, shown_part}
+use Rattle.fv_tables.specs.Changes.{AllTexts, IsNamed}
 use Rattle.fv_tables.proofs.Texts.{parts_query, by_first}
 use Rattle.fv_tables.proofs.Layouts.{parts}
 use Rattle.fv_tables.proofs.OneTable.{kept, ordered_sound, ordered_complete, part_by_id}
 use Rattle.fv_tables.proofs.Objects.{same_id, below_apart}
 
 -- the object that an output shows
-abbrev pub thing_of : Output → List ℕ × Part
+abbrev pub thing_of : Output → List ℕ × ObjectTexts
 thing_of o = (bytes (column o.1 0), record { kind = bytes (column o.1 1); fields = bytes (column o.1 2) })
 
 abbrev pub name_of : Output → List ℕ
@@ -52,7 +52,7 @@ module _ (id name : List ℕ) where
   not_below : (n : ℤ) → int_cmp n n ≡ Less → ⊥
   not_below n h = grind (arith, ints, nat_tests)
 
-  pub at_most_once : (m : Place → Option Part) (rs : List Row) → HasRows part_row IsTextPart rs m → sum_by hit rs ≤ 1
+  pub at_most_once : (m : ObjectKey → Option ObjectTexts) (rs : List Row) → HasRows part_row IsTextPart rs m → sum_by hit rs ≤ 1
   at_most_once m rs s = go rs s.apart s.sound s.once
     where
       key_is : (row : Row) (it : IsRowOf part_row IsTextPart m row) → (bytes_eq (bytes (column row 1)) id && bytes_eq (bytes (column row 2)) name) ≡ true → it.key ≡ (id, name)
@@ -62,7 +62,7 @@ module _ (id name : List ℕ) where
           let two : it.key.1 ≡ name = ap (λ (r : Row). bytes (column r 2)) (sym it.is) ∙ (bytes_eq-Decides (bytes (column row 2)) name).0 both.1 in
           ap₂ (λ (a b : List ℕ). (a, b)) one two
 
-      go : (xs : List Row) → IsTable xs → ((r : Row) → Has xs r → IsRowOf part_row IsTextPart m r) → ((i n : ℤ) (k : Place) (v w : Part) → Has xs (part_row i k v) → Has xs (part_row n k w) → i ≡ n) → sum_by hit xs ≤ 1
+      go : (xs : List Row) → IsTable xs → ((r : Row) → Has xs r → IsRowOf part_row IsTextPart m r) → ((i n : ℤ) (k : ObjectKey) (v w : ObjectTexts) → Has xs (part_row i k v) → Has xs (part_row n k w) → i ≡ n) → sum_by hit xs ≤ 1
       go [] up rows once = omega arith
       go (x ∷ xs) up rows once = let step : sum_by hit (x ∷ xs) ≡ hit x + sum_by hit xs = sum_by-cons hit x xs in elim (cases_Bool (bytes_eq (bytes (column x 1)) id && bytes_eq (bytes (column x 2)) name)) [
         | inr other ↦ let rest = go xs up.1 (λ r h. rows r (inr h)) (λ i n k v w p q. once i n k v w (inr p) (inr q)) in let head : hit x ≡ 0 = rw other refl in omega arith
@@ -139,7 +139,7 @@ ascending (x ∷ []) h = (tt, tt)
 ascending (x ∷ y ∷ xs) h =
     let below : slice_cmp nat_cmp (name_of x) (name_of y) ≡ Less = h 0 x (omega arith) in
     let more = ascending (y ∷ xs) (λ k d within. h (suc k) d (omega arith)) in
-    ((below, all_above (name_of x) (name_of y) (map (λ (o : List ℕ × Part). o.0) (map thing_of xs)) below more.0), more)
+    ((below, all_above (name_of x) (name_of y) (map (λ (o : List ℕ × ObjectTexts). o.0) (map thing_of xs)) below more.0), more)
 
 each_shows : (xs : List Output) → ((o : Output) → Has xs o → o.1 ≡ shown_part (thing_of o)) → map (λ (o : Output). o.1) xs ≡ map shown_part (map thing_of xs)
 each_shows [] each = refl
@@ -153,7 +153,7 @@ lesser s t a b h = go (slice_cmp nat_cmp s t) (rw (value_cmp-Text s t) at h)
     go Equal e = refl
     go Greater e = refl
 
-module _ (db : Trees) (m : Place → Option Part) (id : List ℕ) (rows : List Row) (s : HasRows part_row IsTextPart (db 3) m) (a : IsAnswer parts_query (overlay db []) (Text id ∷ []) rows) where
+module _ (db : Trees) (m : ObjectKey → Option ObjectTexts) (id : List ℕ) (rows : List Row) (s : HasRows part_row IsTextPart (db 3) m) (a : IsAnswer parts_query (overlay db []) (Text id ∷ []) rows) where
   abbrev given : Row
   given = Text id ∷ []
 
@@ -185,7 +185,7 @@ module _ (db : Trees) (m : Place → Option Part) (id : List ℕ) (rows : List R
   ]
 
   -- each output shows an object of the record
-  shape : (o : Output) → Has a.ordered o → (name : List ℕ) × (p : Part) × (m (id, name) ≡ Some p) × IsTextPart (id, name) p × (o ≡ (Text name ∷ [], shown_part (name, p)))
+  shape : (o : Output) → Has a.ordered o → (name : List ℕ) × (p : ObjectTexts) × (m (id, name) ≡ Some p) × IsTextPart (id, name) p × (o ≡ (Text name ∷ [], shown_part (name, p)))
   shape o h =
       let r = ordered_sound 3 by_first parts_query.project parts_query.order parts_query.limit (overlay db []) given rows a o h in
       let it = s.sound r.0 r.1 in
@@ -197,23 +197,23 @@ module _ (db : Trees) (m : Place → Option Part) (id : List ℕ) (rows : List R
         r.3 ∙ ap (λ (v : Row). (column v 2 ∷ [], column v 2 ∷ column v 3 ∷ column v 4 ∷ [])) it.is,
       )
 
-  abbrev pub things : Things
+  abbrev pub things : AllTexts
   things = map thing_of a.ordered
 
-  pub things_sound : (x : List ℕ × Part) → Has things x → (m (id, x.0) ≡ Some x.1) × IsTextPart (id, x.0) x.1
+  pub things_sound : (x : List ℕ × ObjectTexts) → Has things x → (m (id, x.0) ≡ Some x.1) × IsTextPart (id, x.0) x.1
   things_sound x h =
       let o = has_mapped thing_of a.ordered x h in
       let r = shape o.0 o.1 in
       let is : x ≡ (r.0, r.1) = o.2 ∙ ap thing_of r.4 in
-      subst (λ (y : List ℕ × Part). (m (id, y.0) ≡ Some y.1) × IsTextPart (id, y.0) y.1) (sym is) (r.2, r.3)
+      subst (λ (y : List ℕ × ObjectTexts). (m (id, y.0) ≡ Some y.1) × IsTextPart (id, y.0) y.1) (sym is) (r.2, r.3)
 
-  pub things_complete : (name : List ℕ) (p : Part) → m (id, name) ≡ Some p → Has things (name, p)
+  pub things_complete : (name : List ℕ) (p : ObjectTexts) → m (id, name) ≡ Some p → Has things (name, p)
   things_complete name p is =
       let there = s.complete (id, name) p is in
       let row = part_row there.0 (id, name) p in
       let it = s.sound row there.1 in
       let key : (id, name) ≡ it.key = parts.keyed there.0 it.number (id, name) it.key p it.value it.is in
-      let passes = part_by_id m id [] row it ∙ ap (λ (k : Place). bytes_eq k.0 id) (sym key) ∙ same_id id in
+      let passes = part_by_id m id [] row it ∙ ap (λ (k : ObjectKey). bytes_eq k.0 id) (sym key) ∙ same_id id in
       mapped_has thing_of a.ordered _ (ordered_complete 3 by_first parts_query.project parts_query.order parts_query.limit (overlay db []) given rows a row there.1 passes)
 
   next_above : (k : ℕ) (o : Output) → suc k < length a.ordered → slice_cmp nat_cmp (name_of (get_or a.ordered k o)) (name_of (get_or a.ordered (suc k) o)) ≡ Less
@@ -235,23 +235,23 @@ module _ (db : Trees) (m : Place → Option Part) (id : List ℕ) (rows : List R
 
 -- ---- two lists of objects in order with the same members are one
 
-part_has : (name : List ℕ) (p : Part) (os : Things) → part_at name os ≡ Some p → Has os (name, p)
+part_has : (name : List ℕ) (p : ObjectTexts) (os : AllTexts) → part_at name os ≡ Some p → Has os (name, p)
 part_has name p [] is = absurd cc
 part_has name p (o ∷ os) is = elim (cases_Bool (bytes_eq name o.0)) [
   | inl same ↦
       let key = (bytes_eq-Decides name o.0).0 same in
       let value : Some o.1 ≡ Some p = rw same at is in
       let value_is : o.1 ≡ p = cc in
-      inl (ap₂ (λ (n : List ℕ) (v : Part). (n, v)) key (sym value_is))
+      inl (ap₂ (λ (n : List ℕ) (v : ObjectTexts). (n, v)) key (sym value_is))
   | inr other ↦ inr (part_has name p os (rw other at is))
 ]
 
-above_has : (k : List ℕ) (os : Things) → AllByRecursion (λ n. slice_cmp nat_cmp k n ≡ Less) (map (λ (o : List ℕ × Part). o.0) os) → (x : List ℕ × Part) → Has os x → slice_cmp nat_cmp k x.0 ≡ Less
+above_has : (k : List ℕ) (os : AllTexts) → AllByRecursion (λ n. slice_cmp nat_cmp k n ≡ Less) (map (λ (o : List ℕ × ObjectTexts). o.0) os) → (x : List ℕ × ObjectTexts) → Has os x → slice_cmp nat_cmp k x.0 ≡ Less
 above_has k [] all x h = absurd h
-above_has k (o ∷ os) all x (inl is) = subst (λ (y : List ℕ × Part). slice_cmp nat_cmp k y.0 ≡ Less) (sym is) all.0
+above_has k (o ∷ os) all x (inl is) = subst (λ (y : List ℕ × ObjectTexts). slice_cmp nat_cmp k y.0 ≡ Less) (sym is) all.0
 above_has k (o ∷ os) all x (inr later) = above_has k os all.1 x later
 
-pub has_part : (os : Things) → IsNamed os → (x : List ℕ × Part) → Has os x → part_at x.0 os ≡ Some x.1
+pub has_part : (os : AllTexts) → IsNamed os → (x : List ℕ × ObjectTexts) → Has os x → part_at x.0 os ≡ Some x.1
 unfolding IsStrictlySortedBy
 has_part [] named x h = absurd h
 has_part (o ∷ os) named x (inl is) = rw (is, same_id o.0) refl
@@ -260,7 +260,7 @@ has_part (o ∷ os) named x (inr later) = rw (below_apart o.0 x.0 (above_has o.0
 never_less : (a : List ℕ) → slice_cmp nat_cmp a a ≡ Less → ⊥
 never_less a less = let tied = tied_itself nat_list_cmp_total a in cc
 
-same_things : (xs ys : Things) → IsNamed xs → IsNamed ys → ((x : List ℕ × Part) → Has xs x → Has ys x) → ((x : List ℕ × Part) → Has ys x → Has xs x) → xs ≡ ys
+same_things : (xs ys : AllTexts) → IsNamed xs → IsNamed ys → ((x : List ℕ × ObjectTexts) → Has xs x → Has ys x) → ((x : List ℕ × ObjectTexts) → Has ys x → Has xs x) → xs ≡ ys
 unfolding IsStrictlySortedBy
 same_things [] [] p q a b = refl
 same_things [] (y ∷ ys) p q a b = absurd (b y (inl refl))
@@ -273,13 +273,13 @@ same_things (x ∷ xs) (y ∷ ys) p q a b =
         | inr also ↦ absurd (never_less x.0 (nat_list_cmp_total.trans x.0 y.0 x.0 (above_has x.0 xs p.0 y also) (above_has y.0 ys q.0 x later)))
       ]
     ] in
-    ap₂ (λ (z : List ℕ × Part) zs. z ∷ zs) first (same_things xs ys p.1 q.1
-    (λ r h. elim (a r (inr h)) [ inl e ↦ absurd (never_less x.0 (subst (λ (z : List ℕ × Part). slice_cmp nat_cmp x.0 z.0 ≡ Less) (e ∙ sym first) (above_has x.0 xs p.0 r h))) | inr k ↦ k ])
-    (λ r h. elim (b r (inr h)) [ inl e ↦ absurd (never_less y.0 (subst (λ (z : List ℕ × Part). slice_cmp nat_cmp y.0 z.0 ≡ Less) (e ∙ first) (above_has y.0 ys q.0 r h))) | inr k ↦ k ]))
+    ap₂ (λ (z : List ℕ × ObjectTexts) zs. z ∷ zs) first (same_things xs ys p.1 q.1
+    (λ r h. elim (a r (inr h)) [ inl e ↦ absurd (never_less x.0 (subst (λ (z : List ℕ × ObjectTexts). slice_cmp nat_cmp x.0 z.0 ≡ Less) (e ∙ sym first) (above_has x.0 xs p.0 r h))) | inr k ↦ k ])
+    (λ r h. elim (b r (inr h)) [ inl e ↦ absurd (never_less y.0 (subst (λ (z : List ℕ × ObjectTexts). slice_cmp nat_cmp y.0 z.0 ≡ Less) (e ∙ first) (above_has y.0 ys q.0 r h))) | inr k ↦ k ]))
 
 -- the rows are those of the objects
-pub shows_objects : (db : Trees) (m : Place → Option Part) (id : List ℕ) (rows : List Row) → HasRows part_row IsTextPart (db 3) m → IsAnswer parts_query (overlay db []) (Text id ∷ []) rows
-    → (os : Things) → IsNamed os → ((name : List ℕ) → m (id, name) ≡ part_at name os) → rows ≡ map shown_part os
+pub shows_objects : (db : Trees) (m : ObjectKey → Option ObjectTexts) (id : List ℕ) (rows : List Row) → HasRows part_row IsTextPart (db 3) m → IsAnswer parts_query (overlay db []) (Text id ∷ []) rows
+    → (os : AllTexts) → IsNamed os → ((name : List ℕ) → m (id, name) ≡ part_at name os) → rows ≡ map shown_part os
 shows_objects db m id rows s a os named is =
     rows_are db m id rows s a ∙ ap (map shown_part) (same_things (things db m id rows s a) os (things_named db m id rows s a) named
     (λ x h. part_has x.0 x.1 os (sym (is x.0) ∙ (things_sound db m id rows s a x h).0))

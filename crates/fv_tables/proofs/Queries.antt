@@ -23,8 +23,8 @@ use Rattle.sqlite_rules.specs.Lists.{Has}
 use Rattle.fv_tables.specs.Tables.{store_schema}
 use Rattle.fv_tables.specs.Rows.{HasRows}
 use Rattle.fv_tables.specs.declared.entry.ObjectRow.{ObjectRow}
-use Rattle.fv_tables.specs.Changes.{Things, IsNamed}
-use Rattle.fv_tables.specs.Stands.{Head, Part, Place, Maps, Entry, Entries, Frame, IsSettled, Spells, Stands, tables_of, Stays, Keeps, head_row, part_row, IsTextHead, IsTextOfHead, IsTextObject, IsTextPart, head_of, part_of, shown_head, shown_part, ShowsHead}
+use Rattle.fv_tables.specs.Changes.{AllTexts, IsNamed}
+use Rattle.fv_tables.specs.Stands.{Head, ObjectTexts, ObjectKey, Maps, Entry, TableEntries, Frame, IsSettled, SpellsTables, TablesStand, tables_of, Stays, Keeps, head_row, part_row, IsTextHead, IsTextOfHead, IsTextObject, IsTextPart, head_of, object_texts, shown_head, shown_part, ShowsHead}
 use Rattle.std.proofs.lemmas.Bool.{cases_Bool}
 use Rattle.sqlite_typing.specs.Types.{accepts_program}
 use Rattle.sqlite_tied.specs.Compute.{everything}
@@ -59,16 +59,16 @@ module _ (db : Trees) (m : List ℕ → Option Head) (id : List ℕ) (rows : Lis
       let it = found_sound x (subst (λ k. Has k x) (sym same) (inl refl)) in
       (it.0, sym is ∙ it.1, it.2, it.3)
 
-pub finds : (old new : State) (id : List ℕ) (rows : List Row) (d : List Row) (t : Maps) → Spells old.now d t → Shown find_text (Text id ∷ []) old new rows → ShowsHead rows (t.heads id)
+pub finds : (old new : State) (id : List ℕ) (rows : List Row) (d : List Row) (t : Maps) → SpellsTables old.now d t → Shown find_text (Text id ∷ []) old new rows → ShowsHead rows (t.heads id)
 finds old new id rows d t was h =
     let read = reads_as find_text (Text id ∷ []) old new store_schema was.schema (Select (record { lets = []; body = find_query }) (codes "form" ∷ codes "root" ∷ [])) find_is find_plain find_unlisted rows h in
     answered old.now.trees t.heads id rows was.heads (read.answer Null) (t.heads id) refl rows refl
 
-pub finds_objects : (old new : State) (id : List ℕ) (rows : List Row) (d : List Row) (m : Entries) → Stands old.now d m → Shown parts_text (Text id ∷ []) old new rows
+pub finds_objects : (old new : State) (id : List ℕ) (rows : List Row) (d : List Row) (m : TableEntries) → TablesStand old.now d m → Shown parts_text (Text id ∷ []) old new rows
     → (k : Entry) → m id ≡ Some k → IsNamed k.objects → rows ≡ map shown_part k.objects
 finds_objects old new id rows d m was h k has named =
     let read = reads_as parts_text (Text id ∷ []) old new store_schema was.schema (Select (record { lets = []; body = parts_query }) (codes "name" ∷ codes "kind" ∷ codes "fields" ∷ [])) parts_is parts_plain parts_unlisted rows h in
-    shows_objects old.now.trees (λ at. part_of at.1 (m at.0)) id rows was.parts (read.answer Null) k.objects named (λ name. ap (part_of name) has)
+    shows_objects old.now.trees (λ at. object_texts at.1 (m at.0)) id rows was.parts (read.answer Null) k.objects named (λ name. ap (object_texts name) has)
 
 -- the text has no RETURNING
 abbrev pub IsBare : Schema → List ℕ → Type 0
@@ -84,16 +84,16 @@ plain_is_bare s sql plain c is = (subst IsPlain is plain).0
 
 -- ---- what a query leaves
 
-unchanged_holds : (old new : State) (d : List Row) (m : Entries) → IsUnchanged old new → Keeps old d m → HasCleanDisk old → Keeps new d m
+unchanged_holds : (old new : State) (d : List Row) (m : TableEntries) → IsUnchanged old new → Keeps old d m → HasCleanDisk old → Keeps new d m
 unchanged_holds old new d m same holds clean _ live =
     let was = holds clean same.0.was_open in
-    (subst (λ b. Stands b d m) (sym same.0.now_is) was.0, subst (λ b. Stands b d m) (sym same.0.committed_is) was.1)
+    (subst (λ b. TablesStand b d m) (sym same.0.now_is) was.0, subst (λ b. TablesStand b d m) (sym same.0.committed_is) was.1)
 
-back_holds : (old new : State) (d : List Row) (m : Entries) → IsRolledBack old new → Keeps old d m → HasCleanDisk old → Keeps new d m
+back_holds : (old new : State) (d : List Row) (m : TableEntries) → IsRolledBack old new → Keeps old d m → HasCleanDisk old → Keeps new d m
 back_holds old new d m back holds clean _ live =
     let was = holds clean (back.was_open live) in
     let undone = back.undone live in
-    (subst (λ b. Stands b d m) (sym undone.0) was.1, subst (λ b. Stands b d m) (sym undone.1) was.1)
+    (subst (λ b. TablesStand b d m) (sym undone.0) was.1, subst (λ b. TablesStand b d m) (sym undone.1) was.1)
 
 -- a query that is refused changes nothing, or rolls back
 pub refused_holds : (sql : List ℕ) (params : Row) (old new : State) (e : Error) → FailsToQuery sql params old new e → IsUnchanged old new ⊎ IsRolledBack old new
@@ -118,7 +118,7 @@ shown_open sql params old new rows h = go h.0.returning h.2
 -- a plain query holds the records, whatever it answers
 module _ (sql : List ℕ) (params : Row) (old new : State) (plain : IsPlain (understood store_schema sql)) (clean : HasCleanDisk old) where
   pub query_holds : (r : Result (Vec Row Global) Error) → IfOk r (λ rows. Shown sql params old new rows.items) → IfErr r (FailsToQuery sql params old new)
-      → (d : List Row) (m : Entries) → Keeps old d m → Keeps new d m
+      → (d : List Row) (m : TableEntries) → Keeps old d m → Keeps new d m
   query_holds (Ok rows) ok err d m holds =
       let was = (holds clean (shown_open sql params old new rows.items ok)).0 in
       unchanged_holds old new d m (still sql params old new rows.items (subst (λ s. IsBare s sql) (sym was.schema) (plain_is_bare store_schema sql plain)) ok) holds clean
@@ -134,7 +134,7 @@ query_open sql params old new (Err e) ok err live = elim (refused_holds sql para
 
 -- a plain query that answers leaves the database as it was
 pub query_same : (sql : List ℕ) (params : Row) (old new : State) → IsPlain (understood store_schema sql) → HasCleanDisk old → (r : Result (Vec Row Global) Error)
-    → IfOk r (λ rows. Shown sql params old new rows.items) → OnOk r ((d : List Row) (m : Entries) → Keeps old d m → new.now ≡ old.now)
+    → IfOk r (λ rows. Shown sql params old new rows.items) → OnOk r ((d : List Row) (m : TableEntries) → Keeps old d m → new.now ≡ old.now)
 query_same sql params old new plain clean (Err e) ok = tt
 query_same sql params old new plain clean (Ok rows) ok = λ d m keeps.
     let was = (keeps clean (shown_open sql params old new rows.items ok)).0 in
@@ -156,7 +156,7 @@ module _ (old new : State) (clean : HasCleanDisk old) (settled : IsSettled old) 
 -- and so does one that is plain where the records are kept
 module _ (sql : List ℕ) (params : Row) (old new : State) (plain : IsPlain (understood store_schema sql)) (clean : HasCleanDisk old) (settled : IsSettled old) where
   pub kept_stays : (r : Result (Vec Row Global) Error) → IfOk r (λ rows. Shown sql params old new rows.items) → IfErr r (FailsToQuery sql params old new)
-      → (d : List Row) (m : Entries) → Keeps old d m → Stays old new
+      → (d : List Row) (m : TableEntries) → Keeps old d m → Stays old new
   kept_stays (Ok rows) ok err d m keeps =
       let was = (keeps clean (shown_open sql params old new rows.items ok)).0 in
       same_stays old new clean settled (still sql params old new rows.items (subst (λ s. IsBare s sql) (sym was.schema) (plain_is_bare store_schema sql plain)) ok)
@@ -185,12 +185,12 @@ query_live sql params old new (Err e) ok = tt
 
 module _ (old new : State) (clean : HasCleanDisk old) where
   pub find_shown : (id : List ℕ) (r : Result (Vec Row Global) Error) → IfOk r (λ rows. Shown find_text (Text id ∷ []) old new rows.items)
-      → IfOk r (λ rows. IsTrue old.is_open × ((d : List Row) (m : Entries) → Keeps old d m → ShowsHead rows.items (head_of (m id))))
+      → IfOk r (λ rows. IsTrue old.is_open × ((d : List Row) (m : TableEntries) → Keeps old d m → ShowsHead rows.items (head_of (m id))))
   find_shown id (Err e) h = tt
   find_shown id (Ok rows) h = let live = shown_open _ _ old new rows.items h in (live, λ d m keeps. finds old new id rows.items d (tables_of m) (keeps clean live).0 h)
 
   pub objects_shown : (id : List ℕ) (r : Result (Vec Row Global) Error) → IfOk r (λ rows. Shown parts_text (Text id ∷ []) old new rows.items)
-      → IfOk r (λ rows. (d : List Row) (m : Entries) → Keeps old d m → (k : Entry) → m id ≡ Some k → IsNamed k.objects → rows.items ≡ map shown_part k.objects)
+      → IfOk r (λ rows. (d : List Row) (m : TableEntries) → Keeps old d m → (k : Entry) → m id ≡ Some k → IsNamed k.objects → rows.items ≡ map shown_part k.objects)
   objects_shown id (Err e) h = tt
   objects_shown id (Ok rows) h = λ d m holds. finds_objects old new id rows.items d m (holds clean (shown_open _ _ old new rows.items h)).0 h
 
@@ -220,10 +220,10 @@ head_none (Some k) is = absurd cc
 
 -- ---- the objects that rows show
 
-abbrev pub thing_in : Row → List ℕ × Part
+abbrev pub thing_in : Row → List ℕ × ObjectTexts
 thing_in row = (bytes (column row 0), record { kind = bytes (column row 1); fields = bytes (column row 2) })
 
-pub same_kept : (k : Entry) (form root : List ℕ) (os : Things) → form ≡ k.form → root ≡ k.root → os ≡ k.objects → record { form = form; root = root; objects = os } ≡ k
+pub same_kept : (k : Entry) (form root : List ℕ) (os : AllTexts) → form ≡ k.form → root ≡ k.root → os ≡ k.objects → record { form = form; root = root; objects = os } ≡ k
 same_kept k form root os p q r = λ i. record { form = p i; root = q i; objects = r i }
 
 -- what is known of a value is known in other words
@@ -233,29 +233,29 @@ more_on_ok P Q (Err e) h known = tt
 
 -- ---- what is kept is text
 
-text_there : (db : Trees) (m : Place → Option Part) (id : List ℕ) → HasRows part_row IsTextPart (db 3) m → (o : List ℕ × Part) → m (id, o.0) ≡ Some o.1 → IsTextObject o
+text_there : (db : Trees) (m : ObjectKey → Option ObjectTexts) (id : List ℕ) → HasRows part_row IsTextPart (db 3) m → (o : List ℕ × ObjectTexts) → m (id, o.0) ≡ Some o.1 → IsTextObject o
 text_there db m id s o has =
     let there = s.complete (id, o.0) o.1 has in
     let it = s.sound (part_row there.0 (id, o.0) o.1) there.1 in
     let key : (id, o.0) ≡ it.key = parts.keyed there.0 it.number (id, o.0) it.key o.1 it.value it.is in
     let value : o.1 ≡ it.value = parts.valued there.0 it.number (id, o.0) it.key o.1 it.value it.is in
-    let good = subst (λ (p : Part). IsTextPart it.key p) (sym value) it.good in
-    let name : o.0 ≡ it.key.1 = ap (λ (at : Place). at.1) key in
+    let good = subst (λ (p : ObjectTexts). IsTextPart it.key p) (sym value) it.good in
+    let name : o.0 ≡ it.key.1 = ap (λ (at : ObjectKey). at.1) key in
     (subst IsUtf8 (sym name) good.1, good.2, good.3)
 
-all_text : (os all : Things) → ((o : List ℕ × Part) → Has os o → IsTextObject o) → AllByRecursion IsTextObject os
+all_text : (os all : AllTexts) → ((o : List ℕ × ObjectTexts) → Has os o → IsTextObject o) → AllByRecursion IsTextObject os
 all_text [] all h = tt
 all_text (o ∷ os) all h = (h o (inl refl), all_text os all (λ x there. h x (inr there)))
 
 -- the objects of a record that a database keeps
-pub texts_kept : (db : Database) (d : List Row) (m : Entries) (id : List ℕ) (k : Entry) → Stands db d m → m id ≡ Some k → IsNamed k.objects → AllByRecursion IsTextObject k.objects
+pub texts_kept : (db : Database) (d : List Row) (m : TableEntries) (id : List ℕ) (k : Entry) → TablesStand db d m → m id ≡ Some k → IsNamed k.objects → AllByRecursion IsTextObject k.objects
 texts_kept db d m id k stands known named =
-    all_text k.objects k.objects (λ o h. text_there db.trees (λ at. part_of at.1 (m at.0)) id stands.parts o (ap (part_of o.0) known ∙ has_part k.objects named o h))
+    all_text k.objects k.objects (λ o h. text_there db.trees (λ at. object_texts at.1 (m at.0)) id stands.parts o (ap (object_texts o.0) known ∙ has_part k.objects named o h))
 
 -- the objects of a record that is kept are read, but for want of memory
-pub read_refused : (old new : State) → Frame old new → HasCleanDisk new → (id : List ℕ) (rows : List Row) {v : List Row} (r : Result (Vec ObjectRow Global) Error) → ((d : List Row) (m : Entries) → Keeps old d m → (k : Entry) → m id ≡ Some k → IsNamed k.objects → rows ≡ map shown_part k.objects)
-    → v ≡ rows → IfErr r (λ e. (os : Things) → v ≡ map shown_part os → AllByRecursion IsTextObject os → ¬ IsRefusal e)
-    → IfErr r (λ e. (d : List Row) (m : Entries) → Keeps old d m → (k : Entry) → m id ≡ Some k → IsNamed k.objects → IsExcused old new e)
+pub read_refused : (old new : State) → Frame old new → HasCleanDisk new → (id : List ℕ) (rows : List Row) {v : List Row} (r : Result (Vec ObjectRow Global) Error) → ((d : List Row) (m : TableEntries) → Keeps old d m → (k : Entry) → m id ≡ Some k → IsNamed k.objects → rows ≡ map shown_part k.objects)
+    → v ≡ rows → IfErr r (λ e. (os : AllTexts) → v ≡ map shown_part os → AllByRecursion IsTextObject os → ¬ IsRefusal e)
+    → IfErr r (λ e. (d : List Row) (m : TableEntries) → Keeps old d m → (k : Entry) → m id ≡ Some k → IsNamed k.objects → IsExcused old new e)
 read_refused old new frame clean id rows (Ok v) shows same h = tt
 read_refused old new frame clean id rows (Err e) shows same h = λ d m keeps k has named refused. elim (cases_Bool old.is_open) [
   | inl live ↦ absurd (h k.objects (same ∙ shows d m keeps k has named) (texts_kept old.now d m id k (keeps (frame.clean clean) live).0 has named) refused)
@@ -284,7 +284,7 @@ module _ (s : State) (has : s.now.schema ≡ store_schema) (none : s.step_limit 
   parts_never (inr (inr h)) = never_steps s.step_limit none h.1
 
 module _ (old new : State) (clean : HasCleanDisk old) (none : old.step_limit ≡ None) (id : List ℕ) where
-  pub find_cause : (r : Result (Vec Row Global) Error) → IfErr r (FailsToQuery find_text (Text id ∷ []) old new) → IfErr r (λ e. (d : List Row) (m : Entries) → Keeps old d m → IsExcused old new e)
+  pub find_cause : (r : Result (Vec Row Global) Error) → IfErr r (FailsToQuery find_text (Text id ∷ []) old new) → IfErr r (λ e. (d : List Row) (m : TableEntries) → Keeps old d m → IsExcused old new e)
   find_cause (Ok rows) h = tt
   find_cause (Err e) h = λ d m holds refused. elim (cases_Bool old.is_open) [
     | inl live ↦
@@ -293,7 +293,7 @@ module _ (old new : State) (clean : HasCleanDisk old) (none : old.step_limit ≡
     | inr shut ↦ inr shut
   ]
 
-  pub parts_cause : (r : Result (Vec Row Global) Error) → IfErr r (FailsToQuery parts_text (Text id ∷ []) old new) → IfErr r (λ e. (d : List Row) (m : Entries) → Keeps old d m → IsExcused old new e)
+  pub parts_cause : (r : Result (Vec Row Global) Error) → IfErr r (FailsToQuery parts_text (Text id ∷ []) old new) → IfErr r (λ e. (d : List Row) (m : TableEntries) → Keeps old d m → IsExcused old new e)
   parts_cause (Ok rows) h = tt
   parts_cause (Err e) h = λ d m holds refused. elim (cases_Bool old.is_open) [
     | inl live ↦

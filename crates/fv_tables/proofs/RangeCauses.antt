@@ -28,9 +28,9 @@ use Rattle.sqlite_rules.proofs.ListLemmas.{test_from}
 use Rattle.sqlite_rules.proofs.ProbeLemmas.{has_mapped}
 use Rattle.fv_tables.specs.Tables.{store_schema, kept_object}
 use Rattle.fv_tables.specs.Rows.{HasRows}
-use Rattle.fv_tables.specs.Stands.{Part, Maps, NumberedThing, IsTextPart, part_row, Spells, IsOwned}
+use Rattle.fv_tables.specs.Stands.{ObjectTexts, Maps, NumberedThing, IsTextPart, part_row, SpellsTables, IsOwned}
 use Rattle.fv_tables.specs.Causes.{HasRoom, HasRooms, AreShort, IsExcused, IsShortPart}
-use Rattle.fv_tables.specs.Changes.{Thing, Things, AreApart as AreNamedApart, all_added}
+use Rattle.fv_tables.specs.Changes.{NamedTexts, AllTexts, AreApart as AreNamedApart, all_added}
 use Rattle.fv_tables.specs.Steps.{AreRowsOf, ArePartsOf}
 use Rattle.fv_tables.specs.Updating.{IsRange, range_values, places_of, things_of, under_rowids}
 use Rattle.fv_tables.proofs.RangeEdits.{fresh, range_writes, spells_range}
@@ -50,9 +50,9 @@ use Rattle.fv_tables.proofs.Writes.{never_ok, never_false, never_edited, never_c
 every : (id : List ℕ) (zs : List NumberedThing) (test : Row → Bool) → ((z : NumberedThing) → Has zs z → test (row_for id z) ≡ true) → list_all test (map (row_for id) zs) ≡ true
 every id zs test each = test_from test (map (row_for id) zs) (λ row h. let z = has_mapped (row_for id) zs row h in ap test z.2 ∙ each z.0 z.1)
 
-short_has : (id : List ℕ) (os : Things) (o : Thing) → AreShort id os → Has os o → IsShortPart (id, o.0) o.1
+short_has : (id : List ℕ) (os : AllTexts) (o : NamedTexts) → AreShort id os → Has os o → IsShortPart (id, o.0) o.1
 short_has id [] o short h = absurd h
-short_has id (x ∷ os) o short (inl is) = subst (λ (e : List ℕ × Part). IsShortPart (id, e.0) e.1) (sym is) short.0
+short_has id (x ∷ os) o short (inl is) = subst (λ (e : List ℕ × ObjectTexts). IsShortPart (id, e.0) e.1) (sym is) short.0
 short_has id (x ∷ os) o short (inr later) = short_has id os o short.1 later
 
 -- the reference of `object` fits, however many rows are written
@@ -63,7 +63,7 @@ fits_both true false = refl
 fits_both false true = refl
 fits_both false false = refl
 
-module _ (db : Trees) (id : List ℕ) (rs : List NumberedThing) (os : Things) (range : IsRange rs os) (d : List Row) (t : Maps) (spelled : Spells (at_trees db) d t)
+module _ (db : Trees) (id : List ℕ) (rs : List NumberedThing) (os : AllTexts) (range : IsRange rs os) (d : List Row) (t : Maps) (spelled : SpellsTables (at_trees db) d t)
     (are : AreRowsOf id rs (at_trees db)) (all : ArePartsOf id (things_of rs) t) (apart : AreNamedApart os) (texts : AreTexts id os)
     (zs : List NumberedThing) (only : (z : NumberedThing) → Has zs z → Has (under_rowids rs os) z) (each : (z : NumberedThing) → Has (under_rowids rs os) z → Has zs z)
     (differ : IsAscending (λ (y z : NumberedThing). Int y.0 ≡ Int z.0 → ⊥) zs) where
@@ -96,7 +96,7 @@ module _ (db : Trees) (id : List ℕ) (rs : List NumberedThing) (os : Things) (r
       let z = has_mapped (row_for id) zs row h in
       part_fits z.0.0 (id, z.0.1.0) z.0.1.1 (short_has id os z.0.1 short (object_of rs os z.0 (only z.0 z.1))) row (inl z.2) big
 
-module _ (s : State) (none : s.step_limit ≡ None) (id : List ℕ) (rs : List NumberedThing) (os : Things) (range : IsRange rs os) (d : List Row) (t : Maps) (spelled : Spells (at_trees s.now.trees) d t)
+module _ (s : State) (none : s.step_limit ≡ None) (id : List ℕ) (rs : List NumberedThing) (os : AllTexts) (range : IsRange rs os) (d : List Row) (t : Maps) (spelled : SpellsTables (at_trees s.now.trees) d t)
     (are : AreRowsOf id rs (at_trees s.now.trees)) (all : ArePartsOf id (things_of rs) t) (apart : AreNamedApart os) (texts : AreTexts id os) (owned : IsOwned t) (has : IsSome (t.heads id))
     (room : HasRoom 0 (s.now.trees 3)) (short : AreShort id os) where
   abbrev db : Trees
@@ -129,9 +129,9 @@ module _ (s : State) (none : s.step_limit ≡ None) (id : List ℕ) (rs : List N
   never_run sql stop (inr (w, updated, concluded)) =
       never_concluded s kept_object params w d (all_added id os t) (range_writes s.step_limit db id rs os range d t spelled are all apart texts w updated).0 (owned_all id os t owned has) stop concluded
 
-pub range_cause : (old new : State) → old.step_limit ≡ None → (id : List ℕ) (rs : List NumberedThing) (os : Things) → IsRange rs os → AreTexts id os → (r : Result ℕ Error)
+pub range_cause : (old new : State) → old.step_limit ≡ None → (id : List ℕ) (rs : List NumberedThing) (os : AllTexts) → IsRange rs os → AreTexts id os → (r : Result ℕ Error)
     → ExecutesInside 0 range_text (range_values id (places_of rs os)) old new r
-    → IfErr r (λ e. (d : List Row) (t : Maps) → Spells old.now d t → AreRowsOf id rs old.now → ArePartsOf id (things_of rs) t → AreNamedApart os → IsOwned t → IsSome (t.heads id) → HasRooms 0 old.now → AreShort id os
+    → IfErr r (λ e. (d : List Row) (t : Maps) → SpellsTables old.now d t → AreRowsOf id rs old.now → ArePartsOf id (things_of rs) t → AreNamedApart os → IsOwned t → IsSome (t.heads id) → HasRooms 0 old.now → AreShort id os
     → IsExcused old new e)
 range_cause old new none id rs os range texts (Ok count) ran = tt
 range_cause old new none id rs os range texts (Err e) ran = λ d t spelled are all apart owned has room short refused.

@@ -23,9 +23,9 @@ use Rattle.sqlite_rules.proofs.TableLemmas.{put_has, put_all_has, put_all_keeps,
 use Rattle.sqlite_trees.proofs.TreeLemmas.{IsTable-put_row}
 use Rattle.fv_tables.specs.Tables.{store_schema, kept_object}
 use Rattle.fv_tables.specs.Rows.{IsRowOf, HasRows}
-use Rattle.fv_tables.specs.Stands.{Part, Place, Maps, NumberedThing, Spells, IsTextHead, IsTextPart, head_row, part_row, same_place}
+use Rattle.fv_tables.specs.Stands.{ObjectTexts, ObjectKey, Maps, NumberedThing, SpellsTables, IsTextHead, IsTextPart, head_row, part_row, same_place}
 use Rattle.fv_tables.specs.Causes.{HasRoom, HasRooms}
-use Rattle.fv_tables.specs.Changes.{Thing, Things, AreApart, all_added}
+use Rattle.fv_tables.specs.Changes.{NamedTexts, AllTexts, AreApart, all_added}
 use Rattle.fv_tables.specs.Steps.{Advances, AreRowsOf, ArePartsOf}
 use Rattle.fv_tables.specs.Updating.{IsRange, UpdatesRange, range_values, places_of, things_of, under_rowids}
 use Rattle.fv_tables.proofs.Inserts.{at_trees, in_place, task_of, zero_is_not_three, one_is_not_three}
@@ -59,7 +59,7 @@ module _ (id : List ℕ) where
       ]) in
       rw untaken rest
 
-module _ (db : Trees) (id : List ℕ) (rs : List NumberedThing) (os : Things) (range : IsRange rs os) (t : Maps) (s : HasRows part_row IsTextPart (db 3) t.parts)
+module _ (db : Trees) (id : List ℕ) (rs : List NumberedThing) (os : AllTexts) (range : IsRange rs os) (t : Maps) (s : HasRows part_row IsTextPart (db 3) t.parts)
     (are : AreRowsOf id rs (at_trees db)) (all : ArePartsOf id (things_of rs) t) (apart : AreApart os) (texts : AreTexts id os)
     (zs : List NumberedThing) (only : (z : NumberedThing) → Has zs z → Has (under_rowids rs os) z) (each : (z : NumberedThing) → Has (under_rowids rs os) z → Has zs z)
     (differ : IsAscending (λ (y z : NumberedThing). Int y.0 ≢ Int z.0) zs) where
@@ -76,7 +76,7 @@ module _ (db : Trees) (id : List ℕ) (rs : List NumberedThing) (os : Things) (r
   left = put_all bare news
 
   -- the row that was there
-  old : (z : NumberedThing) → Has (under_rowids rs os) z → (p : Part) × Has (db 3) (part_row z.0 (id, z.1.0) p)
+  old : (z : NumberedThing) → Has (under_rowids rs os) z → (p : ObjectTexts) × Has (db 3) (part_row z.0 (id, z.1.0) p)
   old = old_row db id rs os range t s are all
 
   -- a row that stays has none of the rowids
@@ -87,14 +87,14 @@ module _ (db : Trees) (id : List ℕ) (rs : List NumberedThing) (os : Things) (r
   fresh = fresh_from id zs bare differ clear
 
   -- each row has the rowid of the one of its key that was there
-  was : (n : ℤ) (at : Place) (q : Part) → Has left (part_row n at q) → (p : Part) × Has (db 3) (part_row n at p)
+  was : (n : ℤ) (at : ObjectKey) (q : ObjectTexts) → Has left (part_row n at q) → (p : ObjectTexts) × Has (db 3) (part_row n at p)
   was n at q h = elim (put_all_has news bare (part_row n at q) h) [
     | inl new ↦
         let z = has_mapped (row_for id) zs (part_row n at q) new in
         let before = old z.0 (only z.0 z.1) in
         let number : n ≡ z.0.0 = ap (λ (r : Row). id_in (rowid r)) z.2 in
         let key = parts.keyed n z.0.0 at (id, z.0.1.0) q z.0.1.1 z.2 in
-        (before.0, subst₂ (λ (i : ℤ) (k : Place). Has (db 3) (part_row i k before.0)) (sym number) (sym key) before.1)
+        (before.0, subst₂ (λ (i : ℤ) (k : ObjectKey). Has (db 3) (part_row i k before.0)) (sym number) (sym key) before.1)
     | inr stays ↦ (q, (left_from gone (db 3) (part_row n at q) stays).0)
   ]
 
@@ -109,7 +109,7 @@ module _ (db : Trees) (id : List ℕ) (rs : List NumberedThing) (os : Things) (r
           value = z.0.1.1;
           is = z.2;
           known = added_is id os t apart z.0.1 among;
-          good = all_has (λ (o : Thing). IsTextPart (id, o.0) o.1) os z.0.1 texts among;
+          good = all_has (λ (o : NamedTexts). IsTextPart (id, o.0) o.1) os z.0.1 texts among;
         }
     | inr stays ↦
         let from = left_from gone (db 3) row stays in
@@ -118,20 +118,20 @@ module _ (db : Trees) (id : List ℕ) (rs : List NumberedThing) (os : Things) (r
           | inl found ↦
               let z = placed range.follow.0 rs os range.follow.1 found.0 found.1 in
               let before = old (z.0, found.0) z.1 in
-              let there : Has (db 3) (part_row it.number (id, found.0.0) it.value) = subst (Has (db 3)) (it.is ∙ ap (λ (k : Place). part_row it.number k it.value) found.2) from.0 in
+              let there : Has (db 3) (part_row it.number (id, found.0.0) it.value) = subst (Has (db 3)) (it.is ∙ ap (λ (k : ObjectKey). part_row it.number k it.value) found.2) from.0 in
               let number : z.0 ≡ it.number = s.once z.0 it.number (id, found.0.0) before.0 it.value before.1 there in
               absurd (true≢false (sym (has_itself z.0 row (ap rowid it.is ∙ ap Int (sym number))) ∙ clear row stays (z.0, found.0) (each (z.0, found.0) z.1)))
           | inr other ↦ record { number = it.number; key = it.key; value = it.value; is = it.is; known = other.1 ∙ it.known; good = it.good }
         ]
   ]
 
-  complete : (k : Place) (v : Part) → (all_added id os t).parts k ≡ Some v → (n : ℤ) × Has left (part_row n k v)
+  complete : (k : ObjectKey) (v : ObjectTexts) → (all_added id os t).parts k ≡ Some v → (n : ℤ) × Has left (part_row n k v)
   complete k v is = elim (reached id os t k) [
     | inl found ↦
         let z = placed range.follow.0 rs os range.follow.1 found.0 found.1 in
         let value : found.0.1 ≡ v = some_same found.0.1 v (sym (added_is id os t apart found.0 found.1) ∙ ap (all_added id os t).parts (sym found.2) ∙ is) in
         let new : Has left (row_for id (z.0, found.0)) = put_all_adds news bare (row_for id (z.0, found.0)) fresh (mapped_has (row_for id) zs (z.0, found.0) (each (z.0, found.0) z.1)) in
-        (z.0, subst₂ (λ (l : Place) (w : Part). Has left (part_row z.0 l w)) (sym found.2) value new)
+        (z.0, subst₂ (λ (l : ObjectKey) (w : ObjectTexts). Has left (part_row z.0 l w)) (sym found.2) value new)
     | inr other ↦
         let there = s.complete k v (sym other.1 ∙ is) in
         let row = part_row there.0 k v in (
@@ -162,13 +162,13 @@ module _ (db : Trees) (id : List ℕ) (rs : List NumberedThing) (os : Things) (r
 
 -- ---- the statement
 
-module _ (limit : Option ℕ) (db : Trees) (id : List ℕ) (rs : List NumberedThing) (os : Things) (range : IsRange rs os) (d : List Row) (t : Maps) (spelled : Spells (at_trees db) d t)
+module _ (limit : Option ℕ) (db : Trees) (id : List ℕ) (rs : List NumberedThing) (os : AllTexts) (range : IsRange rs os) (d : List Row) (t : Maps) (spelled : SpellsTables (at_trees db) d t)
     (are : AreRowsOf id rs (at_trees db)) (all : ArePartsOf id (things_of rs) t) (apart : AreApart os) (texts : AreTexts id os) where
   abbrev params : Row
   params = range_values id (places_of rs os)
 
   pub range_writes : (w : Written) → Runs (task_of limit kept_object params) (record { lets = []; body = range_query }) params db (Ok w)
-      → Spells (at_trees w.trees) d (all_added id os t) × ((n : ℕ) → HasRooms n (at_trees db) → HasRooms n (at_trees w.trees))
+      → SpellsTables (at_trees w.trees) d (all_added id os t) × ((n : ℕ) → HasRooms n (at_trees db) → HasRooms n (at_trees w.trees))
   range_writes w h =
       let given = went h in
       let written = went given.2 in
@@ -193,7 +193,7 @@ module _ (limit : Option ℕ) (db : Trees) (id : List ℕ) (rs : List NumberedTh
         ),
       )
 
-range_updates : (old new : State) (id : List ℕ) (rs : List NumberedThing) (os : Things) (count : ℕ) → IsRange rs os → AreTexts id os → Executes range_text (range_values id (places_of rs os)) old new (Ok count)
+range_updates : (old new : State) (id : List ℕ) (rs : List NumberedThing) (os : AllTexts) (count : ℕ) → IsRange rs os → AreTexts id os → Executes range_text (range_values id (places_of rs os)) old new (Ok count)
     → UpdatesRange id rs os old.now new.now
 range_updates old new id rs os count range texts h d t spelled are all apart =
     let params = range_values id (places_of rs os) in
@@ -203,9 +203,9 @@ range_updates old new id rs os count range texts h d t spelled are all apart =
     let done = went (subst (λ s. Does old.step_limit (mode_of old) params (record old.now { schema = s }) text None command (Ok (w.tally, new.now))) spelled.schema w.changed) in
     let now : new.now ≡ at_trees done.0.trees = ap (λ (p : Tally × Database). p.1) (same_value (went (went done.2).2).2) in
     let wrote = range_writes old.step_limit old.now.trees id rs os range d t (in_place old.now d t spelled) are all apart texts done.0 done.1 in
-    subst (λ (b : Database). Spells b d (all_added id os t) × ((n : ℕ) → HasRooms n old.now → HasRooms n b)) (sym now) wrote
+    subst (λ (b : Database). SpellsTables b d (all_added id os t) × ((n : ℕ) → HasRooms n old.now → HasRooms n b)) (sym now) wrote
 
-pub range_step : (old new : State) (id : List ℕ) (rs : List NumberedThing) (os : Things) → IsRange rs os → AreTexts id os → (r : Result ℕ Error) → ExecutesInside 0 range_text (range_values id (places_of rs os)) old new r
+pub range_step : (old new : State) (id : List ℕ) (rs : List NumberedThing) (os : AllTexts) → IsRange rs os → AreTexts id os → (r : Result ℕ Error) → ExecutesInside 0 range_text (range_values id (places_of rs os)) old new r
     → OnOk r (Advances old new (UpdatesRange id rs os))
 range_step old new id rs os range texts (Err e) h = tt
 range_step old new id rs os range texts (Ok count) h = record { was_open = λ _. h.1.was_open; mode = h.1.mode; committed = h.1.committed_is; change = range_updates old new id rs os count range texts h.0 }

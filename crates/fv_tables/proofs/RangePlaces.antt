@@ -23,7 +23,7 @@ use Rattle.fv_tables.proofs.Named.{element}
 use Rattle.fv_tables.specs.declared.entry.FoundRow.{FoundRow}
 use Rattle.fv_tables.specs.declared.text.ObjectText.{ObjectText}
 use Rattle.fv_tables.specs.Stands.{NumberedThing}
-use Rattle.fv_tables.specs.Changes.{Thing, Things, found_view, object_view, objects_view}
+use Rattle.fv_tables.specs.Changes.{NamedTexts, AllTexts, found_view, object_view, objects_view}
 use Rattle.fv_tables.specs.Updating.{Follow, under_rowids, filled, place_values, range_values}
 use Rattle.fv_tables.proofs.Objects.{same_id}
 use Rattle.fv_tables.proofs.OneTable.{truth_of, equal_texts}
@@ -31,33 +31,33 @@ use Rattle.fv_tables.proofs.RangeTexts.{below_first, halved, last_of, passes_ran
 
 -- ---- rows and the objects in their places
 
-pub partner : (n : ℤ) (rs : List NumberedThing) (os : Things) → Follow n rs os → (r : NumberedThing) → Has rs r → (o : Thing) × Has (under_rowids rs os) (r.0, o) × (o.0 ≡ r.1.0)
+pub partner : (n : ℤ) (rs : List NumberedThing) (os : AllTexts) → Follow n rs os → (r : NumberedThing) → Has rs r → (o : NamedTexts) × Has (under_rowids rs os) (r.0, o) × (o.0 ≡ r.1.0)
 partner n [] os follow r h = absurd h
 partner n (x ∷ rs) [] follow r h = absurd follow
 partner n (x ∷ rs) (o ∷ os) follow r (inl is) = (o, inl (ap (λ (e : NumberedThing). (e.0, o)) is), sym (ap (λ (e : NumberedThing). e.1.0) is ∙ follow.1))
 partner n (x ∷ rs) (o ∷ os) follow r (inr later) = let mate = partner x.0 rs os follow.2 r later in (mate.0, inr mate.1, mate.2)
 
-pub origin : (n : ℤ) (rs : List NumberedThing) (os : Things) → Follow n rs os → (z : NumberedThing) → Has (under_rowids rs os) z → (r : NumberedThing) × Has rs r × (r.0 ≡ z.0) × (r.1.0 ≡ z.1.0)
+pub origin : (n : ℤ) (rs : List NumberedThing) (os : AllTexts) → Follow n rs os → (z : NumberedThing) → Has (under_rowids rs os) z → (r : NumberedThing) × Has rs r × (r.0 ≡ z.0) × (r.1.0 ≡ z.1.0)
 origin n [] os follow z h = absurd h
 origin n (x ∷ rs) [] follow z h = absurd follow
 origin n (x ∷ rs) (o ∷ os) follow z (inl is) = (x, inl refl, sym (ap (λ (e : NumberedThing). e.0) is), follow.1 ∙ sym (ap (λ (e : NumberedThing). e.1.0) is))
 origin n (x ∷ rs) (o ∷ os) follow z (inr later) = let r = origin x.0 rs os follow.2 z later in (r.0, inr r.1, r.2, r.3)
 
 -- each of the objects is in some place
-pub placed : (n : ℤ) (rs : List NumberedThing) (os : Things) → Follow n rs os → (o : Thing) → Has os o → (i : ℤ) × Has (under_rowids rs os) (i, o)
+pub placed : (n : ℤ) (rs : List NumberedThing) (os : AllTexts) → Follow n rs os → (o : NamedTexts) → Has os o → (i : ℤ) × Has (under_rowids rs os) (i, o)
 placed n rs [] follow o h = absurd h
 placed n [] (x ∷ os) follow o h = absurd follow
-placed n (r ∷ rs) (x ∷ os) follow o (inl is) = (r.0, inl (ap (λ (e : Thing). (r.0, e)) is))
+placed n (r ∷ rs) (x ∷ os) follow o (inl is) = (r.0, inl (ap (λ (e : NamedTexts). (r.0, e)) is))
 placed n (r ∷ rs) (x ∷ os) follow o (inr later) = let p = placed r.0 rs os follow.2 o later in (p.0, inr p.1)
 
 -- and no other is
-pub object_of : (rs : List NumberedThing) (os : Things) (z : NumberedThing) → Has (under_rowids rs os) z → Has os z.1
+pub object_of : (rs : List NumberedThing) (os : AllTexts) (z : NumberedThing) → Has (under_rowids rs os) z → Has os z.1
 object_of [] os z h = absurd h
 object_of (x ∷ rs) [] z h = absurd h
 object_of (x ∷ rs) (o ∷ os) z (inl is) = inl (ap (λ (e : NumberedThing). e.1) is)
 object_of (x ∷ rs) (o ∷ os) z (inr later) = inr (object_of rs os z later)
 
-pub long_under : (n : ℤ) (rs : List NumberedThing) (os : Things) → Follow n rs os → length (under_rowids rs os) ≡ length rs
+pub long_under : (n : ℤ) (rs : List NumberedThing) (os : AllTexts) → Follow n rs os → length (under_rowids rs os) ≡ length rs
 long_under n [] os follow = refl
 long_under n (x ∷ rs) [] follow = absurd follow
 long_under n (x ∷ rs) (o ∷ os) follow = ap suc (long_under x.0 rs os follow.2)
@@ -71,13 +71,13 @@ Rises a b = (a.0 <ℤ b.0) ⊎ (a ≡ b)
 higher : (m n i : ℤ) → m <ℤ n → n <ℤ i → m <ℤ i
 higher m n i one two = omega (arith, ints, one, two)
 
-above : (n : ℤ) (rs : List NumberedThing) (os : Things) → Follow n rs os → AllByRecursion (λ (z : NumberedThing). n <ℤ z.0) (under_rowids rs os)
+above : (n : ℤ) (rs : List NumberedThing) (os : AllTexts) → Follow n rs os → AllByRecursion (λ (z : NumberedThing). n <ℤ z.0) (under_rowids rs os)
 above n [] os follow = tt
 above n (x ∷ rs) [] follow = tt
 above n (x ∷ rs) (o ∷ os) follow =
     (follow.0, all_weaker (λ (z : NumberedThing). x.0 <ℤ z.0) (λ (z : NumberedThing). n <ℤ z.0) (λ z more. higher n x.0 z.0 follow.0 more) (under_rowids rs os) (above x.0 rs os follow.2))
 
-pub rises : (n : ℤ) (rs : List NumberedThing) (os : Things) → Follow n rs os → IsAscending Rises (under_rowids rs os)
+pub rises : (n : ℤ) (rs : List NumberedThing) (os : AllTexts) → Follow n rs os → IsAscending Rises (under_rowids rs os)
 rises n [] os follow = tt
 rises n (x ∷ rs) [] follow = tt
 rises n (x ∷ rs) (o ∷ os) follow =

@@ -15,7 +15,7 @@ use Rattle.sqlite.proofs.Callers.{IsPlain, command_of}
 use Rattle.sqlite_typing.specs.Types.{accepts_program}
 use Rattle.sqlite_tied.specs.Compute.{everything}
 use Rattle.fv_tables.specs.Tables.{store_schema}
-use Rattle.fv_tables.specs.Stands.{Part, Place, NumberedThing, part_row}
+use Rattle.fv_tables.specs.Stands.{ObjectTexts, ObjectKey, NumberedThing, part_row}
 use Rattle.fv_tables.specs.Updating.{range_values}
 use Rattle.fv_tables.proofs.Texts.{IsWhole, one_table}
 
@@ -80,9 +80,9 @@ passes_range n rec id (p ∷ ps) =
 
 -- what the statement tests and gives of a row of `object`
 pub record RangeMeans (id : List ℕ) (ps : List NumberedThing) : Type 0 where
-  pub tests : (n : ℤ) (at : Place) (q : Part) → list_all (holds (range_values id ps ∷ part_row n at q ∷ [])) in_range ≡ passes_range n at.0 id ps
-  pub kind : (n : ℤ) (at : Place) (q : Part) → eval (halving 4 1 1) (range_values id ps ∷ part_row n at q ∷ []) ≡ halved kind_of 4 ps n
-  pub fields : (n : ℤ) (at : Place) (q : Part) → eval (halving 4 1 2) (range_values id ps ∷ part_row n at q ∷ []) ≡ halved fields_of 4 ps n
+  pub tests : (n : ℤ) (at : ObjectKey) (q : ObjectTexts) → list_all (holds (range_values id ps ∷ part_row n at q ∷ [])) in_range ≡ passes_range n at.0 id ps
+  pub kind : (n : ℤ) (at : ObjectKey) (q : ObjectTexts) → eval (halving 4 1 1) (range_values id ps ∷ part_row n at q ∷ []) ≡ halved kind_of 4 ps n
+  pub fields : (n : ℤ) (at : ObjectKey) (q : ObjectTexts) → eval (halving 4 1 2) (range_values id ps ∷ part_row n at q ∷ []) ≡ halved fields_of 4 ps n
 
 pub range_means : (id : List ℕ) (ps : List NumberedThing) → length ps ≡ 16 → RangeMeans id ps
 range_means id (a ∷ b ∷ c ∷ d ∷ e ∷ f ∷ g ∷ h ∷ i ∷ j ∷ k ∷ l ∷ m ∷ n ∷ o ∷ p ∷ []) is = record { tests = λ r at q. refl; kind = λ r at q. refl; fields = λ r at q. refl }

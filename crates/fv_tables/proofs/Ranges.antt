@@ -21,8 +21,8 @@ use Rattle.sqlite_rules.proofs.ProbeLemmas.{has_mapped}
 use Rattle.sqlite_trees.proofs.ListLemmas.{all-permutation, ascending-filter, ascending-map, ascending_from_map, ascending_weaker, along_permutation}
 use Rattle.fv_tables.specs.Tables.{kept_object}
 use Rattle.fv_tables.specs.Rows.{HasRows}
-use Rattle.fv_tables.specs.Stands.{Part, Place, Maps, NumberedThing, IsTextPart, part_row, same_place, added}
-use Rattle.fv_tables.specs.Changes.{Thing, Things, AreApart, all_added}
+use Rattle.fv_tables.specs.Stands.{ObjectTexts, ObjectKey, Maps, NumberedThing, IsTextPart, part_row, same_place, added}
+use Rattle.fv_tables.specs.Changes.{NamedTexts, AllTexts, AreApart, all_added}
 use Rattle.fv_tables.specs.Steps.{AreRowsOf, ArePartsOf}
 use Rattle.fv_tables.specs.Updating.{IsRange, range_values, places_of, things_of, under_rowids}
 use Rattle.fv_tables.proofs.Inserts.{at_trees}
@@ -77,15 +77,15 @@ shown_apart db given rows up a =
 -- ---- what is added to a map
 
 -- an object that is added is there
-pub added_is : (id : List ℕ) (os : Things) (t : Maps) → AreApart os → (o : Thing) → Has os o → (all_added id os t).parts (id, o.0) ≡ Some o.1
+pub added_is : (id : List ℕ) (os : AllTexts) (t : Maps) → AreApart os → (o : NamedTexts) → Has os o → (all_added id os t).parts (id, o.0) ≡ Some o.1
 added_is id [] t apart o h = absurd h
 added_is id (x ∷ os) t apart o (inl is) =
-    subst (λ (e : List ℕ × Part). (all_added id os (added (id, x.0) x.1 t)).parts (id, e.0) ≡ Some e.1) (sym is)
+    subst (λ (e : List ℕ × ObjectTexts). (all_added id os (added (id, x.0) x.1 t)).parts (id, e.0) ≡ Some e.1) (sym is)
     (unmoved id os x.0 (added (id, x.0) x.1 t) (λ y among. apart_back y.0 x.0 (others_apart x.0 os apart.0 y among)) ∙ rw (same_place_is (id, x.0) (id, x.0) refl) refl)
 added_is id (x ∷ os) t apart o (inr later) = added_is id os (added (id, x.0) x.1 t) apart.1 o later
 
 -- each place is that of an object that is added, or as before
-pub reached : (id : List ℕ) (os : Things) (t : Maps) (at : Place) → ((o : Thing) × Has os o × (at ≡ (id, o.0))) ⊎ (((o : Thing) → Has os o → at ≡ (id, o.0) → ⊥) × ((all_added id os t).parts at ≡ t.parts at))
+pub reached : (id : List ℕ) (os : AllTexts) (t : Maps) (at : ObjectKey) → ((o : NamedTexts) × Has os o × (at ≡ (id, o.0))) ⊎ (((o : NamedTexts) → Has os o → at ≡ (id, o.0) → ⊥) × ((all_added id os t).parts at ≡ t.parts at))
 reached id [] t at = inr (λ o h is. h, refl)
 reached id (x ∷ os) t at = elim (cases_Bool (same_place at (id, x.0))) [
   | inl same ↦ inl (x, inl refl, place_is at (id, x.0) same)
@@ -93,7 +93,7 @@ reached id (x ∷ os) t at = elim (cases_Bool (same_place at (id, x.0))) [
     | inl found ↦ inl (found.0, inr found.1, found.2)
     | inr left ↦ inr (
       λ o h is. elim h [
-        | inl same ↦ let here = same_place_is at (id, x.0) (is ∙ ap (λ (e : Thing). (id, e.0)) same) in absurd (cc (here, other))
+        | inl same ↦ let here = same_place_is at (id, x.0) (is ∙ ap (λ (e : NamedTexts). (id, e.0)) same) in absurd (cc (here, other))
         | inr later ↦ left.0 o later is
       ],
       left.1 ∙ rw other refl,
@@ -141,7 +141,7 @@ module _ (id : List ℕ) where
       let news = numbered_given (without_all (db 3) (ids_of (map shown_for zs))) (map (λ s. cast_row kept_object (drop 1 s)) (map shown_for zs)) ∙ cast_shown zs in
       λ i. exchange (ids_shown zs i) (news i)
 
-module _ (db : Trees) (id : List ℕ) (rs : List NumberedThing) (os : Things) (range : IsRange rs os) (t : Maps) (s : HasRows part_row IsTextPart (db 3) t.parts)
+module _ (db : Trees) (id : List ℕ) (rs : List NumberedThing) (os : AllTexts) (range : IsRange rs os) (t : Maps) (s : HasRows part_row IsTextPart (db 3) t.parts)
     (are : AreRowsOf id rs (at_trees db)) (all : ArePartsOf id (things_of rs) t) where
   abbrev pub news : List NumberedThing
   news = under_rowids rs os
@@ -150,20 +150,20 @@ module _ (db : Trees) (id : List ℕ) (rs : List NumberedThing) (os : Things) (r
   ps = places_of rs os
 
   -- the row that is there for a place
-  pub old_row : (z : NumberedThing) → Has news z → (p : Part) × Has (db 3) (part_row z.0 (id, z.1.0) p)
+  pub old_row : (z : NumberedThing) → Has news z → (p : ObjectTexts) × Has (db 3) (part_row z.0 (id, z.1.0) p)
   old_row z h =
       let r = origin range.follow.0 rs os range.follow.1 z h in
       (r.0.1.1, subst₂ (λ (n : ℤ) (name : List ℕ). Has (db 3) (part_row n (id, name) r.0.1.1)) r.2 r.3 (are r.0 r.1))
 
   -- and the place of a row of the record
-  place_for : (n : ℤ) (name : List ℕ) (p : Part) → Has (db 3) (part_row n (id, name) p) → (z : NumberedThing) × Has news z × (z.0 ≡ n) × (z.1.0 ≡ name)
+  place_for : (n : ℤ) (name : List ℕ) (p : ObjectTexts) → Has (db 3) (part_row n (id, name) p) → (z : NumberedThing) × Has news z × (z.0 ≡ n) × (z.1.0 ≡ name)
   place_for n name p there =
       let known = value_at part_row IsTextPart same_place parts (db 3) t.parts s n (id, name) p there in
       let among = has_mapped (λ (r : NumberedThing). r.1) rs (name, p) (all.1 name p known) in
       let r = among.0 in
       let mate = partner range.follow.0 rs os range.follow.1 r among.1 in
-      let has : Has (db 3) (part_row r.0 (id, name) p) = subst (λ (o : Thing). Has (db 3) (part_row r.0 (id, o.0) o.1)) (sym among.2) (are r among.1) in
-      ((r.0, mate.0), mate.1, s.once r.0 n (id, name) p p has there, mate.2 ∙ ap (λ (o : Thing). o.0) (sym among.2))
+      let has : Has (db 3) (part_row r.0 (id, name) p) = subst (λ (o : NamedTexts). Has (db 3) (part_row r.0 (id, o.0) o.1)) (sym among.2) (are r among.1) in
+      ((r.0, mate.0), mate.1, s.once r.0 n (id, name) p p has there, mate.2 ∙ ap (λ (o : NamedTexts). o.0) (sym among.2))
 
   long : length ps ≡ 16
   long = long_filled 16 news (omega (arith, long_under range.follow.0 rs os range.follow.1, range.some))
@@ -178,7 +178,7 @@ module _ (db : Trees) (id : List ℕ) (rs : List NumberedThing) (os : Things) (r
   means = range_means id ps long
 
   -- what the query shows of a row that is in a place
-  gives : (n : ℤ) (at : Place) (q : Part) (z : NumberedThing) → Has news z → z.0 ≡ n → at.0 ≡ id → z.1.0 ≡ at.1
+  gives : (n : ℤ) (at : ObjectKey) (q : ObjectTexts) (z : NumberedThing) → Has news z → z.0 ≡ n → at.0 ≡ id → z.1.0 ≡ at.1
       → (output range_query (range_values id ps ∷ part_row n at q ∷ [])).1 ≡ shown_for id z
   gives n at q z h number of name =
       let kind = means.kind n at q ∙ ap (halved kind_of 4 ps) (sym number) ∙ halved_is kind_of 4 ps long up z (in_place_of z h) in

@@ -20,7 +20,7 @@ use Rattle.sqlite_schema.specs.declared.schema.Constraint.TheVariants.{Datatype,
 use Rattle.sqlite_rules.specs.declared.error.Refusal.{Refusal}
 use Rattle.sqlite_rules.specs.declared.error.Refusal.TheVariants.{Violates, Mismatch, NoRowid, BadReference, TooDeep}
 use Rattle.fv_tables.specs.Tables.{about, store_schema}
-use Rattle.fv_tables.specs.Stands.{Maps, Entries, about_row, Spells, Stands, IsOwned, tables_of}
+use Rattle.fv_tables.specs.Stands.{Maps, TableEntries, about_row, SpellsTables, TablesStand, IsOwned, tables_of}
 use Rattle.fv_tables.specs.Causes.{IsExcused, IsShortAbout}
 use Rattle.fv_tables.proofs.Texts.{RenewMeans, one_table, declare_text, declare_terms, declare_means}
 use Rattle.fv_tables.proofs.Cascade.{works_put_one}
@@ -39,7 +39,7 @@ module _ (terms : List Term) (given : Row) (v version : ℕ) (d declarations : L
   abbrev row : Row
   row = about_row version declarations
 
-  renew_allowed : (db : Trees) (t : Maps) → Spells (at_trees db) (about_row v d ∷ []) t → (why : Refusal) → IsRefused store_schema Enforced db (renewed version declarations) why → ⊥
+  renew_allowed : (db : Trees) (t : Maps) → SpellsTables (at_trees db) (about_row v d ∷ []) t → (why : Refusal) → IsRefused store_schema Enforced db (renewed version declarations) why → ⊥
   unfolding same_name joined
   renew_allowed db t spelled (Violates Datatype) w = never_false w
   renew_allowed db t spelled (Violates NotNull) w = never_false w
@@ -54,7 +54,7 @@ module _ (terms : List Term) (given : Row) (v version : ℕ) (d declarations : L
   renew_allowed db t spelled TooDeep w = w
 
   module _ (text : List ℕ) (means : RenewMeans text terms given) (short : IsShortAbout declarations) where
-    module _ (s : State) (none : s.step_limit ≡ None) (t : Maps) (spelled : Spells (at_trees s.now.trees) (about_row v d ∷ []) t) (has_owners : IsOwned t) where
+    module _ (s : State) (none : s.step_limit ≡ None) (t : Maps) (spelled : SpellsTables (at_trees s.now.trees) (about_row v d ∷ []) t) (has_owners : IsOwned t) where
       abbrev db : Trees
       db = s.now.trees
 
@@ -73,7 +73,7 @@ module _ (terms : List Term) (given : Row) (v version : ℕ) (d declarations : L
       never_renewed sql stop (inr (w, updated, concluded)) =
           never_concluded s about given w (row ∷ []) t (renew_writes terms given v version d declarations renews s.step_limit db t spelled w updated).0 has_owners stop concluded
 
-    pub renew_cause : (old new : State) → old.step_limit ≡ None → (t : Maps) → Spells old.now (about_row v d ∷ []) t → IsOwned t → (e : Error) → ExecutesInside 0 text given old new (Err e) → IsExcused old new e
+    pub renew_cause : (old new : State) → old.step_limit ≡ None → (t : Maps) → SpellsTables old.now (about_row v d ∷ []) t → IsOwned t → (e : Error) → ExecutesInside 0 text given old new (Err e) → IsExcused old new e
     renew_cause old new none t spelled has_owners e ran refused =
         let command = Update 0 (record { lets = []; body = query }) in
         let source = statement_of text (understood store_schema text) in
@@ -82,7 +82,7 @@ module _ (terms : List Term) (given : Row) (v version : ℕ) (d declarations : L
         (subst (λ sc. Does old.step_limit (mode_of old) given (record old.now { schema = sc }) source None command (Err stop)) spelled.schema does)) e ran refused
 
 pub declare_cause : (old new : State) → old.step_limit ≡ None → (declarations : List ℕ) (r : Result ℕ Error) → ExecutesInside 0 declare_text (Blob declarations ∷ []) old new r
-    → IfErr r (λ e. (d : List ℕ) (m : Entries) → Stands old.now (about_row 2 d ∷ []) m → IsShortAbout declarations → IsExcused old new e)
+    → IfErr r (λ e. (d : List ℕ) (m : TableEntries) → TablesStand old.now (about_row 2 d ∷ []) m → IsShortAbout declarations → IsExcused old new e)
 declare_cause old new none declarations (Ok count) h = tt
 declare_cause old new none declarations (Err e) h = λ d m stands short.
     renew_cause declare_terms (Blob declarations ∷ []) 2 2 d declarations refl declare_text (declare_means declarations) short old new none (tables_of m) stands (owned m) e h

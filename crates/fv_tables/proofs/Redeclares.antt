@@ -23,7 +23,7 @@ use Rattle.sqlite_rules.specs.Lists.{Has}
 use Rattle.sqlite_rules.specs.Calls.{ids_of}
 use Rattle.fv_tables.specs.Tables.{about, store_schema}
 use Rattle.fv_tables.specs.Rows.{HasRows}
-use Rattle.fv_tables.specs.Stands.{Maps, about_row, head_row, part_row, IsTextHead, IsTextPart, Spells, tables_of}
+use Rattle.fv_tables.specs.Stands.{Maps, about_row, head_row, part_row, IsTextHead, IsTextPart, SpellsTables, tables_of}
 use Rattle.fv_tables.specs.About.{Redeclares}
 use Rattle.fv_tables.specs.Steps.{Advances}
 use Rattle.fv_tables.proofs.Texts.{RenewMeans, one_table, declare_text, declare_terms, declare_means}
@@ -60,9 +60,9 @@ module _ (terms : List Term) (given : Row) (v version : ℕ) (d declarations : L
   pub none_left : (db : Trees) → db 0 ≡ about_row v d ∷ [] → without_all (db 0) (pos 1 ∷ []) ≡ []
   none_left db has = ap (λ l. without_all l (pos 1 ∷ [])) has ∙ rw (has_itself (pos 1) (about_row v d) refl) refl
 
-  module _ (limit : Option ℕ) (db : Trees) (t : Maps) (spelled : Spells (at_trees db) (about_row v d ∷ []) t) where
+  module _ (limit : Option ℕ) (db : Trees) (t : Maps) (spelled : SpellsTables (at_trees db) (about_row v d ∷ []) t) where
     pub renew_writes : (w : Written) → Runs (task_of limit about given) (record { lets = []; body = query }) given db (Ok w)
-        → Spells (at_trees w.trees) (about_row version declarations ∷ []) t × (w.trees 1 ≡ db 1) × (w.trees 3 ≡ db 3)
+        → SpellsTables (at_trees w.trees) (about_row version declarations ∷ []) t × (w.trees 1 ≡ db 1) × (w.trees 3 ≡ db 3)
     renew_writes w h =
         let found = went h in
         let written = went found.2 in
@@ -84,15 +84,15 @@ module _ (terms : List Term) (given : Row) (v version : ℕ) (d declarations : L
           three,
         )
 
-  pub renews_about : (text : List ℕ) → RenewMeans text terms given → (old new : State) (count : ℕ) (t : Maps) → Spells old.now (about_row v d ∷ []) t → Executes text given old new (Ok count)
-      → Spells new.now (about_row version declarations ∷ []) t × (new.now.trees 1 ≡ old.now.trees 1) × (new.now.trees 3 ≡ old.now.trees 3)
+  pub renews_about : (text : List ℕ) → RenewMeans text terms given → (old new : State) (count : ℕ) (t : Maps) → SpellsTables old.now (about_row v d ∷ []) t → Executes text given old new (Ok count)
+      → SpellsTables new.now (about_row version declarations ∷ []) t × (new.now.trees 1 ≡ old.now.trees 1) × (new.now.trees 3 ≡ old.now.trees 3)
   renews_about text means old new count t spelled h =
       let command = Update 0 (record { lets = []; body = query }) in
       let w = runs_as text given old new store_schema spelled.schema command means.is means.plain count h in
       let source = statement_of text (understood store_schema text) in
       let done = went (subst (λ s. Does old.step_limit (mode_of old) given (record old.now { schema = s }) source None command (Ok (w.tally, new.now))) spelled.schema w.changed) in
       let now : new.now ≡ at_trees done.0.trees = ap (λ (p : Tally × Database). p.1) (same_value (went (went done.2).2).2) in
-      subst (λ (b : Database). Spells b (about_row version declarations ∷ []) t × (b.trees 1 ≡ old.now.trees 1) × (b.trees 3 ≡ old.now.trees 3)) (sym now)
+      subst (λ (b : Database). SpellsTables b (about_row version declarations ∷ []) t × (b.trees 1 ≡ old.now.trees 1) × (b.trees 3 ≡ old.now.trees 3)) (sym now)
       (renew_writes old.step_limit old.now.trees t (in_place old.now (about_row v d ∷ []) t spelled) done.0 done.1)
 
 pub declare_step : (old new : State) (declarations : List ℕ) (r : Result ℕ Error) → ExecutesInside 0 declare_text (Blob declarations ∷ []) old new r → OnOk r (Advances old new (Redeclares declarations))

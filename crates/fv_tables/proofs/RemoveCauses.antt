@@ -23,7 +23,7 @@ use Rattle.sqlite_rules.specs.declared.error.Refusal.TheVariants.{Violates, Mism
 use Rattle.sqlite_typing.specs.Types.{accepts_program}
 use Rattle.sqlite_tied.specs.Compute.{everything}
 use Rattle.fv_tables.specs.Tables.{store_schema, kept_record, kept_object}
-use Rattle.fv_tables.specs.Stands.{Maps, Spells, head_row, part_row, IsTextHead, IsTextPart, IsOwned, removed}
+use Rattle.fv_tables.specs.Stands.{Maps, SpellsTables, head_row, part_row, IsTextHead, IsTextPart, IsOwned, removed}
 use Rattle.fv_tables.specs.Causes.{IsExcused}
 use Rattle.fv_tables.proofs.Texts.{remove_text, remove_query, remove_is, remove_plain, remove_whole}
 use Rattle.fv_tables.proofs.Inserts.{at_trees, in_place}
@@ -120,7 +120,7 @@ owned_removed id t owned at p is = elim (cases_Bool (Rattle.std.proofs.Common.by
   | inr other ↦ rw other (owned at p (rw other at is))
 ]
 
-module _ (s : State) (none : s.step_limit ≡ None) (id : List ℕ) (d : List Row) (t : Maps) (spelled : Spells (at_trees s.now.trees) d t) (owned : IsOwned t) where
+module _ (s : State) (none : s.step_limit ≡ None) (id : List ℕ) (d : List Row) (t : Maps) (spelled : SpellsTables (at_trees s.now.trees) d t) (owned : IsOwned t) where
   abbrev params : Row
   params = Text id ∷ []
 
@@ -142,7 +142,7 @@ module _ (s : State) (none : s.step_limit ≡ None) (id : List ℕ) (d : List Ro
       never_concluded s kept_record params w d (removed id t) (remove_writes s.step_limit db id d t spelled owned w done).0 (owned_removed id t owned) stop concluded
 
 pub remove_cause : (old new : State) → old.step_limit ≡ None → (id : List ℕ) (r : Result ℕ Error) → ExecutesInside 0 remove_text (Text id ∷ []) old new r
-    → IfErr r (λ e. (d : List Row) (t : Maps) → Spells old.now d t → IsOwned t → IsExcused old new e)
+    → IfErr r (λ e. (d : List Row) (t : Maps) → SpellsTables old.now d t → IsOwned t → IsExcused old new e)
 remove_cause old new none id (Ok count) h = tt
 remove_cause old new none id (Err e) h = λ d t spelled owned refused.
     let params = Text id ∷ [] in

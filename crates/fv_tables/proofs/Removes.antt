@@ -22,7 +22,7 @@ use Rattle.sqlite_rules.proofs.PlaceLemmas.{row_at_is}
 use Rattle.sqlite_rules.proofs.ProbeLemmas.{has_mapped}
 use Rattle.fv_tables.specs.Tables.{store_schema, kept_record}
 use Rattle.fv_tables.specs.Rows.{HasRows}
-use Rattle.fv_tables.specs.Stands.{Place, Maps, same_place, head_row, part_row, IsTextHead, IsTextPart, Spells, IsOwned, removed}
+use Rattle.fv_tables.specs.Stands.{ObjectKey, Maps, same_place, head_row, part_row, IsTextHead, IsTextPart, SpellsTables, IsOwned, removed}
 use Rattle.fv_tables.proofs.Texts.{remove_text, remove_query, remove_is, remove_plain, by_first}
 use Rattle.fv_tables.proofs.RowEdits.{AreOf, has_itself, int_in, value_at, left_from, spells_left}
 use Rattle.fv_tables.proofs.OneTable.{found, head_by_id}
@@ -52,7 +52,7 @@ module _ (db final : Trees) (t : Maps) (id : List ℕ) (hs : HasRows head_row Is
   abbrev is_head : List ℕ → Bool
   is_head k = bytes_eq k id
 
-  abbrev is_part : Place → Bool
+  abbrev is_part : ObjectKey → Bool
   is_part at = bytes_eq at.0 id
 
   abbrev olds : List ℤ → List Row
@@ -101,7 +101,7 @@ module _ (db final : Trees) (t : Maps) (id : List ℕ) (hs : HasRows head_row Is
 abbrev at_trees : Trees → Database
 at_trees db = record { schema = store_schema; trees = db }
 
-module _ (limit : Option ℕ) (db : Trees) (id : List ℕ) (d : List Row) (t : Maps) (spelled : Spells (at_trees db) d t) where
+module _ (limit : Option ℕ) (db : Trees) (id : List ℕ) (d : List Row) (t : Maps) (spelled : SpellsTables (at_trees db) d t) where
   abbrev pub gone_head : List ℕ → Bool
   gone_head k = bytes_eq k id
 
@@ -109,9 +109,9 @@ module _ (limit : Option ℕ) (db : Trees) (id : List ℕ) (d : List Row) (t : M
   are_heads rows a = found head_row IsTextHead bytes_eq heads 1 db refl t.heads spelled.heads by_first (Text id ∷ []) gone_head (head_by_id t.heads id []) rows a
 
   -- what is left after the cascade
-  pub cascaded : IsOwned t → (final : Trees) (ids : List ℤ) → AreOf head_row (db 1) gone_head ids → Cascades db final ids → Spells (at_trees final) d (removed id t)
+  pub cascaded : IsOwned t → (final : Trees) (ids : List ℤ) → AreOf head_row (db 1) gone_head ids → Cascades db final ids → SpellsTables (at_trees final) d (removed id t)
   cascaded owned final ids are c =
-      let gone_part = λ (p : Place). bytes_eq p.0 id in
+      let gone_part = λ (p : ObjectKey). bytes_eq p.0 id in
       let of = children db final t id spelled.heads spelled.parts owned ids are c in
       record {
         schema = refl;
@@ -126,21 +126,21 @@ module _ (limit : Option ℕ) (db : Trees) (id : List ℕ) (d : List Row) (t : M
 
   -- the rows of the record and of its objects are taken out
   pub remove_writes : IsOwned t → (w : Written) → Deletes remove_task (record { lets = []; body = remove_query }) db (Ok w)
-      → Spells (at_trees w.trees) d (removed id t) × ((row : Row) → Has (w.trees 1) row → Has (db 1) row) × ((row : Row) → Has (w.trees 3) row → Has (db 3) row)
+      → SpellsTables (at_trees w.trees) d (removed id t) × ((row : Row) → Has (w.trees 1) row → Has (db 1) row) × ((row : Row) → Has (w.trees 3) row → Has (db 3) row)
   remove_writes owned w h =
       let given = went h in
       let written = went given.2 in
       let trees : w.trees ≡ written.0 = ap (λ (it : Written). it.trees) (same_value written.2) in
       let ids = ids_of given.0 in
       let c = cascades db written.0 ids written.1 in
-      subst (λ (ts : Trees). Spells (at_trees ts) d (removed id t) × ((row : Row) → Has (ts 1) row → Has (db 1) row) × ((row : Row) → Has (ts 3) row → Has (db 3) row)) (sym trees) (
+      subst (λ (ts : Trees). SpellsTables (at_trees ts) d (removed id t) × ((row : Row) → Has (ts 1) row → Has (db 1) row) × ((row : Row) → Has (ts 3) row → Has (db 3) row)) (sym trees) (
         cascaded owned written.0 ids (are_heads given.0 (given.1.answer Null)) c,
         λ row there. (left_from ids (db 1) row (subst (λ rs. Has rs row) (c.others.1 ∙ c.first.rows) there)).0,
         λ row there. (left_from c.children (db 3) row (subst (λ rs. Has rs row) (c.objects ∙ ap (λ rows. without_all rows c.children) (c.first.tables.1.1.0 three_is_not_one)) there)).0,
       )
 
-module _ (old new : State) (id : List ℕ) (count : ℕ) (d : List Row) (t : Maps) (spelled : Spells old.now d t) (owned : IsOwned t) (h : Executes remove_text (Text id ∷ []) old new (Ok count)) where
-  pub removes : Spells new.now d (removed id t) × ((row : Row) → Has (new.now.trees 1) row → Has (old.now.trees 1) row) × ((row : Row) → Has (new.now.trees 3) row → Has (old.now.trees 3) row)
+module _ (old new : State) (id : List ℕ) (count : ℕ) (d : List Row) (t : Maps) (spelled : SpellsTables old.now d t) (owned : IsOwned t) (h : Executes remove_text (Text id ∷ []) old new (Ok count)) where
+  pub removes : SpellsTables new.now d (removed id t) × ((row : Row) → Has (new.now.trees 1) row → Has (old.now.trees 1) row) × ((row : Row) → Has (new.now.trees 3) row → Has (old.now.trees 3) row)
   removes =
       let params = Text id ∷ [] in
       let command = Delete 1 (record { lets = []; body = remove_query }) in
@@ -148,6 +148,6 @@ module _ (old new : State) (id : List ℕ) (count : ℕ) (d : List Row) (t : Map
       let text = statement_of remove_text (understood store_schema remove_text) in
       let done = went (subst (λ s. Does old.step_limit (mode_of old) params (record old.now { schema = s }) text None command (Ok (w.tally, new.now))) spelled.schema w.changed) in
       let now : new.now ≡ at_trees done.0.trees = ap (λ (p : Tally × Database). p.1) (same_value (went (went done.2).2).2) in
-      let here : Spells (at_trees old.now.trees) d t = record { schema = refl; about = spelled.about; heads = spelled.heads; parts = spelled.parts } in
+      let here : SpellsTables (at_trees old.now.trees) d t = record { schema = refl; about = spelled.about; heads = spelled.heads; parts = spelled.parts } in
       let wrote = remove_writes old.step_limit old.now.trees id d t here owned done.0 done.1 in
-      subst (λ b. Spells b d (removed id t) × ((row : Row) → Has (b.trees 1) row → Has (old.now.trees 1) row) × ((row : Row) → Has (b.trees 3) row → Has (old.now.trees 3) row)) (sym now) wrote
+      subst (λ b. SpellsTables b d (removed id t) × ((row : Row) → Has (b.trees 1) row → Has (old.now.trees 1) row) × ((row : Row) → Has (b.trees 3) row → Has (old.now.trees 3) row)) (sym now) wrote

@@ -30,7 +30,7 @@ use Rattle.sqlite_typing.specs.Types.{accepts_program}
 use Rattle.sqlite_tied.specs.Compute.{everything}
 use Rattle.fv_tables.specs.Tables.{store_schema, kept_object}
 use Rattle.fv_tables.specs.Rows.{IsRowOf, HasRows}
-use Rattle.fv_tables.specs.Stands.{Part, Place, Maps, same_place, part_row, IsTextPart, Spells, IsOwned, added}
+use Rattle.fv_tables.specs.Stands.{ObjectTexts, ObjectKey, Maps, same_place, part_row, IsTextPart, SpellsTables, IsOwned, added}
 use Rattle.fv_tables.specs.Causes.{HasRoom, HasRooms, IsShortPart, IsExcused}
 use Rattle.fv_tables.specs.Steps.{Advances, HasPart, LacksRow, UpdatesRow}
 use Rattle.fv_tables.proofs.Texts.{row_text, row_terms, row_query, row_is, row_plain, row_whole, by_row}
@@ -47,23 +47,23 @@ use Rattle.fv_tables.proofs.Refusals.{no_sum, never_steps, run_cause}
 use Rattle.fv_tables.proofs.RemoveCauses.{parts_allowed}
 use Rattle.fv_tables.proofs.Writes.{never_ok, never_false, never_edited, never_concluded, part_fits, set_allowed, heads_apart, parts_apart, owned_added}
 
-abbrev pub row_params : ℤ → Place → Part → Row
+abbrev pub row_params : ℤ → ObjectKey → ObjectTexts → Row
 row_params n at it = Int n ∷ part_params at it
 
 equal_numbers : (i n : ℤ) → is_true (binary (Compare Eq Binary) (Int i) (Int n)) ≡ is_eq (int_cmp i n)
 unfolding binary
 equal_numbers i n = ap (λ o. is_true (from_truth (Some (is_eq o)))) (value_cmp-Int i n) ∙ truth_of _
 
-part_by_row : (m : Place → Option Part) (n : ℤ) (at : Place) (more row : Row) (it : IsRowOf part_row IsTextPart m row)
+part_by_row : (m : ObjectKey → Option ObjectTexts) (n : ℤ) (at : ObjectKey) (more row : Row) (it : IsRowOf part_row IsTextPart m row)
     → list_all (holds ((Int n ∷ Text at.0 ∷ Text at.1 ∷ more) ∷ row ∷ [])) by_row ≡ (is_eq (int_cmp it.number n) && same_place it.key at)
 part_by_row m n at more row it = rw (it.is, equal_numbers it.number n, equal_texts it.key.0 at.0, equal_texts it.key.1 at.1, and_true (bytes_eq it.key.1 at.1)) refl
 
-module _ (db : Trees) (m : Place → Option Part) (n : ℤ) (at : Place) (it : Part) (rows : List Row) (s : HasRows part_row IsTextPart (db 3) m) (a : IsAnswer row_query (overlay db []) (row_params n at it) rows) where
+module _ (db : Trees) (m : ObjectKey → Option ObjectTexts) (n : ℤ) (at : ObjectKey) (it : ObjectTexts) (rows : List Row) (s : HasRows part_row IsTextPart (db 3) m) (a : IsAnswer row_query (overlay db []) (row_params n at it) rows) where
   abbrev more : Row
   more = Text it.kind ∷ Text it.fields ∷ []
 
   -- a row that passes has the rowid and is of the object
-  passed : (row : Row) → Has (db 3) row → list_all (holds (row_params n at it ∷ row ∷ [])) by_row ≡ true → (p : Part) × (row ≡ part_row n at p)
+  passed : (row : Row) → Has (db 3) row → list_all (holds (row_params n at it ∷ row ∷ [])) by_row ≡ true → (p : ObjectTexts) × (row ≡ part_row n at p)
   passed row there passes =
       let is = s.sound row there in
       let both = and_parts _ _ (sym (part_by_row m n at more row is) ∙ passes) in
@@ -71,12 +71,12 @@ module _ (db : Trees) (m : Place → Option Part) (n : ℤ) (at : Place) (it : P
       let key : is.key ≡ at = (parts.decides is.key at).0 both.1 in
       (is.value, is.is ∙ ap (λ i. part_row i is.key is.value) number ∙ ap (λ k. part_row n k is.value) key)
 
-  pub edits_no_row : ((p : Part) → Has (db 3) (part_row n at p) → ⊥) → edit_by db rows ≡ exchange [] []
+  pub edits_no_row : ((p : ObjectTexts) → Has (db 3) (part_row n at p) → ⊥) → edit_by db rows ≡ exchange [] []
   edits_no_row none =
       ap (edit_by db) (none_shown 3 by_row row_terms [] (overlay db []) (row_params n at it) rows a (λ row there.
       false_from_ne_true _ (λ passes. let r = passed row there passes in none r.0 (subst (Has (db 3)) r.1 there))))
 
-  pub edits_row : (p : Part) → Has (db 3) (part_row n at p) → edit_by db rows ≡ exchange (n ∷ []) (part_row n at it ∷ [])
+  pub edits_row : (p : ObjectTexts) → Has (db 3) (part_row n at p) → edit_by db rows ≡ exchange (n ∷ []) (part_row n at it ∷ [])
   edits_row p there =
       let row = part_row n at p in
       let is = s.sound row there in
@@ -90,10 +90,10 @@ module _ (db : Trees) (m : Place → Option Part) (n : ℤ) (at : Place) (it : P
       ap (edit_by db) shown ∙ ap (λ v. exchange (n ∷ []) ((v ∷ Text at.0 ∷ Text at.1 ∷ more) ∷ [])) (cast_int n)
 
 -- the row is there, or not
-found_or_not : (rows : List Row) (m : Place → Option Part) → HasRows part_row IsTextPart rows m → (n : ℤ) (at : Place) → ((p : Part) → Has rows (part_row n at p) → ⊥) ⊎ ((p : Part) × Has rows (part_row n at p))
+found_or_not : (rows : List Row) (m : ObjectKey → Option ObjectTexts) → HasRows part_row IsTextPart rows m → (n : ℤ) (at : ObjectKey) → ((p : ObjectTexts) → Has rows (part_row n at p) → ⊥) ⊎ ((p : ObjectTexts) × Has rows (part_row n at p))
 found_or_not rows m s n at = go (m at) refl
   where
-    go : (o : Option Part) → m at ≡ o → ((p : Part) → Has rows (part_row n at p) → ⊥) ⊎ ((p : Part) × Has rows (part_row n at p))
+    go : (o : Option ObjectTexts) → m at ≡ o → ((p : ObjectTexts) → Has rows (part_row n at p) → ⊥) ⊎ ((p : ObjectTexts) × Has rows (part_row n at p))
     go None none = inl (λ p there. absurd (let some = value_at part_row IsTextPart same_place parts rows m s n at p there in let wrong : None ≡ Some p = sym none ∙ some in cc))
     go (Some p) some =
         let there = s.complete at p some in
@@ -104,9 +104,9 @@ found_or_not rows m s n at = go (m at) refl
               absurd (let wrong : is_eq (int_cmp n n) ≡ false = subst (λ i. is_eq (int_cmp i n) ≡ false) number other in let itself = same_int n in cc (wrong, itself)))
         ]
 
-module _ (limit : Option ℕ) (db : Trees) (n : ℤ) (at : Place) (it : Part) (d : List Row) (t : Maps) (spelled : Spells (at_trees db) d t) (good : IsTextPart at it) where
+module _ (limit : Option ℕ) (db : Trees) (n : ℤ) (at : ObjectKey) (it : ObjectTexts) (d : List Row) (t : Maps) (spelled : SpellsTables (at_trees db) d t) (good : IsTextPart at it) where
   row_either : (w : Written) → Runs (task_of limit kept_object (row_params n at it)) (record { lets = []; body = row_query }) (row_params n at it) db (Ok w)
-      → ((LacksRow n at (at_trees db) × (length w.rows ≡ 0) × Spells (at_trees w.trees) d t) ⊎ (HasPart at t × (length w.rows ≡ 1) × Spells (at_trees w.trees) d (added at it t)))
+      → ((LacksRow n at (at_trees db) × (length w.rows ≡ 0) × SpellsTables (at_trees w.trees) d t) ⊎ (HasPart at t × (length w.rows ≡ 1) × SpellsTables (at_trees w.trees) d (added at it t)))
       × ((k : ℕ) → HasRooms k (at_trees db) → HasRooms k (at_trees w.trees))
   row_either w h = elim (found_or_not (db 3) t.parts spelled.parts n at) [
     | inl none ↦
@@ -121,7 +121,7 @@ module _ (limit : Option ℕ) (db : Trees) (n : ℤ) (at : Place) (it : Part) (d
         )
   ]
 
-row_updates : (old new : State) (n : ℤ) (at : Place) (it : Part) (count : ℕ) → IsTextPart at it → Executes row_text (row_params n at it) old new (Ok count) → UpdatesRow n at it count old.now new.now
+row_updates : (old new : State) (n : ℤ) (at : ObjectKey) (it : ObjectTexts) (count : ℕ) → IsTextPart at it → Executes row_text (row_params n at it) old new (Ok count) → UpdatesRow n at it count old.now new.now
 row_updates old new n at it count good h d t spelled =
     let params = row_params n at it in
     let command = Update 2 (record { lets = []; body = row_query }) in
@@ -132,9 +132,9 @@ row_updates old new n at it count good h d t spelled =
     let now : new.now ≡ at_trees done.0.trees = ap (λ (p : Tally × Database). p.1) end in
     let counted : count ≡ length done.0.rows = w.counted ∙ ap (λ (p : Tally × Database). unwrap_or p.0.rows 0) end in
     let wrote = row_either old.step_limit old.now.trees n at it d t (in_place old.now d t spelled) good done.0 done.1 in
-    subst₂ (λ (k : ℕ) (b : Database). ((LacksRow n at old.now × (k ≡ 0) × Spells b d t) ⊎ (HasPart at t × (k ≡ 1) × Spells b d (added at it t))) × ((j : ℕ) → HasRooms j old.now → HasRooms j b)) (sym counted) (sym now) wrote
+    subst₂ (λ (k : ℕ) (b : Database). ((LacksRow n at old.now × (k ≡ 0) × SpellsTables b d t) ⊎ (HasPart at t × (k ≡ 1) × SpellsTables b d (added at it t))) × ((j : ℕ) → HasRooms j old.now → HasRooms j b)) (sym counted) (sym now) wrote
 
-pub row_step : (old new : State) (n : ℤ) (at : Place) (it : Part) (r : Result ℕ Error) → IsTextPart at it → ExecutesInside 0 row_text (row_params n at it) old new r → IfOk r (λ count. Advances old new (UpdatesRow n at it count))
+pub row_step : (old new : State) (n : ℤ) (at : ObjectKey) (it : ObjectTexts) (r : Result ℕ Error) → IsTextPart at it → ExecutesInside 0 row_text (row_params n at it) old new r → IfOk r (λ count. Advances old new (UpdatesRow n at it count))
 row_step old new n at it (Err e) good h = tt
 row_step old new n at it (Ok count) good h = record { was_open = λ _. h.1.was_open; mode = h.1.mode; committed = h.1.committed_is; change = row_updates old new n at it count good h.0 }
 
@@ -144,8 +144,8 @@ row_accepted : (n : ℤ) (id name kind fields : List ℕ) → accepts_program st
 unfolding everything
 row_accepted n id name kind fields = refl
 
-module _ (s : State) (none : s.step_limit ≡ None) (d : List Row) (t : Maps) (spelled : Spells (at_trees s.now.trees) d t) (owned : IsOwned t)
-    (n : ℤ) (at : Place) (p : Part) (good : IsTextPart at p) (room : HasRoom 0 (s.now.trees 3)) (short : IsShortPart at p) where
+module _ (s : State) (none : s.step_limit ≡ None) (d : List Row) (t : Maps) (spelled : SpellsTables (at_trees s.now.trees) d t) (owned : IsOwned t)
+    (n : ℤ) (at : ObjectKey) (p : ObjectTexts) (good : IsTextPart at p) (room : HasRoom 0 (s.now.trees 3)) (short : IsShortPart at p) where
   abbrev db : Trees
   db = s.now.trees
 
@@ -176,8 +176,8 @@ module _ (s : State) (none : s.step_limit ≡ None) (d : List Row) (t : Maps) (s
     | inr made ↦ never_concluded s kept_object (row_params n at p) w d (added at p t) made.2 (owned_added at p t owned (owned at made.0.0 made.0.1)) stop concluded
   ]
 
-pub row_cause : (old new : State) → old.step_limit ≡ None → (n : ℤ) (at : Place) (p : Part) → IsTextPart at p → (r : Result ℕ Error) → ExecutesInside 0 row_text (row_params n at p) old new r
-    → IfErr r (λ e. (d : List Row) (t : Maps) → Spells old.now d t → IsOwned t → HasRooms 0 old.now → IsShortPart at p → IsExcused old new e)
+pub row_cause : (old new : State) → old.step_limit ≡ None → (n : ℤ) (at : ObjectKey) (p : ObjectTexts) → IsTextPart at p → (r : Result ℕ Error) → ExecutesInside 0 row_text (row_params n at p) old new r
+    → IfErr r (λ e. (d : List Row) (t : Maps) → SpellsTables old.now d t → IsOwned t → HasRooms 0 old.now → IsShortPart at p → IsExcused old new e)
 row_cause old new none n at p good (Ok count) ran = tt
 row_cause old new none n at p good (Err e) ran = λ d t spelled owned room short refused.
     let params = row_params n at p in

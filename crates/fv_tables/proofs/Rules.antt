@@ -20,7 +20,7 @@ use Rattle.sqlite_rules.specs.Lists.{Has}
 use Rattle.sqlite_rules.proofs.ListLemmas.{all_from, some_from}
 use Rattle.fv_tables.specs.Tables.{about, store_schema, kept_record, kept_object}
 use Rattle.fv_tables.specs.Rows.{HasRows}
-use Rattle.fv_tables.specs.Stands.{Head, Part, Place, Maps, head_row, part_row, IsTextHead, IsTextPart, same_place, IsOwned}
+use Rattle.fv_tables.specs.Stands.{Head, ObjectTexts, ObjectKey, Maps, head_row, part_row, IsTextHead, IsTextPart, same_place, IsOwned}
 use Rattle.fv_tables.proofs.RowEdits.{equal_is, same_int, left_from}
 use Rattle.fv_tables.proofs.Layouts.{place_is}
 use Rattle.fv_tables.proofs.OneTable.{and_true, equal_texts}
@@ -74,7 +74,7 @@ module _ (rows : List Row) (s : AreApart head_row rows) where
   head_free row there = none_any (λ other. agree by_bytes (1 ∷ []) other (1 ∷ []) row && differ (rowid other) (rowid row)) rows (λ other has. head_clash other row has there)
 
 module _ (rows : List Row) (s : AreApart part_row rows) where
-  part_agree : (i n : ℤ) (k l : Place) (v w : Part) → agree by_bytes (1 ∷ 2 ∷ []) (part_row i k v) (1 ∷ 2 ∷ []) (part_row n l w) ≡ same_place k l
+  part_agree : (i n : ℤ) (k l : ObjectKey) (v w : ObjectTexts) → agree by_bytes (1 ∷ 2 ∷ []) (part_row i k v) (1 ∷ 2 ∷ []) (part_row n l w) ≡ same_place k l
   unfolding first_key
   part_agree i n k l v w = rw (equal_texts k.0 l.0, equal_texts k.1 l.1, and_true (bytes_eq k.1 l.1)) refl
 
@@ -105,7 +105,7 @@ keys_apart db hs ps = (
 
 -- ---- each object has its record
 
-held_by : (db : Trees) (i n : ℤ) (at : Place) (p : Part) (h : Head) → Has (db 1) (head_row i at.0 h) → list_any (λ parent. agree by_bytes (1 ∷ []) parent (1 ∷ []) (part_row n at p)) (db 1) ≡ true
+held_by : (db : Trees) (i n : ℤ) (at : ObjectKey) (p : ObjectTexts) (h : Head) → Has (db 1) (head_row i at.0 h) → list_any (λ parent. agree by_bytes (1 ∷ []) parent (1 ∷ []) (part_row n at p)) (db 1) ≡ true
 unfolding first_key
 held_by db i n at p h there = some_from (λ parent. agree by_bytes (1 ∷ []) parent (1 ∷ []) (part_row n at p)) (db 1) (head_row i at.0 h) there (rw (equal_texts at.0 at.0) (and_true (bytes_eq at.0 at.0) ∙ same_id at.0))
 

@@ -23,9 +23,9 @@ use Rattle.sqlite_rules.specs.Lists.{Has}
 use Rattle.sqlite_rules.specs.declared.error.Refusal.{Refusal}
 use Rattle.sqlite_rules.specs.declared.error.Refusal.TheVariants.{Violates, Mismatch, NoRowid, BadReference, TooDeep}
 use Rattle.fv_tables.specs.Tables.{store_schema, kept_object}
-use Rattle.fv_tables.specs.Stands.{Part, Place, Maps, part_row, IsTextPart, Spells, IsOwned}
+use Rattle.fv_tables.specs.Stands.{ObjectTexts, ObjectKey, Maps, part_row, IsTextPart, SpellsTables, IsOwned}
 use Rattle.fv_tables.specs.Causes.{HasRoom, HasRooms, AreShort, IsExcused}
-use Rattle.fv_tables.specs.Changes.{Things, all_added}
+use Rattle.fv_tables.specs.Changes.{AllTexts, all_added}
 use Rattle.fv_tables.specs.Inserting.{IsRun, AreNew, insert_of, row_values}
 use Rattle.fv_tables.proofs.RunTexts.{run_terms, RunMeans, runs_mean}
 use Rattle.fv_tables.proofs.Runs.{run_rows, first_row, AreTexts, run_fresh, run_put, run_writes, made_rows, quiet}
@@ -37,12 +37,12 @@ use Rattle.fv_tables.proofs.Composed.{owned_all}
 use Rattle.fv_tables.proofs.Writes.{never_ok, never_false, never_edited, never_concluded, part_fits, heads_apart}
 
 -- each of the rows passes what every row of an object passes
-every : (test : Row → Bool) → ((n : ℤ) (at : Place) (p : Part) → test (part_row n at p) ≡ true) → (id : List ℕ) (os : Things) (rows : List Row) → list_all test (run_rows id os rows) ≡ true
+every : (test : Row → Bool) → ((n : ℤ) (at : ObjectKey) (p : ObjectTexts) → test (part_row n at p) ≡ true) → (id : List ℕ) (os : AllTexts) (rows : List Row) → list_all test (run_rows id os rows) ≡ true
 every test each id [] rows = refl
 every test each id (o ∷ os) rows = rw (each (next_rowid rows) (id, o.0) o.1) (every test each id os (put_row (first_row id o rows) rows))
 
 -- and has a rowid of 64 bits
-all_fit : (id : List ℕ) (os : Things) (rows : List Row) → HasRoom (length os) rows → list_all (λ r. fits_i64 (id_in (rowid r))) (run_rows id os rows) ≡ true
+all_fit : (id : List ℕ) (os : AllTexts) (rows : List Row) → HasRoom (length os) rows → list_all (λ r. fits_i64 (id_in (rowid r))) (run_rows id os rows) ≡ true
 all_fit id [] rows room = refl
 all_fit id (o ∷ os) rows room =
     let row = first_row id o rows in
@@ -51,7 +51,7 @@ all_fit id (o ∷ os) rows room =
     rw fits rest
 
 -- none is too long
-none_oversized : (id : List ℕ) (os : Things) (rows : List Row) → AreShort id os → (row : Row) → Has (run_rows id os rows) row → IsOversized store_schema kept_object row → ⊥
+none_oversized : (id : List ℕ) (os : AllTexts) (rows : List Row) → AreShort id os → (row : Row) → Has (run_rows id os rows) row → IsOversized store_schema kept_object row → ⊥
 none_oversized id [] rows short row h big = h
 none_oversized id (o ∷ os) rows short row (inl is) big = part_fits (next_rowid rows) (id, o.0) o.1 short.0 row (inl is) big
 none_oversized id (o ∷ os) rows short row (inr later) big = none_oversized id os (put_row (first_row id o rows) rows) short.1 row later big
@@ -65,7 +65,7 @@ fits_reference false = refl
 abbrev run_edit : List Row → Edit
 run_edit news = record { table = kept_object; gone = []; news = news }
 
-module _ (db : Trees) (d : List Row) (t : Maps) (spelled : Spells (at_trees db) d t) (id : List ℕ) (os : Things) (new : AreNew id os t) (good : AreTexts id os) (room : HasRoom (length os) (db 3)) where
+module _ (db : Trees) (d : List Row) (t : Maps) (spelled : SpellsTables (at_trees db) d t) (id : List ℕ) (os : AllTexts) (new : AreNew id os t) (good : AreTexts id os) (room : HasRoom (length os) (db 3)) where
   abbrev news : List Row
   news = run_rows id os (db 3)
 
@@ -83,8 +83,8 @@ module _ (db : Trees) (d : List Row) (t : Maps) (spelled : Spells (at_trees db) 
   run_allowed BadReference w = never_false (sym (fits_reference (nat_lt 0 (length news))) ∙ w)
   run_allowed TooDeep w = w
 
-module _ (s : State) (none : s.step_limit ≡ None) (d : List Row) (t : Maps) (spelled : Spells (at_trees s.now.trees) d t) (owned : IsOwned t)
-    (id : List ℕ) (os : Things) (n : ℕ) (means : RunMeans n id os) (new : AreNew id os t) (has : IsSome (t.heads id)) (good : AreTexts id os) (room : HasRoom (length os) (s.now.trees 3)) (short : AreShort id os) where
+module _ (s : State) (none : s.step_limit ≡ None) (d : List Row) (t : Maps) (spelled : SpellsTables (at_trees s.now.trees) d t) (owned : IsOwned t)
+    (id : List ℕ) (os : AllTexts) (n : ℕ) (means : RunMeans n id os) (new : AreNew id os t) (has : IsSome (t.heads id)) (good : AreTexts id os) (room : HasRoom (length os) (s.now.trees 3)) (short : AreShort id os) where
   abbrev db : Trees
   db = s.now.trees
 
@@ -105,8 +105,8 @@ module _ (s : State) (none : s.step_limit ≡ None) (d : List Row) (t : Maps) (s
   never_run sql stop (inr (w, inserted, concluded)) =
       never_concluded s kept_object (row_values id os) w d (all_added id os t) (run_writes s.step_limit db id os n means d t spelled new good w inserted).0 (owned_all id os t owned has) stop concluded
 
-pub run_refused : (old new : State) → old.step_limit ≡ None → (id : List ℕ) (os : Things) → IsRun (length os) → AreTexts id os → (r : Result ℕ Error) → ExecutesInside 0 (insert_of (length os)) (row_values id os) old new r
-    → IfErr r (λ e. (d : List Row) (t : Maps) → Spells old.now d t → IsOwned t → AreNew id os t → IsSome (t.heads id) → HasRooms (length os) old.now → AreShort id os → IsExcused old new e)
+pub run_refused : (old new : State) → old.step_limit ≡ None → (id : List ℕ) (os : AllTexts) → IsRun (length os) → AreTexts id os → (r : Result ℕ Error) → ExecutesInside 0 (insert_of (length os)) (row_values id os) old new r
+    → IfErr r (λ e. (d : List Row) (t : Maps) → SpellsTables old.now d t → IsOwned t → AreNew id os t → IsSome (t.heads id) → HasRooms (length os) old.now → AreShort id os → IsExcused old new e)
 run_refused old new none id os run good (Ok count) ran = tt
 run_refused old new none id os run good (Err e) ran = λ d t spelled owned are_new has room short refused.
     let means = runs_mean id os run in

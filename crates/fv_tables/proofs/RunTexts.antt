@@ -13,13 +13,13 @@ use Rattle.sqlite.proofs.Callers.{IsPlain, command_of}
 use Rattle.sqlite_typing.specs.Types.{accepts_terms}
 use Rattle.sqlite_tied.specs.Compute.{everything}
 use Rattle.fv_tables.specs.Tables.{store_schema, kept_object}
-use Rattle.fv_tables.specs.Stands.{Part}
-use Rattle.fv_tables.specs.Changes.{Things}
+use Rattle.fv_tables.specs.Stands.{ObjectTexts}
+use Rattle.fv_tables.specs.Changes.{AllTexts}
 use Rattle.fv_tables.specs.Inserting.{IsRun, insert_of, row_values}
 use Rattle.fv_tables.proofs.Texts.{IsWhole}
 
 -- what a statement gives for an object, before the row has a rowid
-abbrev pub source : List ℕ → List ℕ × Part → Row
+abbrev pub source : List ℕ → List ℕ × ObjectTexts → Row
 source id o = Null ∷ Text id ∷ Text o.0 ∷ Text o.1.kind ∷ Text o.1.fields ∷ []
 
 -- the values of so many rows, from this parameter on
@@ -28,40 +28,40 @@ run_terms zero at = []
 run_terms (suc n) at = lit Null ∷ col 0 0 ∷ col 0 at ∷ col 0 (at + 1) ∷ col 0 (at + 2) ∷ run_terms n (at + 3)
 
 -- the statement of so many rows puts these objects
-pub record RunMeans (n : ℕ) (id : List ℕ) (os : Things) : Type 0 where
+pub record RunMeans (n : ℕ) (id : List ℕ) (os : AllTexts) : Type 0 where
   pub is : command_of (understood store_schema (insert_of n)) ≡ Insert 2 (Values (run_terms n 1) 5)
   pub plain : IsPlain (understood store_schema (insert_of n))
   pub whole : IsWhole (insert_of n) (length (row_values id os)) (understood store_schema (insert_of n))
   pub accepted : accepts_terms (run_terms n 1) (stamped kept_object (row_values id os)) ≡ true
   pub given : value_rows (stamped kept_object (row_values id os)) 5 (length (run_terms n 1) / 5) (run_terms n 1) ≡ map (source id) os
 
-one_means : (id : List ℕ) (os : Things) → length os ≡ 1 → RunMeans 1 id os
+one_means : (id : List ℕ) (os : AllTexts) → length os ≡ 1 → RunMeans 1 id os
 unfolding understood everything digits
 one_means id (a ∷ []) is = record { is = refl; plain = (refl, refl); whole = (lit≤ tt, refl); accepted = refl; given = refl }
 one_means id _ is = absurd (omega (arith, is))
 
-two_mean : (id : List ℕ) (os : Things) → length os ≡ 2 → RunMeans 2 id os
+two_mean : (id : List ℕ) (os : AllTexts) → length os ≡ 2 → RunMeans 2 id os
 unfolding understood everything digits
 two_mean id (a ∷ b ∷ []) is = record { is = refl; plain = (refl, refl); whole = (lit≤ tt, refl); accepted = refl; given = refl }
 two_mean id _ is = absurd (omega (arith, is))
 
-four_mean : (id : List ℕ) (os : Things) → length os ≡ 4 → RunMeans 4 id os
+four_mean : (id : List ℕ) (os : AllTexts) → length os ≡ 4 → RunMeans 4 id os
 unfolding understood everything digits
 four_mean id (a ∷ b ∷ c ∷ d ∷ []) is = record { is = refl; plain = (refl, refl); whole = (lit≤ tt, refl); accepted = refl; given = refl }
 four_mean id _ is = absurd (omega (arith, is))
 
-eight_mean : (id : List ℕ) (os : Things) → length os ≡ 8 → RunMeans 8 id os
+eight_mean : (id : List ℕ) (os : AllTexts) → length os ≡ 8 → RunMeans 8 id os
 unfolding understood everything digits
 eight_mean id (a ∷ b ∷ c ∷ d ∷ e ∷ f ∷ g ∷ h ∷ []) is = record { is = refl; plain = (refl, refl); whole = (lit≤ tt, refl); accepted = refl; given = refl }
 eight_mean id _ is = absurd (omega (arith, is))
 
-sixteen_mean : (id : List ℕ) (os : Things) → length os ≡ 16 → RunMeans 16 id os
+sixteen_mean : (id : List ℕ) (os : AllTexts) → length os ≡ 16 → RunMeans 16 id os
 unfolding understood everything digits
 sixteen_mean id (a ∷ b ∷ c ∷ d ∷ e ∷ f ∷ g ∷ h ∷ i ∷ j ∷ k ∷ l ∷ m ∷ n ∷ o ∷ p ∷ []) is =
     record { is = refl; plain = (refl, refl); whole = (lit≤ tt, refl); accepted = refl; given = refl }
 sixteen_mean id _ is = absurd (omega (arith, is))
 
-pub runs_mean : (id : List ℕ) (os : Things) → IsRun (length os) → RunMeans (length os) id os
+pub runs_mean : (id : List ℕ) (os : AllTexts) → IsRun (length os) → RunMeans (length os) id os
 runs_mean id os run = go (length os) refl run
   where
     go : (n : ℕ) → length os ≡ n → IsRun n → RunMeans n id os

@@ -25,9 +25,9 @@ use Rattle.sqlite_rules.proofs.ListLemmas.{all_from}
 use Rattle.sqlite_rules.proofs.PlaceLemmas.{next_is_free}
 use Rattle.fv_tables.specs.Tables.{store_schema, kept_object}
 use Rattle.fv_tables.specs.Rows.{HasRows}
-use Rattle.fv_tables.specs.Stands.{Part, Place, Maps, Spells, same_place, head_row, part_row, IsTextHead, IsTextPart, added}
+use Rattle.fv_tables.specs.Stands.{ObjectTexts, ObjectKey, Maps, SpellsTables, same_place, head_row, part_row, IsTextHead, IsTextPart, added}
 use Rattle.fv_tables.specs.Causes.{HasRoom}
-use Rattle.fv_tables.specs.Changes.{Things, has_name, all_added}
+use Rattle.fv_tables.specs.Changes.{AllTexts, has_name, all_added}
 use Rattle.fv_tables.specs.Inserting.{IsRun, AreNew, insert_of, row_values}
 use Rattle.fv_tables.specs.Steps.{Advances, Makes}
 use Rattle.fv_tables.proofs.RunTexts.{source, run_terms, RunMeans, runs_mean}
@@ -40,53 +40,53 @@ use Rattle.fv_tables.proofs.Objects.{neither, other_name, heads_added}
 
 -- ---- names apart
 
-pub others_apart : (name : List ℕ) (os : Things) → has_name name os ≡ false → (o : List ℕ × Part) → Has os o → bytes_eq o.0 name ≡ false
+pub others_apart : (name : List ℕ) (os : AllTexts) → has_name name os ≡ false → (o : List ℕ × ObjectTexts) → Has os o → bytes_eq o.0 name ≡ false
 others_apart name [] none o h = absurd h
-others_apart name (x ∷ os) none o (inl is) = subst (λ (e : List ℕ × Part). bytes_eq e.0 name ≡ false) (sym is) (neither (bytes_eq x.0 name) (has_name name os) none).0
+others_apart name (x ∷ os) none o (inl is) = subst (λ (e : List ℕ × ObjectTexts). bytes_eq e.0 name ≡ false) (sym is) (neither (bytes_eq x.0 name) (has_name name os) none).0
 others_apart name (x ∷ os) none o (inr later) = others_apart name os (neither (bytes_eq x.0 name) (has_name name os) none).1 o later
 
 -- those behind an object are still new once it is there
-pub still_new : (id : List ℕ) (o : List ℕ × Part) (os : Things) (t : Maps) → AreNew id (o ∷ os) t → AreNew id os (added (id, o.0) o.1 t)
+pub still_new : (id : List ℕ) (o : List ℕ × ObjectTexts) (os : AllTexts) (t : Maps) → AreNew id (o ∷ os) t → AreNew id os (added (id, o.0) o.1 t)
 still_new id o os t new = (new.0.1, λ x h. rw (other_name id x.0 o.0 (others_apart o.0 os new.0.0 x h)) (new.1 x (inr h)))
 
 -- ---- the rows
 
 -- the rows that the statement puts in
-abbrev pub run_rows : List ℕ → Things → List Row → List Row
+abbrev pub run_rows : List ℕ → AllTexts → List Row → List Row
 run_rows id os rows = numbered Chosen rows (map (source id) os)
 
 -- the first of them
-abbrev pub first_row : List ℕ → List ℕ × Part → List Row → Row
+abbrev pub first_row : List ℕ → List ℕ × ObjectTexts → List Row → Row
 first_row id o rows = part_row (next_rowid rows) (id, o.0) o.1
 
-abbrev pub AreTexts : List ℕ → Things → Type 0
-AreTexts id os = AllByRecursion (λ (o : List ℕ × Part). IsTextPart (id, o.0) o.1) os
+abbrev pub AreTexts : List ℕ → AllTexts → Type 0
+AreTexts id os = AllByRecursion (λ (o : List ℕ × ObjectTexts). IsTextPart (id, o.0) o.1) os
 
 module _ (id : List ℕ) where
   -- the next rowid is free
-  untaken : (rows : List Row) (m : Place → Option Part) → HasRows part_row IsTextPart rows m → (o : List ℕ × Part) → is_taken rows (first_row id o rows) ≡ false
+  untaken : (rows : List Row) (m : ObjectKey → Option ObjectTexts) → HasRows part_row IsTextPart rows m → (o : List ℕ × ObjectTexts) → is_taken rows (first_row id o rows) ≡ false
   untaken rows m s o =
       next_is_free Chosen rows (drop 1 (first_row id o rows)) s.apart (all_from (λ r. IsTrue (is_int (rowid r))) rows (λ row there. let it = s.sound row there in rw it.is refl))
 
   -- the rows with the first of them
-  one_put : (o : List ℕ × Part) (os : Things) (rows : List Row) (t : Maps) → HasRows part_row IsTextPart rows t.parts → AreNew id (o ∷ os) t → IsTextPart (id, o.0) o.1
+  one_put : (o : List ℕ × ObjectTexts) (os : AllTexts) (rows : List Row) (t : Maps) → HasRows part_row IsTextPart rows t.parts → AreNew id (o ∷ os) t → IsTextPart (id, o.0) o.1
       → HasRows part_row IsTextPart (put_row (first_row id o rows) rows) (added (id, o.0) o.1 t).parts
   one_put o os rows t s new good =
       spells_put part_row IsTextPart same_place parts rows t.parts s (next_rowid rows) (id, o.0) o.1 (new.1 o (inl refl)) good (rw (untaken rows t.parts s o) refl)
 
-  pub run_fresh : (os : Things) (rows : List Row) (t : Maps) → HasRows part_row IsTextPart rows t.parts → AreNew id os t → AreTexts id os → are_fresh rows (run_rows id os rows) ≡ true
+  pub run_fresh : (os : AllTexts) (rows : List Row) (t : Maps) → HasRows part_row IsTextPart rows t.parts → AreNew id os t → AreTexts id os → are_fresh rows (run_rows id os rows) ≡ true
   run_fresh [] rows t s new good = refl
   run_fresh (o ∷ os) rows t s new good =
       let rest = run_fresh os (put_row (first_row id o rows) rows) (added (id, o.0) o.1 t) (one_put o os rows t s new good.0) (still_new id o os t new) good.1 in
       rw (untaken rows t.parts s o) rest
 
-  pub run_put : (os : Things) (rows : List Row) (t : Maps) → HasRows part_row IsTextPart rows t.parts → AreNew id os t → AreTexts id os
+  pub run_put : (os : AllTexts) (rows : List Row) (t : Maps) → HasRows part_row IsTextPart rows t.parts → AreNew id os t → AreTexts id os
       → HasRows part_row IsTextPart (put_all rows (run_rows id os rows)) (all_added id os t).parts
   run_put [] rows t s new good = s
   run_put (o ∷ os) rows t s new good = run_put os (put_row (first_row id o rows) rows) (added (id, o.0) o.1 t) (one_put o os rows t s new good.0) (still_new id o os t new) good.1
 
   -- each row takes the room of one
-  pub run_room : (os : Things) (rows : List Row) (n : ℕ) → HasRoom (n + length os) rows → HasRoom n (put_all rows (run_rows id os rows))
+  pub run_room : (os : AllTexts) (rows : List Row) (n : ℕ) → HasRoom (n + length os) rows → HasRoom n (put_all rows (run_rows id os rows))
   run_room [] rows n room = fewer n (n + 0) rows (omega arith) room
   run_room (o ∷ os) rows n room =
       let row = first_row id o rows in
@@ -103,18 +103,18 @@ quiet olds news = go (length news == 0) refl
     go true is = rw is refl
     go false is = rw is refl
 
-cast_all : (id : List ℕ) (os : Things) → map (λ s. cast_row kept_object (drop 0 s)) (map (source id) os) ≡ map (source id) os
+cast_all : (id : List ℕ) (os : AllTexts) → map (λ s. cast_row kept_object (drop 0 s)) (map (source id) os) ≡ map (source id) os
 cast_all id [] = refl
 cast_all id (o ∷ os) = rw (cast_null, cast_all id os) refl
 
 -- the rows that are given get rowids
-pub made_rows : (db : Trees) (id : List ℕ) (os : Things) (given : List Row) → given ≡ map (source id) os → numbered Chosen (db 3) (map (λ s. cast_row kept_object (drop 0 s)) given) ≡ run_rows id os (db 3)
+pub made_rows : (db : Trees) (id : List ℕ) (os : AllTexts) (given : List Row) → given ≡ map (source id) os → numbered Chosen (db 3) (map (λ s. cast_row kept_object (drop 0 s)) given) ≡ run_rows id os (db 3)
 made_rows db id os given is = ap (λ all. numbered Chosen (db 3) (map (λ s. cast_row kept_object (drop 0 s)) all)) is ∙ ap (numbered Chosen (db 3)) (cast_all id os)
 
-module _ (limit : Option ℕ) (db : Trees) (id : List ℕ) (os : Things) (n : ℕ) (means : RunMeans n id os) (d : List Row) (t : Maps) (spelled : Spells (at_trees db) d t)
+module _ (limit : Option ℕ) (db : Trees) (id : List ℕ) (os : AllTexts) (n : ℕ) (means : RunMeans n id os) (d : List Row) (t : Maps) (spelled : SpellsTables (at_trees db) d t)
     (new : AreNew id os t) (good : AreTexts id os) where
   pub run_writes : (w : Written) → Inserts (task_of limit kept_object (row_values id os)) (Values (run_terms n 1) 5) db (Ok w)
-      → Spells (at_trees w.trees) d (all_added id os t) × (w.trees 1 ≡ db 1) × (w.trees 3 ≡ put_all (db 3) (run_rows id os (db 3)))
+      → SpellsTables (at_trees w.trees) d (all_added id os t) × (w.trees 1 ≡ db 1) × (w.trees 3 ≡ put_all (db 3) (run_rows id os (db 3)))
   run_writes w h =
       let first = went h in
       let written = went (went first.2).2 in
@@ -137,9 +137,9 @@ module _ (limit : Option ℕ) (db : Trees) (id : List ℕ) (os : Things) (n : �
         all,
       )
 
-module _ (old new : State) (id : List ℕ) (os : Things) (n : ℕ) (means : RunMeans n id os) (count : ℕ) (d : List Row) (t : Maps) (spelled : Spells old.now d t) (are_new : AreNew id os t)
+module _ (old new : State) (id : List ℕ) (os : AllTexts) (n : ℕ) (means : RunMeans n id os) (count : ℕ) (d : List Row) (t : Maps) (spelled : SpellsTables old.now d t) (are_new : AreNew id os t)
     (good : AreTexts id os) (h : Executes (insert_of n) (row_values id os) old new (Ok count)) where
-  runs : Spells new.now d (all_added id os t) × (new.now.trees 1 ≡ old.now.trees 1) × (new.now.trees 3 ≡ put_all (old.now.trees 3) (run_rows id os (old.now.trees 3)))
+  runs : SpellsTables new.now d (all_added id os t) × (new.now.trees 1 ≡ old.now.trees 1) × (new.now.trees 3 ≡ put_all (old.now.trees 3) (run_rows id os (old.now.trees 3)))
   runs =
       let params = row_values id os in
       let command = Insert 2 (Values (run_terms n 1) 5) in
@@ -148,9 +148,9 @@ module _ (old new : State) (id : List ℕ) (os : Things) (n : ℕ) (means : RunM
       let done = went (subst (λ s. Does old.step_limit (mode_of old) params (record old.now { schema = s }) text None command (Ok (w.tally, new.now))) spelled.schema w.changed) in
       let now : new.now ≡ at_trees done.0.trees = ap (λ (p : Tally × Database). p.1) (same_value (went (went done.2).2).2) in
       let wrote = run_writes old.step_limit old.now.trees id os n means d t (in_place old.now d t spelled) are_new good done.0 done.1 in
-      subst (λ b. Spells b d (all_added id os t) × (b.trees 1 ≡ old.now.trees 1) × (b.trees 3 ≡ put_all (old.now.trees 3) (run_rows id os (old.now.trees 3)))) (sym now) wrote
+      subst (λ b. SpellsTables b d (all_added id os t) × (b.trees 1 ≡ old.now.trees 1) × (b.trees 3 ≡ put_all (old.now.trees 3) (run_rows id os (old.now.trees 3)))) (sym now) wrote
 
-pub run_step : (old new : State) (id : List ℕ) (os : Things) → IsRun (length os) → AreTexts id os → (r : Result ℕ Error) → ExecutesInside 0 (insert_of (length os)) (row_values id os) old new r
+pub run_step : (old new : State) (id : List ℕ) (os : AllTexts) → IsRun (length os) → AreTexts id os → (r : Result ℕ Error) → ExecutesInside 0 (insert_of (length os)) (row_values id os) old new r
     → OnOk r (Advances old new (Makes (length os) (AreNew id os) (all_added id os)))
 run_step old new id os run good (Err e) h = tt
 run_step old new id os run good (Ok count) h = record {

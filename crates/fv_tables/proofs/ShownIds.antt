@@ -10,7 +10,7 @@ use Rattle.sqlite.specs.State.{State}
 use Rattle.sqlite.specs.declared.error.Error.{Error}
 use Rattle.fv_tables.specs.Causes.{IsRefusal, IsExcused}
 use Rattle.fv_tables.specs.Lists.{Lists, ShowsIds, id_row}
-use Rattle.fv_tables.specs.Stands.{Entries}
+use Rattle.fv_tables.specs.Stands.{TableEntries}
 
 -- what is read is what the rows show
 pub same_ids : (ids : List (List ℕ)) (read : List (String Global)) → map (λ r. column r 0) (map id_row ids) ≡ map (λ s. Text (string_bytes s)) read → map string_bytes read ≡ ids
@@ -31,13 +31,13 @@ read_more rows i row read s within is before here =
 
 -- ---- what the call answers
 
-module _ (Given : List Row → Entries → Type 0) (Wanted : Entries → List ℕ → Type 0) (above : List ℕ) (limit : ℕ) (rows : List Row) (shown : (d : List Row) (m : Entries) → Given d m → ShowsIds rows (Wanted m) above limit) where
+module _ (Given : List Row → TableEntries → Type 0) (Wanted : TableEntries → List ℕ → Type 0) (above : List ℕ) (limit : ℕ) (rows : List Row) (shown : (d : List Row) (m : TableEntries) → Given d m → ShowsIds rows (Wanted m) above limit) where
   pub ids_found : (Live : Type 0) → Live → (r : Result (Vec (String Global) Global) Error) → IfOk r (λ v. (ids : List (List ℕ)) → rows ≡ map id_row ids → map string_bytes v.items ≡ ids)
-      → IfOk r (λ v. Live × ((d : List Row) (m : Entries) → Given d m → Lists (Wanted m) above limit (map string_bytes v.items)))
+      → IfOk r (λ v. Live × ((d : List Row) (m : TableEntries) → Given d m → Lists (Wanted m) above limit (map string_bytes v.items)))
   ids_found Live live (Err e) read = tt
   ids_found Live live (Ok v) read = (live, λ d m given. let it = shown d m given in subst (Lists (Wanted m) above limit) (sym (read it.0 it.3)) it.1)
 
   pub ids_refused : (old new : State) (r : Result (Vec (String Global) Global) Error) → IfErr r (λ e. (ids : List (List ℕ)) → rows ≡ map id_row ids → AllByRecursion IsUtf8 ids → ¬ IsRefusal e)
-      → IfErr r (λ e. (d : List Row) (m : Entries) → Given d m → IsExcused old new e)
+      → IfErr r (λ e. (d : List Row) (m : TableEntries) → Given d m → IsExcused old new e)
   ids_refused old new (Ok v) cause = tt
   ids_refused old new (Err e) cause = λ d m given refused. let it = shown d m given in absurd (cause it.0 it.3 it.2 refused)

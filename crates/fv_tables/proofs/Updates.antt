@@ -14,7 +14,7 @@ use Rattle.sqlite_rules.specs.Lists.{Has}
 use Rattle.sqlite_rules.specs.Calls.{ids_of}
 use Rattle.fv_tables.specs.Tables.{kept_object}
 use Rattle.fv_tables.specs.Rows.{HasRows}
-use Rattle.fv_tables.specs.Stands.{Part, Place, same_place, part_row, IsTextPart}
+use Rattle.fv_tables.specs.Stands.{ObjectTexts, ObjectKey, same_place, part_row, IsTextPart}
 use Rattle.fv_tables.proofs.Texts.{set_terms, set_query, by_both}
 use Rattle.fv_tables.proofs.RowEdits.{numbers_apart}
 use Rattle.fv_tables.proofs.Layouts.{parts}
@@ -33,11 +33,11 @@ exchange gone news = record { table = kept_object; gone = gone; news = news }
 abbrev pub edit_by : Trees → List Row → Edit
 edit_by db rows = edit_of db kept_object (ids_of rows) Given 1 rows
 
-module _ (db : Trees) (m : Place → Option Part) (at : Place) (it : Part) (rows : List Row) (s : HasRows part_row IsTextPart (db 3) m) (a : IsAnswer set_query (overlay db []) (part_params at it) rows) where
+module _ (db : Trees) (m : ObjectKey → Option ObjectTexts) (at : ObjectKey) (it : ObjectTexts) (rows : List Row) (s : HasRows part_row IsTextPart (db 3) m) (a : IsAnswer set_query (overlay db []) (part_params at it) rows) where
   abbrev more : Row
   more = Text it.kind ∷ Text it.fields ∷ []
 
-  pub edits_one : (n : ℤ) (p : Part) → Has (db 3) (part_row n at p) → edit_by db rows ≡ exchange (n ∷ []) (part_row n at it ∷ [])
+  pub edits_one : (n : ℤ) (p : ObjectTexts) → Has (db 3) (part_row n at p) → edit_by db rows ≡ exchange (n ∷ []) (part_row n at it ∷ [])
   edits_one n p there =
       let row = part_row n at p in
       let is = s.sound row there in

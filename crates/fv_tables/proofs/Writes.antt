@@ -37,7 +37,7 @@ use Rattle.sqlite_rules.proofs.ListLemmas.{all_from}
 use Rattle.sqlite_rules.proofs.PlaceLemmas.{next_is_free}
 use Rattle.sqlite_typing.specs.Types.{accepts_program, accepts_terms}
 use Rattle.fv_tables.specs.Tables.{store_schema, kept_record, kept_object}
-use Rattle.fv_tables.specs.Stands.{Head, Part, Place, Maps, head_row, part_row, IsTextHead, IsTextPart, same_place, Spells, IsOwned, put, added}
+use Rattle.fv_tables.specs.Stands.{Head, ObjectTexts, ObjectKey, Maps, head_row, part_row, IsTextHead, IsTextPart, same_place, SpellsTables, IsOwned, put, added}
 use Rattle.fv_tables.specs.Steps.{Lacks}
 use Rattle.fv_tables.specs.Causes.{HasRoom, HasRooms, IsShortHead, IsShortPart, IsExcused}
 use Rattle.fv_tables.proofs.Texts.{put_text, put_terms, put_is, put_plain, put_whole, set_query}
@@ -76,7 +76,7 @@ module _ (db : Trees) (edit : Edit) (quiet : works store_schema Enforced 0 edit.
 
 -- ---- what follows the edit: where each object has its record, nothing refuses
 
-pub never_concluded : (s : State) (table : Table) (params : Row) (w : Written) (d : List Row) (t : Maps) → Spells (at_trees w.trees) d t → IsOwned t → (stop : Option Error)
+pub never_concluded : (s : State) (table : Table) (params : Row) (w : Written) (d : List Row) (t : Maps) → SpellsTables (at_trees w.trees) d t → IsOwned t → (stop : Option Error)
     → Concludes (task_of s.step_limit table params) (mode_of s) None w (Err stop) → ⊥
 never_concluded s table params w d t spelled owned stop (inl (st, tested, same)) = tested.0 (refers w.trees t spelled.heads spelled.parts owned)
 never_concluded s table params w d t spelled owned stop (inr (b, tested, inl (st, wrong, same))) = never_ok wrong
@@ -127,7 +127,7 @@ head_fits n id h short row (inl same) (inr (i, inr (inl two), of, big)) = other_
 head_fits n id h short row (inl same) (inr (i, inl one, of, big)) =
     subst (λ (x : Index). (x.table ≡ 1) → IsStorable (index_reals 0 x.columns) (entry_of x.columns row) → ⊥) one (λ _. big) refl (subst (λ r. IsStorable 0 (entry_of (1 ∷ []) r)) (sym same) (fits_id n id h short))
 
-fits_part : (n : ℤ) (at : Place) (p : Part) → IsShortPart at p → IsStorableRow 0 (part_row n at p)
+fits_part : (n : ℤ) (at : ObjectKey) (p : ObjectTexts) → IsShortPart at p → IsStorableRow 0 (part_row n at p)
 unfolding is_nan
 fits_part n at p short = (
   record {
@@ -139,7 +139,7 @@ fits_part n at p short = (
   omega arith,
 )
 
-fits_place : (n : ℤ) (at : Place) (p : Part) → IsShortPart at p → IsStorable 0 (Text at.0 ∷ Text at.1 ∷ Int n ∷ [])
+fits_place : (n : ℤ) (at : ObjectKey) (p : ObjectTexts) → IsShortPart at p → IsStorable 0 (Text at.0 ∷ Text at.1 ∷ Int n ∷ [])
 unfolding is_nan
 fits_place n at p short = record {
   typed = λ c real. no_real c real;
@@ -148,7 +148,7 @@ fits_place n at p short = record {
   short = omega (arith, short);
 }
 
-pub part_fits : (n : ℤ) (at : Place) (p : Part) → IsShortPart at p → (row : Row) → Has (part_row n at p ∷ []) row → IsOversized store_schema kept_object row → ⊥
+pub part_fits : (n : ℤ) (at : ObjectKey) (p : ObjectTexts) → IsShortPart at p → (row : Row) → Has (part_row n at p ∷ []) row → IsOversized store_schema kept_object row → ⊥
 part_fits n at p short row (inr never) big = never
 part_fits n at p short row (inl same) (inl big) = big (subst (IsStorableRow 0) (sym same) (fits_part n at p short))
 part_fits n at p short row (inl same) (inr (i, inr (inr never), of, big)) = never
@@ -165,9 +165,9 @@ owned_put id h t owned at p is = go (bytes_eq at.0 id)
     go true = refl
     go false = owned at p is
 
-pub owned_added : (at : Place) (p : Part) (t : Maps) → IsOwned t → IsSome (t.heads at.0) → IsOwned (added at p t)
+pub owned_added : (at : ObjectKey) (p : ObjectTexts) (t : Maps) → IsOwned t → IsSome (t.heads at.0) → IsOwned (added at p t)
 owned_added at p t owned has other q is = elim (cases_Bool (same_place other at)) [
-  | inl same ↦ subst (λ (k : Place). IsSome (t.heads k.0)) (sym (place_is other at same)) has
+  | inl same ↦ subst (λ (k : ObjectKey). IsSome (t.heads k.0)) (sym (place_is other at same)) has
   | inr not_same ↦ owned other q (rw not_same at is)
 ]
 
@@ -176,7 +176,7 @@ owned_added at p t owned has other q is = elim (cases_Bool (same_place other at)
 abbrev put_edit : Table → Row → Edit
 put_edit table row = record { table = table; gone = []; news = row ∷ [] }
 
-module _ (db : Trees) (d : List Row) (t : Maps) (spelled : Spells (at_trees db) d t) where
+module _ (db : Trees) (d : List Row) (t : Maps) (spelled : SpellsTables (at_trees db) d t) where
   head_keyed : (row : Row) → Has (db 1) row → IsTrue (is_int (rowid row))
   head_keyed row there = let it = spelled.heads.sound row there in rw it.is refl
 
@@ -209,7 +209,7 @@ module _ (db : Trees) (d : List Row) (t : Maps) (spelled : Spells (at_trees db) 
     put_allowed BadReference w = never_false w
     put_allowed TooDeep w = w
 
-  module _ (at : Place) (p q : Part) (n : ℤ) (there : Has (db 3) (part_row n at q)) (good : IsTextPart at p) (fits : fits_i64 n ≡ true) where
+  module _ (at : ObjectKey) (p q : ObjectTexts) (n : ℤ) (there : Has (db 3) (part_row n at q)) (good : IsTextPart at p) (fits : fits_i64 n ≡ true) where
     pub set_allowed : (why : Refusal) → IsRefused store_schema Enforced db (exchange (n ∷ []) (part_row n at p ∷ [])) why → ⊥
     unfolding same_name joined
     set_allowed (Violates Datatype) w = never_false w
@@ -232,7 +232,7 @@ pub set_accepted : (id name kind fields : List ℕ) → accepts_program store_sc
 unfolding everything
 set_accepted id name kind fields = refl
 
-module _ (s : State) (none : s.step_limit ≡ None) (d : List Row) (t : Maps) (spelled : Spells (at_trees s.now.trees) d t) (owned : IsOwned t) where
+module _ (s : State) (none : s.step_limit ≡ None) (d : List Row) (t : Maps) (spelled : SpellsTables (at_trees s.now.trees) d t) (owned : IsOwned t) where
   abbrev db : Trees
   db = s.now.trees
 
@@ -260,7 +260,7 @@ module _ (s : State) (none : s.step_limit ≡ None) (d : List Row) (t : Maps) (s
 
 module _ (old new : State) (none : old.step_limit ≡ None) where
   pub put_cause : (id : List ℕ) (h : Head) → IsTextHead id h → (r : Result ℕ Error) → ExecutesInside 0 put_text (head_params id h) old new r
-      → IfErr r (λ e. (d : List Row) (t : Maps) → Spells old.now d t → IsOwned t → Lacks id t → HasRooms 1 old.now → IsShortHead id h → IsExcused old new e)
+      → IfErr r (λ e. (d : List Row) (t : Maps) → SpellsTables old.now d t → IsOwned t → Lacks id t → HasRooms 1 old.now → IsShortHead id h → IsExcused old new e)
   put_cause id h good (Ok count) ran = tt
   put_cause id h good (Err e) ran = λ d t spelled owned lacks room short refused.
       let params = head_params id h in

@@ -6,7 +6,7 @@ use Rattle.sqlite.specs.Effect.{Database}
 use Rattle.fv_tables.specs.Tables.{store_schema}
 use Rattle.fv_tables.specs.FirstTables.{old_schema}
 use Rattle.fv_tables.specs.Causes.{HasRooms}
-use Rattle.fv_tables.specs.Stands.{about_row, Entries, Stands}
+use Rattle.fv_tables.specs.Stands.{about_row, TableEntries, TablesStand}
 
 -- the tables are those of version 1 or those of version 2
 abbrev pub HasTables : Database → Type 0
@@ -28,5 +28,5 @@ ShowsAbout (row ∷ rows) version declarations = row ≡ shown_about version dec
 -- The row of `about` has these declarations since, whatever it had. The version and the records stay, and so does the room for rows.
 abbrev pub Redeclares : List ℕ → Database → Database → Type 0
 Redeclares declarations old new =
-    (d : List ℕ) (m : Entries) → Stands old (about_row 2 d ∷ []) m
-    → Stands new (about_row 2 declarations ∷ []) m × ((n : ℕ) → HasRooms n old → HasRooms n new)
+    (d : List ℕ) (m : TableEntries) → TablesStand old (about_row 2 d ∷ []) m
+    → TablesStand new (about_row 2 declarations ∷ []) m × ((n : ℕ) → HasRooms n old → HasRooms n new)

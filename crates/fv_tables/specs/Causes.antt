@@ -10,8 +10,8 @@ use Rattle.sqlite.specs.declared.error.Error.TheVariants.{SqliteFailure}
 use Rattle.sqlite.specs.declared.error.ErrorCode.TheVariants.{OutOfMemory}
 use Rattle.sqlite_rules.specs.Lists.{Has}
 use Rattle.sqlite.specs.Effect.{Database}
-use Rattle.fv_tables.specs.Changes.{Things}
-use Rattle.fv_tables.specs.Stands.{Head, Part, Place}
+use Rattle.fv_tables.specs.Changes.{AllTexts}
+use Rattle.fv_tables.specs.Stands.{Head, ObjectTexts, ObjectKey}
 
 -- the disk has failed more often since, or the connection was shut before
 abbrev pub HasFailed : State → State → Type 0
@@ -35,7 +35,7 @@ abbrev pub IsShortHead : List ℕ → Head → Type 0
 IsShortHead id h = 72 + (length id + (length h.form + length h.root)) ≤ 10 ^ 9
 
 -- the same of an object's row, which has five values
-abbrev pub IsShortPart : Place → Part → Type 0
+abbrev pub IsShortPart : ObjectKey → ObjectTexts → Type 0
 IsShortPart at p = 90 + (length at.0 + (length at.1 + (length p.kind + length p.fields))) ≤ 10 ^ 9
 
 -- so many more rows of each table
@@ -43,7 +43,7 @@ abbrev pub HasRooms : ℕ → Database → Type 0
 HasRooms n db = HasRoom n (db.trees 1) × HasRoom n (db.trees 3)
 
 -- the rows of these objects of a record are short
-abbrev pub AreShort : List ℕ → Things → Type 0
+abbrev pub AreShort : List ℕ → AllTexts → Type 0
 AreShort id [] = Unit {0}
 AreShort id (o ∷ os) = IsShortPart (id, o.0) o.1 × AreShort id os
 

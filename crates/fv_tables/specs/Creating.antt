@@ -3,7 +3,7 @@ use Rattle.std.specs.Prelude.{◌≡◌, List, [], ◌∷◌, ℕ, None}
 use Rattle.sqlite.specs.Order.{Row}
 use Rattle.sqlite.specs.Effect.{Database}
 use Rattle.fv_tables.specs.Tables.{no_schema, bare_schema, half_schema, store_schema}
-use Rattle.fv_tables.specs.Stands.{about_row, Entries, Stands}
+use Rattle.fv_tables.specs.Stands.{about_row, TableEntries, TablesStand}
 
 -- no table, index or view
 abbrev pub IsBlank : Database → Type 0
@@ -22,12 +22,12 @@ abbrev pub IsMade : List Row → Database → Type 0
 IsMade rows db = (db.schema ≡ store_schema) × (db.trees 0 ≡ rows) × (db.trees 1 ≡ []) × (db.trees 3 ≡ [])
 
 -- no record
-abbrev pub no_entries : Entries
+abbrev pub no_entries : TableEntries
 no_entries id = None
 
 -- the tables of version 2, with the declarations and no record
 abbrev pub IsEmpty : List ℕ → Database → Type 0
-IsEmpty declarations db = Stands db (about_row 2 declarations ∷ []) no_entries
+IsEmpty declarations db = TablesStand db (about_row 2 declarations ∷ []) no_entries
 
 -- from databases of one kind to those of another
 abbrev pub Leads : (Database → Type 0) → (Database → Type 0) → Database → Database → Type 0

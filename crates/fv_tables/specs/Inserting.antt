@@ -4,7 +4,7 @@ use Rattle.sqlite.specs.declared.types.Value.TheVariants.{Text as Words}
 use Rattle.sqlite.specs.Order.{Row}
 use Rattle.sqlite_rules.specs.Lists.{Has}
 use Rattle.fv_tables.specs.Stands.{Maps}
-use Rattle.fv_tables.specs.Changes.{Thing, Things, AreApart}
+use Rattle.fv_tables.specs.Changes.{NamedTexts, AllTexts, AreApart}
 
 -- so many rows are put by one statement
 abbrev pub IsRun : ℕ → Type 0
@@ -28,14 +28,14 @@ abbrev pub insert_of : ℕ → List ℕ
 insert_of rows = codes "INSERT INTO object (rec, name, kind, fields) VALUES " ++ values_text 2 ++ more_values (rows - 1) 5
 
 -- the parameters of objects
-abbrev pub object_values : Things → Row
+abbrev pub object_values : AllTexts → Row
 object_values [] = []
 object_values (o ∷ os) = Words o.0 ∷ Words o.1.kind ∷ Words o.1.fields ∷ object_values os
 
 -- those of objects of a record
-abbrev pub row_values : List ℕ → Things → Row
+abbrev pub row_values : List ℕ → AllTexts → Row
 row_values id os = Words id ∷ object_values os
 
 -- no two of these have one name, and the record has none of them
-abbrev pub AreNew : List ℕ → Things → Maps → Type 0
-AreNew id os t = AreApart os × ((o : Thing) → Has os o → t.parts (id, o.0) ≡ None)
+abbrev pub AreNew : List ℕ → AllTexts → Maps → Type 0
+AreNew id os t = AreApart os × ((o : NamedTexts) → Has os o → t.parts (id, o.0) ≡ None)

@@ -9,7 +9,7 @@ use Rattle.std.specs.Prelude.{IsUtf8, map, Some}
 use Rattle.sqlite.specs.declared.types.Value.TheVariants.{Text as Words}
 use Rattle.sqlite.specs.Order.{Row}
 use Rattle.sqlite_rules.specs.Lists.{Has}
-use Rattle.fv_tables.specs.Stands.{Entry, Entries}
+use Rattle.fv_tables.specs.Stands.{Entry, TableEntries}
 
 -- all ids that are wanted above this one, each once, ascending by their bytes
 pub record AreListed (Wanted : List ℕ → Type 0) (above : List ℕ) (ids : List (List ℕ)) : Type 0 where
@@ -22,11 +22,11 @@ abbrev pub Lists : (List ℕ → Type 0) → List ℕ → ℕ → List (List ℕ
 Lists Wanted above limit ids = (all : List (List ℕ)) × AreListed Wanted above all × (ids ≡ take limit all)
 
 -- the id has a record of the form
-abbrev pub HasForm : Entries → List ℕ → List ℕ → Type 0
+abbrev pub HasForm : TableEntries → List ℕ → List ℕ → Type 0
 HasForm m form id = (k : Entry) × (m id ≡ Some k) × (k.form ≡ form)
 
 -- the id has a record
-abbrev pub HasRecord : Entries → List ℕ → Type 0
+abbrev pub HasRecord : TableEntries → List ℕ → Type 0
 HasRecord m id = (k : Entry) × (m id ≡ Some k)
 
 -- the row that shows an id

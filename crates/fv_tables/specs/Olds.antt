@@ -37,8 +37,8 @@ pub record SpellsFirst (db : Database) (rows : List Row) (m : Olds) : Type 0 whe
   pub records : HasRows old_row IsTextOld (db.trees 1) m
 
 -- What a connection outside a transaction keeps of version 1, now and as committed. It says nothing once the disk has lied or has shut the connection.
-abbrev pub KeepsFirst : State → List Row → Olds → Type 0
-KeepsFirst s rows m = HasCleanDisk s → IsTrue s.is_open → SpellsFirst s.now rows m × SpellsFirst s.committed rows m
+abbrev pub KeepsOlds : State → List Row → Olds → Type 0
+KeepsOlds s rows m = HasCleanDisk s → IsTrue s.is_open → SpellsFirst s.now rows m × SpellsFirst s.committed rows m
 
 -- ---- the records as a list
 

@@ -14,16 +14,16 @@ pub record Head : Type 0 where
   pub root : List ℕ
 
 -- what a row of `object` keeps beside the id and the object's name
-pub record Part : Type 0 where
+pub record ObjectTexts : Type 0 where
   pub kind : List ℕ
   pub fields : List ℕ
 
 -- a record's id and an object's name
-abbrev pub Place : Type 0
-Place = List ℕ × List ℕ
+abbrev pub ObjectKey : Type 0
+ObjectKey = List ℕ × List ℕ
 
 -- the same place, by bytes
-abbrev pub same_place : Place → Place → Bool
+abbrev pub same_place : ObjectKey → ObjectKey → Bool
 same_place a b = bytes_eq a.0 b.0 && bytes_eq a.1 b.1
 
 -- ---- the tables as maps
@@ -31,7 +31,7 @@ same_place a b = bytes_eq a.0 b.0 && bytes_eq a.1 b.1
 -- what the two tables keep, each as a map
 pub record Maps : Type 0 where
   pub heads : List ℕ → Option Head
-  pub parts : Place → Option Part
+  pub parts : ObjectKey → Option ObjectTexts
 
 -- the record of that id has this head
 abbrev pub with_head : List ℕ → Head → (List ℕ → Option Head) → List ℕ → Option Head
@@ -42,15 +42,15 @@ abbrev pub without_head : List ℕ → (List ℕ → Option Head) → List ℕ �
 without_head id m other = if bytes_eq other id then None else m other
 
 -- the object there is this one
-abbrev pub with_part : Place → Part → (Place → Option Part) → Place → Option Part
+abbrev pub with_part : ObjectKey → ObjectTexts → (ObjectKey → Option ObjectTexts) → ObjectKey → Option ObjectTexts
 with_part at p m other = if same_place other at then Some p else m other
 
 -- no object of this record
-abbrev pub without_parts : List ℕ → (Place → Option Part) → Place → Option Part
+abbrev pub without_parts : List ℕ → (ObjectKey → Option ObjectTexts) → ObjectKey → Option ObjectTexts
 without_parts id m other = if bytes_eq other.0 id then None else m other
 
 -- no object is there
-abbrev pub without_part : Place → (Place → Option Part) → Place → Option Part
+abbrev pub without_part : ObjectKey → (ObjectKey → Option ObjectTexts) → ObjectKey → Option ObjectTexts
 without_part at m other = if same_place other at then None else m other
 
 -- a record is taken out, with its objects
@@ -62,16 +62,16 @@ abbrev pub put : List ℕ → Head → Maps → Maps
 put id h t = record { heads = with_head id h t.heads; parts = t.parts }
 
 -- an object is this one
-abbrev pub added : Place → Part → Maps → Maps
+abbrev pub added : ObjectKey → ObjectTexts → Maps → Maps
 added at p t = record { heads = t.heads; parts = with_part at p t.parts }
 
 -- an object is taken out, if it is there
-abbrev pub dropped : Place → Maps → Maps
+abbrev pub dropped : ObjectKey → Maps → Maps
 dropped at t = record { heads = t.heads; parts = without_part at t.parts }
 
 -- each object has its record
 abbrev pub IsOwned : Maps → Type 0
-IsOwned t = (at : Place) (p : Part) → t.parts at ≡ Some p → IsSome (t.heads at.0)
+IsOwned t = (at : ObjectKey) (p : ObjectTexts) → t.parts at ≡ Some p → IsSome (t.heads at.0)
 
 -- ---- rows
 
@@ -80,7 +80,7 @@ abbrev pub head_row : ℤ → List ℕ → Head → Row
 head_row n id h = Int n ∷ Words id ∷ Words h.form ∷ Words h.root ∷ []
 
 -- a row of `object`: its rowid, the record's id, the object's name, its type's name and its fields
-abbrev pub part_row : ℤ → Place → Part → Row
+abbrev pub part_row : ℤ → ObjectKey → ObjectTexts → Row
 part_row n at p = Int n ∷ Words at.0 ∷ Words at.1 ∷ Words p.kind ∷ Words p.fields ∷ []
 
 -- what a row keeps as text is text
@@ -88,7 +88,7 @@ abbrev pub IsTextHead : List ℕ → Head → Type 0
 IsTextHead id h = IsUtf8 id × IsUtf8 h.form × IsUtf8 h.root
 
 -- and so is what a row of `object` keeps
-abbrev pub IsTextPart : Place → Part → Type 0
+abbrev pub IsTextPart : ObjectKey → ObjectTexts → Type 0
 IsTextPart at p = IsUtf8 at.0 × IsUtf8 at.1 × IsUtf8 p.kind × IsUtf8 p.fields
 
 -- the row of `about`: its key stands for the rowid and is kept as NULL
@@ -96,7 +96,7 @@ abbrev pub about_row : ℕ → List ℕ → Row
 about_row version declarations = Int (pos 1) ∷ Null ∷ Int (pos version) ∷ Raw declarations ∷ []
 
 -- the tables of version 2, with these rows of `about` and the rows of both maps
-pub record Spells (db : Database) (rows : List Row) (t : Maps) : Type 0 where
+pub record SpellsTables (db : Database) (rows : List Row) (t : Maps) : Type 0 where
   pub schema : db.schema ≡ store_schema
   pub about : db.trees 0 ≡ rows
   pub heads : HasRows head_row IsTextHead (db.trees 1) t.heads
@@ -108,22 +108,22 @@ pub record Spells (db : Database) (rows : List Row) (t : Maps) : Type 0 where
 pub record Entry : Type 0 where
   pub form : List ℕ
   pub root : List ℕ
-  pub objects : List (List ℕ × Part)
+  pub objects : List (List ℕ × ObjectTexts)
 
 -- records by their ids
-abbrev pub Entries : Type 0
-Entries = List ℕ → Option Entry
+abbrev pub TableEntries : Type 0
+TableEntries = List ℕ → Option Entry
 
 -- the record of that id is this one
-abbrev pub with_entry : List ℕ → Entry → Entries → Entries
+abbrev pub with_entry : List ℕ → Entry → TableEntries → TableEntries
 with_entry id k m other = if bytes_eq other id then Some k else m other
 
 -- no record has that id
-abbrev pub without_entry : List ℕ → Entries → Entries
+abbrev pub without_entry : List ℕ → TableEntries → TableEntries
 without_entry id m other = if bytes_eq other id then None else m other
 
 -- the first object of that name
-abbrev pub part_at : List ℕ → List (List ℕ × Part) → Option Part
+abbrev pub part_at : List ℕ → List (List ℕ × ObjectTexts) → Option ObjectTexts
 part_at name [] = None
 part_at name (o ∷ os) = if bytes_eq name o.0 then Some o.1 else part_at name os
 
@@ -133,23 +133,23 @@ head_of None = None
 head_of (Some k) = Some (record { form = k.form; root = k.root })
 
 -- what `object` keeps of its object of that name
-abbrev pub part_of : List ℕ → Option Entry → Option Part
-part_of name None = None
-part_of name (Some k) = part_at name k.objects
+abbrev pub object_texts : List ℕ → Option Entry → Option ObjectTexts
+object_texts name None = None
+object_texts name (Some k) = part_at name k.objects
 
 -- what the tables keep of records
-abbrev pub tables_of : Entries → Maps
-tables_of m = record { heads = λ id. head_of (m id); parts = λ at. part_of at.1 (m at.0) }
+abbrev pub tables_of : TableEntries → Maps
+tables_of m = record { heads = λ id. head_of (m id); parts = λ at. object_texts at.1 (m at.0) }
 
 -- the database stands for the records
-abbrev pub Stands : Database → List Row → Entries → Type 0
-Stands db rows m = Spells db rows (tables_of m)
+abbrev pub TablesStand : Database → List Row → TableEntries → Type 0
+TablesStand db rows m = SpellsTables db rows (tables_of m)
 
 -- ---- connections
 
 -- What a connection outside a transaction stands for, now and as committed. It says nothing once the disk has lied or has shut the connection.
-abbrev pub Keeps : State → List Row → Entries → Type 0
-Keeps s d m = HasCleanDisk s → IsTrue s.is_open → Stands s.now d m × Stands s.committed d m
+abbrev pub Keeps : State → List Row → TableEntries → Type 0
+Keeps s d m = HasCleanDisk s → IsTrue s.is_open → TablesStand s.now d m × TablesStand s.committed d m
 
 -- nothing waits to be committed
 abbrev pub IsSettled : State → Type 0
@@ -180,12 +180,12 @@ abbrev pub shown_head : Head → Row
 shown_head h = Words h.form ∷ Words h.root ∷ []
 
 -- what a query shows of an object
-abbrev pub shown_part : List ℕ × Part → Row
+abbrev pub shown_part : List ℕ × ObjectTexts → Row
 shown_part o = Words o.0 ∷ Words o.1.kind ∷ Words o.1.fields ∷ []
 
 -- an object with the rowid of its row
 abbrev pub NumberedThing : Type 0
-NumberedThing = ℤ × (List ℕ × Part)
+NumberedThing = ℤ × (List ℕ × ObjectTexts)
 
 -- what a query shows of both
 abbrev pub shown_row : NumberedThing → Row
@@ -196,7 +196,7 @@ abbrev pub IsTextOfHead : Head → Type 0
 IsTextOfHead h = IsUtf8 h.form × IsUtf8 h.root
 
 -- an object's name, its type's name and its fields are text
-abbrev pub IsTextObject : List ℕ × Part → Type 0
+abbrev pub IsTextObject : List ℕ × ObjectTexts → Type 0
 IsTextObject o = IsUtf8 o.0 × IsUtf8 o.1.kind × IsUtf8 o.1.fields
 
 -- the same of an object with a rowid

@@ -4,19 +4,19 @@ use Rattle.sqlite.specs.Order.{Row, column}
 use Rattle.fv_tables.specs.declared.entry.RecordRows.{RecordRows}
 use Rattle.fv_tables.specs.declared.entry.HeadRow.{HeadRow}
 use Rattle.fv_tables.specs.declared.entry.ObjectRow.{ObjectRow}
-use Rattle.fv_tables.specs.Changes.{Things}
-use Rattle.fv_tables.specs.Stands.{Head, Part, Entry}
+use Rattle.fv_tables.specs.Changes.{AllTexts}
+use Rattle.fv_tables.specs.Stands.{Head, ObjectTexts, Entry}
 
 -- what a row of `record` shows
 abbrev pub head_view : HeadRow → Head
 head_view s = record { form = string_bytes s.form; root = string_bytes s.root }
 
 -- an object with its name
-abbrev pub row_view : ObjectRow → List ℕ × Part
+abbrev pub row_view : ObjectRow → List ℕ × ObjectTexts
 row_view o = (string_bytes o.name, record { kind = string_bytes o.kind; fields = string_bytes o.fields })
 
 -- objects with their names
-abbrev pub things_view : List ObjectRow → Things
+abbrev pub things_view : List ObjectRow → AllTexts
 things_view os = map row_view os
 
 -- what the rows of a record keep

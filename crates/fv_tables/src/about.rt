@@ -4,7 +4,7 @@ ghost use Rattle.sqlite.specs.State.{HasCleanDisk, KeepsCommit};
 ghost use Rattle.sqlite.specs.Held.{state};
 ghost use Rattle.fv_tables.specs.About.{HasTables, Redeclares, ShowsAbout, TellsAbout};
 ghost use Rattle.fv_tables.specs.Causes.{IsExcused, IsShortAbout};
-ghost use Rattle.fv_tables.specs.Stands.{Entries, Frame, IsLive, IsSettled, Stands, Stays, about_row};
+ghost use Rattle.fv_tables.specs.Stands.{TableEntries, Frame, IsLive, IsSettled, TablesStand, Stays, about_row};
 ghost use Rattle.fv_tables.specs.Steps.{Advances, Inside};
 
 use sqlite::{Alter, Connection, Error, Row, Transaction, params};
@@ -41,7 +41,7 @@ pub fn write_about<S: Alter>(tx: &mut Transaction<'_, S>, declarations: &[u8]) -
     ensures done { Inside S.Store tx.old.conn.now tx.new.conn.now
         (λ old new. OnOk result (Advances old new (Redeclares declarations.now))) }
     ensures cause { Inside S.Store tx.old.conn.now tx.new.conn.now (λ old new. tx.old.conn.now.step_limit ≡ None
-        → IfErr result (λ e. (d : List ℕ) (m : Entries) → Stands old.now (about_row 2 d ∷ []) m
+        → IfErr result (λ e. (d : List ℕ) (m : TableEntries) → TablesStand old.now (about_row 2 d ∷ []) m
         → IsShortAbout declarations.now → IsExcused old new e)) }
 {
     tx.execute(WRITE_ABOUT, params![declarations])?;

@@ -4,7 +4,7 @@ ghost use Rattle.sqlite.specs.State.{KeepsCommit};
 ghost use Rattle.sqlite.specs.Held.{state};
 ghost use Rattle.fv_tables.specs.Changes.{AreApart, objects_view, with_part_of};
 ghost use Rattle.fv_tables.specs.Causes.{AreShort, HasRooms, IsExcused, IsShortHead, IsShortPart};
-ghost use Rattle.fv_tables.specs.Stands.{Frame, Stands, with_entry, without_entry};
+ghost use Rattle.fv_tables.specs.Stands.{Frame, TablesStand, with_entry, without_entry};
 ghost use Rattle.fv_tables.specs.Steps.{Advances, Always, Inside, Turns};
 
 use crate::rows::{delete_record, update_object, write_record};
@@ -28,7 +28,7 @@ pub fn put_record<S: Alter>(
         (Turns (1 + length objects.now) (λ _. AreApart (objects_view objects.now))
         (with_entry id.now (record { form = form.now; root = root.now; objects = objects_view objects.now }))))) }
     ensures cause { Inside S.Store tx.old.conn.now tx.new.conn.now (λ old new. tx.old.conn.now.step_limit ≡ None
-        → IfErr result (λ e. (d : _) (m : _) → Stands old.now d m → AreApart (objects_view objects.now)
+        → IfErr result (λ e. (d : _) (m : _) → TablesStand old.now d m → AreApart (objects_view objects.now)
         → HasRooms (1 + length objects.now) old.now → IsShortHead id.now (record { form = form.now; root = root.now })
         → AreShort id.now (objects_view objects.now) → IsExcused old new e)) }
 {
@@ -51,7 +51,7 @@ pub fn set_object<S: Alter>(
     ensures done { Inside S.Store tx.old.conn.now tx.new.conn.now (λ old new. OnOk result (Advances old new
         (Turns 0 Always (with_part_of id.now name.now (record { kind = kind.now; fields = fields.now }))))) }
     ensures cause { Inside S.Store tx.old.conn.now tx.new.conn.now (λ old new. tx.old.conn.now.step_limit ≡ None
-        → IfErr result (λ e. (d : _) (m : _) → Stands old.now d m → HasRooms 0 old.now
+        → IfErr result (λ e. (d : _) (m : _) → TablesStand old.now d m → HasRooms 0 old.now
         → IsShortPart (id.now, name.now) (record { kind = kind.now; fields = fields.now }) → IsExcused old new e)) }
 {
     update_object(tx, id, name, kind, fields)?;
@@ -68,7 +68,7 @@ pub fn remove_record<S: Alter>(tx: &mut Transaction<'_, S>, id: &str) -> Result<
     ensures done { Inside S.Store tx.old.conn.now tx.new.conn.now
         (λ old new. OnOk result (Advances old new (Turns 0 Always (without_entry id.now)))) }
     ensures cause { Inside S.Store tx.old.conn.now tx.new.conn.now (λ old new. tx.old.conn.now.step_limit ≡ None
-        → IfErr result (λ e. (d : _) (m : _) → Stands old.now d m → IsExcused old new e)) }
+        → IfErr result (λ e. (d : _) (m : _) → TablesStand old.now d m → IsExcused old new e)) }
 {
     delete_record(tx, id)?;
     Ok(())

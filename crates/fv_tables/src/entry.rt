@@ -4,7 +4,7 @@ ghost use Rattle.std.specs.List.{AllByRecursion};
 ghost use Rattle.sqlite.specs.Order.{Row as Values, column};
 ghost use Rattle.sqlite.specs.declared.types.Value.TheVariants.{Text as Words};
 ghost use Rattle.fv_tables.specs.Causes.{IsRefusal};
-ghost use Rattle.fv_tables.specs.Changes.{Thing, Things, found_view};
+ghost use Rattle.fv_tables.specs.Changes.{NamedTexts, AllTexts, found_view};
 ghost use Rattle.fv_tables.specs.Stands.{Head, NumberedThing, ShowsHead, shown_head, shown_part, shown_row, IsTextOfHead, IsTextObject, IsTextRow};
 ghost use Rattle.fv_tables.specs.Stored.{head_view, front, front_four, row_view, things_view};
 
@@ -68,7 +68,7 @@ pub(crate) fn head_in(rows: &[Row]) -> Result<Option<HeadRow>, Error>
 /// Reads the row that shows an object, whatever it shows behind.
 fn read_object(row: &Row) -> Result<ObjectRow, Error>
     ensures shown { IfOk result (λ o. front row.now ≡ shown_part (row_view o)) }
-    ensures cause { IfErr result (λ e. (o : Thing) (behind : Values) → row.now ≡ shown_part o ++ behind → IsTextObject o
+    ensures cause { IfErr result (λ e. (o : NamedTexts) (behind : Values) → row.now ≡ shown_part o ++ behind → IsTextObject o
         → ¬ IsRefusal e) }
 {
     let name = row.get(0)?;
@@ -103,8 +103,8 @@ fn read_found(row: &Row) -> Result<FoundRow<'_>, Error>
 
 /// The objects that rows show.
 pub(crate) fn objects_in(alloc: Global, rows: &[Row]) -> Result<Vec<ObjectRow>, Error>
-    ensures shown { IfOk result (λ v. (os : Things) → rows.now ≡ map shown_part os → things_view v.items ≡ os) }
-    ensures cause { IfErr result (λ e. (os : Things) → rows.now ≡ map shown_part os → AllByRecursion IsTextObject os
+    ensures shown { IfOk result (λ v. (os : AllTexts) → rows.now ≡ map shown_part os → things_view v.items ≡ os) }
+    ensures cause { IfErr result (λ e. (os : AllTexts) → rows.now ≡ map shown_part os → AllByRecursion IsTextObject os
         → ¬ IsRefusal e) }
 {
     let mut objects = Vec::with_capacity(alloc, rows.len())?;

@@ -6,7 +6,7 @@ ghost use Rattle.sqlite.specs.Values.{bound};
 ghost use Rattle.fv_tables.specs.Changes.{all_added, object_view, objects_view, IsFree};
 ghost use Rattle.fv_tables.specs.Causes.{AreShort, HasRooms, IsExcused};
 ghost use Rattle.fv_tables.specs.Inserting.{insert_of, object_values, row_values, AreNew, IsRun};
-ghost use Rattle.fv_tables.specs.Stands.{Frame, Spells, IsOwned};
+ghost use Rattle.fv_tables.specs.Stands.{Frame, SpellsTables, IsOwned};
 ghost use Rattle.fv_tables.specs.Steps.{Advances, Inside, Makes};
 
 use crate::text::ObjectText;
@@ -107,7 +107,7 @@ pub(crate) fn insert_run<S: Alter>(
         (Makes (length objects.now) (AreNew id.now (objects_view objects.now))
         (all_added id.now (objects_view objects.now))))) }
     ensures cause { Inside S.Store tx.old.conn.now tx.new.conn.now (λ old new. tx.old.conn.now.step_limit ≡ None
-        → IfErr result (λ e. (d : _) (t : _) → Spells old.now d t → IsOwned t → AreNew id.now (objects_view objects.now) t
+        → IfErr result (λ e. (d : _) (t : _) → SpellsTables old.now d t → IsOwned t → AreNew id.now (objects_view objects.now) t
         → IsSome (t.heads id.now) → HasRooms (length objects.now) old.now → AreShort id.now (objects_view objects.now)
         → IsExcused old new e)) }
 {
@@ -130,7 +130,7 @@ pub(crate) fn insert_objects<S: Alter>(
         (Makes (length objects.now) (IsFree id.now (objects_view objects.now))
         (all_added id.now (objects_view objects.now))))) }
     ensures cause { Inside S.Store tx.old.conn.now tx.new.conn.now (λ old new. tx.old.conn.now.step_limit ≡ None
-        → IfErr result (λ e. (d : _) (t : _) → Spells old.now d t → IsOwned t → IsFree id.now (objects_view objects.now) t
+        → IfErr result (λ e. (d : _) (t : _) → SpellsTables old.now d t → IsOwned t → IsFree id.now (objects_view objects.now) t
         → IsSome (t.heads id.now) → HasRooms (length objects.now) old.now → AreShort id.now (objects_view objects.now)
         → IsExcused old new e)) }
 {

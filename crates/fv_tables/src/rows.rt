@@ -5,7 +5,7 @@ ghost use Rattle.sqlite.specs.Held.{state};
 ghost use Rattle.sqlite_rules.specs.Lists.{Has};
 ghost use Rattle.fv_tables.specs.Changes.{all_added, others_dropped, has_name as has, names_of, replaced, same_object, dropped_unless_kept, written, found_object, found_objects, object_view, objects_view, AreApart, IsNew, IsReady};
 ghost use Rattle.fv_tables.specs.Causes.{AreShort, HasRooms, IsExcused, IsShortHead, IsShortPart};
-ghost use Rattle.fv_tables.specs.Stands.{Frame, ShowsHead, Spells, IsOwned, removed, put, added, dropped};
+ghost use Rattle.fv_tables.specs.Stands.{Frame, ShowsHead, SpellsTables, IsOwned, removed, put, added, dropped};
 ghost use Rattle.fv_tables.specs.Steps.{Advances, Anyhow, AreThere, HasHead, Inside, IsThere, Makes, ShowsParts, UpdatesPart, UpdatesRow};
 ghost use Rattle.fv_tables.specs.Stored.{head_view};
 
@@ -42,7 +42,7 @@ pub(crate) fn delete_record<S: Alter>(tx: &mut Transaction<'_, S>, id: &str) -> 
     ensures done { Inside S.Store tx.old.conn.now tx.new.conn.now (λ old new. OnOk result (Advances old new
         (Makes 0 IsOwned (removed id.now)))) }
     ensures cause { Inside S.Store tx.old.conn.now tx.new.conn.now (λ old new. tx.old.conn.now.step_limit ≡ None
-        → IfErr result (λ e. (d : _) (t : _) → Spells old.now d t → IsOwned t
+        → IfErr result (λ e. (d : _) (t : _) → SpellsTables old.now d t → IsOwned t
         → IsExcused old new e)) }
 {
     tx.execute(DELETE_RECORD, params![id])
@@ -63,7 +63,7 @@ pub(crate) fn update_object<S: Alter>(
     ensures done { Inside S.Store tx.old.conn.now tx.new.conn.now (λ old new. IfOk result (λ count. Advances old new
         (UpdatesPart (id.now, name.now) (record { kind = kind.now; fields = fields.now }) count))) }
     ensures cause { Inside S.Store tx.old.conn.now tx.new.conn.now (λ old new. tx.old.conn.now.step_limit ≡ None
-        → IfErr result (λ e. (d : _) (t : _) → Spells old.now d t → IsOwned t → HasRooms 0 old.now
+        → IfErr result (λ e. (d : _) (t : _) → SpellsTables old.now d t → IsOwned t → HasRooms 0 old.now
         → IsShortPart (id.now, name.now) (record { kind = kind.now; fields = fields.now }) → IsExcused old new e)) }
 {
     tx.execute(UPDATE_OBJECT, params![id, name, kind, fields])
@@ -83,7 +83,7 @@ fn update_row<S: Alter>(
     ensures done { Inside S.Store tx.old.conn.now tx.new.conn.now (λ old new. IfOk result (λ count. Advances old new
         (UpdatesRow row.now.rowid (id.now, (object_view object.now).0) (object_view object.now).1 count))) }
     ensures cause { Inside S.Store tx.old.conn.now tx.new.conn.now (λ old new. tx.old.conn.now.step_limit ≡ None
-        → IfErr result (λ e. (d : _) (t : _) → Spells old.now d t → IsOwned t → HasRooms 0 old.now
+        → IfErr result (λ e. (d : _) (t : _) → SpellsTables old.now d t → IsOwned t → HasRooms 0 old.now
         → IsShortPart (id.now, (object_view object.now).0) (object_view object.now).1 → IsExcused old new e)) }
 {
     tx.execute(
@@ -100,9 +100,9 @@ fn find_parts<S: Alter>(tx: &mut Transaction<'_, S>, id: &str) -> Result<Vec<Row
     ensures kept { Inside S.Store tx.old.conn.now tx.new.conn.now KeepsCommit }
     ensures done { Inside S.Store tx.old.conn.now tx.new.conn.now (λ old new. OnOk result (Advances old new (λ was is. is ≡ was))) }
     ensures shown { Inside S.Store tx.old.conn.now tx.new.conn.now (λ old new. IfOk result (λ v. (d : _) (t : _)
-        → Spells old.now d t → ShowsParts id.now v.items old.now t)) }
+        → SpellsTables old.now d t → ShowsParts id.now v.items old.now t)) }
     ensures cause { Inside S.Store tx.old.conn.now tx.new.conn.now (λ old new. tx.old.conn.now.step_limit ≡ None
-        → IfErr result (λ e. (d : _) (t : _) → Spells old.now d t → IsExcused old new e)) }
+        → IfErr result (λ e. (d : _) (t : _) → SpellsTables old.now d t → IsExcused old new e)) }
 {
     tx.query_all(PARTS, params![id])
 }
@@ -120,7 +120,7 @@ fn put_object<S: Alter>(
     ensures done { Inside S.Store tx.old.conn.now tx.new.conn.now (λ old new. OnOk result (Advances old new
         (Makes 1 Anyhow (added (id.now, (object_view object.now).0) (object_view object.now).1)))) }
     ensures cause { Inside S.Store tx.old.conn.now tx.new.conn.now (λ old new. tx.old.conn.now.step_limit ≡ None
-        → IfErr result (λ e. (d : _) (t : _) → Spells old.now d t → IsOwned t → IsSome (t.heads id.now)
+        → IfErr result (λ e. (d : _) (t : _) → SpellsTables old.now d t → IsOwned t → IsSome (t.heads id.now)
         → HasRooms 1 old.now → IsShortPart (id.now, (object_view object.now).0) (object_view object.now).1 → IsExcused old new e)) }
 {
     match update_object(tx, id, object.name, object.kind, &object.fields)? {
@@ -185,7 +185,7 @@ fn put_changed<S: Alter>(
         (Makes 1 (IsThere id.now (found_object row.now ∷ []) (object_view object.now))
         (added (id.now, (object_view object.now).0) (object_view object.now).1)))) }
     ensures cause { Inside S.Store tx.old.conn.now tx.new.conn.now (λ old new. tx.old.conn.now.step_limit ≡ None
-        → IfErr result (λ e. (d : _) (t : _) → Spells old.now d t → IsOwned t → IsSome (t.heads id.now)
+        → IfErr result (λ e. (d : _) (t : _) → SpellsTables old.now d t → IsOwned t → IsSome (t.heads id.now)
         → HasRooms 1 old.now → IsShortPart (id.now, (object_view object.now).0) (object_view object.now).1 → IsExcused old new e)) }
 {
     if is_same(row, object) {
@@ -212,7 +212,7 @@ fn put_among<S: Alter>(
         (Makes 1 (IsThere id.now (found_objects there.now) (object_view object.now))
         (added (id.now, (object_view object.now).0) (object_view object.now).1)))) }
     ensures cause { Inside S.Store tx.old.conn.now tx.new.conn.now (λ old new. tx.old.conn.now.step_limit ≡ None
-        → IfErr result (λ e. (d : _) (t : _) → Spells old.now d t → IsOwned t → IsSome (t.heads id.now)
+        → IfErr result (λ e. (d : _) (t : _) → SpellsTables old.now d t → IsOwned t → IsSome (t.heads id.now)
         → HasRooms 1 old.now → IsShortPart (id.now, (object_view object.now).0) (object_view object.now).1 → IsExcused old new e)) }
 {
     match row_named(there, object.name.as_bytes()) {
@@ -236,7 +236,7 @@ fn put_objects<S: Alter>(
         (Makes (length objects.now) (AreThere id.now (found_objects there.now) (objects_view objects.now))
         (all_added id.now (objects_view objects.now))))) }
     ensures cause { Inside S.Store tx.old.conn.now tx.new.conn.now (λ old new. tx.old.conn.now.step_limit ≡ None
-        → IfErr result (λ e. (d : _) (t : _) → Spells old.now d t → AreThere id.now (found_objects there.now) (objects_view objects.now) t
+        → IfErr result (λ e. (d : _) (t : _) → SpellsTables old.now d t → AreThere id.now (found_objects there.now) (objects_view objects.now) t
         → IsOwned t → IsSome (t.heads id.now)
         → HasRooms (length objects.now) old.now → AreShort id.now (objects_view objects.now) → IsExcused old new e)) }
 {
@@ -260,7 +260,7 @@ fn drop_unless_kept<S: Alter>(
     ensures done { Inside S.Store tx.old.conn.now tx.new.conn.now (λ old new. OnOk result (Advances old new
         (Makes 0 Anyhow (dropped_unless_kept id.now (objects_view objects.now) name.now)))) }
     ensures cause { Inside S.Store tx.old.conn.now tx.new.conn.now (λ old new. tx.old.conn.now.step_limit ≡ None
-        → IfErr result (λ e. (d : _) (t : _) → Spells old.now d t → IsOwned t → IsExcused old new e)) }
+        → IfErr result (λ e. (d : _) (t : _) → SpellsTables old.now d t → IsOwned t → IsExcused old new e)) }
 {
     if has_name(objects, name) {
         return Ok(0);
@@ -283,7 +283,7 @@ fn drop_others<S: Alter>(
     ensures done { Inside S.Store tx.old.conn.now tx.new.conn.now (λ old new. OnOk result (Advances old new
         (Makes 0 Anyhow (others_dropped id.now (objects_view objects.now) (names_of (found_objects there.now)))))) }
     ensures cause { Inside S.Store tx.old.conn.now tx.new.conn.now (λ old new. tx.old.conn.now.step_limit ≡ None
-        → IfErr result (λ e. (d : _) (t : _) → Spells old.now d t → IsOwned t → IsExcused old new e)) }
+        → IfErr result (λ e. (d : _) (t : _) → SpellsTables old.now d t → IsOwned t → IsExcused old new e)) }
 {
     'there: for row in there {
         drop_unless_kept(tx, id, row.name, objects)?;
@@ -304,7 +304,7 @@ fn replace_objects<S: Alter>(
     ensures done { Inside S.Store tx.old.conn.now tx.new.conn.now (λ old new. OnOk result (Advances old new
         (Makes (length objects.now) (λ _. AreApart (objects_view objects.now)) (replaced id.now (objects_view objects.now))))) }
     ensures cause { Inside S.Store tx.old.conn.now tx.new.conn.now (λ old new. tx.old.conn.now.step_limit ≡ None
-        → IfErr result (λ e. (d : _) (t : _) → Spells old.now d t → AreApart (objects_view objects.now) → IsOwned t → IsSome (t.heads id.now)
+        → IfErr result (λ e. (d : _) (t : _) → SpellsTables old.now d t → AreApart (objects_view objects.now) → IsOwned t → IsSome (t.heads id.now)
         → HasRooms (length objects.now) old.now → AreShort id.now (objects_view objects.now) → IsExcused old new e)) }
 {
     let rows = find_parts(tx, id)?;
@@ -333,7 +333,7 @@ fn write_new<S: Alter>(
         (Makes (1 + length objects.now) (IsNew id.now (objects_view objects.now))
         (written id.now (record { form = form.now; root = root.now }) (objects_view objects.now))))) }
     ensures cause { Inside S.Store tx.old.conn.now tx.new.conn.now (λ old new. tx.old.conn.now.step_limit ≡ None
-        → IfErr result (λ e. (d : _) (t : _) → Spells old.now d t → IsNew id.now (objects_view objects.now) t
+        → IfErr result (λ e. (d : _) (t : _) → SpellsTables old.now d t → IsNew id.now (objects_view objects.now) t
         → HasRooms (1 + length objects.now) old.now → IsShortHead id.now (record { form = form.now; root = root.now })
         → AreShort id.now (objects_view objects.now) → IsExcused old new e)) }
 {
@@ -349,9 +349,9 @@ fn find_head<S: Alter>(tx: &mut Transaction<'_, S>, id: &str) -> Result<Option<H
     ensures kept { Inside S.Store tx.old.conn.now tx.new.conn.now KeepsCommit }
     ensures done { Inside S.Store tx.old.conn.now tx.new.conn.now (λ old new. OnOk result (Advances old new (λ was is. is ≡ was))) }
     ensures found { Inside S.Store tx.old.conn.now tx.new.conn.now (λ old new. IfOk result (λ o. (d : _) (t : _)
-        → Spells old.now d t → option_map head_view o ≡ t.heads id.now)) }
+        → SpellsTables old.now d t → option_map head_view o ≡ t.heads id.now)) }
     ensures cause { Inside S.Store tx.old.conn.now tx.new.conn.now (λ old new. tx.old.conn.now.step_limit ≡ None
-        → IfErr result (λ e. (d : _) (t : _) → Spells old.now d t → IsExcused old new e)) }
+        → IfErr result (λ e. (d : _) (t : _) → SpellsTables old.now d t → IsExcused old new e)) }
 {
     let rows = tx.query_all(FIND_RECORD, params![id])?;
     head_in(&rows)
@@ -372,7 +372,7 @@ fn write_head<S: Alter>(
     ensures done { Inside S.Store tx.old.conn.now tx.new.conn.now (λ old new. OnOk result (Advances old new
         (Makes 0 (HasHead id.now (head_view head.now)) (put id.now (record { form = form.now; root = root.now }))))) }
     ensures cause { Inside S.Store tx.old.conn.now tx.new.conn.now (λ old new. tx.old.conn.now.step_limit ≡ None
-        → IfErr result (λ e. (d : _) (t : _) → Spells old.now d t → IsOwned t
+        → IfErr result (λ e. (d : _) (t : _) → SpellsTables old.now d t → IsOwned t
         → HasRooms 0 old.now → IsShortHead id.now (record { form = form.now; root = root.now }) → IsExcused old new e)) }
 {
     if head.form.as_str() == form && head.root.as_str() == root {
@@ -397,7 +397,7 @@ pub(crate) fn write_record<S: Alter>(
         (Makes (1 + length objects.now) (IsReady (objects_view objects.now))
         (written id.now (record { form = form.now; root = root.now }) (objects_view objects.now))))) }
     ensures cause { Inside S.Store tx.old.conn.now tx.new.conn.now (λ old new. tx.old.conn.now.step_limit ≡ None
-        → IfErr result (λ e. (d : _) (t : _) → Spells old.now d t → IsReady (objects_view objects.now) t
+        → IfErr result (λ e. (d : _) (t : _) → SpellsTables old.now d t → IsReady (objects_view objects.now) t
         → HasRooms (1 + length objects.now) old.now → IsShortHead id.now (record { form = form.now; root = root.now })
         → AreShort id.now (objects_view objects.now) → IsExcused old new e)) }
 {

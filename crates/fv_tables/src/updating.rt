@@ -5,7 +5,7 @@ ghost use Rattle.sqlite.specs.Held.{state};
 ghost use Rattle.sqlite.specs.Values.{bound};
 ghost use Rattle.fv_tables.specs.Changes.{found_view, object_view, objects_view, AreApart};
 ghost use Rattle.fv_tables.specs.Causes.{AreShort, HasRooms, IsExcused};
-ghost use Rattle.fv_tables.specs.Stands.{Frame, Spells, IsOwned};
+ghost use Rattle.fv_tables.specs.Stands.{Frame, SpellsTables, IsOwned};
 ghost use Rattle.fv_tables.specs.Steps.{Advances, ArePartsOf, AreRowsOf, Inside};
 ghost use Rattle.fv_tables.specs.Updating.{place_values, places_of, range_values, things_of, Follow, IsRange, UpdatesRange};
 
@@ -137,7 +137,7 @@ pub(crate) fn update_range<S: Alter>(
     ensures done { Inside S.Store tx.old.conn.now tx.new.conn.now (λ old new. OnOk result (Advances old new
         (UpdatesRange id.now (map found_view rows.now) (objects_view objects.now)))) }
     ensures cause { Inside S.Store tx.old.conn.now tx.new.conn.now (λ old new. tx.old.conn.now.step_limit ≡ None
-        → IfErr result (λ e. (d : _) (t : _) → Spells old.now d t → AreRowsOf id.now (map found_view rows.now) old.now
+        → IfErr result (λ e. (d : _) (t : _) → SpellsTables old.now d t → AreRowsOf id.now (map found_view rows.now) old.now
         → ArePartsOf id.now (things_of (map found_view rows.now)) t → AreApart (objects_view objects.now) → IsOwned t
         → IsSome (t.heads id.now) → HasRooms 0 old.now → AreShort id.now (objects_view objects.now) → IsExcused old new e)) }
 {

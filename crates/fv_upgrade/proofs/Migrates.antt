@@ -8,8 +8,8 @@ use Rattle.sqlite.specs.State.{State, HasCleanDisk, Shows, KeepsCounts}
 use Rattle.fv_datum.specs.Members.{each_some}
 use Rattle.fv_tables.specs.Causes.{HasFailed, HasRooms, IsExcused, IsRefusal, IsShortAbout}
 use Rattle.fv_tables.specs.Creating.{no_entries}
-use Rattle.fv_tables.specs.Olds.{AreOlds, Empties, IsFirst, KeepsFirst, Old, Olds, SpellsFirst}
-use Rattle.fv_tables.specs.Stands.{Entries, Frame, IsLive, Keeps, Stands, Stays, about_row}
+use Rattle.fv_tables.specs.Olds.{AreOlds, Empties, IsFirst, KeepsOlds, Old, Olds, SpellsFirst}
+use Rattle.fv_tables.specs.Stands.{TableEntries, Frame, IsLive, Keeps, TablesStand, Stays, about_row}
 use Rattle.fv_tables.specs.Steps.{Advances}
 use Rattle.fv_tables.proofs.Steps.{failed_still, failed_then}
 use Rattle.fv_upgrade.specs.declared.fault.UpgradeFault.{UpgradeFault}
@@ -35,7 +35,7 @@ rewritten old one mid new ks (Ok t) late later first second ends clean = λ d is
     let replaced = first (later (late clean)) in
     let it = second (late clean) replaced.mode in
     let stands = (it.change (about_row 2 d ∷ []) no_entries (replaced.change d is).0 apart).0 in
-    (subst (λ b. Stands b (about_row 2 d ∷ []) (all_put ks no_entries)) (sym end.1.now_is) stands, subst (λ b. Stands b (about_row 2 d ∷ []) (all_put ks no_entries)) (sym end.1.committed_is) stands)
+    (subst (λ b. TablesStand b (about_row 2 d ∷ []) (all_put ks no_entries)) (sym end.1.now_is) stands, subst (λ b. TablesStand b (about_row 2 d ∷ []) (all_put ks no_entries)) (sym end.1.committed_is) stands)
 
 -- the tables weren't replaced, and the transaction was undone
 pub replace_cause : (old one new : State) (ks : List Named) → one.faults ≤ new.faults → (e : Error) → ((d : List ℕ) → IsFirst d old.now → IsShortAbout d → IsExcused (record old { in_transaction = true }) one e)
@@ -45,7 +45,7 @@ replace_cause old one new ks up e h d is about_short apart few short refused = f
 -- a record was refused, and the transaction was undone
 pub put_cause : (old one mid new : State) (ks : List Named) → HasCleanDisk one → Frame (record old { in_transaction = true }) one → one.faults ≤ mid.faults → mid.faults ≤ new.faults
     → Advances (record old { in_transaction = true }) one Empties → (e : Error)
-    → ((d : List Row) (m : Entries) → Stands one.now d m → AllApart ks → HasRooms (rows_taken ks) one.now → EachShort ks → IsExcused one mid e)
+    → ((d : List Row) (m : TableEntries) → TablesStand one.now d m → AllApart ks → HasRooms (rows_taken ks) one.now → EachShort ks → IsExcused one mid e)
     → (d : List ℕ) → IsFirst d old.now → IsShortAbout d → AllApart ks → rows_taken ks < 2 ^ 63 → EachShort ks → IsExcused old new e
 put_cause old one mid new ks clean frame up last replaced e h d is about_short apart few short refused =
     let empty = replaced.change d is in
@@ -76,7 +76,7 @@ module _ (old mid new : State) (es : List (List ℕ × Old)) (ks : List Named) (
 
   module _ (read : each_some named_in es ≡ Some ks) where
     pub migrated : IsLive new → (HasCleanDisk new → (d : List ℕ) → IsFirst d mid.now → AllApart ks → Keeps new (about_row 2 d ∷ []) (all_put ks no_entries))
-        → (d : List ℕ) (m : Olds) → KeepsFirst old (about_row 1 d ∷ []) m → (HasCleanDisk new → AllUpgrade m) × Keeps new (about_row 2 d ∷ []) (upgraded m)
+        → (d : List ℕ) (m : Olds) → KeepsOlds old (about_row 1 d ∷ []) m → (HasCleanDisk new → AllUpgrade m) × Keeps new (about_row 2 d ∷ []) (upgraded m)
     migrated lives done d m keeps =
         let spelled : HasCleanDisk new → IsTrue new.is_open → SpellsFirst old.now (about_row 1 d ∷ []) m = λ clean live. (keeps (before.clean (after.clean clean)) (was_open clean live)).0 in
         let are : HasCleanDisk new → IsTrue new.is_open → AreOlds es m = λ clean live. shown (after.clean clean) (about_row 1 d ∷ []) m (spelled clean live) in (
@@ -88,7 +88,7 @@ module _ (old mid new : State) (es : List (List ℕ × Old)) (ks : List Named) (
     -- the tables weren't rewritten
     pub rewrite_excused : (e : Error) → HasCleanDisk new
         → ((d : List ℕ) → IsFirst d mid.now → IsShortAbout d → AllApart ks → rows_taken ks < 2 ^ 63 → EachShort ks → IsExcused mid new e)
-        → fault_of e ≡ fault.Database → (d : List ℕ) (m : Olds) → KeepsFirst old (about_row 1 d ∷ []) m → IsShortAbout d → AllShort (upgraded m) → HasFew m → HasFailed old new
+        → fault_of e ≡ fault.Database → (d : List ℕ) (m : Olds) → KeepsOlds old (about_row 1 d ∷ []) m → IsShortAbout d → AllShort (upgraded m) → HasFew m → HasFailed old new
     rewrite_excused e clean h is d m keeps about_short short few = elim (cases_Bool old.is_open) [
       | inl live ↦
           let spelled = (keeps (before.clean (after.clean clean)) live).0 in
@@ -101,7 +101,7 @@ module _ (old mid new : State) (es : List (List ℕ × Old)) (ks : List Named) (
 
 -- a row isn't a record
 pub row_damaged : (old mid : State) (es : List (List ℕ × Old)) (e : UpgradeFault) → HasCleanDisk mid → Frame old mid → IsLive mid → ((d : List Row) (m : Olds) → SpellsFirst old.now d m → AreOlds es m)
-    → (e ≢ fault.Memory → ok_or (each_some named_in es) fault.Damaged ≡ Err e) → e ≡ fault.Damaged → (d : List ℕ) (m : Olds) → KeepsFirst old (about_row 1 d ∷ []) m → AllUpgrade m → ⊥
+    → (e ≢ fault.Memory → ok_or (each_some named_in es) fault.Damaged ≡ Err e) → e ≡ fault.Damaged → (d : List ℕ) (m : Olds) → KeepsOlds old (about_row 1 d ∷ []) m → AllUpgrade m → ⊥
 row_damaged old mid es e clean before lives shown gives is d m keeps =
     let spelled = (keeps (before.clean clean) (before.was_open clean (lives clean))).0 in
     let none = (err_none (each_some named_in es) fault.Damaged e (gives (λ memory. let wrong : fault.Damaged ≡ fault.Memory = sym is ∙ memory in cc))).0 in
@@ -109,7 +109,7 @@ row_damaged old mid es e clean before lives shown gives is d m keeps =
 
 -- the rows weren't read
 pub find_excused : (old new : State) (e : Error) → HasCleanDisk old → ((d : List Row) (m : Olds) → SpellsFirst old.now d m → IsExcused old new e)
-    → fault_of e ≡ fault.Database → (d : List ℕ) (m : Olds) → KeepsFirst old (about_row 1 d ∷ []) m → IsShortAbout d → AllShort (upgraded m) → HasFew m → HasFailed old new
+    → fault_of e ≡ fault.Database → (d : List ℕ) (m : Olds) → KeepsOlds old (about_row 1 d ∷ []) m → IsShortAbout d → AllShort (upgraded m) → HasFew m → HasFailed old new
 find_excused old new e clean h is d m keeps about_short short few = elim (cases_Bool old.is_open) [
   | inl live ↦ h (about_row 1 d ∷ []) m (keeps clean live).0 (is_refusal e is)
   | inr shut ↦ inr shut

@@ -8,7 +8,7 @@ use Rattle.sqlite.specs.State.{State, HasCleanDisk}
 use Rattle.fv_tables.specs.declared.text.ObjectText.{ObjectText}
 use Rattle.fv_tables.specs.Causes.{AreShort, HasRooms, IsExcused, IsShortHead}
 use Rattle.fv_tables.specs.Changes.{AreApart, object_view, objects_view}
-use Rattle.fv_tables.specs.Stands.{Entry, Entries, Frame, Stands, with_entry}
+use Rattle.fv_tables.specs.Stands.{Entry, TableEntries, Frame, TablesStand, with_entry}
 use Rattle.fv_tables.specs.Steps.{Advances, Turns}
 use Rattle.fv_tables.proofs.Composed.{fewer_rooms, more_on_err}
 use Rattle.fv_tables.proofs.Steps.{failed_then, led_on_ok}
@@ -36,9 +36,9 @@ module _ (id form root : List ℕ) (objects : List ObjectText) where
   put_made old new r = led_on_ok old new r puts_one
 
   pub put_excused : (old new : State) (r : Result (Unit {0}) Error)
-      → IfErr r (λ e. (d : List Row) (m : Entries) → Stands old.now d m → AreApart (objects_view objects) → HasRooms (1 + length objects) old.now
+      → IfErr r (λ e. (d : List Row) (m : TableEntries) → TablesStand old.now d m → AreApart (objects_view objects) → HasRooms (1 + length objects) old.now
       → IsShortHead id (record { form = form; root = root }) → AreShort id (objects_view objects) → IsExcused old new e)
-      → IfErr r (λ e. (d : List Row) (m : Entries) → Stands old.now d m → AllApart ((id, given) ∷ []) → HasRooms (rows_taken ((id, given) ∷ [])) old.now → EachShort ((id, given) ∷ []) → IsExcused old new e)
+      → IfErr r (λ e. (d : List Row) (m : TableEntries) → TablesStand old.now d m → AllApart ((id, given) ∷ []) → HasRooms (rows_taken ((id, given) ∷ [])) old.now → EachShort ((id, given) ∷ []) → IsExcused old new e)
   put_excused old new r = more_on_err _ _ r (λ e h d m stands apart room short.
       let same = count in
       h d m stands apart.0 (fewer_rooms (1 + length objects) (rows_taken ((id, given) ∷ [])) old.now (omega (arith, same)) room) short.0.0 short.0.1)
@@ -49,7 +49,7 @@ module _ (id form root : List ℕ) (objects : List ObjectText) where
 pub begun_step : (s : State) → IsTrue s.in_transaction → Advances s s (Puts [])
 begun_step s inside = record { was_open = λ live. live; mode = inside; committed = refl; change = λ d m stands apart. (stands, λ n room. fewer_rooms n (n + 0) s.now (omega arith) room) }
 
-all_put-push : (ks : List Named) (k : Named) (m : Entries) → all_put (ks ++ k ∷ []) m ≡ with_entry k.0 k.1 (all_put ks m)
+all_put-push : (ks : List Named) (k : Named) (m : TableEntries) → all_put (ks ++ k ∷ []) m ≡ with_entry k.0 k.1 (all_put ks m)
 all_put-push [] k m = refl
 all_put-push (x ∷ ks) k m = all_put-push ks k (with_entry x.0 x.1 m)
 
@@ -67,7 +67,7 @@ one_more ks k x y z p q d m stands apart =
     let parts = apart_front ks k apart in
     let made = p d m stands parts.0 in
     let more = q d (all_put ks m) made.0 parts.1 in (
-      subst (λ (r : Entries). Stands z d r) (sym (all_put-push ks k m)) more.0,
+      subst (λ (r : TableEntries). TablesStand z d r) (sym (all_put-push ks k m)) more.0,
       λ n room. more.1 n (made.1 (n + rows_taken (k ∷ [])) (fewer_rooms (n + rows_taken (k ∷ []) + rows_taken ks) (n + rows_taken (ks ++ k ∷ [])) x (omega (arith, rows-push ks k)) room)),
     )
 
@@ -103,8 +103,8 @@ rows_at (x ∷ rs) (suc i) r below = let rest = rows_at rs i r (omega arith) in 
 -- some records were written and the next was refused
 pub step_cause : (a b c : State) (rs : List NewRecord) (i : ℕ) (r : NewRecord) → i < length rs → r ≡ get_or rs i r → HasCleanDisk c → Frame a b → Frame b c
     → Advances a b (Puts (news_view (take i rs))) → (e : Error)
-    → ((d : List Row) (m : Entries) → Stands b.now d m → AllApart (new_view r ∷ []) → HasRooms (rows_taken (new_view r ∷ [])) b.now → EachShort (new_view r ∷ []) → IsExcused b c e)
-    → (d : List Row) (m : Entries) → Stands a.now d m → AllApart (news_view rs) → HasRooms (rows_taken (news_view rs)) a.now → EachShort (news_view rs) → IsExcused a c e
+    → ((d : List Row) (m : TableEntries) → TablesStand b.now d m → AllApart (new_view r ∷ []) → HasRooms (rows_taken (new_view r ∷ [])) b.now → EachShort (new_view r ∷ []) → IsExcused b c e)
+    → (d : List Row) (m : TableEntries) → TablesStand a.now d m → AllApart (news_view rs) → HasRooms (rows_taken (news_view rs)) a.now → EachShort (news_view rs) → IsExcused a c e
 step_cause a b c rs i r below is clean before after made e h d m stands apart room short refused =
     let front = news_view (take i rs) in
     let it = made.change d m stands (apart_taken i rs apart) in

@@ -7,7 +7,7 @@ use Rattle.fv_datum.specs.Members.{each_some}
 use Rattle.fv_tables.specs.Causes.{AreShort, IsShortHead}
 use Rattle.fv_tables.specs.Creating.{no_entries}
 use Rattle.fv_tables.specs.Olds.{AreOlds, Old, Olds}
-use Rattle.fv_tables.specs.Stands.{Entry, Entries, with_entry}
+use Rattle.fv_tables.specs.Stands.{Entry, TableEntries, with_entry}
 use Rattle.fv_upgrade.specs.Steps.{AllApart, EachShort, Named, all_put, named_in, rows_taken}
 use Rattle.fv_upgrade.specs.Upgraded.{AllShort, AllUpgrade, entry_in, rows_in, rows_of, upgraded}
 use Rattle.fv_upgrade.proofs.Apart.{entry_apart}
@@ -15,7 +15,7 @@ use Rattle.fv_upgrade.proofs.Reading.{each_parts}
 
 -- ---- puts of just these records make them
 
-found_in : (ks : List Named) (m : Entries) (id : List ℕ) (k : Entry) → all_put ks m id ≡ Some k → Has ks (id, k) ⊎ (m id ≡ Some k)
+found_in : (ks : List Named) (m : TableEntries) (id : List ℕ) (k : Entry) → all_put ks m id ≡ Some k → Has ks (id, k) ⊎ (m id ≡ Some k)
 found_in [] m id k is = inr is
 found_in (e ∷ ks) m id k is = elim (found_in ks (with_entry e.0 e.1 m) id k is) [
   | inl later ↦ inl (inr later)
@@ -29,14 +29,14 @@ found_in (e ∷ ks) m id k is = elim (found_in ks (with_entry e.0 e.1 m) id k is
   ]
 ]
 
-none_lost : (ks : List Named) (m : Entries) (id : List ℕ) → all_put ks m id ≡ None → m id ≡ None
+none_lost : (ks : List Named) (m : TableEntries) (id : List ℕ) → all_put ks m id ≡ None → m id ≡ None
 none_lost [] m id is = is
 none_lost (e ∷ ks) m id is = elim (cases_Bool (bytes_eq id e.0)) [
   | inl same ↦ let never : Some e.1 ≡ None = rw same at (none_lost ks (with_entry e.0 e.1 m) id is) in absurd cc
   | inr other ↦ rw other at (none_lost ks (with_entry e.0 e.1 m) id is)
 ]
 
-none_has : (ks : List Named) (m : Entries) (id : List ℕ) (k : Entry) → all_put ks m id ≡ None → Has ks (id, k) → ⊥
+none_has : (ks : List Named) (m : TableEntries) (id : List ℕ) (k : Entry) → all_put ks m id ≡ None → Has ks (id, k) → ⊥
 none_has [] m id k is h = h
 none_has (e ∷ ks) m id k is (inr later) = none_has ks (with_entry e.0 e.1 m) id k is later
 none_has (e ∷ ks) m id k is (inl same) =
@@ -45,7 +45,7 @@ none_has (e ∷ ks) m id k is (inl same) =
     let never : Some e.1 ≡ None = rw key at none in
     cc
 
-puts_make : (ks : List Named) (m : Entries) → ((k : Named) → Has ks k → m k.0 ≡ Some k.1) → ((id : List ℕ) (k : Entry) → m id ≡ Some k → Has ks (id, k)) → all_put ks no_entries ≡ m
+puts_make : (ks : List Named) (m : TableEntries) → ((k : Named) → Has ks k → m k.0 ≡ Some k.1) → ((id : List ℕ) (k : Entry) → m id ≡ Some k → Has ks (id, k)) → all_put ks no_entries ≡ m
 puts_make ks m sound complete = λ i id. go id (all_put ks no_entries id) refl (m id) refl i
   where
     go : (id : List ℕ) (o : Option Entry) → all_put ks no_entries id ≡ o → (p : Option Entry) → m id ≡ p → all_put ks no_entries id ≡ m id

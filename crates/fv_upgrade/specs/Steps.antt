@@ -4,7 +4,7 @@ use Rattle.sqlite.specs.Effect.{Database}
 use Rattle.fv_tables.specs.Causes.{AreShort, IsShortHead}
 use Rattle.fv_tables.specs.Changes.{AreApart}
 use Rattle.fv_tables.specs.Olds.{Old}
-use Rattle.fv_tables.specs.Stands.{Entry, Entries, with_entry}
+use Rattle.fv_tables.specs.Stands.{Entry, TableEntries, with_entry}
 use Rattle.fv_tables.specs.Steps.{Turns}
 use Rattle.fv_tables.specs.Stored.{rows_view}
 use Rattle.fv_upgrade.specs.declared.records.NewRecord.{NewRecord}
@@ -27,7 +27,7 @@ abbrev pub news_view : List NewRecord → List Named
 news_view rs = map new_view rs
 
 -- these records are put, one after another
-abbrev pub all_put : List Named → Entries → Entries
+abbrev pub all_put : List Named → TableEntries → TableEntries
 all_put [] m = m
 all_put (k ∷ ks) m = all_put ks (with_entry k.0 k.1 m)
 

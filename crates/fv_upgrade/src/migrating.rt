@@ -5,8 +5,8 @@ ghost use Rattle.sqlite.specs.Held.{state};
 ghost use Rattle.fv_tables.specs.Causes.{HasFailed, HasRooms, IsExcused, IsShortAbout};
 ghost use Rattle.fv_tables.specs.Changes.{object_view, objects_view};
 ghost use Rattle.fv_tables.specs.Creating.{no_entries};
-ghost use Rattle.fv_tables.specs.Olds.{IsFirst, KeepsFirst, Olds};
-ghost use Rattle.fv_tables.specs.Stands.{Frame, IsLive, IsSettled, Keeps, Stands, Stays, about_row};
+ghost use Rattle.fv_tables.specs.Olds.{IsFirst, KeepsOlds, Olds};
+ghost use Rattle.fv_tables.specs.Stands.{Frame, IsLive, IsSettled, Keeps, TablesStand, Stays, about_row};
 ghost use Rattle.fv_tables.specs.Steps.{Advances, Inside};
 ghost use Rattle.fv_tables.specs.Stored.{row_view, things_view};
 ghost use Rattle.fv_upgrade.specs.Steps.{AllApart, EachShort, Puts, all_put, new_view, news_view, rows_taken};
@@ -49,7 +49,7 @@ fn put<S: Alter>(tx: &mut Transaction<'_, S>, record: &NewRecord) -> Result<(), 
     ensures done { Inside S.Store tx.old.conn.now tx.new.conn.now
         (λ old new. OnOk result (Advances old new (Puts (new_view record.now ∷ [])))) }
     ensures cause { Inside S.Store tx.old.conn.now tx.new.conn.now (λ old new. tx.old.conn.now.step_limit ≡ None
-        → IfErr result (λ e. (d : _) (m : _) → Stands old.now d m → AllApart (new_view record.now ∷ [])
+        → IfErr result (λ e. (d : _) (m : _) → TablesStand old.now d m → AllApart (new_view record.now ∷ [])
         → HasRooms (rows_taken (new_view record.now ∷ [])) old.now → EachShort (new_view record.now ∷ [])
         → IsExcused old new e)) }
 {
@@ -73,7 +73,7 @@ fn put_all<S: Alter>(tx: &mut Transaction<'_, S>, records: &[NewRecord]) -> Resu
     ensures done { Inside S.Store tx.old.conn.now tx.new.conn.now
         (λ old new. OnOk result (Advances old new (Puts (news_view records.now)))) }
     ensures cause { Inside S.Store tx.old.conn.now tx.new.conn.now (λ old new. tx.old.conn.now.step_limit ≡ None
-        → IfErr result (λ e. (d : _) (m : _) → Stands old.now d m → AllApart (news_view records.now)
+        → IfErr result (λ e. (d : _) (m : _) → TablesStand old.now d m → AllApart (news_view records.now)
         → HasRooms (rows_taken (news_view records.now)) old.now → EachShort (news_view records.now)
         → IsExcused old new e)) }
 {
@@ -122,15 +122,15 @@ pub fn migrate<S: Alter>(conn: &mut Connection<S>, alloc: Global) -> Result<(), 
     ensures limit { conn.new.step_limit ≡ conn.old.step_limit }
     ensures open { OnOk result (IsLive (state S.Store conn.new)) }
     ensures done { OnOk result ((d : List ℕ) (m : Olds)
-        → KeepsFirst (state S.Store conn.old) (about_row 1 d ∷ []) m
+        → KeepsOlds (state S.Store conn.old) (about_row 1 d ∷ []) m
         → (HasCleanDisk (state S.Store conn.new) → AllUpgrade m)
         × Keeps (state S.Store conn.new) (about_row 2 d ∷ []) (upgraded m)) }
     ensures undone { OnErr result (Stays (state S.Store conn.old) (state S.Store conn.new)) }
     ensures damaged { HasCleanDisk (state S.Store conn.new) → IfErr result (λ e. e ≡ UpgradeFault.Damaged
-        → (d : List ℕ) (m : Olds) → KeepsFirst (state S.Store conn.old) (about_row 1 d ∷ []) m → ¬ AllUpgrade m) }
+        → (d : List ℕ) (m : Olds) → KeepsOlds (state S.Store conn.old) (about_row 1 d ∷ []) m → ¬ AllUpgrade m) }
     ensures cause { HasCleanDisk (state S.Store conn.new) → conn.old.step_limit ≡ None
         → IfErr result (λ e. e ≡ UpgradeFault.Database → (d : List ℕ) (m : Olds)
-        → KeepsFirst (state S.Store conn.old) (about_row 1 d ∷ []) m → IsShortAbout d → AllShort (upgraded m) → HasFew m
+        → KeepsOlds (state S.Store conn.old) (about_row 1 d ∷ []) m → IsShortAbout d → AllShort (upgraded m) → HasFew m
         → HasFailed (state S.Store conn.old) (state S.Store conn.new)) }
 {
     let olds = find_old(conn, alloc)?;

@@ -7,7 +7,7 @@ ghost use Rattle.fv_datum.specs.Outcomes.{Gives};
 ghost use Rattle.fv_tables.specs.Olds.{old_view, olds_view};
 ghost use Rattle.fv_tables.specs.Stored.{row_view, rows_view, things_view};
 ghost use Rattle.fv_upgrade.specs.Steps.{named_in, new_view, news_view};
-ghost use Rattle.fv_upgrade.specs.Upgraded.{bundle_in, entry_of, object_in};
+ghost use Rattle.fv_upgrade.specs.Upgraded.{bundle_in, upgraded_entry, object_in};
 ghost use Rattle.fv_upgrade.specs.declared.fault.UpgradeFault.TheVariants.{Damaged};
 
 use crate::fault::UpgradeFault;
@@ -56,7 +56,7 @@ fn object_rows(alloc: Global, objects: &Map<String, Value>) -> Result<Vec<Object
 /// The record of that form whose bundle a value is.
 fn record_rows(alloc: Global, form: String, value: &Value) -> Result<RecordRows, UpgradeFault>
     ensures { Gives UpgradeFault.Memory rows_view result
-        (ok_or (option_map (entry_of (string_bytes form)) (bundle_in (json_view value.now))) Damaged) }
+        (ok_or (option_map (upgraded_entry (string_bytes form)) (bundle_in (json_view value.now))) Damaged) }
 {
     if !has_only(value, &["objects", "root"]) {
         return Err(UpgradeFault::Damaged);

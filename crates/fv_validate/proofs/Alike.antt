@@ -8,7 +8,7 @@ use Rattle.fv_declare_schema.specs.Declarations.{Placed}
 use Rattle.fv_graph.specs.Graph.{IsIn}
 use Rattle.fv_message.specs.Table.{Messages}
 use Rattle.fv_walk_traces.specs.Violations.{Violation}
-use Rattle.fv_validate.specs.Violations.{Reported, Precedes, IsReportOf, IsAscending, AreListed}
+use Rattle.fv_validate.specs.Violations.{Reported, Precedes, IsReportOf, AreInOrder, AreListed}
 use Rattle.fv_validate.proofs.Reports.{one_report}
 
 -- ---- no two precede each other
@@ -53,7 +53,7 @@ same_rest v w vs ws first before within = λ x is_in. elim (within x (inr is_in)
   | inr there ↦ there
 ]
 
-same_list : (vs ws : List Reported) → IsAscending vs → IsAscending ws → Within vs ws → Within ws vs → vs ≡ ws
+same_list : (vs ws : List Reported) → AreInOrder vs → AreInOrder ws → Within vs ws → Within ws vs → vs ≡ ws
 same_list [] [] up rise to from = refl
 same_list [] (w ∷ ws) up rise to from = absurd (from w (inl refl))
 same_list (v ∷ vs) [] up rise to from = absurd (to v (inl refl))

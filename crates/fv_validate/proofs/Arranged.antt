@@ -13,7 +13,7 @@ use Rattle.std.specs.List.Sorted.{IsPermutation, IsSorted, IsStrictlySortedBy}
 use Rattle.std.specs.Ordering.{is_lt, is_eq, ordering_then, eq_by_cmp}
 use Rattle.fv_graph.specs.Graph.{IsIn}
 use Rattle.fv_validate.specs.Listing.{key_of, AreToldApart, order}
-use Rattle.fv_validate.specs.Violations.{Reported, Precedes, IsAscending}
+use Rattle.fv_validate.specs.Violations.{Reported, Precedes, AreInOrder}
 
 -- ---- the order
 
@@ -66,12 +66,12 @@ module _ {X : Type 0} (f : X → Reported) where
   all_behind x [] all = tt
   all_behind x (y ∷ ys) all = (precedes (f x) (f y) all.0, all_behind x ys all.1)
 
-  strict : (xs : List X) → IsStrictlySortedBy by_report xs → IsAscending (map f xs)
+  strict : (xs : List X) → IsStrictlySortedBy by_report xs → AreInOrder (map f xs)
   strict [] up = tt
   strict (x ∷ xs) up = (all_behind x xs (sorted_head by_report x xs up), strict xs (sorted_tail by_report x xs up))
 
   -- what is sorted ascends once repeats are left out
-  pub ascends : (xs : List X) → IsSorted by_report xs → IsAscending (map f (dedup (eq_by_cmp by_report) xs))
+  pub ascends : (xs : List X) → IsSorted by_report xs → AreInOrder (map f (dedup (eq_by_cmp by_report) xs))
   ascends xs up = strict (dedup (eq_by_cmp by_report) xs) (IsStrictlySortedBy-dedup total_by (λ x y. refl) xs up)
 
   -- ---- the same members

@@ -18,7 +18,7 @@ use Rattle.fv_message.proofs.Becoming.{text_is}
 use Rattle.fv_walk_traces.specs.Violations.{Violation}
 use Rattle.fv_validate.specs.Listing.{key_of, made_by, AreToldApart, IsMade}
 use Rattle.fv_walk.specs.Apart.{AreApart}
-use Rattle.fv_validate.specs.Violations.{Reported, nodes_in, IsMessageOf, IsReport, IsReportOf, IsAscending, AreListed}
+use Rattle.fv_validate.specs.Violations.{Reported, nodes_in, IsMessageOf, IsReport, IsReportOf, AreInOrder, AreListed}
 
 -- what holds of each member holds of all
 all_of : {X : Type 0} (P : X → Type 0) (xs : List X) → ((x : X) → IsIn xs x → P x) → AllByRecursion P xs
@@ -81,7 +81,7 @@ module _ (us : List Placed) (ms : Messages) (fs : List Violation) where
       x.1 ∙ ap (made_by us ms) (apart x.0 y.0 x.2 y.2 path node) ∙ sym y.1
 
   -- the reports in order are the listing
-  pub listed : (vs : List Reported) → AllByRecursion (IsMade us ms) fs → ((r : Reported) → IsIn vs r ↔ IsIn (map (made_by us ms) fs) r) → IsAscending vs → AreListed us ms (IsIn fs) vs
+  pub listed : (vs : List Reported) → AllByRecursion (IsMade us ms) fs → ((r : Reported) → IsIn vs r ↔ IsIn (map (made_by us ms) fs) r) → AreInOrder vs → AreListed us ms (IsIn fs) vs
   listed vs made same up = record {
     sound = all_of (IsReportOf us ms (IsIn fs)) vs (λ r is_in.
         let x = from_map (made_by us ms) fs r ((same r).0 is_in) in

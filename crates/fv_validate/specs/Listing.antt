@@ -8,7 +8,7 @@ use Rattle.fv_graph.specs.Graph.{IsIn}
 use Rattle.fv_declare_schema.specs.Declarations.{Placed}
 use Rattle.fv_message.specs.Evaluated.{full_text}
 use Rattle.fv_message.specs.Table.{Messages}
-use Rattle.fv_path.specs.Texts.{text_of}
+use Rattle.fv_path.specs.Texts.{path_text_of}
 use Rattle.fv_walk_traces.specs.Violations.{Violation}
 use Rattle.fv_validate.specs.Violations.{Reported, nodes_in, IsReport}
 
@@ -17,7 +17,7 @@ abbrev pub made_by : List Placed → Messages → Violation → Reported
 made_by us ms v =
     let node = slice_get (nodes_in us) v.node in
     record {
-      path = text_of v.path;
+      path = path_text_of v.path;
       constraint = option_map_or (λ n. n.constraint) node [];
       occurrence = v.node;
       message = option_map_or (λ n. full_text ms n.attributes n.message) node [];

@@ -12,7 +12,7 @@ use Rattle.fv_message.specs.Table.{Messages}
 use Rattle.fv_bundle.specs.Bundles.{Thing, Bundled}
 use Rattle.fv_constraint_tree.specs.Nodes.{Node}
 use Rattle.fv_constraint_tree.specs.Preorder.{nodes}
-use Rattle.fv_path.specs.Texts.{text_of}
+use Rattle.fv_path.specs.Texts.{path_text_of}
 use Rattle.fv_walk.specs.Properties.{IsViolationIn}
 use Rattle.fv_registry.specs.Meanings.{Meanings}
 use Rattle.fv_walk_traces.specs.Violations.{Violation, IsViolation}
@@ -41,7 +41,7 @@ IsMessageOf ms (Some n) message = IsTextOf ms n.attributes n.message message
 
 -- a violation is reported so: with the text of its path, and the name and the message of the constraint of its number ("ConstraintViolation")
 pub record IsReport (us : List Placed) (ms : Messages) (v : Violation) (r : Reported) : Type 0 where
-  pub path : r.path ≡ text_of v.path
+  pub path : r.path ≡ path_text_of v.path
   pub constraint : r.constraint ≡ option_map_or (λ n. n.constraint) (slice_get (nodes_in us) v.node) []
   pub occurrence : r.occurrence ≡ v.node
   pub message : IsMessageOf ms (slice_get (nodes_in us) v.node) r.message
@@ -56,15 +56,15 @@ abbrev pub Precedes : Reported → Reported → Type 0
 Precedes v w = (is_lt (slice_cmp nat_cmp v.path w.path) ≡ true) ⊎ ((v.path ≡ w.path) × (v.occurrence < w.occurrence))
 
 -- each violation precedes those after it
-abbrev pub IsAscending : List Reported → Type 0
-IsAscending [] = Unit {0}
-IsAscending (v ∷ vs) = AllByRecursion (Precedes v) vs × IsAscending vs
+abbrev pub AreInOrder : List Reported → Type 0
+AreInOrder [] = Unit {0}
+AreInOrder (v ∷ vs) = AllByRecursion (Precedes v) vs × AreInOrder vs
 
 -- all of some violations, each once, in order
 pub record AreListed (us : List Placed) (ms : Messages) (IsOne : Violation → Type 0) (vs : List Reported) : Type 0 where
   pub sound : AllByRecursion (IsReportOf us ms IsOne) vs
   pub complete : (v : Violation) → IsOne v → (r : Reported) × IsIn vs r × IsReport us ms v r
-  pub ascending : IsAscending vs
+  pub ascending : AreInOrder vs
 
 -- the violations of the request that judges a bundle for these groups at a moment
 abbrev pub IsListing : Meanings → Declarations → ℤ → Bundled → List ℕ → List Reported → Type 0

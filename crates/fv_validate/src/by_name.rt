@@ -3,7 +3,7 @@ ghost use Rattle.std.specs.Prelude.{◌≡◌, ◌≢◌, None, true, false, is_
 ghost use Rattle.fv_datum.specs.Moments.{IsMoment};
 ghost use Rattle.fv_datum.specs.View.{view};
 ghost use Rattle.fv_declare_schema.specs.Groups.{numbers_of};
-ghost use Rattle.fv_declare_schema.specs.Judged.{unknown_in};
+ghost use Rattle.fv_declare_schema.specs.Judged.{unknown_group_in};
 ghost use Rattle.fv_bundle.specs.Views.{object_view, bundle_view};
 ghost use Rattle.fv_bundle.specs.WellTyped.{IsOfType, IsWellTyped};
 ghost use Rattle.fv_validate.specs.Values.{FitsField, valued};
@@ -44,10 +44,10 @@ pub fn validate<R: RuleSet>(
         → IsListing R.meaning rulebook.now now (bundle_view bundle.now) (numbers_of rulebook.now.groups (map string_bytes asked.now)) (map violation_view v.items)) }
     ensures few { OnOk result (IsWellTyped rulebook.now.types (bundle_view bundle.now)
         → HasFewVisits rulebook.now (bundle_view bundle.now) (numbers_of rulebook.now.groups (map string_bytes asked.now))) }
-    ensures known { OnOk result (unknown_in rulebook.now.groups (map string_bytes asked.now) ≡ false) }
-    ensures unknown { IfErr result (λ fault. fault ≡ ValidateFault.UnknownGroup → unknown_in rulebook.now.groups (map string_bytes asked.now) ≡ true) }
+    ensures known { OnOk result (unknown_group_in rulebook.now.groups (map string_bytes asked.now) ≡ false) }
+    ensures unknown { IfErr result (λ fault. fault ≡ ValidateFault.UnknownGroup → unknown_group_in rulebook.now.groups (map string_bytes asked.now) ≡ true) }
     ensures many { IfErr result (λ fault. fault ≡ ValidateFault.TooManyVisits
-        → (unknown_in rulebook.now.groups (map string_bytes asked.now) ≡ false)
+        → (unknown_group_in rulebook.now.groups (map string_bytes asked.now) ≡ false)
         × HasTooManyVisits rulebook.now (bundle_view bundle.now) (numbers_of rulebook.now.groups (map string_bytes asked.now))) }
     ensures no_field { IfErr result (λ fault. fault ≢ ValidateFault.NoSuchField) }
 {
@@ -82,14 +82,14 @@ pub fn validate_property<R: RuleSet>(
     ensures listing { IfOk result (λ v. IsOfType rulebook.now.types (object_view object.now)
         → IsListingOfField R.meaning rulebook.now now (object_view object.now) field.now (numbers_of rulebook.now.groups (map string_bytes asked.now)) (map violation_view v.items)) }
     ensures few { OnOk result (HasFewVisitsAt rulebook.now (object_view object.now) (numbers_of rulebook.now.groups (map string_bytes asked.now))) }
-    ensures known { OnOk result (unknown_in rulebook.now.groups (map string_bytes asked.now) ≡ false) }
+    ensures known { OnOk result (unknown_group_in rulebook.now.groups (map string_bytes asked.now) ≡ false) }
     ensures there { OnOk result (is_some (field_number rulebook.now.types (object_view object.now).type_name field.now) ≡ true) }
-    ensures unknown { IfErr result (λ fault. fault ≡ ValidateFault.UnknownGroup → unknown_in rulebook.now.groups (map string_bytes asked.now) ≡ true) }
+    ensures unknown { IfErr result (λ fault. fault ≡ ValidateFault.UnknownGroup → unknown_group_in rulebook.now.groups (map string_bytes asked.now) ≡ true) }
     ensures absent { IfErr result (λ fault. fault ≡ ValidateFault.NoSuchField
-        → (unknown_in rulebook.now.groups (map string_bytes asked.now) ≡ false)
+        → (unknown_group_in rulebook.now.groups (map string_bytes asked.now) ≡ false)
         × (field_number rulebook.now.types (object_view object.now).type_name field.now ≡ None)) }
     ensures many { IfErr result (λ fault. fault ≡ ValidateFault.TooManyVisits
-        → (unknown_in rulebook.now.groups (map string_bytes asked.now) ≡ false)
+        → (unknown_group_in rulebook.now.groups (map string_bytes asked.now) ≡ false)
         × (is_some (field_number rulebook.now.types (object_view object.now).type_name field.now) ≡ true)
         × HasTooManyVisitsAt rulebook.now (object_view object.now) (numbers_of rulebook.now.groups (map string_bytes asked.now))) }
 {
@@ -119,13 +119,13 @@ pub fn validate_value<R: RuleSet>(
         → IsListingOfField R.meaning rulebook.now now (valued rulebook.now.types type_name.now field.now (view datum.now)) field.now
         (numbers_of rulebook.now.groups (map string_bytes asked.now)) (map violation_view v.items)) }
     ensures few { OnOk result (HasFewVisitsAt rulebook.now (valued rulebook.now.types type_name.now field.now (view datum.now)) (numbers_of rulebook.now.groups (map string_bytes asked.now))) }
-    ensures known { OnOk result (unknown_in rulebook.now.groups (map string_bytes asked.now) ≡ false) }
+    ensures known { OnOk result (unknown_group_in rulebook.now.groups (map string_bytes asked.now) ≡ false) }
     ensures there { OnOk result (is_some (field_number rulebook.now.types type_name.now field.now) ≡ true) }
-    ensures unknown { IfErr result (λ fault. fault ≡ ValidateFault.UnknownGroup → unknown_in rulebook.now.groups (map string_bytes asked.now) ≡ true) }
+    ensures unknown { IfErr result (λ fault. fault ≡ ValidateFault.UnknownGroup → unknown_group_in rulebook.now.groups (map string_bytes asked.now) ≡ true) }
     ensures absent { IfErr result (λ fault. fault ≡ ValidateFault.NoSuchField
-        → (unknown_in rulebook.now.groups (map string_bytes asked.now) ≡ false) × (field_number rulebook.now.types type_name.now field.now ≡ None)) }
+        → (unknown_group_in rulebook.now.groups (map string_bytes asked.now) ≡ false) × (field_number rulebook.now.types type_name.now field.now ≡ None)) }
     ensures many { IfErr result (λ fault. fault ≡ ValidateFault.TooManyVisits
-        → (unknown_in rulebook.now.groups (map string_bytes asked.now) ≡ false)
+        → (unknown_group_in rulebook.now.groups (map string_bytes asked.now) ≡ false)
         × (is_some (field_number rulebook.now.types type_name.now field.now) ≡ true)
         × HasTooManyVisitsAt rulebook.now (valued rulebook.now.types type_name.now field.now (view datum.now)) (numbers_of rulebook.now.groups (map string_bytes asked.now))) }
 {

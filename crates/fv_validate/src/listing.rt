@@ -3,7 +3,7 @@ ghost use Rattle.std.specs.Prelude.{◌≡◌, ◌↔◌, map};
 ghost use Rattle.fv_graph.specs.Graph.{IsIn};
 ghost use Rattle.fv_validate.specs.Listing.{order, AreToldApart};
 ghost use Rattle.fv_validate.specs.ViolationView.{violation_view};
-ghost use Rattle.fv_validate.specs.Violations.{Reported, IsAscending};
+ghost use Rattle.fv_validate.specs.Violations.{Reported, AreInOrder};
 
 use crate::violation::Violation;
 use std::cmp::Ordering;
@@ -20,7 +20,7 @@ pub(crate) fn arrange(violations: &mut Vec<Violation>)
     requires { AreToldApart (map violation_view violations.old.items) }
     ensures same { (r : Reported) → IsIn (map violation_view violations.new.items) r
         ↔ IsIn (map violation_view violations.old.items) r }
-    ensures ascending { IsAscending (map violation_view violations.new.items) }
+    ensures ascending { AreInOrder (map violation_view violations.new.items) }
 {
     violations.sort_unstable_by(|a, b| compare(a, b));
     violations.dedup_by(|a, b| compare(a, b).is_eq());

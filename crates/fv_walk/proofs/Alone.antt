@@ -15,7 +15,7 @@ use Rattle.fv_walk_traces.proofs.OneField.{field_violation}
 use Rattle.fv_datum.proofs.Lists.{map_get}
 use Rattle.fv_walk_traces.specs.Frames.{held}
 use Rattle.fv_walk_traces.specs.OneField.{is_in_field, IsViolationOfField, own_of_field, narrowed}
-use Rattle.fv_walk_traces.specs.Requests.{Own, Plain, InRanks, Request}
+use Rattle.fv_walk_traces.specs.Requests.{Own, Plain, InRanks, GraphRequest}
 use Rattle.fv_walk_traces.specs.Traces.{OwnEnds}
 use Rattle.fv_walk_traces.specs.Turns.{Spot, of_object, at, LocalFailure, Group, Fail, Free, Rank, Turns}
 use Rattle.fv_walk_traces.specs.Violations.{Violation}
@@ -45,10 +45,10 @@ module _ (m : Meanings) (ds : Declarations) (now : ℤ) (object : Thing) (n : �
       let k = ends_in_field n h (own_in m ds now object h) last before f ends (sym r_is ∙ is) in
       (h, k.0, k.1)
 
-  abbrev asking : List ℕ → Request
+  abbrev asking : List ℕ → GraphRequest
   asking groups = judging m ds now (alone object) groups
 
-  abbrev here : List ℕ → Request
+  abbrev here : List ℕ → GraphRequest
   here groups = narrowed n (asking groups)
 
   held_are : (groups : List ℕ) (g : ℕ) → held (here groups) g ≡ ranks ds.groups g

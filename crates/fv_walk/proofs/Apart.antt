@@ -31,7 +31,7 @@ nodes_same name ns ms e = cc
 same_spot : (object : Thing) (place : Place) (s t : Spot) → IsSound object → StandsIn object place s → StandsIn object place t → nodes_in object s ≡ nodes_in object t → s ≡ t
 same_spot object whole s t sound h k e = h ∙ sym k
 same_spot object (field number steps kind) s t sound (p, p_in, s_is) (q, q_in, t_is) e =
-    let place : to.Place = record { field = number; steps = steps } in
+    let place : to.FieldPlace = record { field = number; steps = steps } in
     let nodes = nodes_same _ _ _ (ap (nodes_in object) (sym s_is) ∙ e ∙ ap (nodes_in object) t_is) in
     let same = locus_same steps p.0 q.0 (part_there object place p sound p_in).led (part_there object place q sound q_in).led nodes in
     s_is ∙ ap (λ (l : Locus). at place l) same ∙ sym t_is

@@ -2,8 +2,8 @@
 use Rattle.std.proofs.Common.{◌≡◌, ℕ, List, [], ◌∷◌, Bool, true, false, not, ◌||◌, if◌then◌else◌, Option, Some, None, is_some, option_map, option_and_then, filter_map, refl, ap, ◌∙◌}
 use Rattle.std.specs.List.{list_any, cons_option}
 use Rattle.fv_datum.specs.Members.{each_some}
-use Rattle.fv_declare_schema.specs.Groups.{Groups, number_of, numbers_of}
-use Rattle.fv_declare_schema.specs.Judged.{unknown_in}
+use Rattle.fv_declare_schema.specs.Groups.{Groups, group_number, numbers_of}
+use Rattle.fv_declare_schema.specs.Judged.{unknown_group_in}
 
 -- ---- names, of which each is a group's or some are not
 
@@ -27,9 +27,9 @@ one_lacks true ms is = refl
 one_lacks false ms is = let never : None ≡ Some ms = is in absurd cc
 
 -- where each name is a group's, these are their numbers
-pub all_named : (gs : Groups) (names : List (List ℕ)) (ns : List ℕ) → Some ns ≡ each_some (number_of gs) names → (unknown_in gs names ≡ false) × (ns ≡ numbers_of gs names)
-all_named gs names ns is = all_there (unknown_in gs names) ns (numbers_of gs names) (is ∙ each_known (number_of gs) names)
+pub all_named : (gs : Groups) (names : List (List ℕ)) (ns : List ℕ) → Some ns ≡ each_some (group_number gs) names → (unknown_group_in gs names ≡ false) × (ns ≡ numbers_of gs names)
+all_named gs names ns is = all_there (unknown_group_in gs names) ns (numbers_of gs names) (is ∙ each_known (group_number gs) names)
 
 -- else one is no group's
-pub not_named : (gs : Groups) (names : List (List ℕ)) → None ≡ each_some (number_of gs) names → unknown_in gs names ≡ true
-not_named gs names is = one_lacks (unknown_in gs names) (numbers_of gs names) (is ∙ each_known (number_of gs) names)
+pub not_named : (gs : Groups) (names : List (List ℕ)) → None ≡ each_some (group_number gs) names → unknown_group_in gs names ≡ true
+not_named gs names is = one_lacks (unknown_group_in gs names) (numbers_of gs names) (is ∙ each_known (group_number gs) names)

@@ -1,8 +1,8 @@
 -- Paths that a walk makes: behind each step a field may follow.
 use Rattle.std.proofs.Common.{◌≡◌, ◌⊎◌, inl, inr, ℕ, List, [], ◌∷◌, ◌++◌, Bool, true, cond, nat_lt, ◌^◌, Option, Some, None, refl, sym, ap, ◌∙◌, subst, append_assoc}
 use Rattle.std.proofs.lemmas.Bool.{and_parts, false≢true}
-use Rattle.fv_extract.specs.Parts.{Part, Locus, at_index, at_key}
-use Rattle.fv_extract.specs.Places.{Step, element, key as key_step, value, content}
+use Rattle.fv_extract.specs.Parts.{LocusPart, Locus, at_index, at_key}
+use Rattle.fv_extract.specs.Places.{PlaceStep, element, key as key_step, value, content}
 use Rattle.fv_path.specs.Nodes.{PathNode, field, index, key, list_element, map_key, map_value, is_part}
 use Rattle.fv_path.specs.Paths.{takes_field, may_stand, IsPath}
 use Rattle.fv_path.proofs.Chains.{last_of, path_push}
@@ -15,14 +15,14 @@ use Rattle.fv_walk.specs.Paths.{TakesField}
 abbrev pub IsSegment : Locus → List PathNode → Type 0
 IsSegment l ns =
     ((l ≡ []) × (ns ≡ []))
-    ⊎ ((x : Part) × (rest : Locus) × (before : List PathNode) × (place : PathNode) × (named : PathNode)
+    ⊎ ((x : LocusPart) × (rest : Locus) × (before : List PathNode) × (place : PathNode) × (named : PathNode)
     × (l ≡ x ∷ rest) × (ns ≡ before ++ place ∷ named ∷ []) × (takes_field place ≡ true) × (is_part named ≡ true))
 
-longer : (x : Part) (l : Locus) (place named : PathNode) (ns : List PathNode) → takes_field place ≡ true → is_part named ≡ true → IsSegment l ns → IsSegment (x ∷ l) (place ∷ named ∷ ns)
+longer : (x : LocusPart) (l : Locus) (place named : PathNode) (ns : List PathNode) → takes_field place ≡ true → is_part named ≡ true → IsSegment l ns → IsSegment (x ∷ l) (place ∷ named ∷ ns)
 longer x l place named ns takes part (inl none) = inr (x, l, [], place, named, refl, ap (λ (m : List PathNode). place ∷ named ∷ m) none.1, takes, part)
 longer x l place named ns takes part (inr k) = inr (x, l, place ∷ named ∷ k.2, k.3, k.4, refl, ap (λ (m : List PathNode). place ∷ named ∷ m) k.6, k.7, k.8)
 
-pub segment : (steps : List Step) (l : Locus) → leads steps l ≡ true → IsSegment l (nodes_of steps l)
+pub segment : (steps : List PlaceStep) (l : Locus) → leads steps l ≡ true → IsSegment l (nodes_of steps l)
 segment [] [] e = inl (refl, refl)
 segment [] (x ∷ l) e = absurd (false≢true e)
 segment (element ∷ steps) [] e = absurd (false≢true e)
@@ -71,7 +71,7 @@ unsnoc (z ∷ xs) (w ∷ ys) x y e =
     let rest : xs ++ x ∷ [] ≡ ys ++ y ∷ [] = cc (e) in
     ap (λ (v : PathNode). v ∷ xs) first ∙ ap (λ (l : List PathNode). w ∷ l) (unsnoc xs ys x y rest)
 
-module _ (old whole : List PathNode) (name : List ℕ) (steps : List Step) (l : Locus) (led : leads steps l ≡ true) (pushed : whole ≡ old ++ field name ∷ nodes_of steps l) (path : IsPath whole) where
+module _ (old whole : List PathNode) (name : List ℕ) (steps : List PlaceStep) (l : Locus) (led : leads steps l ≡ true) (pushed : whole ≡ old ++ field name ∷ nodes_of steps l) (path : IsPath whole) where
   -- without a locus the segment is the field alone
   pub field_alone : l ≡ [] → (whole ≡ old ++ but_named (field name ∷ nodes_of steps l)) × TakesField whole
   field_alone none = go (segment steps l led)
@@ -85,7 +85,7 @@ module _ (old whole : List PathNode) (name : List ℕ) (steps : List Step) (l : 
           )
 
   -- else its last node goes
-  pub last_dropped : (x : Part) (rest : Locus) → l ≡ x ∷ rest → (new : List PathNode) (n : PathNode) → whole ≡ new ++ n ∷ [] → IsPath new → (new ≡ old ++ but_named (field name ∷ nodes_of steps l)) × TakesField new
+  pub last_dropped : (x : LocusPart) (rest : Locus) → l ≡ x ∷ rest → (new : List PathNode) (n : PathNode) → whole ≡ new ++ n ∷ [] → IsPath new → (new ≡ old ++ but_named (field name ∷ nodes_of steps l)) × TakesField new
   last_dropped x rest some new n popped kept = go (segment steps l led)
     where
       go : IsSegment l (nodes_of steps l) → (new ≡ old ++ but_named (field name ∷ nodes_of steps l)) × TakesField new

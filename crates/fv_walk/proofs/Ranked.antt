@@ -5,7 +5,7 @@ use Rattle.fv_graph.specs.Graph.{IsIn}
 use Rattle.fv_walk_traces.specs.Frames.{held}
 use Rattle.fv_walk_traces.specs.OneObject.{IsLocal}
 use Rattle.fv_walk_traces.specs.Reaching.{at_object, violation}
-use Rattle.fv_walk_traces.specs.Requests.{Request}
+use Rattle.fv_walk_traces.specs.Requests.{GraphRequest}
 use Rattle.fv_walk_traces.specs.Traces.{Carried, IsOwnEnd, IsTrace}
 use Rattle.fv_walk_traces.specs.Turns.{LocalFailure, Way, Ask, Fail, Free, Rank, Turns, ShadowsByRecursion}
 use Rattle.fv_walk_traces.specs.Violations.{Violation, Reached, onward, IsViolation}
@@ -19,14 +19,14 @@ one_held g zero x e = cc
 one_held g (suc k) x e = cc
 
 -- the violation that a failure in the root is
-abbrev pub at_root : Request → LocalFailure → Violation
+abbrev pub at_root : GraphRequest → LocalFailure → Violation
 at_root request f = violation (onward request (at_object [] request.root) (Free (Fail f)))
 
 -- told of the root in the first of the ranks of a group that is asked for
-abbrev pub IsToldOf : Request → Violation → Type 0
+abbrev pub IsToldOf : GraphRequest → Violation → Type 0
 IsToldOf request v = (g : ℕ) × (f : LocalFailure) × IsIn request.asked g × FailsFirst (IsLocal request request.root) (held request g) f × (v ≡ at_root request f)
 
-module _ (request : Request) (none : (object : ℕ) (way : Way) → IsIn (request.ways object) way → ⊥) where
+module _ (request : GraphRequest) (none : (object : ℕ) (way : Way) → IsIn (request.ways object) way → ⊥) where
   abbrev start : Reached
   start = at_object [] request.root
 

@@ -8,7 +8,7 @@ use Rattle.fv_datum.specs.View.{view}
 use Rattle.fv_datum.specs.declared.datum.Datum.{Datum}
 use Rattle.fv_declare_schema.specs.Declarations.{Declarations}
 use Rattle.fv_extract.specs.Parts.{Locus, parts_at}
-use Rattle.fv_extract.specs.Places.{Place}
+use Rattle.fv_extract.specs.Places.{FieldPlace}
 use Rattle.fv_extract.specs.Views.{part_view, place_view}
 use Rattle.fv_extract.specs.declared.part.Part.{Part}
 use Rattle.fv_extract.specs.declared.place.Place as code
@@ -29,9 +29,9 @@ use Rattle.fv_graph.proofs.Images.{from_filter_map, from_flat_map}
 use Rattle.fv_local.specs.Conversions.{valid_places_at}
 use Rattle.fv_local.specs.Requests.{nodes_at, object_at}
 use Rattle.fv_local.specs.Sound.{IsSound}
-use Rattle.fv_local.specs.Ways.{place_of, way_at, ways_at, ways_of}
+use Rattle.fv_local.specs.Ways.{way_place, way_at, ways_at, ways_of}
 use Rattle.fv_local.specs.Paths.{field_name}
-use Rattle.fv_walk_traces.specs.Requests.{Request}
+use Rattle.fv_walk_traces.specs.Requests.{GraphRequest}
 use Rattle.fv_walk_traces.specs.Turns.{Way}
 use Rattle.fv_walk_traces.specs.Violations.{Violation, but_named}
 use Rattle.fv_walk.proofs.Frames.{path_push}
@@ -44,7 +44,7 @@ use Rattle.fv_walk.specs.Stacks.{way_before, nodes_above, path_on}
 use Rattle.fv_walk.specs.Walks.{told_at}
 
 -- a part of an object stands at a place, with a locus
-abbrev pub HasPart : Thing → Place → Locus → Type 0
+abbrev pub HasPart : Thing → FieldPlace → Locus → Type 0
 HasPart object place l = (d : Data) × IsIn (parts_at object place) (l, d)
 
 -- ---- the nodes to the object that a reference names
@@ -58,10 +58,10 @@ empty_seen f [] e = refl
 empty_seen f (x ∷ xs) e = cc
 
 -- from a path, by those of a reference, to where a field may follow
-abbrev pub LeadsOn : Thing → Place → Locus → List PathNode → List PathNode → Type 0
+abbrev pub LeadsOn : Thing → FieldPlace → Locus → List PathNode → List PathNode → Type 0
 LeadsOn object place l old new = (new ≡ old ++ but_named (nodes_at object place l)) × TakesField new
 
-module _ (object : Thing) (place : Place) (l : Locus) (old whole : List PathNode) (sound : IsSound object) (there : HasPart object place l) (pushed : whole ≡ old ++ nodes_at object place l) (path : IsPath whole) where
+module _ (object : Thing) (place : FieldPlace) (l : Locus) (old whole : List PathNode) (sound : IsSound object) (there : HasPart object place l) (pushed : whole ≡ old ++ nodes_at object place l) (path : IsPath whole) where
   -- without a locus nothing is dropped
   pub field_leads : l ≡ [] → LeadsOn object place l old whole
   field_leads none = field_alone old whole (field_name object place.field) place.steps l (part_there object place (l, there.0) sound there.1).led pushed path none
@@ -89,9 +89,9 @@ module _ (object : Thing) (place : Place) (l : Locus) (old whole : List PathNode
 pub way_part : (ds : Declarations) (os : Things) (object : Thing) (w : Way) → IsIn (ways_of ds os object) w → HasPart object w.place w.locus
 way_part ds os object w h =
     let p = from_flat_map (ways_at os object) (valid_places_at ds object) w h in
-    let part = from_filter_map (way_at os (place_of p.0)) (parts_at object (place_of p.0)) w p.2 in
-    let is = way_is os (place_of p.0) part.0 w part.2 in
-    (part.0.1, subst (λ (q : Place). IsIn (parts_at object q) (w.locus, part.0.1)) (sym is.0) (subst (λ (m : Locus). IsIn (parts_at object (place_of p.0)) (m, part.0.1)) (sym is.1) part.1))
+    let part = from_filter_map (way_at os (way_place p.0)) (parts_at object (way_place p.0)) w p.2 in
+    let is = way_is os (way_place p.0) part.0 w part.2 in
+    (part.0.1, subst (λ (q : FieldPlace). IsIn (parts_at object q) (w.locus, part.0.1)) (sym is.0) (subst (λ (m : Locus). IsIn (parts_at object (way_place p.0)) (m, part.0.1)) (sym is.1) part.1))
 
 got_in : (ways : List Way) (k : ℕ) (w : Way) → slice_get ways k ≡ Some w → IsIn ways w
 got_in [] k w e = cc
@@ -122,7 +122,7 @@ module _ (c : Course) (f : Frame) (object : Thing) (is : object ≡ object_at (b
       ∙ ap (λ (o : Option Way). path ++ option_map_or (λ (w : Way). but_named ((visiting c).nodes f.object w.place w.locus)) o []) (sym e)
 
 -- the path over one frame more
-pub path_further : (request : Request) (stack : List Frame) (i : ℕ) (d : Frame) (path new : List PathNode) → i < length stack → path ≡ path_on request (take i stack)
+pub path_further : (request : GraphRequest) (stack : List Frame) (i : ℕ) (d : Frame) (path new : List PathNode) → i < length stack → path ≡ path_on request (take i stack)
     → new ≡ path ++ nodes_above request (get_or stack i d) → new ≡ path_on request (take (i + 1) stack)
 path_further request stack i d path new less is added =
     added

@@ -6,7 +6,7 @@ use Rattle.fv_declare_schema.specs.declared.declared.GroupId.{GroupId}
 use Rattle.fv_registry.specs.Meanings.{Meanings}
 use Rattle.fv_walk_traces.specs.Frames.{held, carried_at, own_log, asks_owe}
 use Rattle.fv_walk_traces.specs.Log.{Event, Entered, entries}
-use Rattle.fv_walk_traces.specs.Requests.{Request}
+use Rattle.fv_walk_traces.specs.Requests.{GraphRequest}
 use Rattle.fv_walk_traces.specs.Turns.{Way}
 use Rattle.fv_walk_traces.specs.Violations.{Reached}
 use Rattle.fv_walk.specs.Courses.{visiting, judging, objects_in, groups_in}
@@ -68,7 +68,7 @@ module _ {R : Type 0} where
   CanJudge j = course.IsJudge j.course j.rulebook.now j.moment
 
   -- the request that it goes through
-  abbrev pub asked_of : Meanings → Judge R → Request
+  abbrev pub asked_of : Meanings → Judge R → GraphRequest
   asked_of m j = judging m j.moment j.course
 
   -- what is entered and found of an object itself above a stack, in the group that is carried at a rank

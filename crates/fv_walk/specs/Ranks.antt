@@ -9,7 +9,7 @@ use Rattle.fv_bundle.specs.Bundles.{Thing}
 use Rattle.fv_path.specs.Nodes.{PathNode}
 use Rattle.fv_local.specs.Below.{below}
 use Rattle.fv_registry.specs.Meanings.{Meanings}
-use Rattle.fv_local.specs.Requests.{nodes_at, datum_at}
+use Rattle.fv_local.specs.Requests.{nodes_at, datum_of_part}
 use Rattle.fv_walk_traces.specs.OneField.{own_of_field}
 use Rattle.fv_walk_traces.specs.OneObject.{IsLocalIn}
 use Rattle.fv_walk_traces.specs.Turns.{Spot, of_object, at, LocalFailure}
@@ -33,7 +33,7 @@ nodes_in object (at place locus) = nodes_at object place locus
 -- the datum at a spot of an object; null at the object itself
 abbrev pub datum_in : Thing → Spot → Data
 datum_in object of_object = null
-datum_in object (at place locus) = datum_at object place locus
+datum_in object (at place locus) = datum_of_part object place locus
 
 -- a failure in an object that is the root, as a violation
 abbrev pub violation_in : Thing → LocalFailure → Violation

@@ -3,8 +3,8 @@ ghost use Rattle.std.specs.Prelude.{◌≡◌, ◌≢◌, ◌<◌, ◌≤◌, �
 ghost use Rattle.fv_datum.specs.Members.{each_some};
 ghost use Rattle.fv_datum.specs.Moments.{IsMoment};
 ghost use Rattle.fv_graph.specs.Graph.{IsIn};
-ghost use Rattle.fv_declare_schema.specs.Groups.{number_of, numbers_of};
-ghost use Rattle.fv_declare_schema.specs.Judged.{unknown_in};
+ghost use Rattle.fv_declare_schema.specs.Groups.{group_number, numbers_of};
+ghost use Rattle.fv_declare_schema.specs.Judged.{unknown_group_in};
 ghost use Rattle.fv_declare_schema.specs.Tables.{indices};
 ghost use Rattle.fv_bundle.specs.Views.{bundle_view};
 ghost use Rattle.fv_bundle.specs.WellTyped.{IsWellTyped};
@@ -33,7 +33,7 @@ fn find_groups(
     names: &[String],
 ) -> Result<Option<Vec<GroupId>>, AllocError>
     ensures numbers { IfOk result (λ o. option_map (λ v. indices v.items) o
-        ≡ each_some (number_of groups.now) (map string_bytes names.now)) }
+        ≡ each_some (group_number groups.now) (map string_bytes names.now)) }
     ensures within { IfOk result (λ o. IfSome o (λ v. All (λ g. g.index < length groups.now) v.items)) }
 {
     let mut found = Vec::with_capacity(alloc, names.len())?;
@@ -55,9 +55,9 @@ pub fn groups_named(
     names: &[String],
 ) -> Result<Vec<GroupId>, WalkFault>
     ensures numbers { IfOk result (λ v. indices v.items ≡ numbers_of groups.now (map string_bytes names.now)) }
-    ensures known { OnOk result (unknown_in groups.now (map string_bytes names.now) ≡ false) }
+    ensures known { OnOk result (unknown_group_in groups.now (map string_bytes names.now) ≡ false) }
     ensures within { IfOk result (λ v. All (λ g. g.index < length groups.now) v.items) }
-    ensures unknown { IfErr result (λ fault. fault ≡ WalkFault.UnknownGroup → unknown_in groups.now (map string_bytes names.now) ≡ true) }
+    ensures unknown { IfErr result (λ fault. fault ≡ WalkFault.UnknownGroup → unknown_group_in groups.now (map string_bytes names.now) ≡ true) }
     ensures few { IfErr result (λ fault. fault ≢ WalkFault.TooManyVisits) }
 {
     match find_groups(alloc, groups, names)? {
@@ -83,10 +83,10 @@ pub fn visits(
 ) -> Result<usize, WalkFault>
     ensures few { IfOk result (λ n. IsWellTyped schema.now.types (bundle_view bundle.now)
         → AreSoMany (IsVisit (unjudged schema.now (bundle_view bundle.now) (numbers_of schema.now.groups (map string_bytes asked.now)))) n × (n ≤ 4096)) }
-    ensures known { OnOk result (unknown_in schema.now.groups (map string_bytes asked.now) ≡ false) }
-    ensures unknown { IfErr result (λ fault. fault ≡ WalkFault.UnknownGroup → unknown_in schema.now.groups (map string_bytes asked.now) ≡ true) }
+    ensures known { OnOk result (unknown_group_in schema.now.groups (map string_bytes asked.now) ≡ false) }
+    ensures unknown { IfErr result (λ fault. fault ≡ WalkFault.UnknownGroup → unknown_group_in schema.now.groups (map string_bytes asked.now) ≡ true) }
     ensures many { IfErr result (λ fault. fault ≡ WalkFault.TooManyVisits
-        → (unknown_in schema.now.groups (map string_bytes asked.now) ≡ false)
+        → (unknown_group_in schema.now.groups (map string_bytes asked.now) ≡ false)
         × HasTooManyVisits schema.now (bundle_view bundle.now) (numbers_of schema.now.groups (map string_bytes asked.now))) }
 {
     let asked = groups_named(alloc, schema.groups(), asked)?;
@@ -120,10 +120,10 @@ pub fn walk_counted<R: RuleSet>(
         → AreSoMany (IsEntered (request_of R.meaning rulebook.now now (bundle_view bundle.now) (numbers_of rulebook.now.groups (map string_bytes asked.now)))) w.entered) }
     ensures few { OnOk result (IsWellTyped rulebook.now.types (bundle_view bundle.now)
         → HasFewVisits rulebook.now (bundle_view bundle.now) (numbers_of rulebook.now.groups (map string_bytes asked.now))) }
-    ensures known { OnOk result (unknown_in rulebook.now.groups (map string_bytes asked.now) ≡ false) }
-    ensures unknown { IfErr result (λ fault. fault ≡ WalkFault.UnknownGroup → unknown_in rulebook.now.groups (map string_bytes asked.now) ≡ true) }
+    ensures known { OnOk result (unknown_group_in rulebook.now.groups (map string_bytes asked.now) ≡ false) }
+    ensures unknown { IfErr result (λ fault. fault ≡ WalkFault.UnknownGroup → unknown_group_in rulebook.now.groups (map string_bytes asked.now) ≡ true) }
     ensures many { IfErr result (λ fault. fault ≡ WalkFault.TooManyVisits
-        → (unknown_in rulebook.now.groups (map string_bytes asked.now) ≡ false)
+        → (unknown_group_in rulebook.now.groups (map string_bytes asked.now) ≡ false)
         × HasTooManyVisits rulebook.now (bundle_view bundle.now) (numbers_of rulebook.now.groups (map string_bytes asked.now))) }
 {
     let asked = groups_named(alloc, rulebook.schema().groups(), asked)?;
@@ -144,10 +144,10 @@ pub fn walk<R: RuleSet>(
         ↔ IsViolation (request_of R.meaning rulebook.now now (bundle_view bundle.now) (numbers_of rulebook.now.groups (map string_bytes asked.now))) v) }
     ensures few { OnOk result (IsWellTyped rulebook.now.types (bundle_view bundle.now)
         → HasFewVisits rulebook.now (bundle_view bundle.now) (numbers_of rulebook.now.groups (map string_bytes asked.now))) }
-    ensures known { OnOk result (unknown_in rulebook.now.groups (map string_bytes asked.now) ≡ false) }
-    ensures unknown { IfErr result (λ fault. fault ≡ WalkFault.UnknownGroup → unknown_in rulebook.now.groups (map string_bytes asked.now) ≡ true) }
+    ensures known { OnOk result (unknown_group_in rulebook.now.groups (map string_bytes asked.now) ≡ false) }
+    ensures unknown { IfErr result (λ fault. fault ≡ WalkFault.UnknownGroup → unknown_group_in rulebook.now.groups (map string_bytes asked.now) ≡ true) }
     ensures many { IfErr result (λ fault. fault ≡ WalkFault.TooManyVisits
-        → (unknown_in rulebook.now.groups (map string_bytes asked.now) ≡ false)
+        → (unknown_group_in rulebook.now.groups (map string_bytes asked.now) ≡ false)
         × HasTooManyVisits rulebook.now (bundle_view bundle.now) (numbers_of rulebook.now.groups (map string_bytes asked.now))) }
 {
     Ok(walk_counted(alloc, rulebook, bundle, asked, now)?.failures)

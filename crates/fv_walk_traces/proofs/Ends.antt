@@ -2,7 +2,7 @@
 use Rattle.std.proofs.Common.{◌≡◌, ℕ, zero, suc, ◌<◌, List, [], ◌∷◌, ◌++◌, inl, inr, refl, sym, ap, ◌∙◌, subst, arith, Some, slice_get}
 use Rattle.fv_graph.specs.Graph.{IsIn}
 use Rattle.fv_walk_traces.specs.Turns.{LocalFailure, Group, Fail, Free, Rank, Turns, ShadowsByRecursion}
-use Rattle.fv_walk_traces.specs.Requests.{Own, Plain, InRanks, Request}
+use Rattle.fv_walk_traces.specs.Requests.{Own, Plain, InRanks, GraphRequest}
 use Rattle.fv_walk_traces.specs.Traces.{OwnEnds, IsOwnEnd}
 use Rattle.fv_walk_traces.specs.OneObject.{IsLocalIn, IsLocal, first_some, told_of_own, told_in, local_failures}
 use Rattle.fv_walk_traces.proofs.Lists.{or_else_left, or_else_right, or_else_cases, or_else_some}
@@ -125,7 +125,7 @@ to_local_in hs own f h =
       ap (λ (l : Turns). Free (Group k.0) ∷ l) t.4,
     )
 
-pub to_local : (request : Request) (object carried : ℕ) (f : LocalFailure) → IsIn (local_failures request object carried) f → IsLocal request object carried f
+pub to_local : (request : GraphRequest) (object carried : ℕ) (f : LocalFailure) → IsIn (local_failures request object carried) f → IsLocal request object carried f
 to_local request object carried f h = to_local_in (request.below carried) (request.own object) f h
 
 -- what stands behind the group
@@ -143,11 +143,11 @@ from_local_in hs own f (r, before, (h, last, is_below, ends, r_is), alone, ends_
     (from_recursion (Free (Group h) ∷ other) r (subst (λ (l : Turns). ShadowsByRecursion (Free (Group h) ∷ other) l) (sym r_is) (inr (refl, s)))))
     p.1)
 
-pub from_local : (request : Request) (object carried : ℕ) (f : LocalFailure) → IsLocal request object carried f → IsIn (local_failures request object carried) f
+pub from_local : (request : GraphRequest) (object carried : ℕ) (f : LocalFailure) → IsLocal request object carried f → IsIn (local_failures request object carried) f
 from_local request object carried f is = from_local_in (request.below carried) (request.own object) f is
 
 -- where some end stands, something is told
-pub some_local : (request : Request) (object carried : ℕ) (e : Turns) → IsOwnEnd request object carried e → (f : LocalFailure) × IsLocal request object carried f
+pub some_local : (request : GraphRequest) (object carried : ℕ) (e : Turns) → IsOwnEnd request object carried e → (f : LocalFailure) × IsLocal request object carried f
 some_local request object carried e (h, last, is_below, ends, e_is) =
     let k = some_told (request.own object h) last ends in
     (k.0, to_local request object carried k.0 (in_flat_map (λ h. told_of_own (request.own object h)) (request.below carried) h k.0 is_below k.1))

@@ -3,7 +3,7 @@ use Rattle.std.proofs.Common.{◌≡◌, ℕ, zero, suc, List, [], ◌∷◌, �
 use Rattle.fv_path.specs.Nodes.{PathNode}
 use Rattle.fv_walk_traces.specs.Turns.{LocalFailure, FreeTurn, Ask, Step, Group, Fail, Turn, Free, Rank, Turns, IsSmallerRank, Shadows, ShadowsByRecursion}
 use Rattle.fv_walk_traces.specs.Reaching.{at_object, violation}
-use Rattle.fv_walk_traces.specs.Requests.{Own, Plain, InRanks, Request}
+use Rattle.fv_walk_traces.specs.Requests.{Own, Plain, InRanks, GraphRequest}
 use Rattle.fv_walk_traces.specs.Traces.{Carried, Arrives, OwnEnds, IsOwnEnd, IsTrace}
 use Rattle.fv_walk_traces.specs.Violations.{Violation, but_named, Reached, onward, IsViolation}
 use Rattle.fv_walk_traces.specs.Listing.{IsFailing, IsListed}
@@ -31,26 +31,26 @@ visit_append : (xs ys : Turns) → AreVisitTurns xs → AreVisitTurns ys → Are
 visit_append [] ys h k = k
 visit_append (x ∷ xs) ys h k = (h.0, visit_append xs ys h.1 k)
 
-mark_visits : (request : Request) (g : ℕ) (mark : Turns) (carried : ℕ) → Carried request g mark carried → AreVisitTurns mark
+mark_visits : (request : GraphRequest) (g : ℕ) (mark : Turns) (carried : ℕ) → Carried request g mark carried → AreVisitTurns mark
 mark_visits request g mark carried (inl h) = subst (λ (l : Turns). AreVisitTurns l) (sym h.1) tt
 mark_visits request g mark carried (inr h) = subst (λ (l : Turns). AreVisitTurns l) (sym h.2) (tt, tt)
 
-visit_turns : (request : Request) (steps : ℕ) (turns : Turns) (object carried : ℕ) (on : List ℕ) → Arrives request steps turns object carried on → AreVisitTurns turns
+visit_turns : (request : GraphRequest) (steps : ℕ) (turns : Turns) (object carried : ℕ) (on : List ℕ) → Arrives request steps turns object carried on → AreVisitTurns turns
 visit_turns request zero turns object carried on h =
     subst (λ (l : Turns). AreVisitTurns l) (sym h.0.4) (tt, mark_visits request h.0.0 h.0.1 carried h.0.3)
 visit_turns request (suc steps) turns object carried on (earlier, from, held, before, way, mark, visit, is_way, new, carries, turns_are, object_is, on_is) =
     subst (λ (l : Turns). AreVisitTurns l) (sym turns_are)
     (visit_append earlier (Free (Step way) ∷ mark) (visit_turns request steps earlier from held before visit) (tt, mark_visits request (request.converted from way.place held) mark carried carries))
 
-told_append : (request : Request) (x : Reached) (xs ys : Turns) → fold (onward request) x (xs ++ ys) ≡ fold (onward request) (fold (onward request) x xs) ys
+told_append : (request : GraphRequest) (x : Reached) (xs ys : Turns) → fold (onward request) x (xs ++ ys) ≡ fold (onward request) (fold (onward request) x xs) ys
 told_append request x [] ys = refl
 told_append request x (t ∷ xs) ys = told_append request (onward request x t) xs ys
 
-mark_told : (request : Request) (x : Reached) (g : ℕ) (mark : Turns) (carried : ℕ) → Carried request g mark carried → fold (onward request) x mark ≡ x
+mark_told : (request : GraphRequest) (x : Reached) (g : ℕ) (mark : Turns) (carried : ℕ) → Carried request g mark carried → fold (onward request) x mark ≡ x
 mark_told request x g mark carried (inl h) = ap (λ (l : Turns). fold (onward request) x l) h.1
 mark_told request x g mark carried (inr h) = ap (λ (l : Turns). fold (onward request) x l) h.2
 
-visit_told : (request : Request) (steps : ℕ) (turns : Turns) (object carried : ℕ) (on : List ℕ) → Arrives request steps turns object carried on → (path : List PathNode) × (fold (onward request) (at_object [] request.root) turns ≡ at_object path object)
+visit_told : (request : GraphRequest) (steps : ℕ) (turns : Turns) (object carried : ℕ) (on : List ℕ) → Arrives request steps turns object carried on → (path : List PathNode) × (fold (onward request) (at_object [] request.root) turns ≡ at_object path object)
 visit_told request zero turns object carried on h = (
   [],
   ap (λ (l : Turns). fold (onward request) (at_object [] request.root) l) h.0.4 ∙ mark_told request (at_object [] request.root) h.0.0 h.0.1 carried h.0.3 ∙ ap (λ (o : ℕ). at_object [] o) (sym h.1),
@@ -105,22 +105,22 @@ longer_shadow (x ∷ p) [] e f h = absurd h
 longer_shadow (x ∷ p) (y ∷ v) e f (inl h) = inl h
 longer_shadow (x ∷ p) (y ∷ v) e f (inr h) = inr (h.0, longer_shadow p v e f h.1)
 
-make_trace : (request : Request) (steps : ℕ) (visit : Turns) (object carried : ℕ) (on : List ℕ) (e : Turns) → Arrives request steps visit object carried on → IsOwnEnd request object carried e → IsTrace request (visit ++ e)
+make_trace : (request : GraphRequest) (steps : ℕ) (visit : Turns) (object carried : ℕ) (on : List ℕ) (e : Turns) → Arrives request steps visit object carried on → IsOwnEnd request object carried e → IsTrace request (visit ++ e)
 make_trace request steps visit object carried on e v h = (steps, visit, object, carried, on, e, v, h, refl)
 
 -- the end of one object's turns: a failure, and what they lead to
-own_last : (request : Request) (x : Reached) (own : Own) (h : ℕ) (last : Turns) → OwnEnds own last → (before : Turns) × (f : LocalFailure) × (Free (Group h) ∷ last ≡ before ++ Free (Fail f) ∷ []) × (fold (onward request) x (Free (Group h) ∷ last) ≡ onward request x (Free (Fail f)))
+own_last : (request : GraphRequest) (x : Reached) (own : Own) (h : ℕ) (last : Turns) → OwnEnds own last → (before : Turns) × (f : LocalFailure) × (Free (Group h) ∷ last ≡ before ++ Free (Fail f) ∷ []) × (fold (onward request) x (Free (Group h) ∷ last) ≡ onward request x (Free (Fail f)))
 own_last request x (Plain fails) h last e =
     (Free (Group h) ∷ [], e.0, ap (λ (l : Turns). Free (Group h) ∷ l) e.2, ap (λ (l : Turns). fold (onward request) x l) e.2)
 own_last request x (InRanks lists) h last e =
     (Free (Group h) ∷ Rank e.0 ∷ [], e.2, ap (λ (l : Turns). Free (Group h) ∷ l) e.5, ap (λ (l : Turns). fold (onward request) x l) e.5)
 
-pub end_last : (request : Request) (x : Reached) (object carried : ℕ) (e : Turns) → IsOwnEnd request object carried e → (before : Turns) × (f : LocalFailure) × (e ≡ before ++ Free (Fail f) ∷ []) × (fold (onward request) x e ≡ onward request x (Free (Fail f)))
+pub end_last : (request : GraphRequest) (x : Reached) (object carried : ℕ) (e : Turns) → IsOwnEnd request object carried e → (before : Turns) × (f : LocalFailure) × (e ≡ before ++ Free (Fail f) ∷ []) × (fold (onward request) x e ≡ onward request x (Free (Fail f)))
 end_last request x object carried e (h, last, is_below, ends, e_is) =
     let l = own_last request x (request.own object h) h last ends in
     (l.0, l.1, e_is ∙ l.2, ap (λ (z : Turns). fold (onward request) x z) e_is ∙ l.3)
 
-to_listed : (request : Request) (t : Violation) → IsViolation request t → IsListed request t
+to_listed : (request : GraphRequest) (t : Violation) → IsViolation request t → IsListed request t
 to_listed request t (r, (steps, visit, object, carried, on, own, v, end, r_is), free, t_is) =
     let x = fold (onward request) (at_object [] request.root) visit in
     let l = end_last request x object carried own end in (
@@ -148,7 +148,7 @@ to_listed request t (r, (steps, visit, object, carried, on, own, v, end, r_is), 
           ∙ ap (λ (y : Reached). violation y) (told_append request (at_object [] request.root) visit own ∙ l.3),
     )
 
-one_visit : (request : Request) (n : ℕ) → IsTidy request n → (steps steps' : ℕ) (visit : Turns) (object object' carried carried' : ℕ) (on on' : List ℕ) → Arrives request steps visit object carried on → Arrives request steps' visit object' carried' on' → (object ≡ object') × (carried ≡ carried')
+one_visit : (request : GraphRequest) (n : ℕ) → IsTidy request n → (steps steps' : ℕ) (visit : Turns) (object object' carried carried' : ℕ) (on on' : List ℕ) → Arrives request steps visit object carried on → Arrives request steps' visit object' carried' on' → (object ≡ object') × (carried ≡ carried')
 one_visit request n tidy steps steps' visit object object' carried carried' on on' v w =
     let e = one_end request n tidy Start (Standing object carried on) (Standing object' carried' on') visit tt (visit_path request steps visit object carried on v) (visit_path request steps' visit object' carried' on' w) in
     (cc e, cc e)
@@ -159,7 +159,7 @@ first_turn h l (y ∷ ys) (inl s) = absurd s
 first_turn h l (y ∷ ys) (inr s) = (ys, ap (λ (t : Turn FreeTurn). t ∷ ys) (sym s.0))
 
 -- a trace shadows no listed one
-spared : (request : Request) (n : ℕ) → IsTidy request n → (steps : ℕ) (visit : Turns) (object carried : ℕ) (on : List ℕ) (e other : Turns) → Arrives request steps visit object carried on → ((other : Turns) → IsFailing request other → Shadows other visit → ⊥) → IsOwnEnd request object carried e → ((other : Turns) → IsOwnEnd request object carried other → Shadows other e → ⊥) → IsTrace request other → ShadowsByRecursion other (visit ++ e) → ⊥
+spared : (request : GraphRequest) (n : ℕ) → IsTidy request n → (steps : ℕ) (visit : Turns) (object carried : ℕ) (on : List ℕ) (e other : Turns) → Arrives request steps visit object carried on → ((other : Turns) → IsFailing request other → Shadows other visit → ⊥) → IsOwnEnd request object carried e → ((other : Turns) → IsOwnEnd request object carried other → Shadows other e → ⊥) → IsTrace request other → ShadowsByRecursion other (visit ++ e) → ⊥
 spared request n tidy steps visit object carried on e other v free end alone (steps', visit', object', carried', on', own, v', end', other_is) s =
     let s' = subst (λ (z : Turns). ShadowsByRecursion z (visit ++ e)) other_is s in
     elim (hides_below visit' own (visit ++ e) s') [
@@ -181,7 +181,7 @@ spared request n tidy steps visit object carried on e other v free end alone (st
           alone own here (from_recursion own e (subst (λ (z : Turns). ShadowsByRecursion own z) rest_is k.2)))
     ]
 
-from_listed : (request : Request) (n : ℕ) → IsTidy request n → (t : Violation) → IsListed request t → IsViolation request t
+from_listed : (request : GraphRequest) (n : ℕ) → IsTidy request n → (t : Violation) → IsListed request t → IsViolation request t
 from_listed request n tidy t (steps, visit, object, carried, on, f, v, free, local, t_is) =
     let e = local.0 in
     let end = local.2 in
@@ -198,5 +198,5 @@ from_listed request n tidy t (steps, visit, object, carried, on, f, v, free, loc
           ∙ ap (λ (y : Reached). violation y) (sym (told_append request root visit e)),
     )
 
-pub listing_exact : (request : Request) (n : ℕ) → IsTidy request n → (t : Violation) → IsViolation request t ↔ IsListed request t
+pub listing_exact : (request : GraphRequest) (n : ℕ) → IsTidy request n → (t : Violation) → IsViolation request t ↔ IsListed request t
 listing_exact request n tidy t = (to_listed request t, from_listed request n tidy t)

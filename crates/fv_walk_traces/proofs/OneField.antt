@@ -6,7 +6,7 @@ use Rattle.fv_datum.specs.Data.{Data}
 use Rattle.fv_path.specs.Nodes.{PathNode}
 use Rattle.fv_walk_traces.specs.Turns.{Spot, of_object, at, LocalFailure, Way, FreeTurn, Ask, Step, Group, Fail, Turn, Free, Rank, Turns}
 use Rattle.fv_walk_traces.specs.Reaching.{at_object, violation}
-use Rattle.fv_walk_traces.specs.Requests.{Own, Plain, InRanks, Request}
+use Rattle.fv_walk_traces.specs.Requests.{Own, Plain, InRanks, GraphRequest}
 use Rattle.fv_walk_traces.specs.Traces.{Asks, Carried, OwnEnds, IsTrace, IsVisit, IsEntered}
 use Rattle.fv_walk_traces.specs.Violations.{Violation, Reached, onward, violation_of, IsViolation, nodes_to, value_at}
 use Rattle.fv_walk_traces.specs.OneField.{is_in_field, IsTraceOfField, IsVisitOfField, IsEnteredOfField, IsViolationOfField, own_of_field, narrowed}
@@ -78,7 +78,7 @@ own_turns (InRanks lists) last o way h = no_step (subst (λ (l : Turns). IsIn l 
     no_step (inr (inl e)) = cc
     no_step (inr (inr k)) = k
 
-mark_turns : (request : Request) (g carried : ℕ) (mark : Turns) → Carried request g mark carried → (way : Way) → IsIn mark (Free (Step way)) → ⊥
+mark_turns : (request : GraphRequest) (g carried : ℕ) (mark : Turns) → Carried request g mark carried → (way : Way) → IsIn mark (Free (Step way)) → ⊥
 mark_turns request g carried mark (inl c) way h = subst (λ (l : Turns). IsIn l (Free (Step way))) c.1 h
 mark_turns request g carried mark (inr c) way h = no_step (subst (λ (l : Turns). IsIn l (Free (Step way))) c.2 h)
   where
@@ -87,7 +87,7 @@ mark_turns request g carried mark (inr c) way h = no_step (subst (λ (l : Turns)
     no_step (inr k) = k
 
 -- the turns that ask take no step
-ask_turns : (request : Request) (turns : Turns) (carried : ℕ) → Asks request turns carried → (way : Way) → IsIn turns (Free (Step way)) → ⊥
+ask_turns : (request : GraphRequest) (turns : Turns) (carried : ℕ) → Asks request turns carried → (way : Way) → IsIn turns (Free (Step way)) → ⊥
 ask_turns request turns carried a way h = no_step (subst (λ (l : Turns). IsIn l (Free (Step way))) a.4 h)
   where
     no_step : IsIn (Free (Ask a.0) ∷ a.1) (Free (Step way)) → ⊥
@@ -98,7 +98,7 @@ ask_turns request turns carried a way h = no_step (subst (λ (l : Turns). IsIn l
 longer_end : (first last before : Turns) (f : LocalFailure) (turns : Turns) → turns ≡ first ++ last → last ≡ before ++ Free (Fail f) ∷ [] → (longer : Turns) × (turns ≡ longer ++ Free (Fail f) ∷ [])
 longer_end first last before f turns e d = (first ++ before, e ∙ ap (λ (l : Turns). first ++ l) d ∙ sym (append_assoc first before (Free (Fail f) ∷ [])))
 
-pub to_narrowed : (request : Request) (field : ℕ) (turns : Turns) → IsTraceOfField request field turns → IsTrace (narrowed field request) turns
+pub to_narrowed : (request : GraphRequest) (field : ℕ) (turns : Turns) → IsTraceOfField request field turns → IsTrace (narrowed field request) turns
 to_narrowed request field turns ((zero, first, object, carried, on, own, v, (h, last, is_below, ends, own_is), turns_are), stays, (before, f, end, begins)) =
     let l = last_of_own (request.own object h) last ends in
     let m = longer_end (first ++ Free (Group h) ∷ []) last l.0 l.1 turns (turns_are ∙ ap (λ (z : Turns). first ++ z) own_is ∙ split first) l.2 in
@@ -111,7 +111,7 @@ to_narrowed request field turns ((zero, first, object, carried, on, own, v, (h, 
 to_narrowed request field turns ((suc steps, first, object, carried, on, own, v, ends, turns_are), stays, end) =
     absurd (stays v.4 (subst (λ (l : Turns). IsIn l (Free (Step v.4))) (sym turns_are) (in_left first own (Free (Step v.4)) (subst (λ (l : Turns). IsIn l (Free (Step v.4))) (sym v.10) (in_right v.0 (Free (Step v.4) ∷ v.5) (Free (Step v.4)) (inl refl))))))
 
-pub from_narrowed : (request : Request) (field : ℕ) (turns : Turns) → IsTrace (narrowed field request) turns → IsTraceOfField request field turns
+pub from_narrowed : (request : GraphRequest) (field : ℕ) (turns : Turns) → IsTrace (narrowed field request) turns → IsTraceOfField request field turns
 from_narrowed request field turns (zero, first, object, carried, on, own, v, (h, last, is_below, ends, own_is), turns_are) =
     let k = from_own field (request.own object h) last ends in
     let m = longer_end own_before last k.1.0 k.1.1 turns (turns_are ∙ ap (λ (z : Turns). first ++ z) own_is ∙ split first) k.1.2 in (
@@ -135,19 +135,19 @@ from_narrowed request field turns (zero, first, object, carried, on, own, v, (h,
     no_step way (inr i) = own_turns (own_of_field field (request.own object h)) last ends way i
 from_narrowed request field turns (suc steps, first, object, carried, on, own, v, ends, turns_are) = absurd v.7
 
-pub to_narrowed_visit : (request : Request) (field : ℕ) (turns : Turns) → IsVisitOfField request turns → IsVisit (narrowed field request) turns
+pub to_narrowed_visit : (request : GraphRequest) (field : ℕ) (turns : Turns) → IsVisitOfField request turns → IsVisit (narrowed field request) turns
 to_narrowed_visit request field turns (carried, asks) = (0, request.root, carried, request.root ∷ [], (asks, refl, refl))
 
-pub from_narrowed_visit : (request : Request) (field : ℕ) (turns : Turns) → IsVisit (narrowed field request) turns → IsVisitOfField request turns
+pub from_narrowed_visit : (request : GraphRequest) (field : ℕ) (turns : Turns) → IsVisit (narrowed field request) turns → IsVisitOfField request turns
 from_narrowed_visit request field turns (zero, object, carried, on, v) = (carried, v.0)
 from_narrowed_visit request field turns (suc steps, object, carried, on, v) = absurd v.7
 
 -- a narrowed request sees what the request sees
-same_nodes : (request : Request) (field object : ℕ) (spot : Spot) → nodes_to (narrowed field request) object spot ≡ nodes_to request object spot
+same_nodes : (request : GraphRequest) (field object : ℕ) (spot : Spot) → nodes_to (narrowed field request) object spot ≡ nodes_to request object spot
 same_nodes request field object of_object = refl
 same_nodes request field object (at place locus) = refl
 
-same_value : (request : Request) (field object : ℕ) (spot : Spot) → value_at (narrowed field request) object spot ≡ value_at request object spot
+same_value : (request : GraphRequest) (field object : ℕ) (spot : Spot) → value_at (narrowed field request) object spot ≡ value_at request object spot
 same_value request field object of_object = refl
 same_value request field object (at place locus) = refl
 
@@ -155,7 +155,7 @@ same_value request field object (at place locus) = refl
 abbrev failed : Reached → ℕ → List PathNode → Data → Reached
 failed x node nodes value = record { path = x.path ++ nodes; object = x.object; node = node; value = value }
 
-same_turn : (request : Request) (field : ℕ) (x : Reached) (turn : Turn FreeTurn) → onward (narrowed field request) x turn ≡ onward request x turn
+same_turn : (request : GraphRequest) (field : ℕ) (x : Reached) (turn : Turn FreeTurn) → onward (narrowed field request) x turn ≡ onward request x turn
 same_turn request field x (Free (Ask g)) = refl
 same_turn request field x (Free (Step way)) = refl
 same_turn request field x (Free (Group h)) = refl
@@ -164,16 +164,16 @@ same_turn request field x (Free (Fail f)) =
     ∙ ap (λ (d : Data). failed x f.node (nodes_to request x.object f.spot) d) (same_value request field x.object f.spot)
 same_turn request field x (Rank i) = refl
 
-same_told : (request : Request) (field : ℕ) (x : Reached) (turns : Turns) → fold (onward (narrowed field request)) x turns ≡ fold (onward request) x turns
+same_told : (request : GraphRequest) (field : ℕ) (x : Reached) (turns : Turns) → fold (onward (narrowed field request)) x turns ≡ fold (onward request) x turns
 same_told request field x [] = refl
 same_told request field x (turn ∷ turns) =
     ap (λ (y : Reached). fold (onward (narrowed field request)) y turns) (same_turn request field x turn)
     ∙ same_told request field (onward request x turn) turns
 
-same_violation : (request : Request) (field : ℕ) (turns : Turns) → violation_of (narrowed field request) turns ≡ violation_of request turns
+same_violation : (request : GraphRequest) (field : ℕ) (turns : Turns) → violation_of (narrowed field request) turns ≡ violation_of request turns
 same_violation request field turns = ap (λ (y : Reached). violation y) (same_told request field (at_object [] request.root) turns)
 
-pub field_violation : (request : Request) (field : ℕ) (v : Violation) → IsViolationOfField request field v ↔ IsViolation (narrowed field request) v
+pub field_violation : (request : GraphRequest) (field : ℕ) (v : Violation) → IsViolationOfField request field v ↔ IsViolation (narrowed field request) v
 field_violation request field v = (
   λ h. (
     h.0,
@@ -189,7 +189,7 @@ field_violation request field v = (
   ),
 )
 
-pub field_entered : (request : Request) (field : ℕ) (turns : Turns) → IsEnteredOfField request field turns ↔ IsEntered (narrowed field request) turns
+pub field_entered : (request : GraphRequest) (field : ℕ) (turns : Turns) → IsEnteredOfField request field turns ↔ IsEntered (narrowed field request) turns
 field_entered request field turns = (
   λ h. (to_narrowed_visit request field turns h.0, λ other t s. h.1 other (from_narrowed request field other t) s),
   λ h. (from_narrowed_visit request field turns h.0, λ other t s. h.1 other (to_narrowed request field other t) s),
@@ -201,7 +201,7 @@ proper_own field (InRanks lists) p = λ xs h.
     (let m = from_map (filter (is_in_field field)) lists xs h in
     subst (λ (l : List LocalFailure). AllDiffer l) (sym m.1) (filter_differs (is_in_field field) m.0 (p m.0 m.2)))
 
-pub narrowed_tidy : (request : Request) (field n : ℕ) → IsTidy request n → IsTidy (narrowed field request) n
+pub narrowed_tidy : (request : GraphRequest) (field n : ℕ) → IsTidy request n → IsTidy (narrowed field request) n
 narrowed_tidy request field n tidy = record {
   asked = tidy.asked;
   below = tidy.below;

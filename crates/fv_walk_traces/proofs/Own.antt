@@ -4,7 +4,7 @@ use Rattle.fv_graph.specs.Graph.{IsIn}
 use Rattle.fv_path.specs.Nodes.{PathNode}
 use Rattle.fv_walk_traces.specs.Turns.{LocalFailure, FreeTurn, Group, Fail, Turn, Free, Rank, Turns, Shadows}
 use Rattle.fv_walk_traces.specs.Reaching.{at_object}
-use Rattle.fv_walk_traces.specs.Requests.{Request}
+use Rattle.fv_walk_traces.specs.Requests.{GraphRequest}
 use Rattle.fv_walk_traces.specs.Traces.{IsOwnEnd}
 use Rattle.fv_walk_traces.specs.OneObject.{IsLocal}
 use Rattle.fv_walk_traces.specs.Violations.{Reached, onward}
@@ -27,10 +27,10 @@ use Rattle.fv_walk_traces.proofs.Ends.{last_fail}
 use Rattle.fv_walk_traces.proofs.Listing.{end_last}
 use Rattle.fv_walk_traces.proofs.Logs.{finds_choices, entries_log, entries-append}
 
-abbrev options : Request → ℕ → ℕ → List (FreeTurn × Point)
+abbrev options : GraphRequest → ℕ → ℕ → List (FreeTurn × Point)
 options request object carried = map (λ h. (Group h, Within (request.own object h))) (request.below carried)
 
-to_end : (request : Request) (n : ℕ) → IsTidy request n → (object carried : ℕ) (r : Turns) → IsTraceOfChoices (own_choices request n object carried) r → IsOwnEnd request object carried r
+to_end : (request : GraphRequest) (n : ℕ) → IsTidy request n → (object carried : ℕ) (r : Turns) → IsTraceOfChoices (own_choices request n object carried) r → IsOwnEnd request object carried r
 to_end request n tidy object carried r h =
     let k = from_choices (tree request n) (options request object carried) r h in
     let m = from_map (λ (h : ℕ). (Group h, Within (request.own object h))) (request.below carried) (k.0, k.1) k.4 in
@@ -40,26 +40,26 @@ to_end request n tidy object carried r h =
     let ends = own_ends request (request.own object m.0) k.2 (subst (λ (s : Point). TraceFrom (next request) s k.2) e t) in
     (m.0, k.2, m.2, ends, k.3 ∙ ap (λ (a : FreeTurn). Free a ∷ k.2) d)
 
-pub from_end : (request : Request) (n : ℕ) → IsTidy request n → (object carried : ℕ) (r : Turns) → IsOwnEnd request object carried r → IsTraceOfChoices (own_choices request n object carried) r
+pub from_end : (request : GraphRequest) (n : ℕ) → IsTidy request n → (object carried : ℕ) (r : Turns) → IsOwnEnd request object carried r → IsTraceOfChoices (own_choices request n object carried) r
 from_end request n tidy object carried r h =
     let t = down (next request) (size n) (falls request n tidy) (suc (size n (Within (request.own object h.0)))) (Within (request.own object h.0)) h.1 (omega arith) (own_trace request (request.own object h.0) h.1 h.3) in
     subst (λ (l : Turns). IsTraceOfChoices (own_choices request n object carried) l) (sym h.4)
     (to_choices (tree request n) (options request object carried) (Group h.0) (Within (request.own object h.0)) h.1 (in_map (λ (h : ℕ). (Group h, Within (request.own object h))) (request.below carried) h.0 h.2) t)
 
-leads_within : (request : Request) (n : ℕ) → IsTidy request n → (object carried : ℕ) (turn : Turn FreeTurn) (s : Point) → LeadsTo (Any false (options request object carried)) turn s → IsProper (tree request n s)
+leads_within : (request : GraphRequest) (n : ℕ) → IsTidy request n → (object carried : ℕ) (turn : Turn FreeTurn) (s : Point) → LeadsTo (Any false (options request object carried)) turn s → IsProper (tree request n s)
 leads_within request n tidy object carried (Rank i) s h = absurd h
 leads_within request n tidy object carried (Free a) s h =
     let m = from_map (λ (h : ℕ). (Group h, Within (request.own object h))) (request.below carried) (a, s) h in
     let e : s ≡ Within (request.own object m.0) = ap (λ (x : FreeTurn × Point). x.1) m.1 in
     subst (λ (x : Point). IsProper (tree request n x)) (sym e) (proper request n tidy (suc (size n (Within (request.own object m.0)))) (Within (request.own object m.0)) (tidy.own object m.0))
 
-own_proper : (request : Request) (n : ℕ) → IsTidy request n → (object carried : ℕ) → IsProper (Open false (own_choices request n object carried))
+own_proper : (request : GraphRequest) (n : ℕ) → IsTidy request n → (object carried : ℕ) → IsProper (Open false (own_choices request n object carried))
 own_proper request n tidy object carried =
     proper_node_among (tree request n) (Any false (options request object carried)) (map_differ (λ g. Group g) (λ g. Within (request.own object g)) same_group (request.below carried) (tidy.below carried))
     (leads_within request n tidy object carried)
 
 -- exactly the ends that no other shadows
-pub own_failures : (request : Request) (n : ℕ) → IsTidy request n → (object carried : ℕ) (r : Turns) → IsIn (failures_of_choices (own_choices request n object carried)) r ↔ (IsOwnEnd request object carried r × ((other : Turns) → IsOwnEnd request object carried other → Shadows other r → ⊥))
+pub own_failures : (request : GraphRequest) (n : ℕ) → IsTidy request n → (object carried : ℕ) (r : Turns) → IsIn (failures_of_choices (own_choices request n object carried)) r ↔ (IsOwnEnd request object carried r × ((other : Turns) → IsOwnEnd request object carried other → Shadows other r → ⊥))
 own_failures request n tidy object carried r =
     let node = Open false (own_choices request n object carried) in
     let p = own_proper request n tidy object carried in (
@@ -72,7 +72,7 @@ own_failures request n tidy object carried r =
     )
 
 -- what is found of one object are its local failures
-pub own_finds : (request : Request) (n : ℕ) → IsTidy request n → (path : List PathNode) (object carried : ℕ) (y : Reached) → IsIn (finds (own_log request n path object carried)) y ↔ ((f : LocalFailure) × IsLocal request object carried f × (y ≡ onward request (at_object path object) (Free (Fail f))))
+pub own_finds : (request : GraphRequest) (n : ℕ) → IsTidy request n → (path : List PathNode) (object carried : ℕ) (y : Reached) → IsIn (finds (own_log request n path object carried)) y ↔ ((f : LocalFailure) × IsLocal request object carried f × (y ≡ onward request (at_object path object) (Free (Fail f))))
 own_finds request n tidy path object carried y =
     let x = at_object path object in
     let fs = failures_of_choices (own_choices request n object carried) in
@@ -98,7 +98,7 @@ same_some (x ∷ xs) [] f g = absurd (f x (inl refl)).1
 same_some (x ∷ xs) (y ∷ ys) f g = refl
 
 -- whether there is any
-pub own_some : (request : Request) (n : ℕ) → IsTidy request n → (object carried : ℕ) (fails : List LocalFailure) → ((f : LocalFailure) → IsIn fails f ↔ IsLocal request object carried f) → own_fails request n object carried ≡ some fails
+pub own_some : (request : GraphRequest) (n : ℕ) → IsTidy request n → (object carried : ℕ) (fails : List LocalFailure) → ((f : LocalFailure) → IsIn fails f ↔ IsLocal request object carried f) → own_fails request n object carried ≡ some fails
 own_some request n tidy object carried fails is =
     let x = at_object [] object in
     let fs = failures_of_choices (own_choices request n object carried) in
@@ -117,7 +117,7 @@ pub none_in : {X : Type 0} (xs : List X) → ((x : X) → IsIn xs x → ⊥) →
 none_in [] h = refl
 none_in (x ∷ xs) h = absurd (h x (inl refl))
 
-within_enters_none : (request : Request) (n : ℕ) → IsTidy request n → (x : Reached) (object h : ℕ) → entries (log (onward request) x (tree request n (Within (request.own object h)))) ≡ 0
+within_enters_none : (request : GraphRequest) (n : ℕ) → IsTidy request n → (x : Reached) (object h : ℕ) → entries (log (onward request) x (tree request n (Within (request.own object h)))) ≡ 0
 within_enters_none request n tidy x object h =
     let point = Within (request.own object h) in
     let depth = suc (size n point) in
@@ -125,7 +125,7 @@ within_enters_none request n tidy x object h =
     ∙ none_in (entered (tree request n point))
     (λ v i. no_visit_within request (request.own object h) v (visit_up (next request) depth point v (was_entered (tree request n point) v (proper request n tidy depth point (tidy.own object h)) i).0))
 
-pub own_enters_none : (request : Request) (n : ℕ) → IsTidy request n → (path : List PathNode) (object carried : ℕ) → entries (own_log request n path object carried) ≡ 0
+pub own_enters_none : (request : GraphRequest) (n : ℕ) → IsTidy request n → (path : List PathNode) (object carried : ℕ) → entries (own_log request n path object carried) ≡ 0
 own_enters_none request n tidy path object carried = go (request.below carried)
   where
     go : (hs : List ℕ) → entries (log_of_choices (onward request) (at_object path object) (choices_of (tree request n) (map (λ h. (Group h, Within (request.own object h))) hs))) ≡ 0

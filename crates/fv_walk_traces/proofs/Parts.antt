@@ -5,13 +5,13 @@ use Rattle.fv_graph.specs.Graph.{IsIn, mem}
 use Rattle.fv_graph.proofs.Images.{in_map, from_map}
 use Rattle.fv_walk_traces.proofs.Prefix.{Path', join_at}
 use Rattle.fv_walk_traces.specs.Points.{Point, Start, Choosing, Standing, Within, Failed, handed, step_options, next}
-use Rattle.fv_walk_traces.specs.Requests.{Own, Plain, InRanks, Request}
+use Rattle.fv_walk_traces.specs.Requests.{Own, Plain, InRanks, GraphRequest}
 use Rattle.fv_walk_traces.specs.Traces.{Carried, Arrives, OwnEnds, IsTrace}
 use Rattle.fv_walk_traces.specs.Turns.{Free, Rank, FreeTurn, LocalFailure, Fail, Ask, Step, Group, Turns, Way}
 use Rattle.fv_walk_traces.specs.Unfold.{TraceFrom}
 use Rattle.fv_datum.proofs.Lists.{map_get}
 
-path_on : (request : Request) (state mid after : Point) (p q : Turns) → Path' (next request) state p mid → Path' (next request) mid q after → Path' (next request) state (p ++ q) after
+path_on : (request : GraphRequest) (state mid after : Point) (p q : Turns) → Path' (next request) state p mid → Path' (next request) mid q after → Path' (next request) state (p ++ q) after
 path_on request state mid after [] q e h = subst (λ (s : Point). Path' (next request) s q after) (sym e) h
 path_on request state mid after (t ∷ p) q k h = (k.0, k.1, path_on request k.0 mid after p q k.2 h)
 
@@ -21,7 +21,7 @@ get_map f (y ∷ xs) zero x e = let q : y ≡ x = cc in ap (λ z. Some (f z)) q
 get_map f (y ∷ xs) (suc i) x e = get_map f xs i x e
 
 -- from what was handed on to where it is carried
-hand_on : (request : Request) (object g carried : ℕ) (on : List ℕ) (mark : Turns) → Carried request g mark carried → Path' (next request) (handed request object g on) mark (Standing object carried on)
+hand_on : (request : GraphRequest) (object g carried : ℕ) (on : List ℕ) (mark : Turns) → Carried request g mark carried → Path' (next request) (handed request object g on) mark (Standing object carried on)
 hand_on request object g carried on mark (inl h) =
     subst (λ (m : Turns). Path' (next request) (handed request object g on) m (Standing object carried on)) (sym h.1)
     (ap (λ b. cond b (Choosing object g on) (Standing object g on)) h.0 ∙ ap (λ c. Standing object c on) (sym h.2))
@@ -30,7 +30,7 @@ hand_on request object g carried on mark (inr h) =
     (subst (λ (s : Point). Path' (next request) s (Rank h.0 ∷ []) (Standing object carried on)) (sym (ap (λ b. cond b (Choosing object g on) (Standing object g on)) h.1))
     (Standing object carried on, get_map (λ m. Standing object m on) (request.ranks g) h.0 carried h.3, refl))
 
-to_option : (request : Request) (object carried : ℕ) (on : List ℕ) (ways : List Way) (way : Way) → IsIn ways way → mem on way.target ≡ false → IsIn (step_options request object carried on ways) (Step way, handed request way.target (request.converted object way.place carried) (way.target ∷ on))
+to_option : (request : GraphRequest) (object carried : ℕ) (on : List ℕ) (ways : List Way) (way : Way) → IsIn ways way → mem on way.target ≡ false → IsIn (step_options request object carried on ways) (Step way, handed request way.target (request.converted object way.place carried) (way.target ∷ on))
 to_option request object carried on [] way h new = absurd h
 to_option request object carried on (w ∷ ways) way h new = go (to_option request object carried on ways way) (mem on w.target) refl h
   where
@@ -40,7 +40,7 @@ to_option request object carried on (w ∷ ways) way h new = go (to_option reque
     go ih false e (inl d) = inl (ap (λ (x : Way). (Step x, handed request x.target (request.converted object x.place carried) (x.target ∷ on))) d)
     go ih false e (inr k) = inr (ih k new)
 
-pub from_option : (request : Request) (object carried : ℕ) (on : List ℕ) (ways : List Way) (turn : FreeTurn) (after : Point) → IsIn (step_options request object carried on ways) (turn, after) → (way : Way) × IsIn ways way × (mem on way.target ≡ false) × (turn ≡ Step way) × (after ≡ handed request way.target (request.converted object way.place carried) (way.target ∷ on))
+pub from_option : (request : GraphRequest) (object carried : ℕ) (on : List ℕ) (ways : List Way) (turn : FreeTurn) (after : Point) → IsIn (step_options request object carried on ways) (turn, after) → (way : Way) × IsIn ways way × (mem on way.target ≡ false) × (turn ≡ Step way) × (after ≡ handed request way.target (request.converted object way.place carried) (way.target ∷ on))
 from_option request object carried on [] turn after h = absurd h
 from_option request object carried on (w ∷ ways) turn after h = go (from_option request object carried on ways turn after) (mem on w.target) refl h
   where
@@ -49,7 +49,7 @@ from_option request object carried on (w ∷ ways) turn after h = go (from_optio
     go ih false e (inl d) = (w, inl refl, e, sym (ap (λ (x : FreeTurn × Point). x.0) d), sym (ap (λ (x : FreeTurn × Point). x.1) d))
     go ih false e (inr k) = let m = ih k in (m.0, inr m.1, m.2, m.3, m.4)
 
-pub visit_path : (request : Request) (steps : ℕ) (turns : Turns) (object carried : ℕ) (on : List ℕ) → Arrives request steps turns object carried on → Path' (next request) Start turns (Standing object carried on)
+pub visit_path : (request : GraphRequest) (steps : ℕ) (turns : Turns) (object carried : ℕ) (on : List ℕ) → Arrives request steps turns object carried on → Path' (next request) Start turns (Standing object carried on)
 visit_path request zero turns object carried on h =
     subst (λ (t : Turns). Path' (next request) Start t (Standing object carried on)) (sym h.0.4) (
       handed request request.root h.0.0 (request.root ∷ []),
@@ -68,14 +68,14 @@ visit_path request (suc steps) turns object carried on (earlier, from, held, bef
     (subst (λ (o : ℕ). Path' (next request) Start (earlier ++ Free (Step way) ∷ mark) (Standing o carried on)) (sym object_is)
     (subst (λ (l : List ℕ). Path' (next request) Start (earlier ++ Free (Step way) ∷ mark) (Standing way.target carried l)) (sym on_is) q))
 
-pub own_trace : (request : Request) (own : Own) (turns : Turns) → OwnEnds own turns → TraceFrom (next request) (Within own) turns
+pub own_trace : (request : GraphRequest) (own : Own) (turns : Turns) → OwnEnds own turns → TraceFrom (next request) (Within own) turns
 own_trace request (Plain fails) turns h =
     subst (λ (t : Turns). TraceFrom (next request) (Within (Plain fails)) t) (sym h.2) (Failed, in_map (λ f. (Fail f, Failed)) fails h.0 h.1, refl)
 own_trace request (InRanks lists) turns h =
     subst (λ (t : Turns). TraceFrom (next request) (Within (InRanks lists)) t) (sym h.5)
     (Within (Plain h.1), get_map (λ fails. Within (Plain fails)) lists h.0 h.1 h.3, (Failed, in_map (λ f. (Fail f, Failed)) h.1 h.2 h.4, refl))
 
-pub parts_walk : (request : Request) (turns : Turns) → IsTrace request turns → TraceFrom (next request) Start turns
+pub parts_walk : (request : GraphRequest) (turns : Turns) → IsTrace request turns → TraceFrom (next request) Start turns
 parts_walk request turns (steps, first, object, carried, on, own, visit, (h, last, is_below, ends, own_is), turns_are) =
     subst (λ (t : Turns). TraceFrom (next request) Start t) (sym (turns_are ∙ ap (λ (l : Turns). first ++ l) own_is))
     (join_at (next request) Start (Standing object carried on) first (Free (Group h) ∷ last) (visit_path request steps first object carried on visit) (
@@ -84,11 +84,11 @@ parts_walk request turns (steps, first, object, carried, on, own, visit, (h, las
       own_trace request (request.own object h) last ends,
     ))
 
-failed_ends : (request : Request) (turns : Turns) → TraceFrom (next request) Failed turns → turns ≡ []
+failed_ends : (request : GraphRequest) (turns : Turns) → TraceFrom (next request) Failed turns → turns ≡ []
 failed_ends request [] h = refl
 failed_ends request (t ∷ turns) h = absurd h.1
 
-plain_ends : (request : Request) (fails : List LocalFailure) (turns : Turns) → TraceFrom (next request) (Within (Plain fails)) turns → (f : LocalFailure) × IsIn fails f × (turns ≡ Free (Fail f) ∷ [])
+plain_ends : (request : GraphRequest) (fails : List LocalFailure) (turns : Turns) → TraceFrom (next request) (Within (Plain fails)) turns → (f : LocalFailure) × IsIn fails f × (turns ≡ Free (Fail f) ∷ [])
 plain_ends request fails [] h = cc
 plain_ends request fails (Rank i ∷ turns) h = absurd h.1
 plain_ends request fails (Free a ∷ turns) h =
@@ -98,7 +98,7 @@ plain_ends request fails (Free a ∷ turns) h =
     let r = failed_ends request turns (subst (λ (s : Point). TraceFrom (next request) s turns) e h.2) in
     (m.0, m.2, cc (d, r))
 
-pub own_ends : (request : Request) (own : Own) (turns : Turns) → TraceFrom (next request) (Within own) turns → OwnEnds own turns
+pub own_ends : (request : GraphRequest) (own : Own) (turns : Turns) → TraceFrom (next request) (Within own) turns → OwnEnds own turns
 own_ends request (Plain fails) turns h = plain_ends request fails turns h
 own_ends request (InRanks lists) [] h = cc
 own_ends request (InRanks lists) (Free a ∷ turns) h = absurd h.1
@@ -107,14 +107,14 @@ own_ends request (InRanks lists) (Rank i ∷ turns) h =
     let k = plain_ends request m.0 turns (subst (λ (s : Point). TraceFrom (next request) s turns) m.2 h.2) in
     (i, m.0, k.0, m.1, k.1, ap (λ (t : Turns). Rank i ∷ t) k.2)
 
-choosing_on : (request : Request) (object g : ℕ) (on : List ℕ) (turns : Turns) → TraceFrom (next request) (Choosing object g on) turns → (i : ℕ) × (carried : ℕ) × (rest : Turns) × (slice_get (request.ranks g) i ≡ Some carried) × (turns ≡ Rank i ∷ rest) × TraceFrom (next request) (Standing object carried on) rest
+choosing_on : (request : GraphRequest) (object g : ℕ) (on : List ℕ) (turns : Turns) → TraceFrom (next request) (Choosing object g on) turns → (i : ℕ) × (carried : ℕ) × (rest : Turns) × (slice_get (request.ranks g) i ≡ Some carried) × (turns ≡ Rank i ∷ rest) × TraceFrom (next request) (Standing object carried on) rest
 choosing_on request object g on [] h = cc
 choosing_on request object g on (Free a ∷ turns) h = absurd h.1
 choosing_on request object g on (Rank i ∷ turns) h =
     let m = map_get (λ c. Standing object c on) (request.ranks g) i h.0 h.1 in
     (i, m.0, turns, m.1, refl, subst (λ (s : Point). TraceFrom (next request) s turns) m.2 h.2)
 
-took_on : (request : Request) (object g : ℕ) (on : List ℕ) (turns : Turns) → TraceFrom (next request) (handed request object g on) turns → (mark : Turns) × (carried : ℕ) × (rest : Turns) × Carried request g mark carried × (turns ≡ mark ++ rest) × TraceFrom (next request) (Standing object carried on) rest
+took_on : (request : GraphRequest) (object g : ℕ) (on : List ℕ) (turns : Turns) → TraceFrom (next request) (handed request object g on) turns → (mark : Turns) × (carried : ℕ) × (rest : Turns) × Carried request g mark carried × (turns ≡ mark ++ rest) × TraceFrom (next request) (Standing object carried on) rest
 took_on request object g on turns h = go (request.is_sequence g) refl h
   where
     go : (b : Bool) → request.is_sequence g ≡ b → TraceFrom (next request) (cond b (Choosing object g on) (Standing object g on)) turns → (mark : Turns) × (carried : ℕ) × (rest : Turns) × Carried request g mark carried × (turns ≡ mark ++ rest) × TraceFrom (next request) (Standing object carried on) rest
@@ -123,7 +123,7 @@ took_on request object g on turns h = go (request.is_sequence g) refl h
         let m = choosing_on request object g on turns k in
         (Rank m.0 ∷ [], m.1, m.2, inr (m.0, e, refl, m.3), m.4, m.5)
 
-walk_on : (n : ℕ) (request : Request) (steps : ℕ) (first : Turns) (object carried : ℕ) (on : List ℕ) (rest : Turns) → Arrives request steps first object carried on → length rest ≤ n → TraceFrom (next request) (Standing object carried on) rest → IsTrace request (first ++ rest)
+walk_on : (n : ℕ) (request : GraphRequest) (steps : ℕ) (first : Turns) (object carried : ℕ) (on : List ℕ) (rest : Turns) → Arrives request steps first object carried on → length rest ≤ n → TraceFrom (next request) (Standing object carried on) rest → IsTrace request (first ++ rest)
 walk_on n request steps first object carried on [] visit less h = cc
 walk_on n request steps first object carried on (Rank i ∷ turns) visit less h = absurd h.1
 walk_on zero request steps first object carried on (Free a ∷ turns) visit less h = absurd (omega arith)
@@ -148,7 +148,7 @@ walk_on (suc n) request steps first object carried on (Free a ∷ turns) visit l
           subst (λ (l : Turns). IsTrace request l) same whole)
     ]
 
-pub walk_parts : (request : Request) (turns : Turns) → TraceFrom (next request) Start turns → IsTrace request turns
+pub walk_parts : (request : GraphRequest) (turns : Turns) → TraceFrom (next request) Start turns → IsTrace request turns
 walk_parts request [] h = cc
 walk_parts request (Rank i ∷ turns) h = absurd h.1
 walk_parts request (Free a ∷ turns) h =

@@ -8,7 +8,7 @@ use Rattle.fv_datum.proofs.Lists.{map_get}
 use Rattle.fv_walk_traces.proofs.Unfolded.{proper_reached}
 use Rattle.fv_walk_traces.specs.Finite.{unseen, size, IsTidy, IsProperOwn}
 use Rattle.fv_walk_traces.specs.Points.{Point, Start, Choosing, Standing, Within, Failed, handed, step_options, next}
-use Rattle.fv_walk_traces.specs.Requests.{Own, Plain, InRanks, Request}
+use Rattle.fv_walk_traces.specs.Requests.{Own, Plain, InRanks, GraphRequest}
 use Rattle.fv_walk_traces.specs.Tree.{IsProper}
 use Rattle.fv_walk_traces.specs.Turns.{Turn, Free, Rank, FreeTurn, LocalFailure, Fail, Ask, Step, Group, Way}
 use Rattle.fv_walk_traces.specs.Unfold.{LeadsTo, Falls, NoTurnTwice, tree_of}
@@ -62,7 +62,7 @@ one_less (suc k) t on new less = go (λ h. one_less k t on new h) (nat_eq t k) r
         let less' : t < k = omega arith in
         no_more (nat_eq t k) (mem on k) (unseen k (t ∷ on)) (unseen k on) e (ih less')
 
-handed_size : (request : Request) (n object g : ℕ) (on : List ℕ) → size n (handed request object g on) ≤ 4 + 2 * unseen n on
+handed_size : (request : GraphRequest) (n object g : ℕ) (on : List ℕ) → size n (handed request object g on) ≤ 4 + 2 * unseen n on
 handed_size request n object g on = go (request.is_sequence g)
   where
     go : (b : Bool) → size n (cond b (Choosing object g on) (Standing object g on)) ≤ 4 + 2 * unseen n on
@@ -73,7 +73,7 @@ within_size : (own : Own) (n : ℕ) → size n (Within own) ≤ 2
 within_size (Plain fails) n = omega arith
 within_size (InRanks lists) n = omega arith
 
-pub falls : (request : Request) (n : ℕ) → IsTidy request n → Falls (next request) (size n)
+pub falls : (request : GraphRequest) (n : ℕ) → IsTidy request n → Falls (next request) (size n)
 falls request n tidy Start after (Rank i) h = absurd h
 falls request n tidy Start after (Free a) h =
     let m = from_map (λ (g : ℕ). (Ask g, handed request request.root g (request.root ∷ []))) request.asked (a, after) h in
@@ -136,13 +136,13 @@ same_fail : (a b : LocalFailure) → Fail a ≡ Fail b → a ≡ b
 same_fail a b e = cc
 
 -- the steps among the options are ways
-step_label : (request : Request) (object carried : ℕ) (on : List ℕ) (ways : List Way) (turn : FreeTurn) → IsIn (map (λ c. c.0) (step_options request object carried on ways)) turn → (way : Way) × IsIn ways way × (turn ≡ Step way)
+step_label : (request : GraphRequest) (object carried : ℕ) (on : List ℕ) (ways : List Way) (turn : FreeTurn) → IsIn (map (λ c. c.0) (step_options request object carried on ways)) turn → (way : Way) × IsIn ways way × (turn ≡ Step way)
 step_label request object carried on ways turn h =
     let m = from_map (λ (c : FreeTurn × Point). c.0) (step_options request object carried on ways) turn h in
     let k = from_option request object carried on ways m.0.0 m.0.1 m.2 in
     (k.0, k.1, m.1 ∙ k.3)
 
-steps_differ : (request : Request) (object carried : ℕ) (on : List ℕ) (ways : List Way) → AllDiffer ways → AllDiffer (map (λ c. c.0) (step_options request object carried on ways))
+steps_differ : (request : GraphRequest) (object carried : ℕ) (on : List ℕ) (ways : List Way) → AllDiffer ways → AllDiffer (map (λ c. c.0) (step_options request object carried on ways))
 steps_differ request object carried on [] d = tt
 steps_differ request object carried on (way ∷ ways) d = go (steps_differ request object carried on ways d.1) (mem on way.target)
   where
@@ -158,7 +158,7 @@ map_join : {X Y : Type 0} (f : X → Y) (xs ys : List X) → map f (xs ++ ys) �
 map_join f [] ys = refl
 map_join f (x ∷ xs) ys = ap (λ l. f x ∷ l) (map_join f xs ys)
 
-apart : (request : Request) (object carried : ℕ) (on : List ℕ) (turn : FreeTurn) → IsIn (map (λ (c : FreeTurn × Point). c.0) (map (λ (g : ℕ). (Group g, Within (request.own object g))) (request.below carried))) turn → IsIn (map (λ (c : FreeTurn × Point). c.0) (step_options request object carried on (request.ways object))) turn → ⊥
+apart : (request : GraphRequest) (object carried : ℕ) (on : List ℕ) (turn : FreeTurn) → IsIn (map (λ (c : FreeTurn × Point). c.0) (map (λ (g : ℕ). (Group g, Within (request.own object g))) (request.below carried))) turn → IsIn (map (λ (c : FreeTurn × Point). c.0) (step_options request object carried on (request.ways object))) turn → ⊥
 apart request object carried on turn h k =
     let m = from_map (λ (c : FreeTurn × Point). c.0) (map (λ (g : ℕ). (Group g, Within (request.own object g))) (request.below carried)) turn h in
     let l = from_map (λ (g : ℕ). (Group g, Within (request.own object g))) (request.below carried) m.0 m.2 in
@@ -175,7 +175,7 @@ IsReached (Standing object carried on) = Unit {0}
 IsReached (Within own) = IsProperOwn own
 IsReached Failed = Unit {0}
 
-pub no_turn_twice : (request : Request) (n : ℕ) → IsTidy request n → (point : Point) → IsReached point → NoTurnTwice (next request point)
+pub no_turn_twice : (request : GraphRequest) (n : ℕ) → IsTidy request n → (point : Point) → IsReached point → NoTurnTwice (next request point)
 no_turn_twice request n tidy Start r = map_differ (λ g. Ask g) (λ g. handed request request.root g (request.root ∷ [])) same_ask request.asked tidy.asked
 no_turn_twice request n tidy (Choosing object group on) r = tt
 no_turn_twice request n tidy (Standing object carried on) r =
@@ -186,7 +186,7 @@ no_turn_twice request n tidy (Within (Plain fails)) r = map_differ (λ f. Fail f
 no_turn_twice request n tidy (Within (InRanks lists)) r = tt
 no_turn_twice request n tidy Failed r = tt
 
-reached_handed : (request : Request) (object g : ℕ) (on : List ℕ) → IsReached (handed request object g on)
+reached_handed : (request : GraphRequest) (object g : ℕ) (on : List ℕ) → IsReached (handed request object g on)
 reached_handed request object g on = go (request.is_sequence g)
   where
     go : (b : Bool) → IsReached (cond b (Choosing object g on) (Standing object g on))
@@ -198,7 +198,7 @@ at_rank [] i x e = cc
 at_rank (y ∷ xs) zero x e = let q : y ≡ x = cc in inl q
 at_rank (y ∷ xs) (suc i) x e = inr (at_rank xs i x e)
 
-pub stays_reached : (request : Request) (n : ℕ) → IsTidy request n → (point after : Point) (turn : Turn FreeTurn) → IsReached point → LeadsTo (next request point) turn after → IsReached after
+pub stays_reached : (request : GraphRequest) (n : ℕ) → IsTidy request n → (point after : Point) (turn : Turn FreeTurn) → IsReached point → LeadsTo (next request point) turn after → IsReached after
 stays_reached request n tidy Start after (Rank i) r h = absurd h
 stays_reached request n tidy Start after (Free a) r h =
     let m = from_map (λ (g : ℕ). (Ask g, handed request request.root g (request.root ∷ []))) request.asked (a, after) h in
@@ -230,5 +230,5 @@ stays_reached request n tidy (Within (InRanks lists)) after (Rank i) r h =
     subst (λ (x : Point). IsReached x) (sym m.2) (r m.0 (at_rank lists i m.0 m.1))
 stays_reached request n tidy Failed after turn r h = absurd h
 
-pub proper : (request : Request) (n : ℕ) → IsTidy request n → (depth : ℕ) (point : Point) → IsReached point → IsProper (tree_of (next request) depth point)
+pub proper : (request : GraphRequest) (n : ℕ) → IsTidy request n → (depth : ℕ) (point : Point) → IsReached point → IsProper (tree_of (next request) depth point)
 proper request n tidy depth point r = proper_reached (next request) IsReached (no_turn_twice request n tidy) (stays_reached request n tidy) depth point r

@@ -2,7 +2,7 @@
 use Rattle.std.proofs.Common.{◌≡◌, ℕ, suc, [], ◌∷◌, ◌++◌, ◌↔◌, sym, ◌∙◌, subst, arith}
 use Rattle.fv_graph.specs.Graph.{IsIn, AllDiffer}
 use Rattle.fv_walk_traces.specs.Turns.{Turns, Shadows}
-use Rattle.fv_walk_traces.specs.Requests.{Request}
+use Rattle.fv_walk_traces.specs.Requests.{GraphRequest}
 use Rattle.fv_walk_traces.specs.Traces.{IsTrace, IsVisit, IsSpared, IsEntered}
 use Rattle.fv_walk_traces.specs.Violations.{Violation, violation_of, IsViolation}
 use Rattle.fv_walk_traces.specs.Unfold.{TraceFrom}
@@ -22,7 +22,7 @@ use Rattle.fv_walk_traces.proofs.Tidy.{IsReached, falls, proper, no_turn_twice, 
 use Rattle.fv_walk_traces.proofs.Prefix.{Path', split_at, join_at, one_way, no_longer}
 
 -- exactly the traces that none shadows
-pub stops : (request : Request) (n : ℕ) → IsTidy request n → (r : Turns) → IsIn (told_traces request n) r ↔ (IsTrace request r × IsSpared request r)
+pub stops : (request : GraphRequest) (n : ℕ) → IsTidy request n → (r : Turns) → IsIn (told_traces request n) r ↔ (IsTrace request r × IsSpared request r)
 stops request n tidy r =
     let depth = suc (size n Start) in
     let whole = tree_of_all request n in
@@ -36,11 +36,11 @@ stops request n tidy r =
           (λ other g s. h.1 other (walk_parts request other (up (next request) depth Start other g)) (from_recursion other r s)),
     )
 
-pub told_differ : (request : Request) (n : ℕ) → IsTidy request n → AllDiffer (told_traces request n)
+pub told_differ : (request : GraphRequest) (n : ℕ) → IsTidy request n → AllDiffer (told_traces request n)
 told_differ request n tidy = failures_differ (tree_of_all request n) (proper request n tidy (suc (size n Start)) Start tt)
 
 -- exactly the entered visits, each once
-pub enters : (request : Request) (n : ℕ) → IsTidy request n → IsListOf (IsEntered request) (entered_visits request n)
+pub enters : (request : GraphRequest) (n : ℕ) → IsTidy request n → IsListOf (IsEntered request) (entered_visits request n)
 enters request n tidy =
     let depth = suc (size n Start) in
     let whole = tree_of_all request n in
@@ -58,7 +58,7 @@ enters request n tidy =
     )
 
 -- exactly the visits, each once
-pub arrives : (request : Request) (n : ℕ) → IsTidy request n → IsListOf (IsVisit request) (all_visits request n)
+pub arrives : (request : GraphRequest) (n : ℕ) → IsTidy request n → IsListOf (IsVisit request) (all_visits request n)
 arrives request n tidy =
     let depth = suc (size n Start) in
     let whole = tree_of_all request n in
@@ -71,7 +71,7 @@ arrives request n tidy =
     )
 
 -- exactly the violations
-pub tells : (request : Request) (n : ℕ) → IsTidy request n → (v : Violation) → IsIn (told_violations request n) v ↔ IsViolation request v
+pub tells : (request : GraphRequest) (n : ℕ) → IsTidy request n → (v : Violation) → IsIn (told_violations request n) v ↔ IsViolation request v
 tells request n tidy v = (
   λ h.
       (let k = from_map (violation_of request) (told_traces request n) v h in
@@ -90,25 +90,25 @@ one_number {X} P m n h k =
     omega (arith, h.2, k.2, a, b)
 
 -- what is shadowed is shadowed by a trace that none shadows
-pub shadowed : (request : Request) (n : ℕ) → IsTidy request n → (turns other : Turns) → IsTrace request other → Shadows other turns → (last : Turns) × IsTrace request last × IsSpared request last × Shadows last turns
+pub shadowed : (request : GraphRequest) (n : ℕ) → IsTidy request n → (turns other : Turns) → IsTrace request other → Shadows other turns → (last : Turns) × IsTrace request last × IsSpared request last × Shadows last turns
 shadowed request n tidy turns other t h =
     let l = last_shadow (tree_of_all request n) turns other (down (next request) (size n) (falls request n tidy) (suc (size n Start)) Start other (omega arith) (parts_walk request other t)) (by_recursion other turns h) in
     let k = (stops request n tidy l.0).0 l.1 in
     (l.0, k.0, k.1, from_recursion l.0 turns l.2)
 
 -- the turns decide the point
-pub one_end : (request : Request) (n : ℕ) → IsTidy request n → (state s t : Point) (p : Turns) → IsReached state → Path' (next request) state p s → Path' (next request) state p t → s ≡ t
+pub one_end : (request : GraphRequest) (n : ℕ) → IsTidy request n → (state s t : Point) (p : Turns) → IsReached state → Path' (next request) state p s → Path' (next request) state p t → s ≡ t
 one_end request n tidy state s t [] r h k = sym h ∙ k
 one_end request n tidy state s t (turn ∷ p) r h k =
     let e = one_way (next request state) turn h.0 k.0 (no_turn_twice request n tidy state r) h.1 k.1 in
     one_end request n tidy k.0 s t p (stays_reached request n tidy state k.0 turn r k.1) (subst (λ (x : Point). Path' (next request) x p s) e h.2) k.2
 
-reached_by : (request : Request) (n : ℕ) → IsTidy request n → (state s : Point) (p : Turns) → IsReached state → Path' (next request) state p s → IsReached s
+reached_by : (request : GraphRequest) (n : ℕ) → IsTidy request n → (state s : Point) (p : Turns) → IsReached state → Path' (next request) state p s → IsReached s
 reached_by request n tidy state s [] r h = subst (λ (x : Point). IsReached x) h r
 reached_by request n tidy state s (turn ∷ p) r h = reached_by request n tidy h.0 s p (stays_reached request n tidy state h.0 turn r h.1) h.2
 
 -- where a trace continues some turns, one does that nothing shadows behind them
-pub last_word : (request : Request) (n : ℕ) → IsTidy request n → (p q : Turns) → IsTrace request (p ++ q) → (best : Turns) × IsTrace request (p ++ best) × ((other : Turns) → IsTrace request (p ++ other) → Shadows other best → ⊥)
+pub last_word : (request : GraphRequest) (n : ℕ) → IsTidy request n → (p q : Turns) → IsTrace request (p ++ q) → (best : Turns) × IsTrace request (p ++ best) × ((other : Turns) → IsTrace request (p ++ other) → Shadows other best → ⊥)
 last_word request n tidy p q h =
     let k = split_at (next request) Start p q (parts_walk request (p ++ q) h) in
     let depth = suc (size n k.0) in

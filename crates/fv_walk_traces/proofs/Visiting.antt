@@ -7,25 +7,25 @@ use Rattle.fv_walk_traces.proofs.Parts.{visit_path, from_option}
 use Rattle.fv_datum.proofs.Lists.{map_get}
 use Rattle.fv_walk_traces.proofs.Prefix.{Path'}
 use Rattle.fv_walk_traces.specs.Points.{Point, Start, Choosing, Standing, Within, Failed, handed, step_options, next}
-use Rattle.fv_walk_traces.specs.Requests.{Own, Plain, InRanks, Request}
+use Rattle.fv_walk_traces.specs.Requests.{Own, Plain, InRanks, GraphRequest}
 use Rattle.fv_walk_traces.specs.Traces.{Carried, Arrives, IsVisit}
 use Rattle.fv_walk_traces.specs.Turns.{Free, Rank, FreeTurn, LocalFailure, Fail, Ask, Step, Group, Turns}
 use Rattle.fv_walk_traces.specs.Unfold.{VisitFrom}
 
-join_visit : (request : Request) (state after : Point) (p q : Turns) → Path' (next request) state p after → VisitFrom (next request) after q → VisitFrom (next request) state (p ++ q)
+join_visit : (request : GraphRequest) (state after : Point) (p q : Turns) → Path' (next request) state p after → VisitFrom (next request) after q → VisitFrom (next request) state (p ++ q)
 join_visit request state after [] q e h = subst (λ (s : Point). VisitFrom (next request) s q) (sym e) h
 join_visit request state after (t ∷ p) q k h = (k.0, k.1, join_visit request k.0 after p q k.2 h)
 
-pub visit_parts_walk : (request : Request) (turns : Turns) → IsVisit request turns → VisitFrom (next request) Start turns
+pub visit_parts_walk : (request : GraphRequest) (turns : Turns) → IsVisit request turns → VisitFrom (next request) Start turns
 visit_parts_walk request turns h =
     subst (λ (t : Turns). VisitFrom (next request) Start t) (append-nil turns)
     (join_visit request Start (Standing h.1 h.2 h.3) turns [] (visit_path request h.0 turns h.1 h.2 h.3 h.4) tt)
 
-no_visit_failed : (request : Request) (turns : Turns) → VisitFrom (next request) Failed turns → ⊥
+no_visit_failed : (request : GraphRequest) (turns : Turns) → VisitFrom (next request) Failed turns → ⊥
 no_visit_failed request [] h = h
 no_visit_failed request (t ∷ turns) h = h.1
 
-no_visit_plain : (request : Request) (fails : List LocalFailure) (turns : Turns) → VisitFrom (next request) (Within (Plain fails)) turns → ⊥
+no_visit_plain : (request : GraphRequest) (fails : List LocalFailure) (turns : Turns) → VisitFrom (next request) (Within (Plain fails)) turns → ⊥
 no_visit_plain request fails [] h = h
 no_visit_plain request fails (Rank i ∷ turns) h = h.1
 no_visit_plain request fails (Free a ∷ turns) h =
@@ -33,7 +33,7 @@ no_visit_plain request fails (Free a ∷ turns) h =
     let e : h.0 ≡ Failed = ap (λ (x : FreeTurn × Point). x.1) m.1 in
     no_visit_failed request turns (subst (λ (s : Point). VisitFrom (next request) s turns) e h.2)
 
-pub no_visit_within : (request : Request) (own : Own) (turns : Turns) → VisitFrom (next request) (Within own) turns → ⊥
+pub no_visit_within : (request : GraphRequest) (own : Own) (turns : Turns) → VisitFrom (next request) (Within own) turns → ⊥
 no_visit_within request (Plain fails) turns h = no_visit_plain request fails turns h
 no_visit_within request (InRanks lists) [] h = h
 no_visit_within request (InRanks lists) (Free a ∷ turns) h = h.1
@@ -41,14 +41,14 @@ no_visit_within request (InRanks lists) (Rank i ∷ turns) h =
     let m = map_get (λ (fails : List LocalFailure). Within (Plain fails)) lists i h.0 h.1 in
     no_visit_plain request m.0 turns (subst (λ (s : Point). VisitFrom (next request) s turns) m.2 h.2)
 
-choosing_on : (request : Request) (object g : ℕ) (on : List ℕ) (turns : Turns) → VisitFrom (next request) (Choosing object g on) turns → (i : ℕ) × (carried : ℕ) × (rest : Turns) × (slice_get (request.ranks g) i ≡ Some carried) × (turns ≡ Rank i ∷ rest) × VisitFrom (next request) (Standing object carried on) rest
+choosing_on : (request : GraphRequest) (object g : ℕ) (on : List ℕ) (turns : Turns) → VisitFrom (next request) (Choosing object g on) turns → (i : ℕ) × (carried : ℕ) × (rest : Turns) × (slice_get (request.ranks g) i ≡ Some carried) × (turns ≡ Rank i ∷ rest) × VisitFrom (next request) (Standing object carried on) rest
 choosing_on request object g on [] h = absurd h
 choosing_on request object g on (Free a ∷ turns) h = absurd h.1
 choosing_on request object g on (Rank i ∷ turns) h =
     let m = map_get (λ c. Standing object c on) (request.ranks g) i h.0 h.1 in
     (i, m.0, turns, m.1, refl, subst (λ (s : Point). VisitFrom (next request) s turns) m.2 h.2)
 
-took_on : (request : Request) (object g : ℕ) (on : List ℕ) (turns : Turns) → VisitFrom (next request) (handed request object g on) turns → (mark : Turns) × (carried : ℕ) × (rest : Turns) × Carried request g mark carried × (turns ≡ mark ++ rest) × VisitFrom (next request) (Standing object carried on) rest
+took_on : (request : GraphRequest) (object g : ℕ) (on : List ℕ) (turns : Turns) → VisitFrom (next request) (handed request object g on) turns → (mark : Turns) × (carried : ℕ) × (rest : Turns) × Carried request g mark carried × (turns ≡ mark ++ rest) × VisitFrom (next request) (Standing object carried on) rest
 took_on request object g on turns h = go (request.is_sequence g) refl h
   where
     go : (b : Bool) → request.is_sequence g ≡ b → VisitFrom (next request) (cond b (Choosing object g on) (Standing object g on)) turns → (mark : Turns) × (carried : ℕ) × (rest : Turns) × Carried request g mark carried × (turns ≡ mark ++ rest) × VisitFrom (next request) (Standing object carried on) rest
@@ -57,7 +57,7 @@ took_on request object g on turns h = go (request.is_sequence g) refl h
         let m = choosing_on request object g on turns k in
         (Rank m.0 ∷ [], m.1, m.2, inr (m.0, e, refl, m.3), m.4, m.5)
 
-visit_on : (n : ℕ) (request : Request) (steps : ℕ) (first : Turns) (object carried : ℕ) (on : List ℕ) (rest : Turns) → Arrives request steps first object carried on → length rest ≤ n → VisitFrom (next request) (Standing object carried on) rest → IsVisit request (first ++ rest)
+visit_on : (n : ℕ) (request : GraphRequest) (steps : ℕ) (first : Turns) (object carried : ℕ) (on : List ℕ) (rest : Turns) → Arrives request steps first object carried on → length rest ≤ n → VisitFrom (next request) (Standing object carried on) rest → IsVisit request (first ++ rest)
 visit_on n request steps first object carried on [] visit less h =
     subst (λ (l : Turns). IsVisit request l) (sym (append-nil first)) (steps, object, carried, on, visit)
 visit_on n request steps first object carried on (Rank i ∷ turns) visit less h = absurd h.1
@@ -81,7 +81,7 @@ visit_on (suc n) request steps first object carried on (Free a ∷ turns) visit 
           subst (λ (l : Turns). IsVisit request l) same whole)
     ]
 
-pub visit_walk_parts : (request : Request) (turns : Turns) → VisitFrom (next request) Start turns → IsVisit request turns
+pub visit_walk_parts : (request : GraphRequest) (turns : Turns) → VisitFrom (next request) Start turns → IsVisit request turns
 visit_walk_parts request [] h = absurd h
 visit_walk_parts request (Rank i ∷ turns) h = absurd h.1
 visit_walk_parts request (Free a ∷ turns) h =

@@ -2,7 +2,7 @@
 use Rattle.std.specs.Prelude.{◌≡◌, ℕ, [], ◌∷◌, ◌++◌, map, filter, Bool, true, false, nat_eq}
 use Rattle.fv_graph.specs.Graph.{IsIn}
 use Rattle.fv_walk_traces.specs.Turns.{Spot, of_object, at, LocalFailure, Way, Step, Fail, Free, Turns, Shadows}
-use Rattle.fv_walk_traces.specs.Requests.{Own, Plain, InRanks, Request}
+use Rattle.fv_walk_traces.specs.Requests.{Own, Plain, InRanks, GraphRequest}
 use Rattle.fv_walk_traces.specs.Traces.{Asks, IsTrace}
 use Rattle.fv_walk_traces.specs.Violations.{Violation, violation_of}
 
@@ -12,26 +12,26 @@ begins_with field of_object = false
 begins_with field (at place locus) = nat_eq place.field field
 
 -- a trace without steps, whose failure's place begins with the field
-abbrev pub IsTraceOfField : Request → ℕ → Turns → Type 0
+abbrev pub IsTraceOfField : GraphRequest → ℕ → Turns → Type 0
 IsTraceOfField request field turns =
     IsTrace request turns
     × ((way : Way) → IsIn turns (Free (Step way)) → ⊥)
     × ((before : Turns) × (f : LocalFailure) × (turns ≡ before ++ Free (Fail f) ∷ []) × (begins_with field f.spot ≡ true))
 
 -- a visit: part 1 alone
-abbrev pub IsVisitOfField : Request → Turns → Type 0
+abbrev pub IsVisitOfField : GraphRequest → Turns → Type 0
 IsVisitOfField request turns = (carried : ℕ) × Asks request turns carried
 
 -- no trace of the field shadows these turns
-abbrev pub IsSparedOfField : Request → ℕ → Turns → Type 0
+abbrev pub IsSparedOfField : GraphRequest → ℕ → Turns → Type 0
 IsSparedOfField request field turns = (other : Turns) → IsTraceOfField request field other → Shadows other turns → ⊥
 
 -- a visit that no trace of the field shadows
-abbrev pub IsEnteredOfField : Request → ℕ → Turns → Type 0
+abbrev pub IsEnteredOfField : GraphRequest → ℕ → Turns → Type 0
 IsEnteredOfField request field turns = IsVisitOfField request turns × IsSparedOfField request field turns
 
 -- a violation of the field: that of a trace of the field which no trace of the field shadows
-abbrev pub IsViolationOfField : Request → ℕ → Violation → Type 0
+abbrev pub IsViolationOfField : GraphRequest → ℕ → Violation → Type 0
 IsViolationOfField request field v =
     (r : Turns) × IsTraceOfField request field r × IsSparedOfField request field r × (v ≡ violation_of request r)
 
@@ -45,7 +45,7 @@ own_of_field field (Plain fails) = Plain (filter (is_in_field field) fails)
 own_of_field field (InRanks lists) = InRanks (map (filter (is_in_field field)) lists)
 
 -- the request in which objects hold no reference that is valid, and fail at places that begin with the field alone
-abbrev pub narrowed : ℕ → Request → Request
+abbrev pub narrowed : ℕ → GraphRequest → GraphRequest
 narrowed field request = record {
   asked = request.asked;
   root = request.root;

@@ -1,7 +1,7 @@
 -- What fails in one object, by its own constraints.
 use Rattle.std.specs.Prelude.{◌≡◌, ℕ, List, [], ◌∷◌, ◌++◌, flat_map}
 use Rattle.fv_walk_traces.specs.Turns.{LocalFailure, Fail, Free, Turns, Shadows}
-use Rattle.fv_walk_traces.specs.Requests.{Own, Plain, InRanks, Request}
+use Rattle.fv_walk_traces.specs.Requests.{Own, Plain, InRanks, GraphRequest}
 use Rattle.fv_walk_traces.specs.Traces.{IsEndIn}
 
 -- a failure that ends turns by parts 3 and 4, among what fails in each of these groups, which no other such turns shadow
@@ -12,7 +12,7 @@ IsLocalIn hs own f =
     × (r ≡ before ++ Free (Fail f) ∷ [])
 
 -- a failure that ends turns by parts 3 and 4 at the object which no other such turns shadow
-abbrev pub IsLocal : Request → ℕ → ℕ → LocalFailure → Type 0
+abbrev pub IsLocal : GraphRequest → ℕ → ℕ → LocalFailure → Type 0
 IsLocal request object carried f = IsLocalIn (request.below carried) (request.own object) f
 
 -- the first list, or the second where the first has nothing
@@ -40,5 +40,5 @@ abbrev pub told_in : List ℕ → (ℕ → Own) → List LocalFailure
 told_in hs own = flat_map (λ h. told_of_own (own h)) hs
 
 -- the failures of one object in the groups that the carried one stands for
-abbrev pub local_failures : Request → ℕ → ℕ → List LocalFailure
+abbrev pub local_failures : GraphRequest → ℕ → ℕ → List LocalFailure
 local_failures request object carried = told_in (request.below carried) (request.own object)

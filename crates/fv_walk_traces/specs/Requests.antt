@@ -1,7 +1,7 @@
 -- A request, as far as its traces and violations are decided by it.
 use Rattle.std.specs.Prelude.{ℕ, List, Bool}
 use Rattle.fv_datum.specs.Data.{Data}
-use Rattle.fv_extract.specs.Places.{Place}
+use Rattle.fv_extract.specs.Places.{FieldPlace}
 use Rattle.fv_extract.specs.Parts.{Locus}
 use Rattle.fv_path.specs.Nodes.{PathNode}
 use Rattle.fv_walk_traces.specs.Turns.{LocalFailure, Way}
@@ -13,7 +13,7 @@ pub data Own : Type 0 where
   InRanks : List (List LocalFailure) → Own
 
 -- Objects, groups and nodes are numbers.
-pub record Request : Type 0 where
+pub record GraphRequest : Type 0 where
   -- the groups that are asked for, and the object that it begins at
   pub asked : List ℕ
   pub root : ℕ
@@ -23,12 +23,12 @@ pub record Request : Type 0 where
   -- the references that an object holds at the places of its type that are valid
   pub ways : ℕ → List Way
   -- the group that is carried on from an object: by its place, and the group that is carried to the object
-  pub converted : ℕ → Place → ℕ → ℕ
+  pub converted : ℕ → FieldPlace → ℕ → ℕ
   -- the groups that a plain group stands for: itself and those that it inherits
   pub below : ℕ → List ℕ
   -- what fails of an object's constraints in a group
   pub own : ℕ → ℕ → Own
   -- the nodes of the path from an object to a part of it, the datum there, and the object's name
-  pub nodes : ℕ → Place → Locus → List PathNode
-  pub datum : ℕ → Place → Locus → Data
+  pub nodes : ℕ → FieldPlace → Locus → List PathNode
+  pub datum : ℕ → FieldPlace → Locus → Data
   pub name : ℕ → List ℕ

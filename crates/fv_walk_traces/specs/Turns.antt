@@ -1,13 +1,13 @@
 -- The turns that a request takes to a failure, and which lists of turns shadow which.
 use Rattle.std.specs.Prelude.{◌≡◌, ◌<◌, ℕ, List, [], ◌∷◌, ◌++◌}
 use mathlib.Core.Logic.{◌⊎◌}
-use Rattle.fv_extract.specs.Places.{Place}
+use Rattle.fv_extract.specs.Places.{FieldPlace}
 use Rattle.fv_extract.specs.Parts.{Locus}
 
 -- where in an object something fails: on the object itself, or at a place and a locus
 pub data Spot : Type 0 where
   of_object : Spot
-  at : (place : Place) → (locus : Locus) → Spot
+  at : (place : FieldPlace) → (locus : Locus) → Spot
 
 -- what fails in an object: a node of an occurrence, and where
 pub record LocalFailure : Type 0 where
@@ -16,7 +16,7 @@ pub record LocalFailure : Type 0 where
 
 -- a reference that an object holds: its place, its locus, and the object that it names
 pub record Way : Type 0 where
-  pub place : Place
+  pub place : FieldPlace
   pub locus : Locus
   pub target : ℕ
 

@@ -3,7 +3,7 @@ use Rattle.std.specs.Prelude.{◌≡◌, ℕ, List, [], ◌∷◌, ◌++◌, con
 use Rattle.fv_datum.specs.Data.{Data, null, reference}
 use Rattle.fv_path.specs.Nodes.{PathNode, is_part}
 use Rattle.fv_walk_traces.specs.Turns.{Spot, of_object, at, FreeTurn, Ask, Step, Group, Fail, Turn, Free, Rank, Turns}
-use Rattle.fv_walk_traces.specs.Requests.{Request}
+use Rattle.fv_walk_traces.specs.Requests.{GraphRequest}
 use Rattle.fv_walk_traces.specs.Traces.{IsTrace, IsSpared}
 
 -- a violation: where it stands, the node that is reported, and the value
@@ -19,12 +19,12 @@ but_named (n ∷ []) = cond (is_part n) [] (n ∷ [])
 but_named (n ∷ m ∷ ns) = n ∷ but_named (m ∷ ns)
 
 -- the nodes that lead on to a spot of an object: none to the object itself
-abbrev pub nodes_to : Request → ℕ → Spot → List PathNode
+abbrev pub nodes_to : GraphRequest → ℕ → Spot → List PathNode
 nodes_to request object of_object = []
 nodes_to request object (at place locus) = request.nodes object place locus
 
 -- the value at a spot of an object: the datum there, or a reference to the object
-abbrev pub value_at : Request → ℕ → Spot → Data
+abbrev pub value_at : GraphRequest → ℕ → Spot → Data
 value_at request object of_object = reference (request.name object)
 value_at request object (at place locus) = request.datum object place locus
 
@@ -36,7 +36,7 @@ pub record Reached : Type 0 where
   pub value : Data
 
 -- what one more turn leads to: a step goes to its target, a failure tells a node and a value, all others change nothing
-abbrev pub onward : Request → Reached → Turn FreeTurn → Reached
+abbrev pub onward : GraphRequest → Reached → Turn FreeTurn → Reached
 onward request x (Free (Ask g)) = x
 onward request x (Free (Step way)) =
     record { path = x.path ++ but_named (request.nodes x.object way.place way.locus); object = way.target; node = x.node; value = x.value }
@@ -46,11 +46,11 @@ onward request x (Free (Fail f)) =
 onward request x (Rank i) = x
 
 -- the path, the node and the value of a trace: what its turns lead to, one after the other, from the root on
-abbrev pub violation_of : Request → Turns → Violation
+abbrev pub violation_of : GraphRequest → Turns → Violation
 violation_of request turns =
     let x : Reached = fold (onward request) (record { path = []; object = request.root; node = 0; value = null }) turns in
     record { path = x.path; node = x.node; value = x.value }
 
 -- a violation of the request: that of a trace which no trace shadows
-abbrev pub IsViolation : Request → Violation → Type 0
+abbrev pub IsViolation : GraphRequest → Violation → Type 0
 IsViolation request v = (r : Turns) × IsTrace request r × IsSpared request r × (v ≡ violation_of request r)

@@ -4,7 +4,7 @@
 ghost use Rattle.std.specs.Prelude.{◌↔◌, ℕ, List};
 ghost use Rattle.fv_graph.specs.Graph.{IsIn};
 ghost use Rattle.fv_walk_traces.specs.Turns.{LocalFailure};
-ghost use Rattle.fv_walk_traces.specs.Requests.{Own, Request};
+ghost use Rattle.fv_walk_traces.specs.Requests.{Own, GraphRequest};
 ghost use Rattle.fv_walk_traces.specs.Violations.{Violation, IsViolation};
 ghost use Rattle.fv_walk_traces.specs.OneObject.{IsLocalIn, told_in};
 ghost use Rattle.fv_walk_traces.specs.Listing.{IsListed};
@@ -19,6 +19,6 @@ pub fn local_failures_are_exact()
 /// The violations are the failures of the objects of all visits, but for the visits that are
 /// shadowed by a visit whose object has a failure.
 pub fn listing_is_exact()
-    ensures { (request : Request) (n : ℕ) → IsTidy request n → (v : Violation)
+    ensures { (request : GraphRequest) (n : ℕ) → IsTidy request n → (v : Violation)
         → IsViolation request v ↔ IsListed request v }
 {}

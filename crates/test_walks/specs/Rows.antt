@@ -1,13 +1,13 @@
 -- Requests that stand for worked examples: objects, groups and fields are numbers, by tables.
 use Rattle.std.specs.Prelude.{◌↔◌, ℕ, ◌+◌, List, [], ◌∷◌, Bool, true, false, cond, nat_lt, nat_eq, codes, slice_index_or}
 use Rattle.fv_datum.specs.Data.{null, reference}
-use Rattle.fv_extract.specs.Places.{Place, element}
+use Rattle.fv_extract.specs.Places.{FieldPlace, element}
 use Rattle.fv_extract.specs.Places as place
 use Rattle.fv_extract.specs.Parts.{Locus, at_index}
 use Rattle.fv_graph.specs.Graph.{IsIn}
 use Rattle.fv_path.specs.Nodes.{PathNode, field, index, list_element}
 use Rattle.fv_walk_traces.specs.Turns.{of_object, at, LocalFailure, Way}
-use Rattle.fv_walk_traces.specs.Requests.{Own, Plain, InRanks, Request}
+use Rattle.fv_walk_traces.specs.Requests.{Own, Plain, InRanks, GraphRequest}
 use Rattle.fv_walk_traces.specs.Violations.{Violation, IsViolation}
 use Rattle.fv_walk_traces.specs.OneField.{IsViolationOfField}
 
@@ -20,19 +20,19 @@ abbrev pub refused_at : List PathNode → ℕ → List ℕ → Violation
 refused_at path node name = record { path = path; node = node; value = reference name }
 
 -- the violations of a request are these
-abbrev pub AreViolations : Request → List Violation → Type 0
+abbrev pub AreViolations : GraphRequest → List Violation → Type 0
 AreViolations request vs = (v : Violation) → IsIn vs v ↔ IsViolation request v
 
 -- the violations of a request for one field are these
-abbrev pub AreViolationsOfField : Request → ℕ → List Violation → Type 0
+abbrev pub AreViolationsOfField : GraphRequest → ℕ → List Violation → Type 0
 AreViolationsOfField request f vs = (v : Violation) → IsIn vs v ↔ IsViolationOfField request f v
 
 -- the place that is a field
-abbrev pub whole : ℕ → Place
+abbrev pub whole : ℕ → FieldPlace
 whole f = record { field = f; steps = [] }
 
 -- the place of the elements of the list in a field
-abbrev pub elements : ℕ → Place
+abbrev pub elements : ℕ → FieldPlace
 elements f = record { field = f; steps = element ∷ [] }
 
 -- a constraint's node refuses a field
@@ -52,7 +52,7 @@ abbrev pub element_refers : ℕ → ℕ → ℕ → Way
 element_refers f i target = record { place = elements f; locus = at_index i ∷ []; target = target }
 
 -- the nodes behind a field's name
-abbrev pub behind : List place.Step → Locus → List PathNode
+abbrev pub behind : List place.PlaceStep → Locus → List PathNode
 behind (element ∷ steps) (at_index i ∷ l) = index i ∷ list_element ∷ behind steps l
 behind _ _ = []
 
@@ -76,7 +76,7 @@ is_some [] = false
 is_some (x ∷ xs) = true
 
 -- a request from such tables, for these groups. It begins at the first object, and all data are null
-abbrev pub row : Tables → List ℕ → Request
+abbrev pub row : Tables → List ℕ → GraphRequest
 row tables asked = record {
   asked = asked;
   root = 0;
@@ -160,7 +160,7 @@ kid = record {
 }
 
 -- Link: next, converting Default, A and B to S, the sequence [A, B]. Groups: Default, A, B, S. A chain of n objects.
-abbrev pub chain : ℕ → Request
+abbrev pub chain : ℕ → GraphRequest
 chain n = record {
   asked = 0 ∷ [];
   root = 0;
@@ -177,7 +177,7 @@ chain n = record {
 
 -- Trip: legs. The second Leg, which is named b2, is refused as an object. The request begins at an object: 0 is the trip, 2 the
 -- second leg.
-abbrev pub trip : ℕ → Request
+abbrev pub trip : ℕ → GraphRequest
 trip root = record {
   asked = 0 ∷ [];
   root = root;

@@ -5,7 +5,7 @@ use Rattle.fv_datum.proofs.Lookups.{seen_option}
 use Rattle.fv_constraint.specs.Composed.{Planned}
 use Rattle.fv_declare_definition.specs.Definitions as spec
 use Rattle.fv_declare_definition.specs.Definitions.{Definitions}
-use Rattle.fv_constraint.specs.Meanings.{Meant, meant_by, declared, composing_of}
+use Rattle.fv_constraint.specs.Meanings.{Meant, meant_by, declared, meant_composing}
 use Rattle.fv_declare_definition.specs.DefinitionViews.{composing_view, definition_entry, definition_view}
 use Rattle.fv_constraint.specs.MeantView.{meant_view}
 use Rattle.fv_constraint.specs.Effect.{effective, handed}
@@ -22,7 +22,7 @@ pub returns-in_default : goal.returns-in_default
 returns-in_default c =
     let ds : Definitions = map definition_entry c.args.definitions.now.entries in
     let p : Planned = planned_view c.args.above.now in
-    c.nowhere.ensures ds ∙ ap (composing_at ds p) (sym (ap (λ m. slice_get (composing_of (meant_view m)) c.args.edge) c.in_default.is))
+    c.nowhere.ensures ds ∙ ap (composing_at ds p) (sym (ap (λ m. slice_get (meant_composing (meant_view m)) c.args.edge) c.in_default.is))
 
 pub returns-in_default-get : goal.returns-in_default-get
 returns-in_default-get c =
@@ -30,8 +30,8 @@ returns-in_default-get c =
     let p : Planned = planned_view c.args.above.now in
     let d = c.in-Declared.definition.now in
     let found = seen_option composing_view d.composing.items c.args.edge c.get.result (rw c.deref.ensures.value at c.get.ensures.lookup) in
-    let none : slice_get (composing_of p.meant) c.args.edge ≡ None =
-    ap (λ m. slice_get (composing_of (meant_view m)) c.args.edge) c.in-Declared.is ∙ sym found ∙ ap (option_map (λ x. composing_view x.now)) c.in_default-get.is in
+    let none : slice_get (meant_composing p.meant) c.args.edge ≡ None =
+    ap (λ m. slice_get (meant_composing (meant_view m)) c.args.edge) c.in-Declared.is ∙ sym found ∙ ap (option_map (λ x. composing_view x.now)) c.in_default-get.is in
     c.nowhere-in_default-get.ensures ds ∙ ap (composing_at ds p) (sym none)
 
 pub returns : goal.returns
@@ -42,8 +42,8 @@ returns c =
     let one : spec.Composing = composing_view c.in-Some.composing.now in
     let found = seen_option composing_view d.composing.items c.args.edge c.get.result (rw c.deref.ensures.value at c.get.ensures.lookup) in
     let is : p.meant ≡ declared (definition_view d) = ap meant_view c.in-Declared.is in
-    let here : slice_get (composing_of p.meant) c.args.edge ≡ Some one =
-    ap (λ m. slice_get (composing_of (meant_view m)) c.args.edge) c.in-Declared.is ∙ sym found ∙ ap (option_map (λ x. composing_view x.now)) c.in-Some.is in
+    let here : slice_get (meant_composing p.meant) c.args.edge ≡ Some one =
+    ap (λ m. slice_get (meant_composing (meant_view m)) c.args.edge) c.in-Declared.is ∙ sym found ∙ ap (option_map (λ x. composing_view x.now)) c.in-Some.is in
     let name : c.as_str-name.result.now ≡ one.constraint = c.as_str-name.ensures.value in
     let meant : meant_view c.unwrap_or.result ≡ unwrap_or (meant_by ds one.constraint) p.meant =
     ap meant_view c.unwrap_or.ensures ∙ unwrapped meant_view c.meant_by.result c.args.above.now.meant ∙ ap (λ o. unwrap_or o p.meant) (c.meant_by.ensures ∙ ap (meant_by ds) name) in

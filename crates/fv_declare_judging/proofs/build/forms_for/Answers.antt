@@ -1,5 +1,5 @@
 use Rattle.std.proofs.Common.{◌≡◌, map, Some, None, not, is_some, true, false, string_bytes, option_map, sym, ap, ◌∙◌, true≢false, arith}
-use Rattle.fv_bundle.specs.Types.{number_of, name_at}
+use Rattle.fv_bundle.specs.Types.{number_of_type, name_at}
 use Rattle.fv_bundle.specs.TypesView.{types_view}
 use Rattle.fv_declare_judging.specs.Schemas.{form_declared, form_grouped}
 use Rattle.fv_declare_draft.specs.DraftViews.{form_view}
@@ -18,8 +18,8 @@ returns-in_default c =
     let fs = c.args.forms.now in
     let f = c.form-item.result in
     let at = c.form-item.is in
-    let here : not (is_some (number_of ts f.root.now)) ≡ false = known_here ts fs l.form-index f (omega arith) at l.invariant.known in
-    let none : number_of ts f.root.now ≡ None = sym c.find.ensures ∙ ap (option_map (λ t. t.index)) c.in_default.is in
+    let here : not (is_some (number_of_type ts f.root.now)) ≡ false = known_here ts fs l.form-index f (omega arith) at l.invariant.known in
+    let none : number_of_type ts f.root.now ≡ None = sym c.find.ensures ∙ ap (option_map (λ t. t.index)) c.in_default.is in
     let no : true ≡ false = rw none at here in
     absurd (true≢false no)
 
@@ -33,7 +33,7 @@ loop-form-preserved c =
     let made : Form = record { root = c.in-Some.root; groups = c.in_ok-groups.groups } in
     let gs = c.args.groups.now in
     let is : string_bytes c.in_ok-from_str.field-0 ≡ f.name.now = grind (arith, c.in_ok-from_str.ensures) in
-    let found : number_of ts f.root.now ≡ Some made.root.index = sym c.find.ensures ∙ ap (option_map (λ t. t.index)) c.in-Some.is in
+    let found : number_of_type ts f.root.now ≡ Some made.root.index = sym c.find.ensures ∙ ap (option_map (λ t. t.index)) c.in-Some.is in
     let same : name_at ts made.root.index ≡ f.root.now = found_name ts f.root.now made.root.index found in
     let named : indices made.groups.items ≡ groups_named gs (form_view f).groups = c.in_ok-groups.ensures ∙ ap (λ ns. groups_named gs (map (λ n. n.now) ns)) c.deref.ensures.value in
     record {

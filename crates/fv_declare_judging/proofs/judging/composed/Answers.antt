@@ -1,7 +1,7 @@
 use Rattle.std.proofs.Common.{◌≡◌, Option, Some, None, Err}
 use Rattle.std.specs.Option.{MatchOption}
 use Rattle.std.proofs.lemmas.Result.{IfOk-weaker, IfErr-weaker}
-use Rattle.fv_constraint.specs.Composed.{IsCyclic}
+use Rattle.fv_constraint.specs.Composed.{ComposesItself}
 use Rattle.fv_declare_definition.specs.Definitions.{Definitions}
 use Rattle.fv_declare_draft.specs.DraftViews.{draft_view}
 use Rattle.fv_declare_judging.proofs.Found.{composed_known}
@@ -30,12 +30,12 @@ pub returns-clause-taken : goal.returns-clause-taken
 returns-clause-taken g c =
     let d = draft_view c.args.draft.now in
     let ds = d.definitions in
-    let no_cycle : IsCyclic ds → ⊥ = there (IsCyclic ds) (IsCyclic ds → ⊥) (λ (x : Definitions). x ≡ ds) c.in_ok-composition.field-0 _ c.in-Some.is c.in_ok-composition.ensures in
+    let no_cycle : ComposesItself ds → ⊥ = there (ComposesItself ds) (ComposesItself ds → ⊥) (λ (x : Definitions). x ≡ ds) c.in_ok-composition.field-0 _ c.in-Some.is c.in_ok-composition.ensures in
     IfOk-weaker c.flattened.result _ _ (λ v. acyclic_read (g.R.RuleSet.known c.args.rules.now) d no_cycle v.items) c.flattened.ensures.taken
 
 pub returns-clause-refused : goal.returns-clause-refused
 returns-clause-refused g c =
     let d = draft_view c.args.draft.now in
     let ds = d.definitions in
-    let no_cycle : IsCyclic ds → ⊥ = there (IsCyclic ds) (IsCyclic ds → ⊥) (λ (x : Definitions). x ≡ ds) c.in_ok-composition.field-0 _ c.in-Some.is c.in_ok-composition.ensures in
+    let no_cycle : ComposesItself ds → ⊥ = there (ComposesItself ds) (ComposesItself ds → ⊥) (λ (x : Definitions). x ≡ ds) c.in_ok-composition.field-0 _ c.in-Some.is c.in_ok-composition.ensures in
     IfErr-weaker c.flattened.result _ _ (λ p h other. acyclic (g.R.RuleSet.known c.args.rules.now) d no_cycle (Err p.fault) (h other)) c.flattened.ensures.refused

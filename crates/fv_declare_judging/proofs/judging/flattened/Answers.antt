@@ -5,7 +5,7 @@ use Rattle.fv_constraint.specs.Meanings.{meant_by}
 use Rattle.fv_flatten.specs.Flattening as flat
 use Rattle.fv_constraint_tree.specs.TargetFits.{tree_fits}
 use Rattle.fv_declare_definition.specs.Definitions.{Definitions}
-use Rattle.fv_declare_draft.specs.AllUses.{Use}
+use Rattle.fv_declare_draft.specs.AllUses.{DraftUse}
 use Rattle.fv_declare_draft.specs.Drafts.{Drafted}
 use Rattle.fv_declare_draft.specs.DraftViews.{draft_view}
 use Rattle.fv_declare_draft.specs.UseViews.{use_view}
@@ -35,8 +35,8 @@ returns-in-Some-clause-refused g c =
 pub first_limit-requires-clause-named : goal.first_limit-requires-clause-named
 first_limit-requires-clause-named g c =
     let d = draft_view c.args.draft.now in
-    subst (λ (ds : Definitions). list_any (λ (u : Use). not (is_some (meant_by ds u.draft.constraint))) (map use_view c.args.uses.now) ≡ false) (sym c.requires.composed)
-    (subst (λ (us : List Use). list_any (λ (u : Use). not (is_some (meant_by d.definitions u.draft.constraint))) us ≡ false) (sym c.requires.checked.uses) (used_known d c.requires.checked.named))
+    subst (λ (ds : Definitions). list_any (λ (u : DraftUse). not (is_some (meant_by ds u.draft.constraint))) (map use_view c.args.uses.now) ≡ false) (sym c.requires.composed)
+    (subst (λ (us : List DraftUse). list_any (λ (u : DraftUse). not (is_some (meant_by d.definitions u.draft.constraint))) us ≡ false) (sym c.requires.checked.uses) (used_known d c.requires.checked.named))
 
 pub returns-in-Some-first_limit-clause-refused : goal.returns-in-Some-first_limit-clause-refused
 returns-in-Some-first_limit-clause-refused g c =
@@ -64,8 +64,8 @@ returns-in-Some-first_limit-clause-placed g c =
 pub trees_of-requires : goal.trees_of-requires
 trees_of-requires g c =
     let d = draft_view c.args.draft.now in
-    subst (λ (ds : Definitions). list_any (λ (u : Use). not (is_some (meant_by ds u.draft.constraint))) (map use_view c.args.uses.now) ≡ false) (sym c.requires.composed)
-    (subst (λ (us : List Use). list_any (λ (u : Use). not (is_some (meant_by d.definitions u.draft.constraint))) us ≡ false) (sym c.requires.checked.uses) (used_known d c.requires.checked.named))
+    subst (λ (ds : Definitions). list_any (λ (u : DraftUse). not (is_some (meant_by ds u.draft.constraint))) (map use_view c.args.uses.now) ≡ false) (sym c.requires.composed)
+    (subst (λ (us : List DraftUse). list_any (λ (u : DraftUse). not (is_some (meant_by d.definitions u.draft.constraint))) us ≡ false) (sym c.requires.checked.uses) (used_known d c.requires.checked.named))
 
 pub returns-in_err-trees-clause-refused : goal.returns-in_err-trees-clause-refused
 returns-in_err-trees-clause-refused g c =

@@ -4,8 +4,8 @@ use mir.Syntax.{w64}
 use Rattle.fv_datum.specs.Members.{each_some}
 use Rattle.fv_declare_schema.specs.Declarations.{Declarations}
 use Rattle.fv_engine_machine.specs.Keeping.{ChecksField}
-use Rattle.fv_declare_schema.specs.Groups.{Groups, number_of, numbers_of}
-use Rattle.fv_declare_schema.specs.Judged.{unknown_in}
+use Rattle.fv_declare_schema.specs.Groups.{Groups, group_number, numbers_of}
+use Rattle.fv_declare_schema.specs.Judged.{unknown_group_in}
 use Rattle.fv_declare_schema.specs.Tables.{indices}
 use Rattle.fv_walk.specs.Properties.{field_number}
 use Rattle.fv_walk.specs.FieldVisits.{HasTooManyVisitsAt, HasFewVisitsAt}
@@ -27,8 +27,8 @@ returns-in-Ok-None g c =
     let ds = c.args.book.now in
     let names = map (λ n. n.now) c.args.names.now in
     let same : c.groups.result.now ≡ ds.groups = c.groups.ensures ∙ ap (λ (d : Declarations). d.groups) c.schema.ensures in
-    let none : None ≡ each_some (number_of c.groups.result.now) names = rw c.in-Ok-None.field-0-is at c.in-Ok-None.ensures.numbers in
-    inl (subst (λ (gs : Groups). unknown_in gs names ≡ true) same (not_named c.groups.result.now names none), refl)
+    let none : None ≡ each_some (group_number c.groups.result.now) names = rw c.in-Ok-None.field-0-is at c.in-Ok-None.ensures.numbers in
+    inl (subst (λ (gs : Groups). unknown_group_in gs names ≡ true) same (not_named c.groups.result.now names none), refl)
 
 pub returns-in_default : goal.returns-in_default
 returns-in_default g c =
@@ -36,10 +36,10 @@ returns-in_default g c =
     let ds = c.args.book.now in
     let names = map (λ n. n.now) c.args.names.now in
     let same : c.groups.result.now ≡ ds.groups = c.groups.ensures ∙ ap (λ (d : Declarations). d.groups) c.schema.ensures in
-    let some : Some (indices c.in-Ok-Some.asked.items) ≡ each_some (number_of c.groups.result.now) names = rw c.in-Ok-Some.field-0-is at c.in-Ok-Some.ensures.numbers in
+    let some : Some (indices c.in-Ok-Some.asked.items) ≡ each_some (group_number c.groups.result.now) names = rw c.in-Ok-Some.field-0-is at c.in-Ok-Some.ensures.numbers in
     let named = all_named c.groups.result.now names (indices c.in-Ok-Some.asked.items) some in
     let numbers : indices c.in-Ok-Some.asked.items ≡ numbers_of ds.groups names = named.1 ∙ ap (λ (gs : Groups). numbers_of gs names) same in
-    let known : unknown_in ds.groups names ≡ false = subst (λ (gs : Groups). unknown_in gs names ≡ false) same named.0 in
+    let known : unknown_group_in ds.groups names ≡ false = subst (λ (gs : Groups). unknown_group_in gs names ≡ false) same named.0 in
     subst (λ (o : Option (Bor Object)). ChecksField m ds c.args.now (option_map (λ x. object_view x.now) o) c.args.field.now names field_checked (refused NoSuchField)) (sym c.in_default.is) (inr (inl (known, refl)))
 
 pub returns-in-Ok : goal.returns-in-Ok
@@ -48,10 +48,10 @@ returns-in-Ok g c =
     let ds = c.args.book.now in
     let names = map (λ n. n.now) c.args.names.now in
     let same : c.groups.result.now ≡ ds.groups = c.groups.ensures ∙ ap (λ (d : Declarations). d.groups) c.schema.ensures in
-    let some : Some (indices c.in-Ok-Some.asked.items) ≡ each_some (number_of c.groups.result.now) names = rw c.in-Ok-Some.field-0-is at c.in-Ok-Some.ensures.numbers in
+    let some : Some (indices c.in-Ok-Some.asked.items) ≡ each_some (group_number c.groups.result.now) names = rw c.in-Ok-Some.field-0-is at c.in-Ok-Some.ensures.numbers in
     let named = all_named c.groups.result.now names (indices c.in-Ok-Some.asked.items) some in
     let numbers : indices c.in-Ok-Some.asked.items ≡ numbers_of ds.groups names = named.1 ∙ ap (λ (gs : Groups). numbers_of gs names) same in
-    let known : unknown_in ds.groups names ≡ false = subst (λ (gs : Groups). unknown_in gs names ≡ false) same named.0 in
+    let known : unknown_group_in ds.groups names ≡ false = subst (λ (gs : Groups). unknown_group_in gs names ≡ false) same named.0 in
     let thing = object_view c.in-Some.object.now in
     let vs = map violation_view c.in-Ok.violations.items in
     let typed : IsOfType ds.types thing = rw c.in-Some.is at c.requires.typed in
@@ -67,10 +67,10 @@ returns g c =
     let ds = c.args.book.now in
     let names = map (λ n. n.now) c.args.names.now in
     let same : c.groups.result.now ≡ ds.groups = c.groups.ensures ∙ ap (λ (d : Declarations). d.groups) c.schema.ensures in
-    let some : Some (indices c.in-Ok-Some.asked.items) ≡ each_some (number_of c.groups.result.now) names = rw c.in-Ok-Some.field-0-is at c.in-Ok-Some.ensures.numbers in
+    let some : Some (indices c.in-Ok-Some.asked.items) ≡ each_some (group_number c.groups.result.now) names = rw c.in-Ok-Some.field-0-is at c.in-Ok-Some.ensures.numbers in
     let named = all_named c.groups.result.now names (indices c.in-Ok-Some.asked.items) some in
     let numbers : indices c.in-Ok-Some.asked.items ≡ numbers_of ds.groups names = named.1 ∙ ap (λ (gs : Groups). numbers_of gs names) same in
-    let known : unknown_in ds.groups names ≡ false = subst (λ (gs : Groups). unknown_in gs names ≡ false) same named.0 in
+    let known : unknown_group_in ds.groups names ≡ false = subst (λ (gs : Groups). unknown_group_in gs names ≡ false) same named.0 in
     let thing = object_view c.in-Some.object.now in
     let many = rw c.deref.ensures.value at c.in-Err-validate_property.ensures.many in
     subst (λ (o : Option (Bor Object)). ChecksField m ds c.args.now (option_map (λ x. object_view x.now) o) c.args.field.now names field_checked (refused c.unjudged.result)) (sym c.in-Some.is)

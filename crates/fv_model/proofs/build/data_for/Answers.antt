@@ -7,7 +7,7 @@ use Rattle.fv_datum.specs.Data.{Data}
 use Rattle.fv_datum.specs.View.{view}
 use Rattle.fv_bundle.specs.declared.type_use.TypeUse.{TypeUse}
 use Rattle.fv_model.specs.Fitting.{misfits_given, field_misfits}
-use Rattle.fv_model.specs.Reading.{datum_at, field_of}
+use Rattle.fv_model.specs.Reading.{datum_at, given_field}
 use Rattle.fv_model.specs.Types as spec
 use Rattle.fv_bundle.specs.Types.{type_use_view, use_view, fields_view}
 use Rattle.fv_model.specs.Views.{given_view}
@@ -22,7 +22,7 @@ returns-in_err-datum_for-clause-exact c =
     let value = option_map (λ v. json_view v.now) c.find_given.result in
     let fields = fields_view c.args.fields.now in
     let before : list_any (field_misfits given) (map use_view (entry ∷ c.next.new.self)) ≡ list_any (field_misfits given) fields = rw c.in-Some.ensures.steps at c.loop-name.invariant.fit in
-    at_exit c.from_residual-in_err-datum_for.result (λ v. map view v.items) _ (misfits_given type_use value) (list_any (field_misfits given) fields) (datum_at type_use value) (map (λ f. (field_of given f).1) fields)
+    at_exit c.from_residual-in_err-datum_for.result (λ v. map view v.items) _ (misfits_given type_use value) (list_any (field_misfits given) fields) (datum_at type_use value) (map (λ f. (given_field given f).1) fields)
     c.from_residual-in_err-datum_for.ensures.1 c.in_err-datum_for.ensures.exact
     (λ is. let here : field_misfits given (use_view entry) ≡ true = rw (c.find_given.ensures, c.as_str.ensures.value) at is in sym before ∙ or_here _ _ here)
 
@@ -34,7 +34,7 @@ loop-name-preserved c =
     let value = option_map (λ v. json_view v.now) c.find_given.result in
     let fields = fields_view c.args.fields.now in
     let datum = c.in_ok-datum_for.field-0 in
-    let datum_of : List ℕ × spec.TypeUse → Data = λ f. (field_of given f).1 in
+    let datum_of : List ℕ × spec.TypeUse → Data = λ f. (given_field given f).1 in
     let more = map use_view c.next.new.self in
     let before : list_any (field_misfits given) (map use_view (entry ∷ c.next.new.self)) ≡ list_any (field_misfits given) fields = rw c.in-Some.ensures.steps at c.loop-name.invariant.fit in
     let made : map view c.loop-name.out.items ++ map datum_of (map use_view (entry ∷ c.next.new.self)) ≡ map datum_of fields = rw c.in-Some.ensures.steps at c.loop-name.invariant.made in

@@ -1,5 +1,5 @@
 use Rattle.sqlite.specs.Held.{state}
-use Rattle.fv_tables.specs.Stands.{Part, tables_of}
+use Rattle.fv_tables.specs.Stands.{ObjectTexts, tables_of}
 use Rattle.fv_tables.proofs.Steps.{led}
 use Rattle.fv_tables.proofs.Objects.{turns_set, owned}
 use Rattle.fv_tables.proofs.Refusals.{handed_on}
@@ -7,7 +7,7 @@ use Rattle.fv_tables.proofs.entries.set_object.Goals as goal
 
 pub returns-clause-done : goal.returns-clause-done
 returns-clause-done g c clean inside =
-    let p : Part = record { kind = c.args.kind.now; fields = c.args.fields.now } in
+    let p : ObjectTexts = record { kind = c.args.kind.now; fields = c.args.fields.now } in
     led (state g.S.Store c.args.tx.now.conn.now) (state g.S.Store c.update_object.new.tx.conn.now) (turns_set c.args.id.now c.args.name.now p _) (c.in_ok-update_object.ensures.done clean inside)
 
 pub returns-in_err-update_object-clause-cause : goal.returns-in_err-update_object-clause-cause

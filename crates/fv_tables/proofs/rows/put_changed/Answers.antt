@@ -1,7 +1,7 @@
 use Rattle.std.proofs.Common.{[], ◌∷◌, ◌≢◌, ◌∙◌, arith}
 use Rattle.sqlite.specs.Held.{state}
 use Rattle.fv_tables.specs.Changes.{found_object, object_view}
-use Rattle.fv_tables.specs.Stands.{Part, Place}
+use Rattle.fv_tables.specs.Stands.{ObjectTexts, ObjectKey}
 use Rattle.fv_tables.specs.Steps.{IsThere}
 use Rattle.fv_tables.proofs.Composed.{fewer_rooms}
 use Rattle.fv_tables.proofs.Steps.{then_on_ok}
@@ -17,8 +17,8 @@ returns-in_err-changed-clause-cause g c clean inside none =
 
 pub returns-in-0-clause-done : goal.returns-in-0-clause-done
 returns-in-0-clause-done g c clean inside =
-    let at : Place = (c.args.id.now, (object_view c.args.object.now).0) in
-    let p : Part = (object_view c.args.object.now).1 in
+    let at : ObjectKey = (c.args.id.now, (object_view c.args.object.now).0) in
+    let p : ObjectTexts = (object_view c.args.object.now).1 in
     let updated = rw c.in-0.is at (c.in_ok-changed.ensures.done (c.put_object.ensures.frame.clean clean) inside) in
     anyhow (state g.S.Store c.args.tx.now.conn.now) (state g.S.Store c.put_object.new.tx.conn.now) at p (IsThere c.args.id.now (found_object c.args.row.now ∷ []) (object_view c.args.object.now)) c.put_object.result
     (then_on_ok (state g.S.Store c.args.tx.now.conn.now) (state g.S.Store c.update_row.new.tx.conn.now) (state g.S.Store c.put_object.new.tx.conn.now) c.put_object.result
@@ -26,16 +26,16 @@ returns-in-0-clause-done g c clean inside =
 
 pub returns-in-0-clause-cause : goal.returns-in-0-clause-cause
 returns-in-0-clause-cause g c clean inside none =
-    let at : Place = (c.args.id.now, (object_view c.args.object.now).0) in
-    let p : Part = (object_view c.args.object.now).1 in
+    let at : ObjectKey = (c.args.id.now, (object_view c.args.object.now).0) in
+    let p : ObjectTexts = (object_view c.args.object.now).1 in
     let updated = rw c.in-0.is at (c.in_ok-changed.ensures.done (c.put_object.ensures.frame.clean clean) inside) in
     row_missed_cause (state g.S.Store c.args.tx.now.conn.now) (state g.S.Store c.update_row.new.tx.conn.now) (state g.S.Store c.put_object.new.tx.conn.now) c.args.row.now.rowid at p clean
     c.update_row.ensures.frame c.put_object.ensures.frame updated c.put_object.result (c.put_object.ensures.cause clean updated.mode (c.update_row.ensures.limit ∙ none))
 
 pub returns-in_default-clause-done : goal.returns-in_default-clause-done
 returns-in_default-clause-done g c clean inside =
-    let at : Place = (c.args.id.now, (object_view c.args.object.now).0) in
-    let p : Part = (object_view c.args.object.now).1 in
+    let at : ObjectKey = (c.args.id.now, (object_view c.args.object.now).0) in
+    let p : ObjectTexts = (object_view c.args.object.now).1 in
     let some : c.in_ok-changed.changed ≢ 0 = assumption c.in_default in
     part_written (state g.S.Store c.args.tx.now.conn.now) (state g.S.Store c.update_row.new.tx.conn.now) at p (IsThere c.args.id.now (found_object c.args.row.now ∷ []) (object_view c.args.object.now))
     (row_in_place (state g.S.Store c.args.tx.now.conn.now) (state g.S.Store c.update_row.new.tx.conn.now) c.args.row.now.rowid at p c.in_ok-changed.changed some (c.in_ok-changed.ensures.done clean inside))

@@ -4,7 +4,7 @@ use Rattle.std.proofs.lemmas.Result.{IfErr-weaker}
 use mir.Syntax.{w64}
 use Rattle.fv_declare_schema.specs.Declarations.{Declarations}
 use Rattle.fv_declare_schema.specs.Groups.{Groups, numbers_of}
-use Rattle.fv_declare_schema.specs.Judged.{unknown_in}
+use Rattle.fv_declare_schema.specs.Judged.{unknown_group_in}
 use Rattle.fv_declare_schema.specs.Tables.{indices}
 use Rattle.fv_validate.proofs.by_name.validate_value.Goals as goal
 
@@ -26,7 +26,7 @@ pub returns-clause-absent : goal.returns-clause-absent
 returns-clause-absent g c =
     let names = map string_bytes c.args.asked.now in
     let own : c.groups.result.now ≡ c.args.rulebook.now.groups = c.groups.ensures ∙ ap (λ (x : Declarations). x.groups) c.schema.ensures in
-    let known : unknown_in c.args.rulebook.now.groups names ≡ false = rw own at c.in_ok-asked.ensures.known in
+    let known : unknown_group_in c.args.rulebook.now.groups names ≡ false = rw own at c.in_ok-asked.ensures.known in
     IfErr-weaker c.validate_value.result _ _ (λ fault it is. (known, it is)) c.validate_value.ensures.absent
 
 pub returns-clause-many : goal.returns-clause-many
@@ -34,5 +34,5 @@ returns-clause-many g c =
     let names = map string_bytes c.args.asked.now in
     let own : c.groups.result.now ≡ c.args.rulebook.now.groups = c.groups.ensures ∙ ap (λ (x : Declarations). x.groups) c.schema.ensures in
     let same : indices c.deref.result.now ≡ numbers_of c.args.rulebook.now.groups names = ap indices c.deref.ensures.value ∙ c.in_ok-asked.ensures.numbers ∙ ap (λ (gs : Groups). numbers_of gs names) own in
-    let known : unknown_in c.args.rulebook.now.groups names ≡ false = rw own at c.in_ok-asked.ensures.known in
+    let known : unknown_group_in c.args.rulebook.now.groups names ≡ false = rw own at c.in_ok-asked.ensures.known in
     IfErr-weaker c.validate_value.result _ _ (λ fault it is. (known, (it is).0, (it is).1)) (rw same at c.validate_value.ensures.many)

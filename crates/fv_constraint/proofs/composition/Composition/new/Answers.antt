@@ -4,7 +4,7 @@ use Rattle.std.specs.declared.alloc.Global.{Global}
 use Rattle.fv_graph.specs.Graph.{next_of}
 use Rattle.fv_graph.specs.Graph as graph
 use Rattle.fv_graph.specs.Weight.{own_of}
-use Rattle.fv_constraint.specs.Composed.{IsCyclic}
+use Rattle.fv_constraint.specs.Composed.{ComposesItself}
 use Rattle.fv_constraint.specs.Meanings.{composes_unknown}
 use Rattle.fv_constraint.specs.Numbered.{IsNumbered}
 use Rattle.fv_constraint.proofs.Cycles.{cyclic_in, cyclic_out}
@@ -17,7 +17,7 @@ weigh_all-requires-clause-within c = rw c.deref.ensures.value (are_within c.in_o
 pub returns-in_default : goal.returns-in_default
 returns-in_default c =
     let cycle : graph.IsCyclic (next_of c.deref.result.now) = rw c.in_default.is at c.in_ok-sizes.ensures in
-    subst IsCyclic c.in_ok-numbers.ensures (cyclic_out c.in_ok-numbers.numbers c.deref.result.now (ap (map (λ nodes. nodes.items)) c.deref.ensures.value ∙ c.in_ok-edges.ensures) cycle)
+    subst ComposesItself c.in_ok-numbers.ensures (cyclic_out c.in_ok-numbers.numbers c.deref.result.now (ap (map (λ nodes. nodes.items)) c.deref.ensures.value ∙ c.in_ok-edges.ensures) cycle)
 
 pub invariant_of-result : goal.invariant_of-result
 invariant_of-result c =
@@ -35,4 +35,4 @@ pub returns : goal.returns
 returns c =
     let are = ap (map (λ nodes. nodes.items)) c.deref.ensures.value ∙ c.in_ok-edges.ensures in
     let found = rw c.in-Some.is at c.in_ok-sizes.ensures in
-    (c.in_ok-numbers.ensures, λ cycle. found.0 (cyclic_in c.in_ok-numbers.numbers c.deref.result.now are (subst IsCyclic (sym c.in_ok-numbers.ensures) cycle)))
+    (c.in_ok-numbers.ensures, λ cycle. found.0 (cyclic_in c.in_ok-numbers.numbers c.deref.result.now are (subst ComposesItself (sym c.in_ok-numbers.ensures) cycle)))

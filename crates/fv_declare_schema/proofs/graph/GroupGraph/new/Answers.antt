@@ -2,7 +2,7 @@ use Rattle.std.proofs.Common.{◌≡◌, ◌≢◌, ◌∙◌, ℕ, List, Vec, t
 use Rattle.std.specs.declared.alloc.Global.{Global}
 use Rattle.fv_graph.specs.Graph.{next_of, IsCyclic}
 use Rattle.fv_declare_schema.specs.Groups.{Groups, inherit_next, member_next}
-use Rattle.fv_declare_schema.specs.Judged.{AreSound, IsFault, has_unknown, has_inherited_sequence}
+use Rattle.fv_declare_schema.specs.Judged.{AreSound, IsFault, has_unknown_group, has_inherited_sequence}
 use Rattle.fv_declare_schema.specs.Marked.{AreMeetingIn}
 use Rattle.fv_declare_schema.specs.Tables.{AreEdges}
 use Rattle.fv_declare_schema.specs.declared.fault.GroupFault.TheVariants.{UnknownGroup, CyclicInheritance, CyclicSequence, SequenceMisused, TooLarge}
@@ -13,7 +13,7 @@ use Rattle.fv_declare_schema.proofs.graph.GroupGraph.new.Goals as goal
 pub returns-in-Some-clause-made : goal.returns-in-Some-clause-made
 returns-in-Some-clause-made c =
     let gs : Groups = c.new-groups.result in
-    let unknown : has_unknown gs ≡ true = sym (ap is_some c.in-Some.ensures ∙ unknown_told c.new-groups.result) in
+    let unknown : has_unknown_group gs ≡ true = sym (ap is_some c.in-Some.ensures ∙ unknown_told c.new-groups.result) in
     subst (λ (es : Groups). (UnknownGroup ≢ TooLarge) × IsFault es UnknownGroup) c.new-groups.ensures (not_large, unknown)
 
 pub new-requires : goal.new-requires
@@ -27,7 +27,7 @@ returns-in_default-2-clause-made c =
     let gs : Groups = c.new-groups.result in
     let edges = c.in_ok-inherited.field-0.items in
     let are : AreEdges (inherit_next gs) (length gs) edges = inherited_edges gs edges c.in_ok-inherited.ensures in
-    let known : has_unknown gs ≡ false = sym (ap is_some c.in_default.ensures ∙ unknown_told c.new-groups.result) in
+    let known : has_unknown_group gs ≡ false = sym (ap is_some c.in_default.ensures ∙ unknown_told c.new-groups.result) in
     let cycle : IsCyclic (next_of edges) = rw c.in_default-2.is at c.in_ok-inheritance.ensures in
     subst (λ (es : Groups). (CyclicInheritance ≢ TooLarge) × IsFault es CyclicInheritance) c.new-groups.ensures
     (λ e. cc, (known, cyclic_same (next_of edges) (inherit_next gs) are.1 cycle))
@@ -45,7 +45,7 @@ returns-in_default-3-clause-made c =
     let edges' = c.in_ok-members.field-0.items in
     let are : AreEdges (inherit_next gs) (length gs) edges = inherited_edges gs edges c.in_ok-inherited.ensures in
     let are' : AreEdges (member_next gs) (length gs) edges' = member_edges gs edges' c.in_ok-members.ensures in
-    let known : has_unknown gs ≡ false = sym (ap is_some c.in_default.ensures ∙ unknown_told c.new-groups.result) in
+    let known : has_unknown_group gs ≡ false = sym (ap is_some c.in_default.ensures ∙ unknown_told c.new-groups.result) in
     let found = rw c.in-Some-2.is at c.in_ok-inheritance.ensures in
     let cycle : IsCyclic (next_of edges') = rw c.in_default-3.is at c.in_ok-expansion.ensures in
     subst (λ (es : Groups). (CyclicSequence ≢ TooLarge) × IsFault es CyclicSequence) c.new-groups.ensures
@@ -58,7 +58,7 @@ returns-in-Some-inherited_sequence-clause-made c =
     let edges' = c.in_ok-members.field-0.items in
     let are : AreEdges (inherit_next gs) (length gs) edges = inherited_edges gs edges c.in_ok-inherited.ensures in
     let are' : AreEdges (member_next gs) (length gs) edges' = member_edges gs edges' c.in_ok-members.ensures in
-    let known : has_unknown gs ≡ false = sym (ap is_some c.in_default.ensures ∙ unknown_told c.new-groups.result) in
+    let known : has_unknown_group gs ≡ false = sym (ap is_some c.in_default.ensures ∙ unknown_told c.new-groups.result) in
     let misused : has_inherited_sequence gs ≡ true = sym (ap is_some c.in-Some-inherited_sequence.ensures ∙ inherited_told c.new-groups.result) in
     let found = rw c.in-Some-2.is at c.in_ok-inheritance.ensures in
     let found' = rw c.in-Some-3.is at c.in_ok-expansion.ensures in

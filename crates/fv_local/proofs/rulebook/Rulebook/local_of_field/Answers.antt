@@ -7,7 +7,7 @@ use Rattle.fv_bundle.specs.Views.{object_view}
 use Rattle.fv_local.specs.Below.{below}
 use Rattle.fv_local.specs.Reached.{plain_groups}
 use Rattle.fv_local.specs.TableView.{lists_view}
-use Rattle.fv_bundle.specs.Types.{Declared, number_of}
+use Rattle.fv_bundle.specs.Types.{Declared, number_of_type}
 use Rattle.fv_bundle.specs.TypesView.{types_view}
 use Rattle.fv_local.specs.Fields.{stands_in}
 use Rattle.fv_local.proofs.Fields.{reached_in_field, ranks_reached_in_field}
@@ -61,9 +61,9 @@ returns-clause-exact g c =
     let hs = plain_groups ds type c.args.group.index in
     let below_it = below ds.groups c.args.group.index in
     let same : map placed_view c.occurrences-occurrences.result.now ≡ ds.occurrences = c.occurrences-occurrences.ensures.uses ∙ ap (λ (d : Declarations). d.occurrences) c.self.view_is in
-    let named : number_of c.self.inside.schema.types object.type_name ≡ Some type =
-    ap (λ (ts : Declared). number_of ts object.type_name) (sym c.types.ensures) ∙ ap (λ (n : List ℕ). number_of (types_view c.types.result.now) n) (sym c.type_name.ensures) ∙ sym c.in-Some.ensures in
-    let typed : number_of ds.types object.type_name ≡ Some type = rw (← c.self.view_is) named in
+    let named : number_of_type c.self.inside.schema.types object.type_name ≡ Some type =
+    ap (λ (ts : Declared). number_of_type ts object.type_name) (sym c.types.ensures) ∙ ap (λ (n : List ℕ). number_of_type (types_view c.types.result.now) n) (sym c.type_name.ensures) ∙ sym c.in-Some.ensures in
+    let typed : number_of_type ds.types object.type_name ≡ Some type = rw (← c.self.view_is) named in
     let plain = reached_in_field m c.args.now object c.args.field ds type hs c.uses.result.now c.deref.result.now _ same (c.deref.ensures.value ∙ c.in_ok-uses.ensures) c.uses.ensures in
     let ranked = ranks_reached_in_field m c.args.now object c.args.field ds type below_it (lists_view c.ranks.result.now) (lists_view c.deref-2.result.now) _ same (ap lists_view c.deref-2.ensures.value ∙ c.in_ok-ranks.ensures) c.ranks.ensures in
     field_all m ds c.args.now object type c.args.field c.args.group.index c.deref.result.now (lists_view c.deref-2.result.now) c.told.result typed plain ranked (rw (to_z-of_z w64 c.args.now c.ranges.now) at c.told.ensures.told)

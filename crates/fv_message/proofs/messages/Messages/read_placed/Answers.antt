@@ -1,7 +1,7 @@
 use Rattle.std.proofs.Common.{◌≡◌, ◌||◌, ◌∙◌, Bool, false, nat_lt, length, Option, Some, None, is_some, inl, inr, sym, ap, subst, arith}
 use Rattle.std.proofs.lemmas.Result.{err_from_is_err_and}
 use Rattle.std.proofs.lemmas.Bool.{or_cases, or_parts, ltb-true, ltb-false, both_ways}
-use Rattle.fv_message.specs.Judged.{has_long, IsLarge, HasLongKey, IsMisspelt, IsFault}
+use Rattle.fv_message.specs.Judged.{has_long_text, IsLarge, HasLongKey, IsMisspelt, IsFault}
 use Rattle.fv_message.specs.Judging.{is_misspelt, misspelt_in, AreWhole, IsFaultOf, IsFoundAt}
 use Rattle.fv_message.specs.Table.{Messages, all_messages}
 use Rattle.fv_message.specs.Numbers.{AreReadable, AreNamed}
@@ -19,17 +19,17 @@ use Rattle.fv_message.proofs.messages.Messages.read_placed.Goals as goal
 
 -- too many messages, or a text that is too long
 large_of : (user : Messages) (found : Option MessagesAt) (p : MessagesAt) → found ≡ large_in user → found ≡ Some p → IsLarge user
-large_of user found p same is = elim (or_cases (nat_lt 1024 (length user)) (has_long user) (sym (large_told user) ∙ ap is_some (sym same ∙ is))) [
+large_of user found p same is = elim (or_cases (nat_lt 1024 (length user)) (has_long_text user) (sym (large_told user) ∙ ap is_some (sym same ∙ is))) [
   | inl many ↦ inl (ltb-true 1024 (length user) many)
   | inr long ↦ inr (inl long)
 ]
 
-not_large : (user : Messages) → large_in user ≡ None → (nat_lt 1024 (length user) || has_long user) ≡ false
+not_large : (user : Messages) → large_in user ≡ None → (nat_lt 1024 (length user) || has_long_text user) ≡ false
 not_large user none = sym (large_told user) ∙ ap is_some none
 
 small_of : (user : Messages) → large_in user ≡ None → (HasLongKey (all_messages user) → ⊥) → IsLarge user → ⊥
-small_of user e none (inl many) = let few = ltb-false 1024 (length user) (or_parts (nat_lt 1024 (length user)) (has_long user) (not_large user e)).0 in omega (arith, few, many)
-small_of user e none (inr (inl long)) = both_ways (has_long user) (or_parts (nat_lt 1024 (length user)) (has_long user) (not_large user e)).1 long
+small_of user e none (inl many) = let few = ltb-false 1024 (length user) (or_parts (nat_lt 1024 (length user)) (has_long_text user) (not_large user e)).0 in omega (arith, few, many)
+small_of user e none (inr (inl long)) = both_ways (has_long_text user) (or_parts (nat_lt 1024 (length user)) (has_long_text user) (not_large user e)).1 long
 small_of user e none (inr (inr key)) = none key
 
 well_of : (user : Messages) → is_misspelt user ≡ false → IsMisspelt user → ⊥
