@@ -11,8 +11,8 @@ use Rattle.fv_store.specs.Records.{Contents}
 use Rattle.fv_store.specs.Stands.{first_version, IsBlank, KeepsFirst, MayBeFirst, Opens, Stays, TellsAbout}
 use Rattle.fv_store.specs.Steps.{IsUpgraded}
 use Rattle.fv_store.specs.declared.fault.OpenStoreFault.{OpenStoreFault}
-use Rattle.fv_tables.specs.Olds.{Olds}
-use Rattle.fv_upgrade.specs.Upgraded.{AllShort, AllUpgrade, HasFew, upgraded}
+use Rattle.fv_store_tables.specs.Olds.{Olds}
+use Rattle.fv_store_upgrade.specs.Upgraded.{AllShort, AllUpgrade, HasFew, upgraded}
 use Rattle.fv_engine.specs.declared.engine.OpenFault.{OpenFault}
 use Rattle.fv_engine.specs.declared.engine.OpenFault.TheVariants.{Store}
 

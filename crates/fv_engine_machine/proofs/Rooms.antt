@@ -8,7 +8,7 @@ use Rattle.sqlite.specs.Effect.{Database}
 use Rattle.sqlite.specs.Order.{Row}
 use Rattle.sqlite.specs.Tree.{rowid}
 use Rattle.sqlite_rules.specs.Lists.{Has}
-use Rattle.fv_tables.specs.Causes.{HasRoom}
+use Rattle.fv_store_tables.specs.Causes.{HasRoom}
 use Rattle.fv_store.specs.Causes.{HasRooms, LeavesRoom}
 use Rattle.fv_engine_machine.specs.Machines.{rowids_from, room_above, room_in}
 

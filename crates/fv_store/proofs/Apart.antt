@@ -11,7 +11,7 @@ use Rattle.fv_bundle.specs.Views.{named_view}
 use Rattle.fv_model.specs.Writing.{named_written}
 use Rattle.fv_bundle.specs.declared.bundle.Object.{Object}
 use Rattle.fv_store.specs.Written.{object_kept}
-use Rattle.fv_tables.specs.Changes.{AreApart, AllTexts, has_name}
+use Rattle.fv_store_tables.specs.Changes.{AreApart, AllTexts, has_name}
 
 -- what the rows keep of a map's objects
 abbrev pub rows_of : List (String Global × Object) → AllTexts

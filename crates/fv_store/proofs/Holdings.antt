@@ -13,7 +13,7 @@ use Rattle.fv_store.specs.declared.change.Change.{Change}
 use Rattle.fv_store.specs.declared.change.Change.TheVariants.{Put, Object, Remove}
 use Rattle.fv_store.specs.declared.fault.StoreFault.{StoreFault}
 use Rattle.fv_store.specs.declared.fault.StoreFault.TheVariants.{Store, Memory}
-use Rattle.fv_tables.specs.declared.entry.RecordRows.{RecordRows}
+use Rattle.fv_store_tables.specs.declared.entry.RecordRows.{RecordRows}
 use Rattle.fv_store.specs.declared.stored.Stored.{Stored}
 use Rattle.fv_store.specs.declared.written.Written.{Written}
 use Rattle.sqlite.specs.declared.error.Error.{Error}
@@ -24,12 +24,12 @@ use Rattle.fv_store.specs.Steps.{Keeps, IsRefusal}
 use Rattle.fv_store.specs.Written.{Writings, writings, entries, entry_of, written_of}
 use Rattle.fv_store.proofs.Kept.{all_kept}
 use Rattle.fv_store.proofs.Named.{all_named}
-use Rattle.fv_tables.specs.Changes.{AllNamed}
-use Rattle.fv_tables.specs.Stands as tables
-use Rattle.fv_tables.specs.Stored.{rows_view}
+use Rattle.fv_store_tables.specs.Changes.{AllNamed}
+use Rattle.fv_store_tables.specs.Stands as tables
+use Rattle.fv_store_tables.specs.Stored.{rows_view}
 use Rattle.fv_store.specs.Stands.{Frame, HoldsRecords, about_rows}
 use Rattle.sqlite.specs.Order.{Row}
-use Rattle.fv_tables.specs.Stands.{TableEntries}
+use Rattle.fv_store_tables.specs.Stands.{TableEntries}
 use Rattle.fv_store.specs.Stock.{Stock}
 use Rattle.fv_store.specs.Stored.{stored_view, text_of, text_view, untyped, written_view}
 use Rattle.fv_store.proofs.Openings.{keeps_of, holds_as, holds_after}

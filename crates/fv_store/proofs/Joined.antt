@@ -12,10 +12,10 @@ use Rattle.fv_store.specs.Texts.{bundle_text, object_text, objects_text, rows_te
 use Rattle.fv_store.specs.Written.{fields_text, object_kept}
 use Rattle.fv_store.specs.Records.{Kept}
 use Rattle.fv_store.specs.Written.{written_of, entry_of}
-use Rattle.fv_tables.specs.Changes.{AllTexts}
-use Rattle.fv_tables.specs.Stands.{Entry, ObjectTexts}
-use Rattle.fv_tables.specs.Stored.{rows_view, things_view}
-use Rattle.fv_tables.specs.declared.entry.RecordRows.{RecordRows}
+use Rattle.fv_store_tables.specs.Changes.{AllTexts}
+use Rattle.fv_store_tables.specs.Stands.{Entry, ObjectTexts}
+use Rattle.fv_store_tables.specs.Stored.{rows_view, things_view}
+use Rattle.fv_store_tables.specs.declared.entry.RecordRows.{RecordRows}
 
 -- what the rows keep of objects
 abbrev pub kept : List (List ℕ × Thing) → AllTexts

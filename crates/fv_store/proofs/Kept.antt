@@ -6,8 +6,8 @@ use Rattle.fv_bundle.specs.Replaced.{changed_at}
 use Rattle.fv_model.specs.Writing.{named_written}
 use Rattle.fv_store.specs.Records.{Kept, Records, with_record, without_record, with_thing, with_object}
 use Rattle.fv_store.specs.Written.{written_of, writings, entry_of, entries, object_kept}
-use Rattle.fv_tables.specs.Changes as change
-use Rattle.fv_tables.specs.Stands.{ObjectTexts, Entry, TableEntries, with_entry, without_entry}
+use Rattle.fv_store_tables.specs.Changes as change
+use Rattle.fv_store_tables.specs.Stands.{ObjectTexts, Entry, TableEntries, with_entry, without_entry}
 
 -- what the rows keep of a record
 abbrev pub rows_kept : Kept → Entry

@@ -6,8 +6,8 @@ use Rattle.fv_store.specs.Records.{Kept, Records}
 use Rattle.fv_store.specs.Written.{written_of, entry_of}
 use Rattle.fv_store.proofs.Kept.{rows_kept, all_kept}
 use Rattle.fv_store.proofs.Named.{kept_from}
-use Rattle.fv_tables.specs.Lists as tables
-use Rattle.fv_tables.specs.Stands.{Entry}
+use Rattle.fv_store_tables.specs.Lists as tables
+use Rattle.fv_store_tables.specs.Stands.{Entry}
 
 -- where a list begins
 pub begins : (after : Option (Bor (List ℕ))) (none : Bor (List ℕ)) → none.now ≡ [] → (unwrap_or after none).now ≡ unwrap_or (option_map (λ s. s.now) after) []

@@ -3,14 +3,14 @@ use Rattle.std.proofs.Common.{◌≡◌, ◌≢◌, ◌≤◌, ◌&&◌, nat_eq,
 use Rattle.sqlite.specs.Schema.{Schema}
 use Rattle.sqlite_schema.specs.Names.{same_name}
 use Rattle.sqlite.specs.State.{State, HasCleanDisk}
-use Rattle.fv_tables.specs.Olds.{Olds}
-use Rattle.fv_tables.specs.Olds as first
-use Rattle.fv_tables.specs.Tables.{no_schema}
-use Rattle.fv_tables.specs.FirstTables.{old_schema}
-use Rattle.fv_tables.proofs.Steps.{failed_then}
-use Rattle.fv_upgrade.specs.Upgraded.{AllShort, AllUpgrade, HasFew, upgraded}
-use Rattle.fv_upgrade.specs.declared.fault.UpgradeFault.{UpgradeFault}
-use Rattle.fv_upgrade.specs.declared.fault.UpgradeFault.TheVariants.{Damaged, Database, Memory}
+use Rattle.fv_store_tables.specs.Olds.{Olds}
+use Rattle.fv_store_tables.specs.Olds as first
+use Rattle.fv_store_tables.specs.Tables.{no_schema}
+use Rattle.fv_store_tables.specs.FirstTables.{old_schema}
+use Rattle.fv_store_tables.proofs.Steps.{failed_then}
+use Rattle.fv_store_upgrade.specs.Upgraded.{AllShort, AllUpgrade, HasFew, upgraded}
+use Rattle.fv_store_upgrade.specs.declared.fault.UpgradeFault.{UpgradeFault}
+use Rattle.fv_store_upgrade.specs.declared.fault.UpgradeFault.TheVariants.{Damaged, Database, Memory}
 use Rattle.fv_store.specs.declared.fault.OpenStoreFault.TheVariants as refusal
 use Rattle.fv_store.specs.Causes.{HasFailed, IsShortAbout}
 use Rattle.fv_store.specs.Faults.{upgrade_fault}

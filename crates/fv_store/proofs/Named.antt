@@ -7,8 +7,8 @@ use Rattle.fv_model.specs.Writing.{named_written}
 use Rattle.fv_store.specs.Records.{Kept, Contents, AllFit}
 use Rattle.fv_store.specs.Written.{written_of, entry_of, object_kept}
 use Rattle.fv_store.proofs.Kept.{rows_kept, all_kept}
-use Rattle.fv_tables.specs.Changes.{AllNamed}
-use Rattle.fv_tables.specs.Stands.{Entry, ObjectTexts}
+use Rattle.fv_store_tables.specs.Changes.{AllNamed}
+use Rattle.fv_store_tables.specs.Stands.{Entry, ObjectTexts}
 
 same_names : (os : List (List ℕ × Thing)) → map (λ (o : List ℕ × ObjectTexts). o.0) (map object_kept (map named_written os)) ≡ keys_of os
 same_names [] = refl

@@ -10,14 +10,14 @@ use Rattle.fv_store.specs.declared.fault.OpenStoreFault.{OpenStoreFault}
 use Rattle.fv_store.specs.declared.fault.OpenStoreFault.TheVariants.{OtherVersion, Store, Memory}
 use Rattle.fv_store.specs.Faults.{about_fault, open_fault_of, IsAboutFault}
 use Rattle.fv_store.specs.Records.{Kept, Records, Contents, AllFit, no_records, with_records}
-use Rattle.fv_tables.specs.About.{ShowsAbout, shown_about}
-use Rattle.fv_tables.specs.Tables.{store_schema}
+use Rattle.fv_store_tables.specs.About.{ShowsAbout, shown_about}
+use Rattle.fv_store_tables.specs.Tables.{store_schema}
 use Rattle.fv_store.specs.Stands.{Frame, Stands, StandsFirst, HoldsRecords, HoldsFirst, Opens, IsBlank, MayBeFirst, Stays, TellsAbout, about_rows, first_version, olds, tables_version}
 use Rattle.fv_store.specs.Steps.{Keeps, IsTaken, IsTakenAs, IsCaused, IsRefusal, IsOpenExcused, IsUpgraded}
 use Rattle.fv_store.specs.Stored.{Told, told}
 use Rattle.fv_store.proofs.Upgraded.{upgraded_olds}
 use Rattle.fv_bundle.specs.Types.{has_deep}
-use Rattle.fv_tables.specs.Stands as tables
+use Rattle.fv_store_tables.specs.Stands as tables
 
 -- a frame says nothing of the limit on steps
 pub unlimited : (old new : State) → Frame (record old { step_limit = None }) new → Frame old new

@@ -1,2 +1,2 @@
 -- Refusals that are handed on.
-pub use Rattle.fv_tables.proofs.Refusals.{handed_on}
+pub use Rattle.fv_store_tables.proofs.Refusals.{handed_on}

@@ -23,10 +23,10 @@ use Rattle.fv_store.specs.declared.written.Written.{Written}
 use Rattle.fv_store.specs.Written.{fields_text, object_kept, written_of, entry_of}
 use Rattle.fv_store.proofs.Faults.{same_value}
 use Rattle.fv_store.proofs.ReadBack.{fields_back}
-use Rattle.fv_tables.specs.Stands.{Entry}
-use Rattle.fv_tables.specs.Stored.{row_view, rows_view, things_view}
-use Rattle.fv_tables.specs.declared.entry.ObjectRow.{ObjectRow}
-use Rattle.fv_tables.specs.declared.entry.RecordRows.{RecordRows}
+use Rattle.fv_store_tables.specs.Stands.{Entry}
+use Rattle.fv_store_tables.specs.Stored.{row_view, rows_view, things_view}
+use Rattle.fv_store_tables.specs.declared.entry.ObjectRow.{ObjectRow}
+use Rattle.fv_store_tables.specs.declared.entry.RecordRows.{RecordRows}
 
 -- ---- one row after another
 

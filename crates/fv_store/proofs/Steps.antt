@@ -1,5 +1,5 @@
 -- Changes inside a transaction, one after another, and the commit.
-pub use Rattle.fv_tables.proofs.Steps.{frame_then, failed_then, failed_still, keeps_then, next_step, led, led_on_ok}
+pub use Rattle.fv_store_tables.proofs.Steps.{frame_then, failed_then, failed_still, keeps_then, next_step, led, led_on_ok}
 use Rattle.std.proofs.Common.{◌≡◌, ◌+◌, ◌<◌, ◌≤◌, zero, suc, take, get_or, IfErr, ◌++◌, length, map, ℕ, inl, inr, List, [], ◌∷◌, IsTrue, Ok, Err, Result, OnOk, true, false, refl, sym, ap, subst, ◌∙◌, arith}
 use Rattle.std.specs.List.{AllByRecursion}
 use Rattle.std.proofs.lemmas.List.{length-map}
@@ -18,15 +18,15 @@ use Rattle.fv_store.specs.Steps.{Advances, IsExcused, Keeps, Makes, MakesAll}
 use Rattle.fv_model.specs.Writing.{named_written}
 use Rattle.fv_store.specs.Written.{writings, object_kept}
 use Rattle.fv_store.proofs.Kept.{rows_kept, all_kept, part_kept, kept_with, kept_without, kept_set}
-use Rattle.fv_tables.specs.About.{Redeclares}
-use Rattle.fv_tables.specs.Changes.{AreApart, object_view, objects_view, with_part_of}
-use Rattle.fv_tables.specs.Causes.{IsShortHead}
-use Rattle.fv_tables.specs.Causes as tables_short
-use Rattle.fv_tables.specs.Stands as tables
-use Rattle.fv_tables.specs.Stands.{Entry, TableEntries}
-use Rattle.fv_tables.specs.declared.text.ObjectText.{ObjectText}
-use Rattle.fv_tables.specs.Steps.{Always, Turns}
-use Rattle.fv_tables.proofs.Composed.{fewer_rooms}
+use Rattle.fv_store_tables.specs.About.{Redeclares}
+use Rattle.fv_store_tables.specs.Changes.{AreApart, object_view, objects_view, with_part_of}
+use Rattle.fv_store_tables.specs.Causes.{IsShortHead}
+use Rattle.fv_store_tables.specs.Causes as tables_short
+use Rattle.fv_store_tables.specs.Stands as tables
+use Rattle.fv_store_tables.specs.Stands.{Entry, TableEntries}
+use Rattle.fv_store_tables.specs.declared.text.ObjectText.{ObjectText}
+use Rattle.fv_store_tables.specs.Steps.{Always, Turns}
+use Rattle.fv_store_tables.proofs.Composed.{fewer_rooms}
 
 -- ---- one change
 

@@ -18,7 +18,7 @@ use Rattle.fv_store.specs.Records.{Kept, Records}
 use Rattle.fv_store.specs.Stands.{old_of, olds}
 use Rattle.fv_store.specs.Written.{entries, fields_text, object_kept, written_of, writings}
 use Rattle.fv_store.specs.Written as kept
-use Rattle.fv_upgrade.specs.Upgraded.{bundle_in, entry_in, upgraded_entry, object_in, upgraded}
+use Rattle.fv_store_upgrade.specs.Upgraded.{bundle_in, entry_in, upgraded_entry, object_in, upgraded}
 
 -- ---- plain JSON has no number that isn't whole
 

@@ -1,9 +1,9 @@
 -- Why a store refuses.
-pub use Rattle.fv_tables.specs.Causes.{HasFailed, HasRooms, IsShortAbout}
+pub use Rattle.fv_store_tables.specs.Causes.{HasFailed, HasRooms, IsShortAbout}
 use Rattle.std.specs.Prelude.{ℕ, ◌+◌, List, [], ◌∷◌, length, string_bytes}
 use Rattle.std.specs.List.{AllByRecursion}
 use Rattle.sqlite.specs.Effect.{Database}
-use Rattle.fv_tables.specs.Causes.{IsShortHead, IsShortPart}
+use Rattle.fv_store_tables.specs.Causes.{IsShortHead, IsShortPart}
 use Rattle.fv_bundle.specs.Bundles.{Thing}
 use Rattle.fv_bundle.specs.Views.{object_view, bundle_view}
 use Rattle.fv_model.specs.Writing.{named_written}

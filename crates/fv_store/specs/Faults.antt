@@ -12,8 +12,8 @@ use Rattle.fv_store.specs.declared.fault.OpenStoreFault.{OpenStoreFault}
 use Rattle.fv_store.specs.declared.fault.OpenStoreFault.TheVariants as refusal
 use Rattle.fv_store.specs.declared.fault.StoreFault.{StoreFault}
 use Rattle.fv_store.specs.declared.fault.StoreFault.TheVariants.{Store, Memory}
-use Rattle.fv_upgrade.specs.declared.fault.UpgradeFault.{UpgradeFault}
-use Rattle.fv_upgrade.specs.declared.fault.UpgradeFault.TheVariants as upgrade
+use Rattle.fv_store_upgrade.specs.declared.fault.UpgradeFault.{UpgradeFault}
+use Rattle.fv_store_upgrade.specs.declared.fault.UpgradeFault.TheVariants as upgrade
 use Rattle.fv_store.specs.Stands.{first_version, tables_version}
 
 -- of an error of the database

@@ -1,7 +1,7 @@
 -- The records that a database stands for.
-pub use Rattle.fv_tables.specs.Creating.{IsBlank}
-pub use Rattle.fv_tables.specs.Stands.{Frame, IsLive, Stays}
-pub use Rattle.fv_tables.specs.About.{TellsAbout}
+pub use Rattle.fv_store_tables.specs.Creating.{IsBlank}
+pub use Rattle.fv_store_tables.specs.Stands.{Frame, IsLive, Stays}
+pub use Rattle.fv_store_tables.specs.About.{TellsAbout}
 use Rattle.std.specs.Prelude.{◌≡◌, ◌⊎◌, ◌&&◌, ℕ, Bool, false, IsTrue, List, [], ◌∷◌, codes, length, nat_eq, option_map}
 use Rattle.sqlite.specs.Effect.{Database}
 use Rattle.sqlite.specs.Order.{Row}
@@ -9,9 +9,9 @@ use Rattle.sqlite.specs.State.{State, HasCleanDisk}
 use Rattle.sqlite.specs.Table.{Table}
 use Rattle.sqlite_schema.specs.Names.{same_name}
 use Rattle.sqlite_schema.specs.declared.schema.Column.{Column}
-use Rattle.fv_tables.specs.Olds as first
-use Rattle.fv_tables.specs.Olds.{Old, Olds}
-use Rattle.fv_tables.specs.Stands as tables
+use Rattle.fv_store_tables.specs.Olds as first
+use Rattle.fv_store_tables.specs.Olds.{Old, Olds}
+use Rattle.fv_store_tables.specs.Stands as tables
 use Rattle.fv_store.specs.Records.{Kept, Records, Contents, AllFit, no_records}
 use Rattle.fv_store.specs.Texts.{bundle_text}
 use Rattle.fv_store.specs.Written.{Writings, writings, entries}

@@ -1,13 +1,13 @@
 -- What changes do to a database, and a migration; all but `IsUpgraded` for private clauses.
-pub use Rattle.fv_tables.specs.Causes.{IsRefusal, IsExcused}
-pub use Rattle.fv_tables.specs.Stands.{IsSettled}
-pub use Rattle.fv_tables.specs.Steps.{Advances, Inside}
+pub use Rattle.fv_store_tables.specs.Causes.{IsRefusal, IsExcused}
+pub use Rattle.fv_store_tables.specs.Stands.{IsSettled}
+pub use Rattle.fv_store_tables.specs.Steps.{Advances, Inside}
 use Rattle.std.specs.Prelude.{◌≡◌, ℕ, ℤ, pos, IsTrue, List, Some, None}
 use Rattle.sqlite.specs.Effect.{Database}
 use Rattle.sqlite.specs.State.{State, HasCleanDisk}
-use Rattle.fv_tables.specs.Olds.{Olds}
-use Rattle.fv_tables.specs.Stands as tables
-use Rattle.fv_upgrade.specs.Upgraded.{AllUpgrade, upgraded}
+use Rattle.fv_store_tables.specs.Olds.{Olds}
+use Rattle.fv_store_tables.specs.Stands as tables
+use Rattle.fv_store_upgrade.specs.Upgraded.{AllUpgrade, upgraded}
 use Rattle.fv_store.specs.declared.change.Change.{Change}
 use Rattle.fv_store.specs.Changes.{after_all}
 use Rattle.fv_store.specs.Causes.{HasFailed, LeavesRoom, rows_of_all}

@@ -4,7 +4,7 @@ use Rattle.json.specs.Print.{quoted}
 use Rattle.serde_json.specs.Written.{compact_text}
 use Rattle.fv_bundle.specs.Bundles.{Bundled}
 use Rattle.fv_model.specs.Writing.{bundle_json}
-use Rattle.fv_tables.specs.Changes.{NamedTexts, AllTexts}
+use Rattle.fv_store_tables.specs.Changes.{NamedTexts, AllTexts}
 
 -- a bundle's JSON with no space
 unfoldable pub bundle_text : Bundled → List ℕ

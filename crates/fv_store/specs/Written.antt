@@ -4,7 +4,7 @@ use Rattle.std.specs.Str.{bytes_eq}
 use Rattle.serde_json.specs.Data as json
 use Rattle.serde_json.specs.Written.{compact_text}
 use Rattle.fv_model.specs.Writing.{named_written}
-use Rattle.fv_tables.specs.Stands.{ObjectTexts, Entry, TableEntries}
+use Rattle.fv_store_tables.specs.Stands.{ObjectTexts, Entry, TableEntries}
 use Rattle.fv_store.specs.Records.{Kept, Records}
 
 -- what is written of a record: its form, its root's name, and its objects by their names, each with its type's name and its fields' JSON

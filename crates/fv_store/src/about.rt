@@ -4,7 +4,7 @@ ghost use Rattle.fv_datum.specs.Outcomes.{Gives, unless_fault};
 ghost use Rattle.fv_store.specs.Faults.{about_fault};
 ghost use Rattle.fv_store.specs.Stands.{first_version};
 ghost use Rattle.fv_store.specs.Stored.{about_view, told};
-ghost use Rattle.fv_tables.specs.About.{shown_about};
+ghost use Rattle.fv_store_tables.specs.About.{shown_about};
 
 use crate::fault::OpenStoreFault;
 use sqlite::Row;

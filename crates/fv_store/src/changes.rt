@@ -13,7 +13,7 @@ ghost use Rattle.fv_store.specs.Written.{writings};
 use crate::change::Change;
 use crate::object_rows::{fields_of, object_rows};
 use fv_bundle::{Bundle, Object};
-use fv_tables::{put_record, remove_record, set_object};
+use fv_store_tables::{put_record, remove_record, set_object};
 use sqlite::{Alter, Connection, Error, Transaction};
 use std::alloc::Global;
 

@@ -7,7 +7,7 @@ ghost use Rattle.fv_store.specs.declared.fault.StoreFault.TheVariants.{Memory};
 
 use fv_datum::JsonFault;
 use fv_model::BundleFault;
-use fv_upgrade::UpgradeFault;
+use fv_store_upgrade::UpgradeFault;
 use sqlite::{Error, ErrorCode};
 use std::alloc::AllocError;
 

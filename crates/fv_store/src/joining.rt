@@ -1,10 +1,10 @@
 //! The text of a bundle is put together from what its rows keep.
 ghost use Rattle.std.specs.Prelude.{◌≡◌, ◌++◌, [], IfOk, OnOk, string_bytes};
 ghost use Rattle.fv_store.specs.Texts.{object_text, objects_text, rows_text};
-ghost use Rattle.fv_tables.specs.Stored.{row_view, things_view};
+ghost use Rattle.fv_store_tables.specs.Stored.{row_view, things_view};
 
 use fv_model::quoted;
-use fv_tables::{ObjectRow, RecordRows};
+use fv_store_tables::{ObjectRow, RecordRows};
 use std::alloc::{AllocError, Global};
 
 /// Adds an object to a text.

@@ -3,10 +3,10 @@ ghost use Rattle.std.specs.Prelude.{◌≡◌, IfOk, map, string_bytes};
 ghost use Rattle.fv_bundle.specs.Views.{object_view, bundle_view};
 ghost use Rattle.fv_model.specs.Writing.{fields_json, named_written};
 ghost use Rattle.fv_store.specs.Written.{fields_text, object_kept};
-ghost use Rattle.fv_tables.specs.Changes.{AreApart, object_view as row_view, objects_view as rows_view};
+ghost use Rattle.fv_store_tables.specs.Changes.{AreApart, object_view as row_view, objects_view as rows_view};
 
 use fv_bundle::{Bundle, Object};
-use fv_tables::ObjectText;
+use fv_store_tables::ObjectText;
 use std::alloc::{AllocError, Global};
 
 /// The text that an object's fields are kept as.

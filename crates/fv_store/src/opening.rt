@@ -6,13 +6,13 @@ ghost use Rattle.fv_store.specs.Causes.{IsShortAbout};
 ghost use Rattle.fv_store.specs.Records.{no_records};
 ghost use Rattle.fv_store.specs.Stands.{are_columns, are_first, first_version, Frame, HasFirstTables, IsBlank, IsLive, MayBeFirst, KeepsFirst, Stays, TellsAbout};
 ghost use Rattle.fv_store.specs.Steps.{Keeps, IsSettled, IsTaken, IsTakenAs, IsCaused, IsExcused, IsOpenExcused, IsUpgraded};
-ghost use Rattle.fv_tables.specs.Olds.{Olds};
-ghost use Rattle.fv_upgrade.specs.Upgraded.{AllShort, AllUpgrade, HasFew, upgraded};
+ghost use Rattle.fv_store_tables.specs.Olds.{Olds};
+ghost use Rattle.fv_store_upgrade.specs.Upgraded.{AllShort, AllUpgrade, HasFew, upgraded};
 
 use crate::about::{About, about_in};
 use crate::fault::OpenStoreFault;
-use fv_tables::{create_tables, read_about};
-use fv_upgrade::migrate;
+use fv_store_tables::{create_tables, read_about};
+use fv_store_upgrade::migrate;
 use sqlite::{Alter, Connection, Error};
 use sqlite_schema::names::same_name;
 use sqlite_schema::schema::{Column, Table};

@@ -10,13 +10,13 @@ ghost use Rattle.fv_model.specs.Views.{part_view};
 ghost use Rattle.fv_model.specs.Writing.{named_written};
 ghost use Rattle.fv_bundle.specs.TypesView.{types_view};
 ghost use Rattle.fv_store.specs.ReadRows.{read_view, row_read};
-ghost use Rattle.fv_tables.specs.Stored.{row_view, things_view as rows_view};
+ghost use Rattle.fv_store_tables.specs.Stored.{row_view, things_view as rows_view};
 
 use crate::fault::StoreFault;
 use fv_bundle::{Bundle, Types};
 use fv_datum::{JsonFault, read_text};
 use fv_model::{Part, read_objects};
-use fv_tables::{ObjectRow, RecordRows};
+use fv_store_tables::{ObjectRow, RecordRows};
 use serde_json::Value;
 use std::alloc::{AllocError, Global};
 

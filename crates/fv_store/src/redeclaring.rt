@@ -7,7 +7,7 @@ ghost use Rattle.fv_store.specs.Records.{Records};
 ghost use Rattle.fv_store.specs.Stands.{Frame, IsLive, Stays};
 ghost use Rattle.fv_store.specs.Steps.{IsExcused, IsSettled, Keeps};
 
-use fv_tables::write_about;
+use fv_store_tables::write_about;
 use sqlite::{Alter, Connection, Error};
 
 /// Writes the declarations in one transaction. What is written of the records stays.

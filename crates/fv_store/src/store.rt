@@ -10,15 +10,15 @@ ghost use Rattle.fv_store.specs.Causes.{AreShort, HasFailed, HasRooms, IsShortAb
 ghost use Rattle.fv_store.specs.Changes.{changed, ChangesFit};
 ghost use Rattle.fv_store.specs.Stands.{first_version, Frame, HoldsRecords, IsBlank, IsLive, MayBeFirst, KeepsFirst, Opens, Stays, TellsAbout};
 ghost use Rattle.fv_store.specs.Steps.{IsUpgraded};
-ghost use Rattle.fv_tables.specs.Olds.{Olds};
-ghost use Rattle.fv_upgrade.specs.Upgraded.{AllShort, AllUpgrade, HasFew, upgraded};
+ghost use Rattle.fv_store_tables.specs.Olds.{Olds};
+ghost use Rattle.fv_store_upgrade.specs.Upgraded.{AllShort, AllUpgrade, HasFew, upgraded};
 ghost use Rattle.fv_store.specs.Stock.{stock_state};
 ghost use Rattle.fv_store.specs.Faults.{about_fault, IsAboutFault};
 ghost use Rattle.fv_store.specs.Lists.{Lists, ListsOf};
 ghost use Rattle.fv_store.specs.Records.{AllFit, Contents};
 ghost use Rattle.fv_store.specs.Stored.{stored_view, text_of, text_view, untyped, written_view};
 ghost use Rattle.fv_store.specs.Written.{entry_of, writings, written_of};
-ghost use Rattle.fv_tables.specs.Stored.{rows_view};
+ghost use Rattle.fv_store_tables.specs.Stored.{rows_view};
 
 use crate::change::Change;
 use crate::fault::{OpenStoreFault, StoreFault};
@@ -27,7 +27,7 @@ use crate::stored::{Stored, stored_if};
 use crate::written::{Written, written_if};
 use crate::{changes, redeclaring};
 use fv_bundle::Types;
-use fv_tables::{RecordRows, find, find_all_ids, find_ids};
+use fv_store_tables::{RecordRows, find, find_all_ids, find_ids};
 use sqlite::{Alter, Connection};
 use std::alloc::Global;
 use std::marker::Model;

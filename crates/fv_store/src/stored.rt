@@ -8,12 +8,12 @@ ghost use Rattle.fv_bundle.specs.WellTyped.{IsWellTyped};
 ghost use Rattle.fv_store.specs.Records.{Kept};
 ghost use Rattle.fv_store.specs.Stored.{stored_view};
 ghost use Rattle.fv_store.specs.Written.{entry_of, written_of};
-ghost use Rattle.fv_tables.specs.Stored.{rows_view};
+ghost use Rattle.fv_store_tables.specs.Stored.{rows_view};
 
 use crate::fault::StoreFault;
 use crate::reading::bundle_of;
 use fv_bundle::{Bundle, Types};
-use fv_tables::RecordRows;
+use fv_store_tables::RecordRows;
 use std::alloc::Global;
 
 /// A record: the name of its form, and its bundle.

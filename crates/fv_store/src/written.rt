@@ -6,10 +6,10 @@ ghost use Rattle.fv_bundle.specs.WellTyped.{IsWellTyped};
 ghost use Rattle.fv_store.specs.Records.{Kept};
 ghost use Rattle.fv_store.specs.Stored.{text_of, text_view, untyped, written_view};
 ghost use Rattle.fv_store.specs.Written.{entry_of, written_of};
-ghost use Rattle.fv_tables.specs.Stored.{rows_view};
+ghost use Rattle.fv_store_tables.specs.Stored.{rows_view};
 
 use crate::joining::joined;
-use fv_tables::RecordRows;
+use fv_store_tables::RecordRows;
 use std::alloc::{AllocError, Global};
 
 /// A record that no types were asked for: the name of its form, and its bundle's JSON.

@@ -1,4 +1,4 @@
-use Rattle.fv_tables.proofs.Composed.{more_on_err}
+use Rattle.fv_store_tables.proofs.Composed.{more_on_err}
 use Rattle.fv_store.proofs.changes.apply.Goals as goal
 
 pub returns-in-Put-clause-done : goal.returns-in-Put-clause-done

@@ -1,7 +1,7 @@
 use Rattle.std.proofs.Common.{◌≡◌, ◌∷◌, ◌+◌, ◌++◌, drop, string_bytes, refl, sym, ap, ◌∙◌, add-one, drop-cons, rules}
 use Rattle.fv_store.specs.Texts.{objects_text}
 use Rattle.fv_store.proofs.Joined.{one_behind}
-use Rattle.fv_tables.specs.Stored.{row_view, things_view}
+use Rattle.fv_store_tables.specs.Stored.{row_view, things_view}
 use Rattle.fv_store.proofs.joining.add_objects.Goals as goal
 
 pub loop-object-preserved : goal.loop-object-preserved

@@ -3,7 +3,7 @@ use denote.Text.{Utf8}
 use denote.Shadow.{shadow}
 use Rattle.fv_store.specs.Texts.{objects_text}
 use Rattle.fv_store.proofs.joining.add_objects.Given as goal
-use Rattle.fv_tables.specs.Stored.{things_view}
+use Rattle.fv_store_tables.specs.Stored.{things_view}
 
 abbrev pub invariant-loop-object : goal.invariant-loop-object
 invariant-loop-object l =

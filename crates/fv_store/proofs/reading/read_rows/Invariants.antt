@@ -2,7 +2,7 @@ use Rattle.std.proofs.Common.{◌≡◌, map, drop}
 use Rattle.fv_datum.proofs.Fronts.{with_front}
 use Rattle.fv_datum.specs.Members.{each_some}
 use Rattle.fv_store.specs.ReadRows.{read_view, row_read}
-use Rattle.fv_tables.specs.Stored.{things_view}
+use Rattle.fv_store_tables.specs.Stored.{things_view}
 use Rattle.fv_store.proofs.reading.read_rows.Given as goal
 
 abbrev pub invariant-loop-row : goal.invariant-loop-row

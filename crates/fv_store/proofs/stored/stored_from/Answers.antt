@@ -4,7 +4,7 @@ use Rattle.fv_bundle.specs.TypesView.{types_view}
 use Rattle.fv_store.specs.Stored.{stored_view}
 use Rattle.fv_store.proofs.Faults.{gives_memory, same_ok, store_memory}
 use Rattle.fv_store.proofs.RowsRead.{record_back, root_back}
-use Rattle.fv_tables.specs.Stands.{Entry}
+use Rattle.fv_store_tables.specs.Stands.{Entry}
 use Rattle.fv_store.proofs.stored.stored_from.Goals as goal
 
 pub returns-in_err-bundle-clause-read : goal.returns-in_err-bundle-clause-read

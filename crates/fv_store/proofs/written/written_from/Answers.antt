@@ -1,6 +1,6 @@
 use Rattle.std.proofs.Common.{ap, ap₂, ◌∙◌}
 use Rattle.serde_json.specs.Read.{read}
-use Rattle.fv_tables.specs.Stands.{Entry}
+use Rattle.fv_store_tables.specs.Stands.{Entry}
 use Rattle.fv_store.proofs.Joined.{kept_text}
 use Rattle.fv_store.proofs.ReadBack.{bundle_back}
 use Rattle.fv_store.proofs.written.written_from.Goals as goal

@@ -1,0 +1,32 @@
+-- What the row of `about` tells of a database of either version.
+use Rattle.std.specs.Prelude.{◌≡◌, ◌⊎◌, pos, ℕ, List, [], ◌∷◌}
+use Rattle.sqlite.specs.declared.types.Value.TheVariants.{Int, Blob as Raw}
+use Rattle.sqlite.specs.Order.{Row}
+use Rattle.sqlite.specs.Effect.{Database}
+use Rattle.fv_store_tables.specs.Tables.{store_schema}
+use Rattle.fv_store_tables.specs.FirstTables.{old_schema}
+use Rattle.fv_store_tables.specs.Causes.{HasRooms}
+use Rattle.fv_store_tables.specs.Stands.{about_row, TableEntries, TablesStand}
+
+-- the tables are those of version 1 or those of version 2
+abbrev pub HasTables : Database → Type 0
+HasTables db = (db.schema ≡ old_schema) ⊎ (db.schema ≡ store_schema)
+
+-- and `about` has one row: this version and these declarations
+abbrev pub TellsAbout : ℕ → List ℕ → Database → Type 0
+TellsAbout version declarations db = HasTables db × (db.trees 0 ≡ about_row version declarations ∷ [])
+
+-- what a query shows of the version and the declarations
+abbrev pub shown_about : ℕ → List ℕ → Row
+shown_about version declarations = Int (pos version) ∷ Raw declarations ∷ []
+
+-- the first row shows them
+abbrev pub ShowsAbout : List Row → ℕ → List ℕ → Type 0
+ShowsAbout [] version declarations = ⊥
+ShowsAbout (row ∷ rows) version declarations = row ≡ shown_about version declarations
+
+-- The row of `about` has these declarations since, whatever it had. The version and the records stay, and so does the room for rows.
+abbrev pub Redeclares : List ℕ → Database → Database → Type 0
+Redeclares declarations old new =
+    (d : List ℕ) (m : TableEntries) → TablesStand old (about_row 2 d ∷ []) m
+    → TablesStand new (about_row 2 declarations ∷ []) m × ((n : ℕ) → HasRooms n old → HasRooms n new)

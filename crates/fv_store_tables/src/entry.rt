@@ -1,0 +1,128 @@
+//! What the rows of a record keep, as it is written and handed out.
+ghost use Rattle.std.specs.Prelude.{◌≡◌, ◌<◌, ℕ, IfErr, IfOk, length, map, option_map, ◌++◌, List, Option};
+ghost use Rattle.std.specs.List.{AllByRecursion};
+ghost use Rattle.sqlite.specs.Order.{Row as Values, column};
+ghost use Rattle.sqlite.specs.declared.types.Value.TheVariants.{Text as Words};
+ghost use Rattle.fv_store_tables.specs.Causes.{IsRefusal};
+ghost use Rattle.fv_store_tables.specs.Changes.{NamedTexts, AllTexts, found_view};
+ghost use Rattle.fv_store_tables.specs.Stands.{Head, NumberedThing, ShowsHead, shown_head, shown_part, shown_row, IsTextOfHead, IsTextObject, IsTextRow};
+ghost use Rattle.fv_store_tables.specs.Stored.{head_view, front, front_four, row_view, things_view};
+
+use sqlite::types::{Type, ValueRef};
+use sqlite::{Error, Row};
+use std::alloc::Global;
+
+/// What the row of an object keeps beside its record's id: its name, its type's name, and its fields' text.
+#[derive(Debug, Drop)]
+pub struct ObjectRow {
+    pub name: String,
+    pub kind: String,
+    pub fields: String,
+}
+
+/// The row of an object as it was found, with its rowid.
+#[derive(Debug, Drop)]
+pub(crate) struct FoundRow<'a> {
+    pub(crate) name: &'a [u8],
+    pub(crate) kind: &'a [u8],
+    pub(crate) fields: &'a [u8],
+    pub(crate) rowid: i64,
+}
+
+/// What a row of `record` shows.
+#[derive(Debug, Drop)]
+pub(crate) struct HeadRow {
+    pub(crate) form: String,
+    pub(crate) root: String,
+}
+
+/// What the rows of a record keep beside its id, its objects ascending by their names.
+#[derive(Debug, Drop)]
+pub struct RecordRows {
+    pub form: String,
+    pub root: String,
+    pub objects: Vec<ObjectRow>,
+}
+
+/// Reads the row that shows a record.
+fn read_head(row: &Row) -> Result<HeadRow, Error>
+    ensures shown { IfOk result (λ s. (h : Head) → row.now ≡ shown_head h → head_view s ≡ h) }
+    ensures cause { IfErr result (λ e. (h : Head) → row.now ≡ shown_head h → IsTextOfHead h → ¬ IsRefusal e) }
+{
+    let form = row.get(0)?;
+    let root = row.get(1)?;
+    Ok(HeadRow { form, root })
+}
+
+/// What the first of these rows shows of a record, if there is one.
+pub(crate) fn head_in(rows: &[Row]) -> Result<Option<HeadRow>, Error>
+    ensures shown { IfOk result (λ s. (o : Option Head) → ShowsHead rows.now o → option_map head_view s ≡ o) }
+    ensures cause { IfErr result (λ e. (o : Option Head) → ShowsHead rows.now o → ¬ IsRefusal e) }
+{
+    match rows.first() {
+        Some(row) => Ok(Some(read_head(row)?)),
+        None => Ok(None),
+    }
+}
+
+/// Reads the row that shows an object, whatever it shows behind.
+fn read_object(row: &Row) -> Result<ObjectRow, Error>
+    ensures shown { IfOk result (λ o. front row.now ≡ shown_part (row_view o)) }
+    ensures cause { IfErr result (λ e. (o : NamedTexts) (behind : Values) → row.now ≡ shown_part o ++ behind → IsTextObject o
+        → ¬ IsRefusal e) }
+{
+    let name = row.get(0)?;
+    let kind = row.get(1)?;
+    let fields = row.get(2)?;
+    Ok(ObjectRow { name, kind, fields })
+}
+
+/// Reads a column that shows text, which stays in the row.
+fn text_at(row: &Row, at: usize) -> Result<&[u8], Error>
+    ensures shown { IfOk result (λ t. column row.now at ≡ Words t.now) }
+    ensures cause { IfErr result (λ e. (t : List ℕ) → at < length row.now → column row.now at ≡ Words t → ¬ IsRefusal e) }
+{
+    match row.get_ref(at)? {
+        ValueRef::Text(text) => Ok(text),
+        other => Err(Error::InvalidColumnType(at, Type::of(other))),
+    }
+}
+
+/// Reads the row that shows an object and its rowid.
+fn read_found(row: &Row) -> Result<FoundRow<'_>, Error>
+    ensures shown { IfOk result (λ r. front_four row.now ≡ shown_row (found_view r)) }
+    ensures cause { IfErr result (λ e. (r : NumberedThing) → row.now ≡ shown_row r → IsTextRow r → ¬ IsRefusal e) }
+{
+    Ok(FoundRow {
+        name: text_at(row, 0)?,
+        kind: text_at(row, 1)?,
+        fields: text_at(row, 2)?,
+        rowid: row.get(3)?,
+    })
+}
+
+/// The objects that rows show.
+pub(crate) fn objects_in(alloc: Global, rows: &[Row]) -> Result<Vec<ObjectRow>, Error>
+    ensures shown { IfOk result (λ v. (os : AllTexts) → rows.now ≡ map shown_part os → things_view v.items ≡ os) }
+    ensures cause { IfErr result (λ e. (os : AllTexts) → rows.now ≡ map shown_part os → AllByRecursion IsTextObject os
+        → ¬ IsRefusal e) }
+{
+    let mut objects = Vec::with_capacity(alloc, rows.len())?;
+    for row in rows {
+        objects.push(read_object(row)?)?;
+    }
+    Ok(objects)
+}
+
+/// The objects that rows show, with their rowids.
+pub(crate) fn found_in(alloc: Global, rows: &[Row]) -> Result<Vec<FoundRow<'_>>, Error>
+    ensures shown { IfOk result (λ v. (rs : List NumberedThing) → rows.now ≡ map shown_row rs → map found_view v.items ≡ rs) }
+    ensures cause { IfErr result (λ e. (rs : List NumberedThing) → rows.now ≡ map shown_row rs → AllByRecursion IsTextRow rs
+        → ¬ IsRefusal e) }
+{
+    let mut found = Vec::with_capacity(alloc, rows.len())?;
+    for row in rows {
+        found.push(read_found(row)?)?;
+    }
+    Ok(found)
+}

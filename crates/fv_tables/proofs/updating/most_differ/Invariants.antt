@@ -1,5 +1,0 @@
-use Rattle.std.proofs.Common.{◌≤◌}
-use Rattle.fv_tables.proofs.updating.most_differ.Given as goal
-
-abbrev pub invariant-loop-at : goal.invariant-loop-at
-invariant-loop-at l = l.same ≤ l.at
