@@ -17,13 +17,9 @@ pub data Form : Type 0 where
 abbrev pub Groups : Type 0
 Groups = List (List ℕ × Form)
 
--- the group that is always there
-abbrev pub default_group : List ℕ × Form
-default_group = (codes "Default", inherits [])
-
 -- declared groups, behind the one that is always there
 abbrev pub all_groups : Groups → Groups
-all_groups declared = default_group ∷ declared
+all_groups declared = (codes "Default", inherits []) ∷ declared
 
 -- whether a group is a sequence
 abbrev pub is_a_sequence : Form → Bool
@@ -78,10 +74,6 @@ member_next gs i = numbers_of gs (members_of (form_at gs i))
 abbrev pub Inherits : Groups → ℕ → ℕ → Type 0
 Inherits gs g h = (g ≡ h) ⊎ Leads (inherit_next gs) g h
 
--- the second group is the first, or a member of it, directly or through others
-abbrev pub Expands : Groups → ℕ → ℕ → Type 0
-Expands gs g h = (g ≡ h) ⊎ Leads (member_next gs) g h
-
 -- a group alone, or for a sequence all that its members stand for, a repeat after the first dropped
 abbrev pub ranked : (ℕ → Bool) → ℕ → List (List ℕ) → List ℕ
 ranked is_sequence i below = cond (is_sequence i) (once (concat below)) (i ∷ [])
@@ -90,6 +82,6 @@ ranked is_sequence i below = cond (is_sequence i) (once (concat below)) (i ∷ [
 abbrev pub ranks : Groups → ℕ → List ℕ
 ranks gs g = value (ranked (is_sequence gs)) (member_next gs) (length gs) g
 
--- a group is or expands to one that is or inherits `Default`, the group of number 0
+-- a group is, or has as a member, directly or through others, one that is or inherits `Default`, the group of number 0
 abbrev pub MeetsDefault : Groups → ℕ → Type 0
-MeetsDefault gs g = (k : ℕ) × Expands gs g k × Inherits gs k 0
+MeetsDefault gs g = (k : ℕ) × ((g ≡ k) ⊎ Leads (member_next gs) g k) × Inherits gs k 0

@@ -23,13 +23,9 @@ bundle_json b = json.object (json.member (codes "objects") (json.object (fold (�
 
 -- ---- the same, by its parts
 
--- what is written of an object: its type's name, and its fields that aren't null
-abbrev pub thing_written : Thing → List ℕ × json.Members
-thing_written t = (t.type_name, fields_json t.fields)
-
--- the same, with the object's name
+-- what is written of an object: its name, its type's name, and its fields that aren't null
 abbrev pub named_written : List ℕ × Thing → List ℕ × (List ℕ × json.Members)
-named_written o = (o.0, thing_written o.1)
+named_written o = (o.0, (o.1.type_name, fields_json o.1.fields))
 
 -- what is written of a bundle: its root's name, and its objects by their names
 abbrev pub bundle_written : Bundled → List ℕ × List (List ℕ × (List ℕ × json.Members))

@@ -1,5 +1,5 @@
 -- The tables, as their texts define them.
-use Rattle.std.specs.Prelude.{true, false, [], ◌∷◌, ◌++◌, Some, None, codes, List, ℕ, pos}
+use Rattle.std.specs.Prelude.{Bool, true, false, [], ◌∷◌, ◌++◌, Some, None, codes, List, ℕ, pos}
 use Rattle.sqlite.specs.Term.{lit, col, op2}
 use Rattle.sqlite_sql.specs.declared.ops.BinaryOp.TheVariants.{Compare}
 use Rattle.sqlite_sql.specs.declared.ops.CompareOp.TheVariants.{Eq}
@@ -8,9 +8,11 @@ use Rattle.sqlite.specs.declared.types.Value.TheVariants.{Null, Int}
 use Rattle.sqlite.specs.Table.{Table}
 use Rattle.sqlite.specs.Change.{created}
 use Rattle.sqlite.specs.Schema.{Schema}
+use Rattle.sqlite.specs.Kind.{Kind}
 use Rattle.sqlite.specs.Kind.TheVariants.{Integer, Text, Any}
 use Rattle.sqlite_schema.specs.declared.schema.Action.TheVariants.{NoAction, Cascade}
 use Rattle.sqlite_schema.specs.declared.schema.Column.{Column}
+use Rattle.sqlite_resolve.specs.Define.{empty}
 
 -- the text that makes `about`, which keeps the version and the declarations
 abbrev pub about_text : List ℕ
@@ -26,57 +28,34 @@ object_text =
     codes "CREATE TABLE object (rec TEXT NOT NULL REFERENCES record (id) ON DELETE CASCADE, "
     ++ codes "name TEXT NOT NULL, kind TEXT NOT NULL, fields TEXT NOT NULL, PRIMARY KEY (rec, name))"
 
+-- a column without a default, whose texts are compared byte by byte
+abbrev pub column : List ℕ → Kind → Bool → Column
+column name kind not_null = record { name = name; kind = kind; is_strict = false; not_null = not_null; default = Null; collation = Binary }
+
 -- a column of text, never NULL
 abbrev pub words : List ℕ → Column
-words name = record { name = name; kind = Text; is_strict = false; not_null = true; default = Null; collation = Binary }
+words name = column name Text true
+
+-- a table of these columns, whose key is of those of these numbers
+abbrev pub keyed : List ℕ → List Column → List ℕ → Table
+keyed name columns key = record (empty name []) { columns = columns; primary = key; uniques = key ∷ []; orders = (record { digits = 0 }) ∷ [] }
 
 -- what the first text defines
 abbrev pub about : Table
-about = record {
-  name = codes "about";
-  tree = 0;
-  columns = (record { name = codes "one"; kind = Integer; is_strict = false; not_null = false; default = Null; collation = Binary })
-      ∷ (record { name = codes "version"; kind = Integer; is_strict = false; not_null = true; default = Null; collation = Binary })
-      ∷ (record { name = codes "declarations"; kind = Any; is_strict = false; not_null = true; default = Null; collation = Binary }) ∷ [];
+about = record (empty (codes "about") []) {
+  columns = column (codes "one") Integer false ∷ column (codes "version") Integer true ∷ column (codes "declarations") Any true ∷ [];
   key = Some 0;
   primary = 0 ∷ [];
-  uniques = [];
-  orders = [];
-  checks = op2 (Compare Eq Binary) (col 1 0) (lit (Int (pos 1))) ∷ [];
-  references = [];
-  computed = [];
-  stamps = record { places = []; terms = []; formats = [] };
-  is_counted = false;
+  checks = op2 (Compare Eq Binary) (col 1 0) (lit (Int (pos 1))) ∷ []
 }
 
 -- what the second defines
 abbrev pub record_table : Table
-record_table = record {
-  name = codes "record";
-  tree = 0;
-  columns = words (codes "id") ∷ words (codes "form") ∷ words (codes "root") ∷ [];
-  key = None;
-  primary = 1 ∷ [];
-  uniques = (1 ∷ []) ∷ [];
-  orders = (record { digits = 0 }) ∷ [];
-  checks = [];
-  references = [];
-  computed = [];
-  stamps = record { places = []; terms = []; formats = [] };
-  is_counted = false;
-}
+record_table = keyed (codes "record") (words (codes "id") ∷ words (codes "form") ∷ words (codes "root") ∷ []) (1 ∷ [])
 
--- what the third defines
+-- what the third defines: its rows go with the row of `record` that they refer to
 abbrev pub object_table : Table
-object_table = record {
-  name = codes "object";
-  tree = 0;
-  columns = words (codes "rec") ∷ words (codes "name") ∷ words (codes "kind") ∷ words (codes "fields") ∷ [];
-  key = None;
-  primary = 1 ∷ 2 ∷ [];
-  uniques = (1 ∷ 2 ∷ []) ∷ [];
-  orders = (record { digits = 0 }) ∷ [];
-  checks = [];
+object_table = record (keyed (codes "object") (words (codes "rec") ∷ words (codes "name") ∷ words (codes "kind") ∷ words (codes "fields") ∷ []) (1 ∷ 2 ∷ [])) {
   references = (record {
     columns = 1 ∷ [];
     parent = codes "record";
@@ -84,10 +63,7 @@ object_table = record {
     on_delete = Cascade;
     on_update = NoAction;
     is_deferred = false;
-  }) ∷ [];
-  computed = [];
-  stamps = record { places = []; terms = []; formats = [] };
-  is_counted = false;
+  }) ∷ []
 }
 
 -- no table
@@ -102,9 +78,9 @@ bare_schema = created no_schema about
 abbrev pub half_schema : Schema
 half_schema = created bare_schema record_table
 
--- and `object`: version 2
+-- the tables of version 2
 abbrev pub store_schema : Schema
-store_schema = created half_schema object_table
+store_schema = created (created (created no_schema about) record_table) object_table
 
 -- `record` as it is kept: `about` is tree 0, `record` tree 1 and its index tree 2, `object` tree 3 and its index tree 4
 abbrev pub kept_record : Table

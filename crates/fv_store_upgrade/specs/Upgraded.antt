@@ -11,13 +11,9 @@ use Rattle.fv_store_tables.specs.Changes.{NamedTexts, AllTexts}
 use Rattle.fv_store_tables.specs.Olds.{AreOlds, Old, Olds}
 use Rattle.fv_store_tables.specs.Stands.{Entry, TableEntries}
 
--- the text of a JSON value with no space, where each number in it is whole, at any depth
-abbrev pub whole_text : json.Data → Option (List ℕ)
-whole_text j = if has_float j then None else Some (compact_text j)
-
--- the text of an object's fields
+-- the text of an object's fields with no space, where each number in it is whole, at any depth
 abbrev pub fields_in : json.Data → Option (List ℕ)
-fields_in j = option_and_then (λ ms. whole_text (json.object ms)) (as_object j)
+fields_in j = option_and_then (λ ms. if has_float (json.object ms) then None else Some (compact_text (json.object ms))) (as_object j)
 
 -- an object by its form, `{"fields":{..},"type":TYPE}`: its name, its type's name and its fields' text
 abbrev pub object_in : List ℕ × json.Data → Option NamedTexts
