@@ -46,7 +46,7 @@ about = record (empty (codes "about") []) {
   columns = column (codes "one") Integer false ∷ column (codes "version") Integer true ∷ column (codes "declarations") Any true ∷ [];
   key = Some 0;
   primary = 0 ∷ [];
-  checks = op2 (Compare Eq Binary) (col 1 0) (lit (Int (pos 1))) ∷ []
+  checks = op2 (Compare Eq Binary) (col 1 0) (lit (Int (pos 1))) ∷ [];
 }
 
 -- what the second defines
@@ -63,7 +63,7 @@ object_table = record (keyed (codes "object") (words (codes "rec") ∷ words (co
     on_delete = Cascade;
     on_update = NoAction;
     is_deferred = false;
-  }) ∷ []
+  }) ∷ [];
 }
 
 -- no table
