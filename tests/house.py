@@ -1,5 +1,5 @@
 #!/usr/bin/env python3
-"""Measures the crates and refuses what is beyond a limit: their chain, sizes and edits, the proofs that they cite, the names that types share.
+"""Measures the crates and refuses what is beyond a limit: their chain, edges, sizes and edits, the proofs that they cite, the names that types share.
 
     tests/house.py          prints the measures; exit status 1 where one is beyond its limit
 
@@ -11,7 +11,7 @@ import re
 import sys
 from collections import Counter, defaultdict
 
-CHAIN, LINES, FUNCTIONS, EDITS, CITATIONS, PATHS = 16, 1_500, 100, 34, 164, 20_000
+CHAIN, EDGES, LINES, FUNCTIONS, EDITS, CITATIONS, PATHS = 13, 340, 1_500, 100, 30, 155, 12_000
 
 # The types whose name two libraries have, and how many have it: this list may only shrink.
 SHARED = {"Part": 4, "Draft": 3, "Course": 2, "Failure": 2, "GroupDraft": 2, "Node": 2, "Place": 2, "Spot": 2, "Step": 2, "Use": 2}
@@ -98,10 +98,13 @@ def beyond(below):
     deepest, edits = max(depth.values()), sum(map(edits_of, below))
     paths, top = most_paths(below)
     cited, shared = citations(below), shared_types(below)
-    print(f"{len(below)} crates in a chain of {deepest}, {paths} paths from {top}")
+    edges = sum(map(len, below.values()))
+    print(f"{len(below)} crates in a chain of {deepest}, {edges} edges between them, {paths} paths from {top}")
     print(f"{edits} edits in must-fail/, {cited.total()} citations of another crate's proofs, {len(shared)} names of types in more than one library")
     if deepest > CHAIN:
         yield f"a chain of {deepest} crates, at most {CHAIN}: up to {max(depth, key=depth.get)}"
+    if edges > EDGES:
+        yield f"{edges} edges between crates, at most {EDGES}"
     for crate in sorted(below):
         if lines_of(crate) > LINES:
             yield f"{crate}: {lines_of(crate)} lines, at most {LINES}"

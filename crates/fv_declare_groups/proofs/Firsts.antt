@@ -13,7 +13,7 @@ use Rattle.std.specs.Option.{option_or}
 use Rattle.fv_declare_schema.specs.Whereabouts.{unknown_name, inherited_sequence}
 use Rattle.fv_declare_schema.specs.declared.fault.NameAt.{NameAt}
 use Rattle.fv_first.proofs.Laws.{map_told}
-use Rattle.fv_declare_schema.proofs.Placed.{unknown_told, inherited_told}
+use Rattle.fv_declare_schema.proofs.FaultPlaces.{unknown_told, inherited_told}
 use Rattle.fv_declare_groups.specs.Whereabouts.{group_at, unknown_in, misused_in, IsAt, IsAtGroup}
 use Rattle.fv_declare_groups.specs.declared.at.GroupingAt.{GroupingAt}
 use Rattle.fv_declare_groups.specs.declared.fault.GroupingFault.{GroupingFault}

@@ -8,7 +8,7 @@ use Rattle.fv_declare_schema.specs.Declarations.{count_nodes}
 use Rattle.fv_first.specs.First.{first_where}
 use Rattle.fv_first.proofs.Laws.{map_told, when_told, where_told}
 use Rattle.fv_declare_schema.specs.Whereabouts.{passed_limit}
-use Rattle.fv_declare_schema.proofs.Placed.{limit_told}
+use Rattle.fv_declare_schema.proofs.FaultPlaces.{limit_told}
 use Rattle.fv_message.specs.Table.{Messages, all_messages}
 use Rattle.fv_message.specs.declared.fault.MessageFault.{MessageFault}
 use Rattle.fv_message.specs.declared.fault.MessageFault.TheVariants as message

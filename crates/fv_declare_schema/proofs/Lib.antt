@@ -1,9 +1,9 @@
 pub mod Edges
+pub mod FaultPlaces
 pub mod FormGroups
 pub mod Nodes
 pub mod Numbers
 pub mod OfType
-pub mod Placed
 pub mod Plain
 pub mod Ranks
 pub mod Reaching

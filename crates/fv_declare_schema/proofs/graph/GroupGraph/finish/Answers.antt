@@ -1,6 +1,6 @@
 use Rattle.std.proofs.Common.{◌≡◌, ◌∙◌, inr, true, is_some, refl, ap, arith}
 use Rattle.fv_declare_schema.specs.Judged.{is_large_group}
-use Rattle.fv_declare_schema.proofs.Placed.{limit_told}
+use Rattle.fv_declare_schema.proofs.FaultPlaces.{limit_told}
 use Rattle.fv_declare_schema.proofs.graph.GroupGraph.finish.Goals as goal
 
 pub returns-then-is_some : goal.returns-then-is_some

@@ -7,7 +7,7 @@ use Rattle.fv_declare_schema.specs.Marked.{AreMeetingIn}
 use Rattle.fv_declare_schema.specs.Tables.{AreEdges}
 use Rattle.fv_declare_schema.specs.declared.fault.GroupFault.TheVariants.{UnknownGroup, CyclicInheritance, CyclicSequence, SequenceMisused, TooLarge}
 use Rattle.fv_declare_schema.proofs.Edges.{inherited_edges, member_edges, inherited_within, members_within, cyclic_same, acyclic_same, meeting_same}
-use Rattle.fv_declare_schema.proofs.Placed.{not_large, unknown_told, inherited_told}
+use Rattle.fv_declare_schema.proofs.FaultPlaces.{not_large, unknown_told, inherited_told}
 use Rattle.fv_declare_schema.proofs.graph.GroupGraph.new.Goals as goal
 
 pub returns-in-Some-clause-made : goal.returns-in-Some-clause-made
