@@ -21,7 +21,7 @@ from collections import defaultdict
 WENT = {
     "fv_lines": "fv_engine_lines", "fv_command": "fv_engine_command", "fv_reply": "fv_engine_reply",
     "fv_pending": "fv_engine_pending", "fv_machine": "fv_engine_machine",
-    "fv_judging": "fv_engine_pending fv_engine_machine fv_engine_pending", "fv_words": "formd_words",
+    "fv_judging": "fv_engine_pending fv_engine_machine", "fv_words": "formd_words",
     "fv_types": "fv_bundle", "fv_field": "fv_model", "fv_text": "fv_model", "fv_query": "fv_store",
     "fv_occurrence": "fv_constraint_tree", "fv_flatten": "fv_flatten fv_constraint fv_constraint_tree",
     "fv_constraint": "fv_constraint fv_flatten fv_declare_definition", "fv_definition": "fv_declare_definition fv_datum",
@@ -29,6 +29,8 @@ WENT = {
     "fv_grouping": "fv_declare_groups fv_declare_schema", "fv_naming": "fv_declare_judging", "fv_wording": "fv_declare_judging",
     "fv_declare": "fv_declare fv_declare_judging fv_declare_schema", "fv_reach": "fv_local", "fv_property": "fv_walk",
     "fv_request": "fv_local", "fv_spot": "fv_local", "fv_turns": "fv_walk_traces",
+    "fv_model_types": "fv_bundle", "fv_groups": "fv_declare_schema", "fv_walk_request": "fv_local", "fv_model_text": "fv_model",
+    "fv_engine_judging": "fv_engine_pending", "fv_command_laws": "fv_engine_machine", "fv_tables": "fv_store_tables", "fv_upgrade": "fv_store_upgrade",
 }
 # Types that have another name now.
 RENAMED = {("fv_flatten", "Place"): "Target", ("fv_draft", "Cascade"): "CascadeDraft"}
