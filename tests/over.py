@@ -30,7 +30,7 @@ SEED = int(sys.argv[3]) if len(sys.argv) > 3 else 1
 PLAIN = ["text", "integer", "decimal", "boolean", "date", "instant"]
 # How many members lead to a place at most.
 DEEPEST = 5
-ALL_FIT = "every record of the old declarations is well-typed under these: a redeclare is never C14"
+ALL_FIT = "every record of the old declarations is well-typed under these: a redeclare is never C14; no comparison tells violations (C10)"
 MAY_NOT_FIT = "a record of the old declarations may not be well-typed under these: a redeclare may be C14 at the places above"
 OTHER = "B5 WrongKind: it holds something else: a record may not fit in which it isn't null"
 BECOMES = "B5 WrongKind: a text becomes a reference: a record may not fit in which it isn't null, also as B6 DanglingRef or B7 RefType"

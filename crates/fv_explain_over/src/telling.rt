@@ -25,7 +25,7 @@ pub struct Declared<'a> {
 
 /// The words for declarations under which each record of others is read again.
 const ALL_FIT: &str =
-    "every record of the old declarations is well-typed under these: a redeclare is never C14";
+    "every record of the old declarations is well-typed under these: a redeclare is never C14; no comparison tells violations (C10)";
 
 /// The words for others.
 const MAY_NOT_FIT: &str =
