@@ -48,10 +48,10 @@ pub record IsKept (old new : State) : Type 0 where
   pub still : (IsBlank old.now → ⊥) → Stays old new ⊎ (HasCleanDisk new → MayBeFirst old.now)
   pub upgraded : IsUpgraded old new
 
--- a database in which nothing but its disk hinders an opening: tables that tell another version than the first; those of version 1, whose rows
--- all are records, which fit; or an empty one
-abbrev pub CanBeOpened : State → List ℕ → Type 0
-CanBeOpened old given =
+-- a database over which Store is told for its disk alone: tables that tell another version than the first (what isn't this one is refused as
+-- OtherVersion); those of version 1, whose rows all are records and fit; or an empty one
+abbrev pub FailsByDisk : State → List ℕ → Type 0
+FailsByDisk old given =
     ((version : ℕ) × (kept : List ℕ) × TellsAbout version kept old.now × (version ≢ first_version))
     ⊎ ((kept : List ℕ) × (m : Olds) × KeepsFirst old kept m × AllUpgrade m × IsShortAbout kept × AllShort (upgraded m) × HasFew m)
     ⊎ (IsBlank old.now × IsShortAbout given)

@@ -8,7 +8,7 @@ ghost use Rattle.fv_store.specs.Stands.{Frame, HoldsRecords, IsLive, Opens, Stay
 ghost use Rattle.fv_store.specs.Stock.{stock_state};
 ghost use Rattle.fv_declare_judging.specs.Declares.{Declares};
 ghost use Rattle.fv_engine.specs.Laws.{ShowsWhatWasPut, ChangesNoGet, ListsSome, MayChangePlaces, LeavesNothingToList, FailsWhereShut, FailsForRoomAlone, ShowsTheSame, LeavesNothingAtAll, FitsWhereAdded};
-ghost use Rattle.fv_engine.specs.Openings.{CanBeOpened, DeclaresSome, IsInForce, IsKept, IsLeft, IsMisdeclared};
+ghost use Rattle.fv_engine.specs.Openings.{DeclaresSome, FailsByDisk, IsInForce, IsKept, IsLeft, IsMisdeclared};
 ghost use Rattle.fv_engine_machine.specs.Machines.{contents};
 ghost use Rattle.fv_engine_machine.specs.Services.{GoesOn, ServiceKeeps, Responds, Turned, reign_of};
 ghost use Rattle.fv_bundle.specs.Types.{FieldsApart, has_deep};
@@ -194,7 +194,7 @@ impl<R: RuleSet + Drop, S: Alter + Drop> Engine<R, S> {
         // The store fails with a cause, over tables of either version and over an empty database.
         ensures store { IfErr result (λ r. r.0 ≡ OpenFault.Store OpenStoreFault.Store
             → HasCleanDisk (state S.Store r.1) → connection.in_transaction ≡ false
-            → CanBeOpened (state S.Store connection) declarations.now
+            → FailsByDisk (state S.Store connection) declarations.now
             → HasFailed (state S.Store connection) (state S.Store r.1)) }
         // A refusal hands the database back as it was, or migrated.
         ensures left { IfErr result (λ r. IsLeft (R.known rules) declarations.now
