@@ -16,7 +16,7 @@ use Rattle.fv_store_upgrade.specs.Upgraded.{AllShort, AllUpgrade, HasFew, upgrad
 use Rattle.fv_engine.specs.declared.engine.OpenFault.{OpenFault}
 use Rattle.fv_engine.specs.declared.engine.OpenFault.TheVariants.{Store}
 
--- this is the text of the declarations in force in a database: of those that it keeps under this version of the tables, or of those handed in
+-- this is the text of the declarations in force in a database: of those that it keeps, in tables of either version, or of those handed in
 -- where it is blank
 pub record IsInForce (old new : State) (given text : List ℕ) : Type 0 where
   pub opened : HasCleanDisk new → (c : Contents) → Opens old given c → text ≡ c.bytes

@@ -1,4 +1,4 @@
--- For private clauses: parts whose bundles were read, and what they make of the records on the way.
+-- For private clauses, but for `faulty`: parts whose bundles were read, and what they make of the records on the way.
 use Rattle.std.specs.Prelude.{ℕ, ◌+◌, List, [], ◌∷◌, Option, Some, None, is_some, Result, Ok, Err, if◌then◌else◌}
 use Rattle.std.specs.Result.{result_map_both}
 use Rattle.serde_json.specs.Data as json

@@ -14,7 +14,7 @@ use Rattle.fv_path.specs.Paths.{IsPath}
 use Rattle.fv_path.specs.Views.{node_view}
 use Rattle.fv_path.specs.declared.node.Node.{Node}
 use Rattle.fv_path.proofs.Chains.{path_front}
-use Rattle.fv_local.proofs.Parts.{part_there}
+use Rattle.fv_local.proofs.LocatedParts.{part_there}
 use Rattle.fv_local.specs.Sound.{IsSound}
 use Rattle.fv_local.specs.Loci.{leads}
 use Rattle.fv_local.specs.Paths.{field_name, nodes_of}

@@ -34,7 +34,7 @@ use Rattle.fv_local.proofs.Chains.{Leads, path_along, FailsIn, violation_along}
 use Rattle.fv_local.proofs.Numbers.{at_spot, spots_within, one_use, from_uses}
 use Rattle.fv_local.proofs.Objects.{sound_at}
 use Rattle.fv_local.proofs.OneReference.{names_apart, IsHeld, held, held_led, same_target}
-use Rattle.fv_local.proofs.Parts.{part_there}
+use Rattle.fv_local.proofs.LocatedParts.{part_there}
 use Rattle.fv_local.proofs.Segments.{HaveNoField, IsHeaded, segments_same, none_of_part, none_of_named, field_stays}
 
 -- ---- each failure of an object is one of a use, and stands where the use does

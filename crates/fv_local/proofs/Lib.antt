@@ -13,12 +13,12 @@ pub mod Leading
 pub mod Linked
 pub mod Listed
 pub mod Locals
+pub mod LocatedParts
 pub mod Members
 pub mod NodesApart
 pub mod Numbers
 pub mod Objects
 pub mod OneReference
-pub mod Parts
 pub mod Passing
 pub mod Picked
 pub mod Places

@@ -32,7 +32,7 @@ use Rattle.fv_local.proofs.Numbers.{spots_differ, spots_within, uses_differ}
 use Rattle.fv_local.proofs.Objects.{sound_at}
 use Rattle.fv_local.proofs.Below.{below_differs}
 use Rattle.fv_local.proofs.Members.{once_differs}
-use Rattle.fv_local.proofs.Parts.{parts_apart}
+use Rattle.fv_local.proofs.LocatedParts.{parts_apart}
 use Rattle.fv_local.proofs.Ways.{ways_within, ways_differ}
 
 part_same : (place : at.FieldPlace) (p q : Locus × Data) → turn.at place p.0 ≡ turn.at place q.0 → p.0 ≡ q.0

@@ -17,7 +17,7 @@ use Rattle.fv_local.specs.Conversions.{valid_places_at}
 use Rattle.fv_local.specs.Ways.{object_number_in, name_of, target_of, way_place, way_at, ways_at, ways_of}
 use Rattle.fv_local.specs.Sound.{IsSound}
 use Rattle.fv_local.proofs.Numbers.{each_in, flat_differ}
-use Rattle.fv_local.proofs.Parts.{parts_apart}
+use Rattle.fv_local.proofs.LocatedParts.{parts_apart}
 use Rattle.fv_local.proofs.Places.{places_apart}
 
 -- a reference at a place has the place and the locus of its part

@@ -11,7 +11,7 @@ use Rattle.fv_path.specs.Nodes.{PathNode, field as field_node}
 use Rattle.fv_registry.specs.Meanings.{Meanings}
 use Rattle.fv_local.proofs.Apart.{StandsIn, IsOfUse, of_use, stands}
 use Rattle.fv_local.proofs.Numbers.{spots_within, one_use}
-use Rattle.fv_local.proofs.Parts.{part_there}
+use Rattle.fv_local.proofs.LocatedParts.{part_there}
 use Rattle.fv_local.specs.Requests.{asked_groups}
 use Rattle.fv_local.specs.Sound.{IsSound}
 use Rattle.fv_local.proofs.NodesApart.{locus_same}

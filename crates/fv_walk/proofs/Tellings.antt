@@ -23,7 +23,7 @@ use Rattle.fv_path.specs.Nodes.{PathNode}
 use Rattle.fv_path.specs.Paths.{IsPath}
 use Rattle.fv_path.specs.Views.{node_view}
 use Rattle.fv_path.specs.declared.node.Node.{Node}
-pub use Rattle.fv_local.proofs.Parts.{part_there}
+pub use Rattle.fv_local.proofs.LocatedParts.{part_there}
 use Rattle.fv_local.proofs.Ways.{way_is}
 use Rattle.fv_graph.proofs.Images.{from_filter_map, from_flat_map}
 use Rattle.fv_local.specs.Conversions.{valid_places_at}

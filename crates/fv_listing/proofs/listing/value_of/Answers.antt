@@ -4,7 +4,7 @@ use Rattle.fv_extract.specs.Views.{place_view, part_view}
 use Rattle.fv_local.specs.FailureView.{spot_view}
 use Rattle.fv_local.specs.declared.failure.Spot.{Spot}
 use Rattle.fv_local.proofs.Objects.{sound_at}
-use Rattle.fv_local.proofs.Parts.{part_there}
+use Rattle.fv_local.proofs.LocatedParts.{part_there}
 use Rattle.fv_local.specs.Requests.{object_at}
 use Rattle.fv_walk_traces.specs.Violations.{value_at}
 use Rattle.fv_listing.specs.Courses.{bundle_in, visiting}

@@ -1,7 +1,7 @@
 use Rattle.std.proofs.Common.{length, sym, ap, ◌∙◌}
 use Rattle.std.specs.Vec.{vec_len}
 use Rattle.fv_bundle.specs.Views.{object_view}
-use Rattle.fv_local.proofs.Parts.{part_there}
+use Rattle.fv_local.proofs.LocatedParts.{part_there}
 use Rattle.fv_local.specs.Graphs.{way_view}
 use Rattle.fv_local.specs.Paths.{field_name}
 use Rattle.fv_listing.proofs.Parted.{way_alone, way_popped, is_some, is_none}
