@@ -1,5 +1,5 @@
-//! Bundles: named objects of declared types, each with its data, and whether they are well-typed.
-//! The types of objects: what their fields hold, and the data that JSON spells for them.
+//! Types of objects, what their fields hold and the data that JSON spells for them; and bundles, named
+//! objects of declared types, each with its data, and whether they are well-typed.
 #![tactic(auto)]
 
 mod bundle;

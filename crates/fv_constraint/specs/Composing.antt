@@ -25,8 +25,8 @@ abbrev pub kind_in : Signature → List ℕ → Option AttributeKind
 kind_in attributes name = option_map (λ a. a.0) (at_name name attributes)
 
 -- an attribute is given that isn't there, or is of another kind
-abbrev pub overrides_any_foreign : Signature → Attributes → Bool
-overrides_any_foreign attributes given = list_any (λ g. not (has_kind (kind_in attributes g.0) (attribute_kind g.1))) given
+abbrev pub gives_foreign : Signature → Attributes → Bool
+gives_foreign attributes given = list_any (λ g. not (has_kind (kind_in attributes g.0) (attribute_kind g.1))) given
 
 -- two attributes are there, and of the same kind
 abbrev pub are_alike : Option AttributeKind → Option AttributeKind → Bool
@@ -52,7 +52,7 @@ lacks_attribute attributes c = list_any (λ a. not a.1.1 && not (is_set c a.0)) 
 -- what is given and overridden doesn't suit the attributes of the composing constraint, or the outer ones of the composed one
 abbrev pub is_unsuited : Signature → Signature → Composing → Bool
 is_unsuited outer attributes c =
-    overrides_any_foreign attributes c.given || overrides_foreign outer attributes c.overrides || gives_overridden c || lacks_attribute attributes c
+    gives_foreign attributes c.given || overrides_foreign outer attributes c.overrides || gives_overridden c || lacks_attribute attributes c
 
 -- a composing constraint of a definition is refused: it is neither built in nor declared, or what is given and overridden doesn't suit it
 abbrev pub refuses_composing : Definitions → Definition → Composing → Bool

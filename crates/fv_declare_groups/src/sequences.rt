@@ -5,7 +5,7 @@ ghost use Rattle.std.specs.Option.{option_map_or};
 ghost use Rattle.std.specs.Str.{bytes_eq};
 ghost use Rattle.fv_declare_draft.specs.DraftViews.{type_view};
 ghost use Rattle.fv_first.specs.First.{first_where, IsFirstIn};
-ghost use Rattle.fv_declare_groups.specs.Grouping.{lacks_type, is_long_group, MemberMeets};
+ghost use Rattle.fv_declare_groups.specs.Grouping.{lacks_type, is_long_sequence, MemberMeets};
 ghost use Rattle.fv_declare_groups.specs.Whereabouts.{misused_in, lacking_in, IsMetAt, IsMetIn};
 ghost use Rattle.fv_declare_schema.specs.Whereabouts.{first_sequence};
 ghost use Rattle.fv_declare_schema.specs.Groups.{group_number, is_sequence};
@@ -131,7 +131,7 @@ pub(crate) fn met_in(graph: &GroupGraph, types: &[TypeDraft]) -> Option<Grouping
 /// The number of the first type whose sequence has more than 32 members.
 #[tactic(auto, using(crate::proofs::FirstTurns::type_turn))]
 pub fn long_sequence(types: &[TypeDraft]) -> Option<usize>
-    ensures { result ≡ first_where is_long_group (map type_view types.now) }
+    ensures { result ≡ first_where is_long_sequence (map type_view types.now) }
 {
     for (number, declared) in types.iter().enumerate() {
         if members_of(declared).len() > MOST_MEMBERS {

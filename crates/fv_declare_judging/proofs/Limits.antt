@@ -3,7 +3,7 @@ use Rattle.std.proofs.Common.{◌≡◌, ◌≢◌, ◌||◌, ◌⊎◌, inl, in
 use Rattle.fv_constraint.specs.Composed.{Planned}
 use Rattle.fv_constraint_tree.specs.Trees.{Tree}
 use Rattle.fv_declare_draft.specs.Drafts.{Drafted}
-use Rattle.fv_declare_groups.specs.Grouping.{groups_in, is_long_group}
+use Rattle.fv_declare_groups.specs.Grouping.{groups_in, is_long_sequence}
 use Rattle.fv_declare_schema.specs.Declarations.{count_nodes}
 use Rattle.fv_first.specs.First.{first_where}
 use Rattle.fv_first.proofs.Laws.{map_told, when_told, where_told}
@@ -31,12 +31,12 @@ use Rattle.fv_declare_judging.proofs.Named.{four_told}
 -- what else is declared
 many_told : (d : Drafted) → is_some (declared_limit d) ≡ has_many d
 many_told d =
-    four_told (if nat_lt 256 (length d.forms) then Some at.Forms else None) (if nat_lt 256 (length d.definitions) then Some at.Definitions else None) (option_map at.Groups (passed_limit (groups_in d))) (option_map at.Sequence (first_where is_long_group d.types))
+    four_told (if nat_lt 256 (length d.forms) then Some at.Forms else None) (if nat_lt 256 (length d.definitions) then Some at.Definitions else None) (option_map at.Groups (passed_limit (groups_in d))) (option_map at.Sequence (first_where is_long_sequence d.types))
     ∙ ap₂ (λ (a b : Bool). a || b)
     (ap₂ (λ (a b : Bool). a || b)
     (ap₂ (λ (a b : Bool). a || b) (when_told (nat_lt 256 (length d.forms)) at.Forms) (when_told (nat_lt 256 (length d.definitions)) at.Definitions))
     (map_told at.Groups (passed_limit (groups_in d)) ∙ limit_told (groups_in d)))
-    (map_told at.Sequence (first_where is_long_group d.types) ∙ where_told is_long_group d.types)
+    (map_told at.Sequence (first_where is_long_sequence d.types) ∙ where_told is_long_sequence d.types)
 
 -- all of them
 all_told : (d : Drafted) (types : Option TypesAt) (w : Option WordingAt) (ts : List (Tree Planned)) → is_some types ≡ too_many (types_declared d)

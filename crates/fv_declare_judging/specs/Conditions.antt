@@ -11,9 +11,9 @@ use Rattle.fv_constraint_tree.specs.Nodes.{Node}
 use Rattle.fv_constraint_tree.specs.Trees.{Tree}
 use Rattle.fv_declare_draft.specs.AllUses.{uses_in}
 use Rattle.fv_declare_draft.specs.Drafts.{FormDraft, Drafted}
-use Rattle.fv_declare_groups.specs.Grouping.{groups_in, is_long_group}
+use Rattle.fv_declare_groups.specs.Grouping.{groups_in, is_long_sequence}
 use Rattle.fv_declare_schema.specs.Declarations.{count_nodes}
-use Rattle.fv_declare_schema.specs.Judged.{is_large_group}
+use Rattle.fv_declare_schema.specs.Judged.{are_too_large}
 use Rattle.fv_declare_judging.specs.Types.{types_declared}
 use Rattle.fv_declare_judging.specs.Used.{used}
 
@@ -36,7 +36,7 @@ used_in d = map used (uses_in d.types)
 -- more than 256 forms, declared constraints or groups, more than 32 that a group inherits directly, or more than 32 members of a sequence
 abbrev pub has_many : Drafted → Bool
 has_many d =
-    nat_lt 256 (length d.forms) || nat_lt 256 (length d.definitions) || is_large_group (groups_in d) || list_any is_long_group d.types
+    nat_lt 256 (length d.forms) || nat_lt 256 (length d.definitions) || are_too_large (groups_in d) || list_any is_long_sequence d.types
 
 -- the same, or more than 256 types or fields of a type, more than four containers one in another, or more than 1,024 nodes of all trees
 unfoldable pub too_large : Drafted → List (Tree Planned) → Bool

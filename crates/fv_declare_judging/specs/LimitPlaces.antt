@@ -3,7 +3,7 @@ use Rattle.std.specs.Prelude.{ℕ, suc, ◌+◌, List, [], ◌∷◌, length, na
 use Rattle.fv_constraint.specs.Composed.{Planned}
 use Rattle.fv_constraint_tree.specs.Trees.{Tree, size}
 use Rattle.fv_declare_draft.specs.Drafts.{Drafted}
-use Rattle.fv_declare_groups.specs.Grouping.{groups_in, is_long_group}
+use Rattle.fv_declare_groups.specs.Grouping.{groups_in, is_long_sequence}
 use Rattle.fv_first.specs.First.{first_where, first_of}
 use Rattle.fv_declare_schema.specs.Whereabouts.{passed_limit}
 use Rattle.fv_bundle.specs.Types.{Declared, too_many}
@@ -23,7 +23,7 @@ declared_limit d = first_of (
     (if nat_lt 256 (length d.forms) then Some at.Forms else None)
     ∷ (if nat_lt 256 (length d.definitions) then Some at.Definitions else None)
     ∷ option_map at.Groups (passed_limit (groups_in d))
-    ∷ option_map at.Sequence (first_where is_long_group d.types)
+    ∷ option_map at.Sequence (first_where is_long_sequence d.types)
     ∷ [])
 
 -- the number of the first tree with which there are more than 1,024 nodes, where there are some before the first one

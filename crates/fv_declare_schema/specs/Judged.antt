@@ -36,8 +36,8 @@ abbrev pub has_large_group : Groups → Bool
 has_large_group gs = list_any (λ g. nat_lt most_names (length (group_names_of g.1))) gs
 
 -- a limit is passed
-abbrev pub is_large_group : Groups → Bool
-is_large_group gs = nat_lt most_groups (length gs) || has_large_group gs
+abbrev pub are_too_large : Groups → Bool
+are_too_large gs = nat_lt most_groups (length gs) || has_large_group gs
 
 -- all names are groups', no group inherits itself and no sequence contains itself, through whatever chain, and no sequence is inherited
 pub record AreSound (gs : Groups) : Type 0 where
@@ -53,5 +53,5 @@ IsFault gs CyclicInheritance = (has_unknown_group gs ≡ false) × IsCyclic (inh
 IsFault gs CyclicSequence = (has_unknown_group gs ≡ false) × (IsCyclic (inherit_next gs) → ⊥) × IsCyclic (member_next gs)
 IsFault gs SequenceMisused =
     (has_unknown_group gs ≡ false) × (IsCyclic (inherit_next gs) → ⊥) × (IsCyclic (member_next gs) → ⊥) × (has_inherited_sequence gs ≡ true)
-IsFault gs TooLarge = AreSound gs × (is_large_group gs ≡ true)
+IsFault gs TooLarge = AreSound gs × (are_too_large gs ≡ true)
 IsFault gs Memory = Unit {0}

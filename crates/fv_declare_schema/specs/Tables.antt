@@ -3,7 +3,7 @@ use Rattle.std.specs.Prelude.{◌≡◌, ◌<◌, ◌↔◌, ℕ, List, map, len
 use Rattle.std.specs.declared.alloc.Global.{Global}
 use Rattle.fv_graph.specs.Graph.{next_of}
 use Rattle.fv_declare_schema.specs.Groups.{Groups, inherit_next, member_next, ranks, MeetsDefault}
-use Rattle.fv_declare_schema.specs.Judged.{AreSound, is_large_group}
+use Rattle.fv_declare_schema.specs.Judged.{AreSound, are_too_large}
 use Rattle.fv_declare_schema.specs.Marked.{flag_of, AreLeading}
 use Rattle.fv_declare_schema.specs.Whereabouts.{passed_limit}
 use Rattle.fv_declare_schema.specs.declared.declared.GroupId.{GroupId}
@@ -43,6 +43,6 @@ pub record IsGraph (gs : Groups) (inherited members : List (Vec ℕ Global)) (me
 -- groups within the limits, with the tables of inheritance and of ranks
 pub record IsTable (gs : Groups) (inheriting : List (Vec Bool Global)) (ranking : List (Vec GroupId Global)) : Type 0 where
   pub sound : AreSound gs
-  pub small : is_large_group gs ≡ false
+  pub small : are_too_large gs ≡ false
   pub inheriting_are : AreInheriting (inherit_next gs) (length gs) inheriting
   pub ranking_are : AreRanks (ranks gs) (length gs) ranking

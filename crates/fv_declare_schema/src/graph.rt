@@ -4,7 +4,7 @@ ghost use mathlib.Core.Logic.{◌⊎◌};
 ghost use Rattle.fv_graph.specs.Graph.{next_of};
 ghost use Rattle.fv_declare_schema.specs.GroupViews.{declared_view};
 ghost use Rattle.fv_declare_schema.specs.Groups.{all_groups, group_number, is_sequence, MeetsDefault};
-ghost use Rattle.fv_declare_schema.specs.Judged.{AreSound, IsFault, is_large_group};
+ghost use Rattle.fv_declare_schema.specs.Judged.{AreSound, IsFault, are_too_large};
 ghost use Rattle.fv_declare_schema.specs.Whereabouts.{IsAt, passed_limit};
 ghost use Rattle.fv_declare_schema.specs.Marked.{AreMeetingIn};
 ghost use Rattle.fv_declare_schema.specs.declared.fault.GroupFault.TheVariants.{TooLarge, Memory};
@@ -126,8 +126,8 @@ impl GroupGraph {
 
     /// The groups with their tables; refused by `TooLarge` where a limit is passed, and by `Memory`.
     pub fn finish(self, alloc: Global) -> Result<Groups, GroupFault>
-        ensures { MatchResult result (λ gs. (gs ≡ self) × AreSound self × (is_large_group self ≡ false))
-            (λ e. (e ≡ Memory) ⊎ ((e ≡ TooLarge) × (is_large_group self ≡ true))) }
+        ensures { MatchResult result (λ gs. (gs ≡ self) × AreSound self × (are_too_large self ≡ false))
+            (λ e. (e ≡ Memory) ⊎ ((e ≡ TooLarge) × (are_too_large self ≡ true))) }
     {
         if self.limit.is_some() {
             return Err(GroupFault::TooLarge);

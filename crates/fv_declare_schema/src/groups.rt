@@ -2,7 +2,7 @@
 ghost use Rattle.std.specs.Prelude.{◌≡◌, ◌<◌, ◌↔◌, false, length, option_map, All, IsTrue, IfOk, IfSome, MatchResult};
 ghost use Rattle.fv_declare_schema.specs.GroupViews.{declared_view};
 ghost use Rattle.fv_declare_schema.specs.Groups.{all_groups, group_number, name_at, is_sequence, inherit_next, member_next, Inherits, ranks};
-ghost use Rattle.fv_declare_schema.specs.Judged.{AreSound, IsFault, is_large_group};
+ghost use Rattle.fv_declare_schema.specs.Judged.{AreSound, IsFault, are_too_large};
 
 use crate::acyclic::Acyclic;
 use crate::declared::{DeclaredGroups, GroupId};
@@ -49,7 +49,7 @@ impl Groups {
         declared: IndexMap<String, GroupDraft>,
     ) -> Result<Groups, GroupFault>
         ensures { let gs = all_groups (declared_view declared) in
-            MatchResult result (λ g. (g ≡ gs) × AreSound gs × (is_large_group gs ≡ false)) (IsFault gs) }
+            MatchResult result (λ g. (g ≡ gs) × AreSound gs × (are_too_large gs ≡ false)) (IsFault gs) }
     {
         match GroupGraph::new(alloc, declared) {
             Ok(graph) => graph.finish(alloc),
@@ -65,7 +65,7 @@ impl Groups {
         expansion: &Acyclic,
     ) -> Result<Groups, AllocError>
         requires sound { AreSound groups }
-        requires small { is_large_group groups ≡ false }
+        requires small { are_too_large groups ≡ false }
         requires inheritance { AreEdges (inherit_next groups) (length groups) inheritance.now }
         requires expansion { AreEdges (member_next groups) (length groups) expansion.now }
         ensures { IfOk result (λ g. g ≡ groups) }

@@ -1,8 +1,7 @@
 //! What declarations declare: a schema has the types, each use of a constraint where it stands, with
 //! all that the constraint is composed of, the forms, the groups, the places whose objects are
-//! validated, and the messages.
-//! Groups of constraints: which groups a group inherits, and the plain groups that a sequence of
-//! groups stands for, in order.
+//! validated, and the messages. Of its groups it tells which ones a group inherits, and the plain groups
+//! that a sequence of groups stands for, in order.
 #![tactic(auto)]
 
 mod acyclic;

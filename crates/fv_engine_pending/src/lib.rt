@@ -1,8 +1,8 @@
 //! The parts of a command are read against a schema and made on records on the way, before anything is
 //! written: those that they need are found in the store, each part is made of what the parts before
-//! have left, and what is left becomes changes.
-//! Records are judged by the groups of their forms: those that a command leaves on the way, and all that
-//! are stored, each read again under other declarations from what is written of it.
+//! have left, and what is left becomes changes. Records are judged here by the groups of their forms: those
+//! that a command leaves on the way, and all that are stored, each read again under other declarations from
+//! what is written of it.
 #![tactic(auto)]
 
 mod applying;

@@ -4,7 +4,7 @@ use Rattle.std.specs.List.{list_any}
 use Rattle.std.specs.Option.{option_map_or}
 use Rattle.fv_builtin.specs.Given.{has_kind}
 use Rattle.fv_flatten.proofs.Signatures.{any_seen, lacks_required}
-use Rattle.fv_constraint.specs.Composing.{Signature, signature_attributes, kind_in, overrides_any_foreign, are_alike, overrides_foreign, gives_overridden, is_set, lacks_attribute, is_unsuited, refuses_composing}
+use Rattle.fv_constraint.specs.Composing.{Signature, signature_attributes, kind_in, gives_foreign, are_alike, overrides_foreign, gives_overridden, is_set, lacks_attribute, is_unsuited, refuses_composing}
 use Rattle.fv_constraint.specs.Meanings.{Meant, builtin, declared, meant_by}
 use Rattle.fv_constraint.specs.Refusals.{is_unknown_rule, is_other_kind, bad_default, unknown_rule, bad_definition}
 use Rattle.fv_constraint.specs.Whereabouts.{unknown_rule_at, bad_default_at, foreign_given, unsuited_override, lacking_attribute, unsuited_at, refused_composing, bad_in, bad_definition_at}
@@ -22,7 +22,7 @@ rule_told k ds = first_told _ (λ (d : List ℕ × Definition). is_unknown_rule 
 
 -- ---- attributes
 
-pub foreign_told : (own : Signature) (given : Attributes) → is_some (foreign_given own given) ≡ overrides_any_foreign own given
+pub foreign_told : (own : Signature) (given : Attributes) → is_some (foreign_given own given) ≡ gives_foreign own given
 foreign_told own given = where_told (λ g. not (has_kind (kind_in own g.0) (attribute_kind g.1))) given
 
 any_or : {X : Type 0} (s t : X → Bool) (xs : List X) → list_any (λ x. s x || t x) xs ≡ (list_any s xs || list_any t xs)
@@ -62,7 +62,7 @@ unsuited_told outer m number place c =
     or_none (option_map (at.Lacking number place) (lacking_attribute m c)) ∙ map_told (at.Lacking number place) (lacking_attribute m c) ∙ lacking_told m c
     )
     )
-    ∙ grouped (overrides_any_foreign own c.given) (overrides_foreign outer own c.overrides) (gives_overridden c) (lacks_attribute own c)
+    ∙ grouped (gives_foreign own c.given) (overrides_foreign outer own c.overrides) (gives_overridden c) (lacks_attribute own c)
 
 composing_told : (ds : Definitions) (d : Definition) (number place : ℕ) (c : Composing) → is_some (refused_composing ds d number place c) ≡ refuses_composing ds d c
 composing_told ds d number place c = go (meant_by ds c.constraint)

@@ -8,7 +8,7 @@ use Rattle.fv_datum.specs.Attributes.{Attributes}
 use Rattle.fv_datum.specs.Lookup.{at_name}
 use Rattle.fv_registry.specs.Rules.{Known, rule_takes_kind as rule_takes}
 use Rattle.fv_constraint_tree.specs.Targets.{Target, on_object, on_data}
-use Rattle.fv_constraint.specs.Composing.{signature_attributes, overrides_any_foreign}
+use Rattle.fv_constraint.specs.Composing.{signature_attributes, gives_foreign}
 use Rattle.fv_constraint.specs.Meanings.{Meant, builtin, declared}
 use Rattle.fv_declare_definition.specs.Definitions.{Rule, of_data, of_objects, AttributeDefinition}
 
@@ -21,7 +21,7 @@ lacks_value attributes given = list_any (λ a. not (is_some (option_or (at_name 
 -- a constraint refuses the attributes that are given
 abbrev pub refuses_given : Meant → Attributes → Bool
 refuses_given (builtin which) given = not (is_some (drafted which given))
-refuses_given (declared d) given = overrides_any_foreign (signature_attributes (declared d)) given || lacks_value d.attributes given
+refuses_given (declared d) given = gives_foreign (signature_attributes (declared d)) given || lacks_value d.attributes given
 
 -- ---- the place where a constraint stands
 

@@ -1,8 +1,8 @@
 //! What fails of an object's own constraints in a group (Jakarta Bean Validation 3.0, "Validation
 //! routine"): those that the group reaches at the object's type, in the group and in the groups that it
 //! inherits ("Group inheritance"), and where a type redefines `Default` those of each rank of its
-//! sequence ("Redefining the Default group for a class").
-//! The request that judges a bundle by declarations: its objects by their numbers, the references that
+//! sequence ("Redefining the Default group for a class"). And what a bundle is asked, to be judged by
+//! declarations: its objects by their numbers, the references that
 //! are followed from each, and the groups that are carried on (Jakarta Bean Validation 3.0, "Graph
 //! validation" and "Group conversion"); and the property path of a part of an object
 //! ("ConstraintViolation").

@@ -1,5 +1,5 @@
-//! Bundles read from JSON, data by themselves, and one datum of a bundle changed.
-//! Bundles and the fields of objects as JSON, and as texts that are written straight from them.
+//! Bundles read from JSON, data by themselves, and one datum of a bundle changed; and bundles and the
+//! fields of objects as JSON, and as texts that are written straight from them.
 #![tactic(auto)]
 
 mod build;

@@ -13,7 +13,7 @@ use Rattle.fv_store_tables.specs.Stands.{about_row}
 use Rattle.fv_store_tables.specs.Causes.{HasRooms}
 use Rattle.fv_store_tables.specs.Creating.{IsMade, IsEmpty}
 
--- what a row of `record` of version 1 keeps beside the id: the form and the text of the record's objects
+-- what a row of `record` of version 1 keeps beside the id: the form and the bundle's text
 pub record Old : Type 0 where
   pub form : List ℕ
   pub bundle : List ℕ
