@@ -1,15 +1,10 @@
 pub mod Becoming
-pub mod Causes
 pub mod Changes
-pub mod Faults
 pub mod Going
 pub mod Groups
 pub mod Makes
 pub mod OneField
-pub mod Parted
 pub mod Recordless
 pub mod Redeclared
-pub mod Refused
 pub mod Rooms
 pub mod Serving
-pub mod Shaped

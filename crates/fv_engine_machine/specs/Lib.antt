@@ -1,6 +1,4 @@
-pub mod Absent
 pub mod Causes
-pub mod Faulty
 pub mod Judges
 pub mod Keeping
 pub mod Machines
@@ -8,4 +6,3 @@ pub mod Redeclaring
 pub mod Refusals
 pub mod Services
 pub mod Step
-pub mod Stops

@@ -4,7 +4,7 @@ use Rattle.std.specs.List.{list_all}
 use Rattle.std.specs.Option.{option_map_or}
 use Rattle.serde_json.specs.Data as json
 use Rattle.fv_bundle.specs.Bundles.{Bundled}
-use Rattle.fv_engine_machine.proofs.Causes.{Says, IsPartFault, cause}
+use Rattle.fv_command_laws.proofs.Causes.{Says, IsPartFault, cause}
 use Rattle.fv_datum.specs.Lookup.{at_name}
 use Rattle.fv_datum.specs.Outcomes.{first, unless_fault}
 use Rattle.fv_declare_schema.specs.Declarations.{Declarations}

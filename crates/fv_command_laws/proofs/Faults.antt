@@ -4,8 +4,8 @@ use Rattle.std.specs.List.{list_any}
 use Rattle.std.specs.Option.{option_map_or}
 use Rattle.std.specs.Result.{result_err, result_map_both}
 use Rattle.fv_bundle.specs.Bundles.{Bundled}
-use Rattle.fv_engine_machine.proofs.Causes.{said, held, not_held}
-use Rattle.fv_engine_machine.specs.Faulty.{IsFaultyPart, IsFaulty}
+use Rattle.fv_command_laws.proofs.Causes.{said, held, not_held}
+use Rattle.fv_command_laws.specs.Faulty.{IsFaultyPart, IsFaulty}
 use Rattle.fv_datum.specs.Data.{Data}
 use Rattle.fv_datum.specs.Lookup.{at_name}
 use Rattle.fv_declare_schema.specs.Declarations.{Declarations}

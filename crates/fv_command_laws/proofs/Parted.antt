@@ -2,11 +2,11 @@
 use Rattle.std.proofs.Common.{◌≡◌, ℕ, suc, ◌+◌, List, [], ◌∷◌, take, Some, slice_get, Result, Ok, Err, refl, sym, ap, ◌∙◌, arith}
 use Rattle.std.specs.Result.{result_map_both}
 use Rattle.fv_command_fault.specs.declared.place.Absence.{Absence}
-use Rattle.fv_engine_machine.proofs.Faults.{err_same, none_there, part_at_fault}
-use Rattle.fv_engine_machine.proofs.Refused.{part_there, batch_cause}
-use Rattle.fv_engine_machine.specs.Absent.{refusal_of, IsPart}
-use Rattle.fv_engine_machine.specs.Faulty.{IsFaultyPart}
-use Rattle.fv_engine_machine.specs.Stops.{IsStop}
+use Rattle.fv_command_laws.proofs.Faults.{err_same, none_there, part_at_fault}
+use Rattle.fv_command_laws.proofs.Refused.{part_there, batch_cause}
+use Rattle.fv_command_laws.specs.Absent.{refusal_of, IsPart}
+use Rattle.fv_command_laws.specs.Faulty.{IsFaultyPart}
+use Rattle.fv_command_laws.specs.Stops.{IsStop}
 use Rattle.fv_declare_schema.specs.Declarations.{Declarations}
 use Rattle.fv_engine_command.specs.Commands.{Part, batch}
 use Rattle.fv_engine_machine.specs.Refusals.{refusal, made, part_fault, part_refusal, told_fault}

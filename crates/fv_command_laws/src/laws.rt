@@ -1,9 +1,9 @@
 //! Laws of commands: functions that do nothing, and whose contracts a caller's proof may cite.
 ghost use Rattle.std.specs.Prelude.{◌≡◌, ◌↔◌, ℕ, List, Some, false};
 ghost use Rattle.fv_command_fault.specs.declared.place.Absence.{Absence};
-ghost use Rattle.fv_engine_machine.specs.Absent.{IsPart, IsSomewhere, refusal_of};
-ghost use Rattle.fv_engine_machine.specs.Faulty.{IsFaulty, IsFaultyPart};
-ghost use Rattle.fv_engine_machine.specs.Stops.{IsStop};
+ghost use Rattle.fv_command_laws.specs.Absent.{IsPart, IsSomewhere, refusal_of};
+ghost use Rattle.fv_command_laws.specs.Faulty.{IsFaulty, IsFaultyPart};
+ghost use Rattle.fv_command_laws.specs.Stops.{IsStop};
 ghost use Rattle.fv_declare_schema.specs.Declarations.{Declarations};
 ghost use Rattle.fv_engine_command.specs.Commands.{Part, Request, asks_json, batch, of_records};
 ghost use Rattle.fv_engine_machine.specs.Refusals.{refusal};

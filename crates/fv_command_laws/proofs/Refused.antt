@@ -5,7 +5,7 @@ use Rattle.std.specs.Option.{option_map_or}
 use Rattle.std.proofs.lemmas.Bool.{lt-ltb}
 use Rattle.serde_json.specs.Data as json
 use Rattle.fv_bundle.specs.Bundles.{Bundled, Thing}
-use Rattle.fv_engine_machine.proofs.Causes.{Says, IsPartFault, cause}
+use Rattle.fv_command_laws.proofs.Causes.{Says, IsPartFault, cause}
 use Rattle.fv_command_fault.specs.Named.{id_of, names_of, IsStored}
 use Rattle.fv_command_fault.specs.Whereabouts.{LacksForm, LacksRecord, IsAt}
 use Rattle.fv_command_fault.specs.declared.place.Absence.{Absence}
@@ -14,7 +14,7 @@ use Rattle.fv_command_fault.specs.declared.place.CommandPlace.{CommandPlace}
 use Rattle.fv_command_fault.specs.declared.place.CommandPlace.TheVariants.{Form, Id, Group, «Type», Object, Field}
 use Rattle.fv_datum.specs.Lookup.{at_name}
 use Rattle.fv_declare_schema.specs.Declarations.{Declarations}
-use Rattle.fv_engine_machine.specs.Absent.{refusal_of, IsSomewhere, IsPart}
+use Rattle.fv_command_laws.specs.Absent.{refusal_of, IsSomewhere, IsPart}
 use Rattle.fv_engine_command.specs.Commands.{Part, put, set, remove, Request, too_long, not_json, shape, alone, batch, get, check, check_field, check_value, list}
 use Rattle.fv_engine_machine.specs.Refusals.{refusal, when, first_of, is_misshapen_line, lacks_form, part_fault, part_refusal, lacks_record, lacks_group, lacks_field}
 use Rattle.fv_engine_pending.specs.Parts.{part_made, kept_as, bundle_under}

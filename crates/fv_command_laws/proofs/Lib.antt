@@ -1,0 +1,5 @@
+pub mod Causes
+pub mod Faults
+pub mod Parted
+pub mod Refused
+pub mod Shaped

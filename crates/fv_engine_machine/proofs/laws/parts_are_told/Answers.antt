@@ -1,5 +1,0 @@
-use Rattle.fv_engine_machine.proofs.Parted.{part_lacks}
-use Rattle.fv_engine_machine.proofs.laws.parts_are_told.Goals as goal
-
-pub returns : goal.returns
-returns c = λ ds m ps n w told. part_lacks ds m ps n w told
