@@ -30,7 +30,7 @@ WENT = {
     "fv_declare": "fv_declare fv_declare_judging fv_declare_schema", "fv_reach": "fv_local", "fv_property": "fv_walk",
     "fv_request": "fv_local", "fv_spot": "fv_local", "fv_turns": "fv_walk_traces",
     "fv_model_types": "fv_bundle", "fv_groups": "fv_declare_schema", "fv_walk_request": "fv_local", "fv_model_text": "fv_model",
-    "fv_engine_judging": "fv_engine_pending", "fv_tables": "fv_store_tables", "fv_upgrade": "fv_store_upgrade",
+    "fv_engine_judging": "fv_engine_pending", "fv_explain_places": "fv_explain_faults", "fv_tables": "fv_store_tables", "fv_upgrade": "fv_store_upgrade",
 }
 # Types that have another name now.
 RENAMED = {("fv_flatten", "Place"): "Target", ("fv_draft", "Cascade"): "CascadeDraft"}

@@ -6,7 +6,7 @@ use fv_bundle::TypeId;
 use fv_datum::Attrs;
 use fv_declare_draft::MessageDraft;
 use fv_declare_schema::{Form, GroupId, Groups, Placed, Schema};
-use fv_explain_places::{Told, Untold, Written, built_in_key, find_message, reported};
+use fv_explain_faults::{Told, Untold, Written, built_in_key, find_message, reported};
 use fv_explain_warnings::{inherits, reached, validated};
 use fv_message::Messages;
 use indexmap::IndexMap;

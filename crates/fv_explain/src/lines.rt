@@ -1,6 +1,6 @@
 //! The lines of an explanation, as plain text or as JSON objects.
 use fv_datum::{Attribute, Attrs};
-use fv_explain_places::{Quoted, Untold, Written};
+use fv_explain_faults::{Quoted, Untold, Written};
 use serde::{Described, Serialize, Serializer};
 use std::alloc::Global;
 use std::fmt;

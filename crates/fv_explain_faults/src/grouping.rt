@@ -1,9 +1,12 @@
 //! The faults of groups in words.
+use crate::drafts::{Refused, at, to_field, to_steps};
 use crate::naming::undeclared;
+use crate::say;
+use crate::told::{Found, Written};
+use crate::words::kind_word;
 use fv_declare_draft::{Conversion, cascades_in};
 use fv_declare_groups::{CascadeAt, GroupingAt};
 use fv_declare_judging::DeclFault;
-use fv_explain_places::{Found, Refused, Written, at, kind_word, say, to_field, to_steps};
 
 /// One of the names in an array: a sequence where none may stand, else no group.
 fn listed(refused: &Refused, out: &mut Found, names: &[&str], index: usize, rule: &str) -> Written {

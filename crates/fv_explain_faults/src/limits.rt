@@ -1,12 +1,13 @@
 //! The limits that are passed, and the wording of declarations, in words: what is no template, and what is no parameter's
 //! name.
+use crate::drafts::{Refused, at, entry_at, to_field};
+use crate::say;
+use crate::told::{Found, Told, Untold, Written};
+use crate::words::{Named, find_message};
 use fv_bundle::{TypeUse, TypesAt};
 use fv_declare_draft::Draft;
 use fv_declare_judging::{LimitAt, WordingAt, user_messages};
 use fv_declare_schema::GroupLimit;
-use fv_explain_places::{
-    Found, Named, Refused, Told, Untold, Written, at, entry_at, find_message, say, to_field,
-};
 use fv_message::{MessagesAt, key_name};
 
 /// Goes to a text that is to be a template, and gives it.

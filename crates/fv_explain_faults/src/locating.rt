@@ -1,12 +1,15 @@
 use crate::constraints::constraint_at;
+use crate::drafts::Refused;
 use crate::grouping::grouping_at;
 use crate::limits::{limit_at, wording_at};
+use crate::misfits::shape;
 use crate::naming::name_at;
 use crate::rings::ring_of;
+use crate::say;
+use crate::told::{Found, Told, Untold, Written};
 use fv_datum::read_json;
 use fv_declare_draft::{Draft, draft_of, uses_in};
 use fv_declare_judging::{At, DeclFault, PlacedFault};
-use fv_explain_places::{Found, Refused, Told, Untold, Written, say, shape};
 use fv_registry::RuleSet;
 use serde_json::Value;
 use std::alloc::Global;

@@ -1,11 +1,12 @@
 //! Names in words: a declared one that is none or is taken, and one that names nothing that is declared.
 use crate::constraints::unknown_constraint;
+use crate::drafts::{Refused, at, entry_at, to_field};
+use crate::say;
+use crate::told::{Found, Told, Untold, Written};
+use crate::words::Named;
 use fv_bundle::{TypeUse, TypesAt};
 use fv_datum::is_name;
 use fv_declare_judging::NamesAt;
-use fv_explain_places::{
-    Found, Named, Refused, Told, Untold, Written, at, entry_at, say, to_field,
-};
 
 /// A type or a group that isn't declared.
 pub(crate) fn undeclared(out: &mut Found, sort: &str, name: &str) -> Written {

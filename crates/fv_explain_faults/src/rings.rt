@@ -1,11 +1,14 @@
 //! What leads back to itself, in words: groups that inherit themselves, sequences that contain themselves,
 //! constraints that are composed of themselves, and keys whose texts lead back to them.
+use crate::drafts::{Refused, at, entry_at};
+use crate::say;
+use crate::told::{Found, Untold, Written};
+use crate::words::{Named, find_message};
 use fv_constraint::composition_ring;
 use fv_datum::is_name;
 use fv_declare_draft::Draft;
 use fv_declare_groups::{inheritance_ring, sequence_ring};
 use fv_declare_judging::{DeclFault, user_messages};
-use fv_explain_places::{Found, Named, Refused, Untold, Written, at, entry_at, find_message, say};
 use fv_message::key_ring;
 
 /// The most names of a ring that are shown.

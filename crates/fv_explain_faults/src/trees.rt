@@ -1,5 +1,9 @@
 //! The faults of constraints in the trees of uses, in words.
 use crate::constraints::refused_at;
+use crate::drafts::{Refused, at};
+use crate::say;
+use crate::told::{Found, Told, Untold, Written};
+use crate::words::{KINDS, Named, Who, kind_word};
 use fv_builtin::takes_kind;
 use fv_constraint::{Composition, Meant, Planned, meant_by, unknown_composing};
 use fv_constraint_tree::Target;
@@ -7,9 +11,6 @@ use fv_datum::{Attribute, Kind};
 use fv_declare_definition::Rule;
 use fv_declare_draft::{Draft, Use};
 use fv_declare_judging::DeclFault;
-use fv_explain_places::{
-    Found, KINDS, Named, Refused, Told, Untold, Who, Written, at, kind_word, say,
-};
 use fv_graph::Spot;
 use fv_registry::RuleSet;
 use std::alloc::Global;

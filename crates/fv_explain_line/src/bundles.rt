@@ -2,7 +2,7 @@
 use crate::commands::{Words, list, no_field, no_object, to_field, unknown_field, unknown_type};
 use fv_bundle::{Bundle, TypeUse};
 use fv_datum::{object_at, text_at};
-use fv_explain_places::{Found, Named, Untold, Written, say};
+use fv_explain_faults::{Found, Named, Untold, Written, say};
 use fv_model::BundleFault;
 use fv_model_fault::{FaultPlace, Inner, SetPlace, place_in_bundle, place_in_set, place_in_value};
 use indexmap::IndexMap;

@@ -6,7 +6,7 @@ use fv_bundle::{Bundle, TypeId};
 use fv_command_fault::CommandPlace;
 use fv_datum::text_at;
 use fv_declare_schema::{GroupId, Schema};
-use fv_explain_places::{Found, Named, Told, Untold, Written, say};
+use fv_explain_faults::{Found, Named, Told, Untold, Written, say};
 use fv_model::BundleFault;
 use serde_json::Value;
 

@@ -7,4 +7,4 @@ mod explain;
 mod records;
 
 pub use explain::{explain_refusal, records_asked};
-pub use fv_explain_places::Untold;
+pub use fv_explain_faults::Untold;

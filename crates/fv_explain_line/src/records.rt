@@ -6,7 +6,7 @@ use fv_command_fault::{Absence, place_in_command, place_in_part};
 use fv_datum::text_at;
 use fv_engine_command::{Command, Part, command_of};
 use fv_engine_pending::{PartFault, Pending, apply_all, read_parts};
-use fv_explain_places::{Found, Told, Untold, Written, say};
+use fv_explain_faults::{Found, Told, Untold, Written, say};
 use fv_model::{BundleFault, read_bundle};
 use fv_store::Stored;
 use fv_walk::{WalkFault, visits};

@@ -1,7 +1,7 @@
 //! The types that others lead to, and the groups that others inherit.
 use fv_bundle::{TypeId, TypeUse, Types};
 use fv_declare_schema::{GroupId, Groups, Schema};
-use fv_explain_places::Told;
+use fv_explain_faults::Told;
 use indexmap::IndexSet;
 use std::alloc::Global;
 

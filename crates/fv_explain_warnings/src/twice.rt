@@ -1,6 +1,6 @@
 //! Members that stand twice in a JSON text. A value has the last of each name alone, so the text is read once
 //! more, as a type of its own that sees each member.
-use fv_explain_places::{Found, Named, Told, Untold, say};
+use fv_explain_faults::{Found, Named, Told, Untold, say};
 use serde::{Deserialize, Deserializer, Format, Kind};
 use std::alloc::Global;
 use std::collections::BTreeMap;

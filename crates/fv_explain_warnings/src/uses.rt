@@ -7,7 +7,7 @@ use fv_constraint_tree::{Node, Test};
 use fv_datum::{Attribute, Attrs, Kind};
 use fv_declare_draft::MessageDraft;
 use fv_declare_schema::{Placed, Schema};
-use fv_explain_places::{
+use fv_explain_faults::{
     Named, Told, Who, Written, built_in_key, find_message, kind_word, reported, say,
 };
 use fv_registry::RuleSet;

@@ -6,7 +6,7 @@ use crate::uses::add_uses;
 use fv_bundle::TypeId;
 use fv_declare_draft::{Draft, MessageDraft};
 use fv_declare_schema::{GroupId, Groups, Schema};
-use fv_explain_places::{Found, Told, Written, built_in_key, say};
+use fv_explain_faults::{Found, Told, Written, built_in_key, say};
 use fv_registry::RuleSet;
 use indexmap::IndexSet;
 use std::alloc::Global;

@@ -152,7 +152,7 @@ fn flaw(out: &mut Found, value: &Value, fault: &FormFault) -> Written {
 }
 
 /// Adds where a value isn't declarations, and what is wrong there. The place is empty where it is the whole.
-pub fn shape(out: &mut Found, value: &Value) -> Written {
+pub(crate) fn shape(out: &mut Found, value: &Value) -> Written {
     let fault = draft_misfit(out.alloc, value)?.ok_or(Untold::Absent)?;
     for step in fault.steps.iter().rev() {
         match step {

@@ -109,7 +109,7 @@ pub fn reported(alloc: Global, occurrence: &Occurrence) -> Told<Vec<(&Node, Opti
 }
 
 /// All kinds of data, each with the word for it, as it is declared.
-pub static KINDS: [(Kind, &'static str); 10] = [
+pub(crate) static KINDS: [(Kind, &'static str); 10] = [
     (Kind::Text, "text"),
     (Kind::Integer, "integer"),
     (Kind::Decimal, "decimal"),
@@ -129,7 +129,7 @@ pub fn kind_word(kind: Kind) -> &'static str {
 }
 
 /// The word for a kind of attributes, as it is declared.
-pub fn attribute_word(kind: AttributeKind) -> &'static str {
+pub(crate) fn attribute_word(kind: AttributeKind) -> &'static str {
     match kind {
         AttributeKind::Integer => "integer",
         AttributeKind::Text => "text",

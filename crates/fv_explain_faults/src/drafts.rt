@@ -8,18 +8,18 @@ use fv_extract::Step;
 use std::collections::BTreeMap;
 
 /// The item of a number.
-pub fn at<T>(items: &[T], number: usize) -> Told<&T> {
+pub(crate) fn at<T>(items: &[T], number: usize) -> Told<&T> {
     items.get(number).ok_or(Untold::Absent)
 }
 
 /// The entry of a number.
-pub fn entry_at<V>(entries: &BTreeMap<String, V>, number: usize) -> Told<(&str, &V)> {
+pub(crate) fn entry_at<V>(entries: &BTreeMap<String, V>, number: usize) -> Told<(&str, &V)> {
     let (name, value) = entries.iter().nth(number).ok_or(Untold::Absent)?;
     Ok((name.as_str(), value))
 }
 
 /// Goes to the field of a number.
-pub fn to_field<'t, 'a>(
+pub(crate) fn to_field<'t, 'a>(
     out: &mut Found,
     types: &'t [TypeDraft<'a>],
     number: usize,
@@ -32,7 +32,7 @@ pub fn to_field<'t, 'a>(
 }
 
 /// Goes on by the members that steps lead through. The keys of a map have no place of their own.
-pub fn to_steps(out: &mut Found, steps: &[Step]) -> Written {
+pub(crate) fn to_steps(out: &mut Found, steps: &[Step]) -> Written {
     for step in steps {
         out.place.push_str(match step {
             Step::Element => ".type.list",
@@ -77,20 +77,25 @@ pub fn to_use<'u, 'a>(
 
 /// A draft that is refused for a fault, with all uses of constraints in it.
 #[derive(Drop)]
-pub struct Refused<'a> {
-    pub fault: DeclFault,
-    pub draft: &'a Draft<'a>,
-    pub uses: Vec<Use<'a>>,
+pub(crate) struct Refused<'a> {
+    pub(crate) fault: DeclFault,
+    pub(crate) draft: &'a Draft<'a>,
+    pub(crate) uses: Vec<Use<'a>>,
 }
 
 impl<'a> Refused<'a> {
     /// Goes to the use of a number.
-    pub fn to_use(&self, out: &mut Found, number: usize) -> Told<&Use<'a>> {
+    pub(crate) fn to_use(&self, out: &mut Found, number: usize) -> Told<&Use<'a>> {
         to_use(out, &self.draft.types, &self.uses, number)
     }
 
     /// Goes to one of the constraints that the declared one of a number is composed of.
-    pub fn to_part(&self, out: &mut Found, number: usize, index: usize) -> Told<&'a Composing> {
+    pub(crate) fn to_part(
+        &self,
+        out: &mut Found,
+        number: usize,
+        index: usize,
+    ) -> Told<&'a Composing> {
         let (owner, definition) = entry_at(&self.draft.definitions, number)?;
         out.path(&["constraints", owner, "compose"])?;
         out.item(index)?;
@@ -98,13 +103,13 @@ impl<'a> Refused<'a> {
     }
 
     /// The declared group of a number among all groups, of which `Default` is the first.
-    pub fn group_at(&self, number: usize) -> Told<&'a GroupDraft<'a>> {
+    pub(crate) fn group_at(&self, number: usize) -> Told<&'a GroupDraft<'a>> {
         let number = number.checked_sub(1).ok_or(Untold::Absent)?;
         at(&self.draft.groups, number)
     }
 
     /// Goes to the names that the group of a number inherits, or to the members of a sequence.
-    pub fn to_names(&self, out: &mut Found, number: usize) -> Told<&'a [&'a str]> {
+    pub(crate) fn to_names(&self, out: &mut Found, number: usize) -> Told<&'a [&'a str]> {
         let group = self.group_at(number)?;
         let (kind, names) = match &group.form {
             GroupForm::Inherits(names) => ("inherits", names),
@@ -115,7 +120,11 @@ impl<'a> Refused<'a> {
     }
 
     /// Goes to the sequence of the type of a number: the name of the type, and the members.
-    pub fn to_members(&self, out: &mut Found, number: usize) -> Told<(&'a str, &'a [&'a str])> {
+    pub(crate) fn to_members(
+        &self,
+        out: &mut Found,
+        number: usize,
+    ) -> Told<(&'a str, &'a [&'a str])> {
         let declared = at(&self.draft.types, number)?;
         let members = declared.sequence.as_ref().ok_or(Untold::Absent)?;
         out.path(&["types", declared.name, "sequence"])?;
