@@ -13,6 +13,7 @@ use Rattle.fv_store.specs.declared.change.Change.{Change}
 use Rattle.fv_store.specs.declared.change.Change.TheVariants.{Put, Object, Remove}
 use Rattle.fv_store.specs.declared.fault.StoreFault.{StoreFault}
 use Rattle.fv_store.specs.declared.fault.StoreFault.TheVariants.{Store, Memory}
+use Rattle.fv_store_tables.specs.declared.entry.FoundRecord.{FoundRecord}
 use Rattle.fv_store_tables.specs.declared.entry.RecordRows.{RecordRows}
 use Rattle.fv_store.specs.declared.stored.Stored.{Stored}
 use Rattle.fv_store.specs.declared.written.Written.{Written}
@@ -26,7 +27,7 @@ use Rattle.fv_store.proofs.Kept.{all_kept}
 use Rattle.fv_store.proofs.Named.{all_named}
 use Rattle.fv_store_tables.specs.Changes.{AllNamed}
 use Rattle.fv_store_tables.specs.Stands as tables
-use Rattle.fv_store_tables.specs.Stored.{rows_view}
+use Rattle.fv_store_tables.specs.Stored.{rows_view, ShowsRecord}
 use Rattle.fv_store.specs.Stands.{Frame, HoldsRecords, about_rows}
 use Rattle.sqlite.specs.Order.{Row}
 use Rattle.fv_store_tables.specs.Stands.{TableEntries}
@@ -47,9 +48,8 @@ given_is (Ok x) o h = cc
 -- ---- what the rows of a record keep
 
 module _ (s : State) (id : List ℕ) (clean : HasCleanDisk s) (live : IsTrue s.is_open) where
-  pub rows_out : (r : Result (Option RecordRows) StoreFault)
-      → IfOk r (λ found. (d : List Row) (m : TableEntries) → tables.Keeps s d m → AllNamed m → option_map rows_view found ≡ m id)
-      → IfOk r (λ found. (c : Contents) → HoldsRecords s c → option_map rows_view found ≡ option_map entry_of (option_map written_of (c.records id)))
+  pub rows_out : (r : Result FoundRecord StoreFault) → IfOk r (λ found. (d : List Row) (m : TableEntries) → tables.Keeps s d m → AllNamed m → ShowsRecord found (m id))
+      → IfOk r (λ found. (c : Contents) → HoldsRecords s c → ShowsRecord found (option_map entry_of (option_map written_of (c.records id))))
   rows_out (Err e) h = tt
   rows_out (Ok found) h = λ c holds. h (about_rows c.bytes) (all_kept c.records) (keeps_of s c holds) (all_named c (holds clean live).0.fit)
 

@@ -43,7 +43,7 @@ text_is b ascending =
     ∙ ap (λ s. codes "{\"objects\":{" ++ s) (append_assoc (objects_text [] (kept b.objects)) (codes "}") behind))
 
 -- what is put together of a record's rows
-pub kept_text : (k : Kept) (rows : RecordRows) (text : List ℕ) → text ≡ rows_text (string_bytes rows.root) (things_view rows.objects.items) → IsAscending (keys_of k.bundle.objects)
+pub kept_text : (k : Kept) (rows : RecordRows) (text : List ℕ) → text ≡ rows_text rows.root.now (things_view rows.objects.items) → IsAscending (keys_of k.bundle.objects)
     → rows_view rows ≡ entry_of (written_of k) → text ≡ bundle_text k.bundle
 kept_text k rows text is ascending same = is ∙ ap (λ (e : Entry). rows_text e.root e.objects) same ∙ text_is k.bundle ascending
 

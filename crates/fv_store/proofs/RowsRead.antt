@@ -80,7 +80,7 @@ rows_back : (types : Declared) (all os : Things) → has_deep types ≡ false �
 rows_back types all [] few fit = refl
 rows_back types all (o ∷ os) few fit = rw (row_back types all o few fit.0, rows_back types all os few fit.1) refl
 
-pub root_back : (k : Kept) (rows : RecordRows) → rows_view rows ≡ entry_of (written_of k) → string_bytes rows.root ≡ k.bundle.root
+pub root_back : (k : Kept) (rows : RecordRows) → rows_view rows ≡ entry_of (written_of k) → rows.root.now ≡ k.bundle.root
 root_back k rows same = ap (λ (e : Entry). e.root) same
 
 pub record_back : (types : Declared) (k : Kept) (rows : RecordRows) → has_deep types ≡ false → IsWellTyped types k.bundle → rows_view rows ≡ entry_of (written_of k)

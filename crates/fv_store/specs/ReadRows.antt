@@ -1,5 +1,5 @@
 -- The row of an object, its fields read as JSON.
-use Rattle.std.specs.Prelude.{ℕ, List, Option, option_map, option_and_then, string_bytes, unwrap_or}
+use Rattle.std.specs.Prelude.{ℕ, List, Option, option_map, option_and_then, unwrap_or}
 use Rattle.serde_json.specs.Data as json
 use Rattle.serde_json.specs.Find.{as_object}
 use Rattle.serde_json.specs.Read.{read}
@@ -13,4 +13,4 @@ row_read o = option_map (λ fields. (o.0, (o.1.kind, fields))) (option_and_then 
 
 -- as the code has it
 abbrev pub read_view : ReadRow → List ℕ × (List ℕ × json.Members)
-read_view r = (string_bytes r.row.now.name, (string_bytes r.row.now.kind, unwrap_or (as_object (json_view r.fields)) json.no_members))
+read_view r = (r.row.now.name.now, (r.row.now.kind.now, unwrap_or (as_object (json_view r.fields)) json.no_members))

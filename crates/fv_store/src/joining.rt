@@ -11,11 +11,11 @@ use std::alloc::{AllocError, Global};
 fn add_object(text: &mut String, alloc: Global, object: &ObjectRow) -> Result<(), AllocError>
     ensures { OnOk result (string_bytes text.new ≡ string_bytes text.old ++ object_text (row_view object.now)) }
 {
-    let name = quoted(alloc, object.name.as_str())?;
-    let kind = quoted(alloc, object.kind.as_str())?;
+    let name = quoted(alloc, object.name)?;
+    let kind = quoted(alloc, object.kind)?;
     text.push_str(name.as_str())?;
     text.push_str(":{\"fields\":")?;
-    text.push_str(object.fields.as_str())?;
+    text.push_str(object.fields)?;
     text.push_str(",\"type\":")?;
     text.push_str(kind.as_str())?;
     text.push_str("}")
@@ -36,9 +36,9 @@ fn add_objects(text: &mut String, alloc: Global, objects: &[ObjectRow]) -> Resul
 
 /// The text of the bundle whose root and objects rows keep.
 pub(crate) fn joined(alloc: Global, rows: &RecordRows) -> Result<String, AllocError>
-    ensures { IfOk result (λ s. string_bytes s ≡ rows_text (string_bytes rows.now.root) (things_view rows.now.objects.items)) }
+    ensures { IfOk result (λ s. string_bytes s ≡ rows_text rows.now.root.now (things_view rows.now.objects.items)) }
 {
-    let root = quoted(alloc, rows.root.as_str())?;
+    let root = quoted(alloc, rows.root)?;
     let mut text = String::from_str(alloc, "{\"objects\":{")?;
     add_objects(&mut text, alloc, &rows.objects)?;
     text.push_str("},\"root\":")?;

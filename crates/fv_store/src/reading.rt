@@ -1,5 +1,5 @@
 //! A bundle is read from what its rows keep, each object by itself.
-ghost use Rattle.std.specs.Prelude.{◌≡◌, IfOk, Ok, Some, map, option_map, string_bytes};
+ghost use Rattle.std.specs.Prelude.{◌≡◌, IfOk, Ok, Some, map, option_map};
 ghost use Rattle.fv_bundle.specs.Bundles.{Bundled};
 ghost use Rattle.fv_bundle.specs.Views.{bundle_view};
 ghost use Rattle.fv_bundle.specs.WellTyped.{IsWellTyped};
@@ -23,15 +23,15 @@ use std::alloc::{AllocError, Global};
 /// The row of an object, its fields read as JSON.
 #[derive(Drop)]
 struct ReadRow<'a> {
-    row: &'a ObjectRow,
+    row: &'a ObjectRow<'a>,
     fields: Value,
 }
 
 /// The row of an object, its fields read as JSON; none where their text isn't that of a JSON object.
-fn read_row<'a>(alloc: Global, row: &'a ObjectRow) -> Result<Option<ReadRow<'a>>, AllocError>
+fn read_row<'a>(alloc: Global, row: &'a ObjectRow<'a>) -> Result<Option<ReadRow<'a>>, AllocError>
     ensures { IfOk result (λ o. option_map read_view o ≡ row_read (row_view row.now)) }
 {
-    let fields = match read_text(alloc, row.fields.as_str()) {
+    let fields = match read_text(alloc, row.fields) {
         Ok(fields) => fields,
         Err(JsonFault::NotJson) => return Ok(None),
         Err(JsonFault::Memory) => return Err(AllocError),
@@ -45,7 +45,7 @@ fn read_row<'a>(alloc: Global, row: &'a ObjectRow) -> Result<Option<ReadRow<'a>>
 /// The same of each row, in their order.
 fn read_rows<'a>(
     alloc: Global,
-    rows: &'a [ObjectRow],
+    rows: &'a [ObjectRow<'a>],
 ) -> Result<Option<Vec<ReadRow<'a>>>, AllocError>
     ensures { IfOk result (λ o. option_map (λ v. map read_view v.items) o ≡ each_some row_read (rows_view rows.now)) }
 {
@@ -66,8 +66,8 @@ fn parts_in<'a>(alloc: Global, rows: &'a [ReadRow]) -> Result<Vec<Part<'a>>, All
     let mut parts = Vec::with_capacity(alloc, rows.len())?;
     for read in rows {
         parts.push(Part {
-            name: read.row.name.as_str(),
-            type_name: read.row.kind.as_str(),
+            name: read.row.name,
+            type_name: read.row.kind,
             given: read.fields.as_object(),
         })?;
     }
@@ -80,7 +80,7 @@ pub(crate) fn bundle_of(
     types: &Types,
     rows: &RecordRows,
 ) -> Result<Bundle, StoreFault>
-    ensures read { (b : Bundled) → IsWellTyped (types_view types.now) b → string_bytes rows.now.root ≡ b.root
+    ensures read { (b : Bundled) → IsWellTyped (types_view types.now) b → rows.now.root.now ≡ b.root
         → each_some row_read (rows_view rows.now.objects.items) ≡ Some (map named_written b.objects)
         → Gives StoreFault.Memory bundle_view result (Ok b) }
     ensures typed { IfOk result (λ b. IsWellTyped (types_view types.now) (bundle_view b)) }
@@ -89,5 +89,5 @@ pub(crate) fn bundle_of(
         return Err(StoreFault::Store);
     };
     let parts = parts_in(alloc, &read)?;
-    Ok(read_objects(alloc, types, rows.root.as_str(), parts)?)
+    Ok(read_objects(alloc, types, rows.root, parts)?)
 }

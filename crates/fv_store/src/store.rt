@@ -18,7 +18,7 @@ ghost use Rattle.fv_store.specs.Lists.{Lists, ListsOf};
 ghost use Rattle.fv_store.specs.Records.{AllFit, Contents};
 ghost use Rattle.fv_store.specs.Stored.{stored_view, text_of, text_view, untyped, written_view};
 ghost use Rattle.fv_store.specs.Written.{entry_of, writings, written_of};
-ghost use Rattle.fv_store_tables.specs.Stored.{rows_view};
+ghost use Rattle.fv_store_tables.specs.Stored.{ShowsRecord};
 
 use crate::change::Change;
 use crate::fault::{OpenStoreFault, StoreFault};
@@ -27,7 +27,7 @@ use crate::stored::{Stored, stored_if};
 use crate::written::{Written, written_if};
 use crate::{changes, redeclaring};
 use fv_bundle::Types;
-use fv_store_tables::{RecordRows, find, find_all_ids, find_ids};
+use fv_store_tables::{FoundRecord, find, find_all_ids, find_ids};
 use sqlite::{Alter, Connection};
 use std::alloc::Global;
 use std::marker::Model;
@@ -166,17 +166,18 @@ impl<S: Alter> Store<S> {
             → Stays (stock_state S.Store self.old) (stock_state S.Store self.new) }
     {
         let found = self.rows(alloc, id)?;
-        stored_if(alloc, types, found)
+        let rows = found.read(alloc)?;
+        stored_if(alloc, types, rows)
     }
 
-    /// What the rows keep of the record of that id, if there is one.
-    fn rows(&mut self, alloc: Global, id: &str) -> Result<Option<RecordRows>, StoreFault>
+    /// The rows of the record of that id.
+    fn rows(&mut self, alloc: Global, id: &str) -> Result<FoundRecord, StoreFault>
         ensures frame { Frame (stock_state S.Store self.old) (stock_state S.Store self.new) }
         ensures text { self.new.text ≡ self.old.text }
         ensures open { OnOk result (IsLive (stock_state S.Store self.new)) }
         ensures found { HasCleanDisk (stock_state S.Store self.new)
-            → IfOk result (λ o. (c : _) → HoldsRecords (stock_state S.Store self.old) c
-            → option_map rows_view o ≡ option_map entry_of (option_map written_of (c.records id.now))) }
+            → IfOk result (λ f. (c : _) → HoldsRecords (stock_state S.Store self.old) c
+            → ShowsRecord f (option_map entry_of (option_map written_of (c.records id.now)))) }
         ensures cause { HasCleanDisk (stock_state S.Store self.new) → IfErr result (λ e. e ≡ StoreFault.Store → (c : _)
             → HoldsRecords (stock_state S.Store self.old) c
             → HasFailed (stock_state S.Store self.old) (stock_state S.Store self.new)) }
@@ -216,7 +217,8 @@ impl<S: Alter> Store<S> {
             → Stays (stock_state S.Store self.old) (stock_state S.Store self.new) }
     {
         let found = self.rows(alloc, id)?;
-        Ok(written_if(alloc, found)?)
+        let rows = found.read(alloc)?;
+        Ok(written_if(alloc, rows)?)
     }
 
     /// The ids of the records of a form above one, ascending by their bytes, so many at most; above the

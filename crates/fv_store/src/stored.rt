@@ -24,16 +24,14 @@ pub struct Stored {
 }
 
 /// The record that rows keep, its bundle read under these types. `Store` where they keep none.
-fn stored_from(alloc: Global, types: &Types, rows: RecordRows) -> Result<Stored, StoreFault>
-    ensures read { (k : Kept) → IsWellTyped (types_view types.now) k.bundle → rows_view rows ≡ entry_of (written_of k)
+fn stored_from(alloc: Global, types: &Types, rows: &RecordRows) -> Result<Stored, StoreFault>
+    ensures read { (k : Kept) → IsWellTyped (types_view types.now) k.bundle → rows_view rows.now ≡ entry_of (written_of k)
         → Gives StoreFault.Memory stored_view result (Ok k) }
     ensures typed { IfOk result (λ s. IsWellTyped (types_view types.now) (bundle_view s.bundle)) }
 {
-    let bundle = bundle_of(alloc, types, &rows)?;
-    Ok(Stored {
-        form: rows.form,
-        bundle,
-    })
+    let bundle = bundle_of(alloc, types, rows)?;
+    let form = String::from_str(alloc, rows.form)?;
+    Ok(Stored { form, bundle })
 }
 
 /// The record whose rows were found, where there are some.
@@ -48,7 +46,7 @@ pub(crate) fn stored_if(
     ensures typed { IfOk result (λ o. IfSome o (λ s. IsWellTyped (types_view types.now) (bundle_view s.bundle))) }
 {
     match found {
-        Some(rows) => Ok(Some(stored_from(alloc, types, rows)?)),
+        Some(rows) => Ok(Some(stored_from(alloc, types, &rows)?)),
         None => Ok(None),
     }
 }

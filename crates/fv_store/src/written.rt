@@ -20,17 +20,15 @@ pub struct Written {
 }
 
 /// The record that rows keep.
-fn written_from(alloc: Global, rows: RecordRows) -> Result<Written, AllocError>
+fn written_from(alloc: Global, rows: &RecordRows) -> Result<Written, AllocError>
     ensures text { IfOk result (λ w. (types : Declared) (k : Kept) → IsWellTyped types k.bundle
-        → rows_view rows ≡ entry_of (written_of k) → text_view w ≡ text_of k) }
+        → rows_view rows.now ≡ entry_of (written_of k) → text_view w ≡ text_of k) }
     ensures read { IfOk result (λ w. (types : Declared) (k : Kept) → has_deep types ≡ false → IsWellTyped types k.bundle
-        → rows_view rows ≡ entry_of (written_of k) → written_view w ≡ untyped k) }
+        → rows_view rows.now ≡ entry_of (written_of k) → written_view w ≡ untyped k) }
 {
-    let bundle = joined(alloc, &rows)?;
-    Ok(Written {
-        form: rows.form,
-        bundle,
-    })
+    let form = String::from_str(alloc, rows.form)?;
+    let bundle = joined(alloc, rows)?;
+    Ok(Written { form, bundle })
 }
 
 /// The record whose rows were found, where there are some.
@@ -47,7 +45,7 @@ pub(crate) fn written_if(
         → option_map written_view w ≡ option_map untyped o) }
 {
     match found {
-        Some(rows) => Ok(Some(written_from(alloc, rows)?)),
+        Some(rows) => Ok(Some(written_from(alloc, &rows)?)),
         None => Ok(None),
     }
 }

@@ -1,5 +1,5 @@
 -- The head of a record is looked up inside a transaction, and written anew where it differs.
-use Rattle.std.proofs.Common.{◌≡◌, ◌+◌, ◌⊎◌, inl, inr, ℕ, List, [], ◌∷◌, true, false, bytes_eq, Some, None, IsSome, Ok, Err, Result, IfOk, IfErr, OnOk, IsTrue, Vec, codes, refl, sym, ap, subst, ◌∙◌, arith}
+use Rattle.std.proofs.Common.{◌≡◌, ◌+◌, ◌⊎◌, inl, inr, ℕ, List, [], ◌∷◌, true, false, bytes_eq, Some, None, IsSome, Ok, Err, Result, IfOk, IfErr, OnOk, IsTrue, Vec, Option, codes, option_map, refl, sym, ap, subst, ◌∙◌, arith}
 use Rattle.std.proofs.lemmas.Bool.{cases_Bool}
 use Rattle.std.proofs.lemmas.Slice.Eq.{bytes_eq-Decides}
 use Rattle.std.specs.declared.alloc.Global.{Global}
@@ -10,6 +10,8 @@ use Rattle.sqlite.specs.Effect.{Database}
 use Rattle.sqlite.specs.Command.TheVariants.{Select}
 use Rattle.sqlite.specs.State.{State, HasCleanDisk, Shown}
 use Rattle.fv_store_tables.specs.Tables.{store_schema}
+use Rattle.fv_store_tables.specs.declared.entry.HeadRow.{HeadRow}
+use Rattle.fv_store_tables.specs.Stored.{head_view}
 use Rattle.fv_store_tables.specs.Stands.{Head, Maps, SpellsTables, Frame, IsOwned, ShowsHead, put, removed, without_parts}
 use Rattle.fv_store_tables.specs.Changes.{AllTexts, AreApart, all_added, replaced, written, IsNew, IsReady}
 use Rattle.fv_store_tables.specs.Causes.{HasRooms, IsExcused, IsShortHead, AreShort}
@@ -37,6 +39,11 @@ head_cause old new inside none id (Ok rows) h = tt
 head_cause old new inside none id (Err e) (inr late) = λ d t spelled refused. absurd (let outside = late.3 in cc)
 head_cause old new inside none id (Err e) (inl fails) = λ d t spelled refused.
     query_cause find_text (Text id ∷ []) old new store_schema spelled.schema find_plain find_whole (Select (record { lets = []; body = find_query }) (codes "form" ∷ codes "root" ∷ [])) find_is find_unlisted (find_never old spelled.schema none id) e fails refused
+
+-- what the row shows that was found
+pub head_read : (old : State) (id : List ℕ) (rows v : List Row) (o : Option HeadRow) → v ≡ rows → ((d : List Row) (t : Maps) → SpellsTables old.now d t → ShowsHead rows (t.heads id))
+    → ((h : Option Head) → ShowsHead v h → option_map head_view o ≡ h) → (d : List Row) (t : Maps) → SpellsTables old.now d t → option_map head_view o ≡ t.heads id
+head_read old id rows v o same shown reads d t spelled = reads (t.heads id) (subst (λ rs. ShowsHead rs (t.heads id)) (sym same) (shown d t spelled))
 
 -- ---- the head
 

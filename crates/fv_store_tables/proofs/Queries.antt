@@ -1,5 +1,5 @@
 -- What the queries show, and what they leave.
-use Rattle.std.proofs.Common.{◌≡◌, inl, inr, true, false, ℕ, List, [], ◌∷◌, map, Option, Some, None, Ok, Err, Result, IfOk, IfErr, OnOk, IsTrue, IsUtf8, ◌⊎◌, Vec, slice_get, codes, refl, sym, ap, subst, ◌∙◌}
+use Rattle.std.proofs.Common.{◌≡◌, inl, inr, true, false, length, ℕ, List, [], ◌∷◌, map, Option, Some, None, Ok, Err, Result, IfOk, IfErr, OnOk, IsTrue, IsUtf8, ◌⊎◌, Vec, slice_get, codes, refl, sym, ap, subst, ◌∙◌, arith}
 use Rattle.std.specs.List.{AllByRecursion}
 use Rattle.std.proofs.lemmas.Slice.Eq.{bytes_eq-Decides}
 use Rattle.sqlite.specs.Effect.{Database, RefusesToRead}
@@ -22,7 +22,6 @@ use Rattle.sqlite.proofs.Callers.{IsPlain, reads_as}
 use Rattle.sqlite_rules.specs.Lists.{Has}
 use Rattle.fv_store_tables.specs.Tables.{store_schema}
 use Rattle.fv_store_tables.specs.Rows.{HasRows}
-use Rattle.fv_store_tables.specs.declared.entry.ObjectRow.{ObjectRow}
 use Rattle.fv_store_tables.specs.Changes.{AllTexts, IsNamed}
 use Rattle.fv_store_tables.specs.Stands.{Head, ObjectTexts, ObjectKey, Maps, Entry, TableEntries, Frame, IsSettled, SpellsTables, TablesStand, tables_of, Stays, Keeps, head_row, part_row, IsTextHead, IsTextOfHead, IsTextObject, IsTextPart, head_of, object_texts, shown_head, shown_part, ShowsHead}
 use Rattle.std.proofs.lemmas.Bool.{cases_Bool}
@@ -218,6 +217,10 @@ pub head_none : (o : Option Entry) → None ≡ head_of o → None ≡ o
 head_none None is = refl
 head_none (Some k) is = absurd cc
 
+pub none_shown : (rows : List Row) (o : Option Entry) (k : Entry) → length rows ≡ 0 → ShowsHead rows (head_of o) → o ≡ Some k → ⊥
+none_shown [] o k empty none has = let wrong : head_of (Some k) ≡ None = subst (λ e. head_of e ≡ None) has none in cc
+none_shown (row ∷ rows) o k empty shows has = omega (arith, empty)
+
 -- ---- the objects that rows show
 
 abbrev pub thing_in : Row → List ℕ × ObjectTexts
@@ -251,16 +254,6 @@ all_text (o ∷ os) all h = (h o (inl refl), all_text os all (λ x there. h x (i
 pub texts_kept : (db : Database) (d : List Row) (m : TableEntries) (id : List ℕ) (k : Entry) → TablesStand db d m → m id ≡ Some k → IsNamed k.objects → AllByRecursion IsTextObject k.objects
 texts_kept db d m id k stands known named =
     all_text k.objects k.objects (λ o h. text_there db.trees (λ at. object_texts at.1 (m at.0)) id stands.parts o (ap (object_texts o.0) known ∙ has_part k.objects named o h))
-
--- the objects of a record that is kept are read, but for want of memory
-pub read_refused : (old new : State) → Frame old new → HasCleanDisk new → (id : List ℕ) (rows : List Row) {v : List Row} (r : Result (Vec ObjectRow Global) Error) → ((d : List Row) (m : TableEntries) → Keeps old d m → (k : Entry) → m id ≡ Some k → IsNamed k.objects → rows ≡ map shown_part k.objects)
-    → v ≡ rows → IfErr r (λ e. (os : AllTexts) → v ≡ map shown_part os → AllByRecursion IsTextObject os → ¬ IsRefusal e)
-    → IfErr r (λ e. (d : List Row) (m : TableEntries) → Keeps old d m → (k : Entry) → m id ≡ Some k → IsNamed k.objects → IsExcused old new e)
-read_refused old new frame clean id rows (Ok v) shows same h = tt
-read_refused old new frame clean id rows (Err e) shows same h = λ d m keeps k has named refused. elim (cases_Bool old.is_open) [
-  | inl live ↦ absurd (h k.objects (same ∙ shows d m keeps k has named) (texts_kept old.now d m id k (keeps (frame.clean clean) live).0 has named) refused)
-  | inr shut ↦ inr shut
-]
 
 -- ---- why the queries are refused
 

@@ -1,19 +1,21 @@
 -- A record as it is handed out.
-use Rattle.std.specs.Prelude.{ℕ, List, [], ◌∷◌, map, string_bytes}
+use Rattle.std.specs.Prelude.{◌≡◌, ℕ, List, [], ◌∷◌, Option, Some, map}
+use Rattle.std.specs.List.{AllByRecursion}
 use Rattle.sqlite.specs.Order.{Row, column}
 use Rattle.fv_store_tables.specs.declared.entry.RecordRows.{RecordRows}
 use Rattle.fv_store_tables.specs.declared.entry.HeadRow.{HeadRow}
 use Rattle.fv_store_tables.specs.declared.entry.ObjectRow.{ObjectRow}
+use Rattle.fv_store_tables.specs.declared.entry.FoundRecord.{FoundRecord}
 use Rattle.fv_store_tables.specs.Changes.{AllTexts}
-use Rattle.fv_store_tables.specs.Stands.{Head, ObjectTexts, Entry}
+use Rattle.fv_store_tables.specs.Stands.{Head, ObjectTexts, Entry, IsTextObject, ShowsHead, head_of, shown_part}
 
 -- what a row of `record` shows
 abbrev pub head_view : HeadRow → Head
-head_view s = record { form = string_bytes s.form; root = string_bytes s.root }
+head_view s = record { form = s.form.now; root = s.root.now }
 
 -- an object with its name
 abbrev pub row_view : ObjectRow → List ℕ × ObjectTexts
-row_view o = (string_bytes o.name, record { kind = string_bytes o.kind; fields = string_bytes o.fields })
+row_view o = (o.name.now, record { kind = o.kind.now; fields = o.fields.now })
 
 -- objects with their names
 abbrev pub things_view : List ObjectRow → AllTexts
@@ -21,7 +23,12 @@ things_view os = map row_view os
 
 -- what the rows of a record keep
 abbrev pub rows_view : RecordRows → Entry
-rows_view s = record { form = string_bytes s.form; root = string_bytes s.root; objects = things_view s.objects.items }
+rows_view s = record { form = s.form.now; root = s.root.now; objects = things_view s.objects.items }
+
+-- these rows were found of a record, or of none
+abbrev pub ShowsRecord : FoundRecord → Option Entry → Type 0
+ShowsRecord f o = ShowsHead f.head.items (head_of o)
+    × ((k : Entry) → o ≡ Some k → (f.objects.items ≡ map shown_part k.objects) × AllByRecursion IsTextObject k.objects)
 
 -- the first three columns
 abbrev pub front : Row → Row

@@ -1,11 +1,11 @@
 //! What the rows of a record keep, as it is written and handed out.
-ghost use Rattle.std.specs.Prelude.{◌≡◌, ◌<◌, ℕ, IfErr, IfOk, length, map, option_map, ◌++◌, List, Option};
+ghost use Rattle.std.specs.Prelude.{◌≡◌, ◌<◌, ℕ, IfErr, IfOk, IsUtf8, length, map, option_map, List, Option};
 ghost use Rattle.std.specs.List.{AllByRecursion};
-ghost use Rattle.sqlite.specs.Order.{Row as Values, column};
+ghost use Rattle.sqlite.specs.Order.{column};
 ghost use Rattle.sqlite.specs.declared.types.Value.TheVariants.{Text as Words};
 ghost use Rattle.fv_store_tables.specs.Causes.{IsRefusal};
 ghost use Rattle.fv_store_tables.specs.Changes.{NamedTexts, AllTexts, found_view};
-ghost use Rattle.fv_store_tables.specs.Stands.{Head, NumberedThing, ShowsHead, shown_head, shown_part, shown_row, IsTextOfHead, IsTextObject, IsTextRow};
+ghost use Rattle.fv_store_tables.specs.Stands.{Entry, Head, NumberedThing, ShowsHead, shown_head, shown_part, shown_row, IsTextOfHead, IsTextObject, IsTextRow};
 ghost use Rattle.fv_store_tables.specs.Stored.{head_view, front, front_four, row_view, things_view};
 
 use sqlite::types::{Type, ValueRef};
@@ -14,10 +14,10 @@ use std::alloc::Global;
 
 /// What the row of an object keeps beside its record's id: its name, its type's name, and its fields' text.
 #[derive(Debug, Drop)]
-pub struct ObjectRow {
-    pub name: String,
-    pub kind: String,
-    pub fields: String,
+pub struct ObjectRow<'a> {
+    pub name: &'a str,
+    pub kind: &'a str,
+    pub fields: &'a str,
 }
 
 /// The row of an object as it was found, with its rowid.
@@ -31,54 +31,48 @@ pub(crate) struct FoundRow<'a> {
 
 /// What a row of `record` shows.
 #[derive(Debug, Drop)]
-pub(crate) struct HeadRow {
-    pub(crate) form: String,
-    pub(crate) root: String,
+pub(crate) struct HeadRow<'a> {
+    pub(crate) form: &'a str,
+    pub(crate) root: &'a str,
 }
 
 /// What the rows of a record keep beside its id, its objects ascending by their names.
 #[derive(Debug, Drop)]
-pub struct RecordRows {
-    pub form: String,
-    pub root: String,
-    pub objects: Vec<ObjectRow>,
+pub struct RecordRows<'a> {
+    pub form: &'a str,
+    pub root: &'a str,
+    pub objects: Vec<ObjectRow<'a>>,
 }
 
-/// Reads the row that shows a record.
-fn read_head(row: &Row) -> Result<HeadRow, Error>
-    ensures shown { IfOk result (λ s. (h : Head) → row.now ≡ shown_head h → head_view s ≡ h) }
-    ensures cause { IfErr result (λ e. (h : Head) → row.now ≡ shown_head h → IsTextOfHead h → ¬ IsRefusal e) }
-{
-    let form = row.get(0)?;
-    let root = row.get(1)?;
-    Ok(HeadRow { form, root })
+/// The rows that were found of a record: of `record`, and of its objects. There are none where there is no record.
+#[derive(Debug, Drop)]
+pub struct FoundRecord {
+    pub(crate) head: Vec<Row>,
+    pub(crate) objects: Vec<Row>,
 }
 
-/// What the first of these rows shows of a record, if there is one.
-pub(crate) fn head_in(rows: &[Row]) -> Result<Option<HeadRow>, Error>
-    ensures shown { IfOk result (λ s. (o : Option Head) → ShowsHead rows.now o → option_map head_view s ≡ o) }
-    ensures cause { IfErr result (λ e. (o : Option Head) → ShowsHead rows.now o → ¬ IsRefusal e) }
-{
-    match rows.first() {
-        Some(row) => Ok(Some(read_head(row)?)),
-        None => Ok(None),
+impl FoundRecord {
+    ghost use Rattle.fv_store_tables.specs.Stored.{ShowsRecord, rows_view};
+
+    /// What the rows keep, if there are some. It stays in them.
+    /// Refused by `OutOfMemory`, and else only where they don't show a record.
+    pub fn read(&self, alloc: Global) -> Result<Option<RecordRows<'_>>, Error>
+        ensures shown { IfOk result (λ r. (o : Option Entry) → ShowsRecord self.now o → option_map rows_view r ≡ o) }
+        ensures cause { IfErr result (λ e. (o : Option Entry) → ShowsRecord self.now o → ¬ IsRefusal e) }
+    {
+        match head_in(&self.head)? {
+            Some(head) => Ok(Some(RecordRows {
+                form: head.form,
+                root: head.root,
+                objects: objects_in(alloc, &self.objects)?,
+            })),
+            None => Ok(None),
+        }
     }
 }
 
-/// Reads the row that shows an object, whatever it shows behind.
-fn read_object(row: &Row) -> Result<ObjectRow, Error>
-    ensures shown { IfOk result (λ o. front row.now ≡ shown_part (row_view o)) }
-    ensures cause { IfErr result (λ e. (o : NamedTexts) (behind : Values) → row.now ≡ shown_part o ++ behind → IsTextObject o
-        → ¬ IsRefusal e) }
-{
-    let name = row.get(0)?;
-    let kind = row.get(1)?;
-    let fields = row.get(2)?;
-    Ok(ObjectRow { name, kind, fields })
-}
-
 /// Reads a column that shows text, which stays in the row.
-fn text_at(row: &Row, at: usize) -> Result<&[u8], Error>
+fn bytes_at(row: &Row, at: usize) -> Result<&[u8], Error>
     ensures shown { IfOk result (λ t. column row.now at ≡ Words t.now) }
     ensures cause { IfErr result (λ e. (t : List ℕ) → at < length row.now → column row.now at ≡ Words t → ¬ IsRefusal e) }
 {
@@ -88,21 +82,66 @@ fn text_at(row: &Row, at: usize) -> Result<&[u8], Error>
     }
 }
 
+/// The same as a `&str`.
+fn text_at(row: &Row, at: usize) -> Result<&str, Error>
+    ensures shown { IfOk result (λ t. column row.now at ≡ Words t.now) }
+    ensures cause { IfErr result (λ e. (t : List ℕ) → at < length row.now → column row.now at ≡ Words t → IsUtf8 t → ¬ IsRefusal e) }
+{
+    match str::from_utf8(bytes_at(row, at)?) {
+        Ok(text) => Ok(text),
+        Err(_) => Err(Error::Utf8Error(at)),
+    }
+}
+
+/// Reads the row that shows a record.
+fn read_head(row: &Row) -> Result<HeadRow<'_>, Error>
+    ensures shown { IfOk result (λ s. (h : Head) → row.now ≡ shown_head h → head_view s ≡ h) }
+    ensures cause { IfErr result (λ e. (h : Head) → row.now ≡ shown_head h → IsTextOfHead h → ¬ IsRefusal e) }
+{
+    Ok(HeadRow {
+        form: text_at(row, 0)?,
+        root: text_at(row, 1)?,
+    })
+}
+
+/// What the first of these rows shows of a record, if there is one.
+pub(crate) fn head_in(rows: &[Row]) -> Result<Option<HeadRow<'_>>, Error>
+    ensures shown { IfOk result (λ s. (o : Option Head) → ShowsHead rows.now o → option_map head_view s ≡ o) }
+    ensures cause { IfErr result (λ e. (o : Option Head) → ShowsHead rows.now o → ¬ IsRefusal e) }
+{
+    match rows.first() {
+        Some(row) => Ok(Some(read_head(row)?)),
+        None => Ok(None),
+    }
+}
+
+/// Reads the row that shows an object.
+fn read_object(row: &Row) -> Result<ObjectRow<'_>, Error>
+    ensures shown { IfOk result (λ o. front row.now ≡ shown_part (row_view o)) }
+    ensures cause { IfErr result (λ e. (o : NamedTexts) → row.now ≡ shown_part o → IsTextObject o → ¬ IsRefusal e) }
+{
+    Ok(ObjectRow {
+        name: text_at(row, 0)?,
+        kind: text_at(row, 1)?,
+        fields: text_at(row, 2)?,
+    })
+}
+
 /// Reads the row that shows an object and its rowid.
 fn read_found(row: &Row) -> Result<FoundRow<'_>, Error>
     ensures shown { IfOk result (λ r. front_four row.now ≡ shown_row (found_view r)) }
     ensures cause { IfErr result (λ e. (r : NumberedThing) → row.now ≡ shown_row r → IsTextRow r → ¬ IsRefusal e) }
 {
     Ok(FoundRow {
-        name: text_at(row, 0)?,
-        kind: text_at(row, 1)?,
-        fields: text_at(row, 2)?,
+        name: bytes_at(row, 0)?,
+        kind: bytes_at(row, 1)?,
+        fields: bytes_at(row, 2)?,
         rowid: row.get(3)?,
     })
 }
 
 /// The objects that rows show.
-pub(crate) fn objects_in(alloc: Global, rows: &[Row]) -> Result<Vec<ObjectRow>, Error>
+pub(crate) fn objects_in(alloc: Global, rows: &[Row]) -> Result<Vec<ObjectRow<'_>>, Error>
     ensures shown { IfOk result (λ v. (os : AllTexts) → rows.now ≡ map shown_part os → things_view v.items ≡ os) }
     ensures cause { IfErr result (λ e. (os : AllTexts) → rows.now ≡ map shown_part os → AllByRecursion IsTextObject os
         → ¬ IsRefusal e) }

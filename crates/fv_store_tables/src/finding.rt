@@ -1,13 +1,13 @@
 //! The record of an id, by two queries.
-ghost use Rattle.std.specs.Prelude.{◌≡◌, false, IsTrue, IfErr, IfOk, None, OnOk, Some, map, option_map};
+ghost use Rattle.std.specs.Prelude.{◌≡◌, false, IsTrue, IfErr, IfOk, None, OnOk, Some, map};
 ghost use Rattle.sqlite.specs.State.{HasCleanDisk};
 ghost use Rattle.sqlite.specs.Held.{state};
 ghost use Rattle.fv_store_tables.specs.Causes.{IsExcused};
 ghost use Rattle.fv_store_tables.specs.Changes.{IsNamed, AllNamed};
 ghost use Rattle.fv_store_tables.specs.Stands.{Frame, IsLive, IsSettled, Keeps, ShowsHead, Stays, head_of, shown_part};
-ghost use Rattle.fv_store_tables.specs.Stored.{head_view, rows_view, things_view};
+ghost use Rattle.fv_store_tables.specs.Stored.{ShowsRecord};
 
-use crate::entry::{HeadRow, ObjectRow, RecordRows, head_in, objects_in};
+use crate::entry::FoundRecord;
 use sqlite::{Alter, Connection, Error, Row, params};
 use std::alloc::Global;
 
@@ -56,66 +56,19 @@ fn find_objects<S: Alter>(conn: &mut Connection<S>, id: &str) -> Result<Vec<Row>
     conn.query_all(FIND_OBJECTS, params![id])
 }
 
-/// The form and the root of the record, if there is one.
-fn find_head<S: Alter>(conn: &mut Connection<S>, id: &str) -> Result<Option<HeadRow>, Error>
-    ensures mode { conn.old.in_transaction ≡ false → conn.new.in_transaction ≡ false }
-    ensures frame { Frame (state S.Store conn.old) (state S.Store conn.new) }
-    ensures limit { conn.new.step_limit ≡ conn.old.step_limit }
-    ensures open { OnOk result (IsLive (state S.Store conn.new)) }
-    ensures found { HasCleanDisk (state S.Store conn.new) → IfOk result (λ o. IsTrue (state S.Store conn.old).is_open
-        × ((d : _) (m : _) → Keeps (state S.Store conn.old) d m → option_map head_view o ≡ head_of (m id.now))) }
-    ensures cause { HasCleanDisk (state S.Store conn.new) → conn.old.step_limit ≡ None → IfErr result (λ e.
-        (d : _) (m : _) → Keeps (state S.Store conn.old) d m
-        → IsExcused (state S.Store conn.old) (state S.Store conn.new) e) }
-    ensures same { HasCleanDisk (state S.Store conn.new) → OnOk result ((d : _) (m : _)
-        → Keeps (state S.Store conn.old) d m → (state S.Store conn.new).now ≡ (state S.Store conn.old).now) }
-    ensures stays { (d : _) (m : _) → Keeps (state S.Store conn.old) d m → Keeps (state S.Store conn.new) d m }
-    ensures untouched { IsSettled (state S.Store conn.old) → (d : _) (m : _) → Keeps (state S.Store conn.old) d m
-        → Stays (state S.Store conn.old) (state S.Store conn.new) }
-{
-    let rows = find_record(conn, id)?;
-    head_in(&rows)
-}
-
-/// The objects of the record, ascending by their names.
-fn find_things<S: Alter>(
-    conn: &mut Connection<S>,
-    alloc: Global,
-    id: &str,
-) -> Result<Vec<ObjectRow>, Error>
-    ensures mode { conn.old.in_transaction ≡ false → conn.new.in_transaction ≡ false }
-    ensures frame { Frame (state S.Store conn.old) (state S.Store conn.new) }
-    ensures limit { conn.new.step_limit ≡ conn.old.step_limit }
-    ensures open { OnOk result (IsLive (state S.Store conn.new)) }
-    ensures found { HasCleanDisk (state S.Store conn.new) → IfOk result (λ v. (d : _) (m : _)
-        → Keeps (state S.Store conn.old) d m → (k : _) → m id.now ≡ Some k → IsNamed k.objects
-        → things_view v.items ≡ k.objects) }
-    ensures cause { HasCleanDisk (state S.Store conn.new) → conn.old.step_limit ≡ None → IfErr result (λ e.
-        (d : _) (m : _) → Keeps (state S.Store conn.old) d m → (k : _) → m id.now ≡ Some k → IsNamed k.objects
-        → IsExcused (state S.Store conn.old) (state S.Store conn.new) e) }
-    ensures same { HasCleanDisk (state S.Store conn.new) → OnOk result ((d : _) (m : _)
-        → Keeps (state S.Store conn.old) d m → (state S.Store conn.new).now ≡ (state S.Store conn.old).now) }
-    ensures stays { (d : _) (m : _) → Keeps (state S.Store conn.old) d m → Keeps (state S.Store conn.new) d m }
-    ensures untouched { IsSettled (state S.Store conn.old) → (d : _) (m : _) → Keeps (state S.Store conn.old) d m
-        → Stays (state S.Store conn.old) (state S.Store conn.new) }
-{
-    let rows = find_objects(conn, id)?;
-    objects_in(alloc, &rows)
-}
-
-/// What the rows of the record of the id keep, if there is one.
+/// The rows of the record of the id.
 /// Refused by `OutOfMemory`, and else only where the disk failed or the connection was shut before, if the tables stand and the names of objects ascend.
 pub fn find<S: Alter>(
     conn: &mut Connection<S>,
     alloc: Global,
     id: &str,
-) -> Result<Option<RecordRows>, Error>
+) -> Result<FoundRecord, Error>
     ensures mode { conn.old.in_transaction ≡ false → conn.new.in_transaction ≡ false }
     ensures frame { Frame (state S.Store conn.old) (state S.Store conn.new) }
     ensures limit { conn.new.step_limit ≡ conn.old.step_limit }
     ensures open { OnOk result (IsLive (state S.Store conn.new)) }
-    ensures found { HasCleanDisk (state S.Store conn.new) → IfOk result (λ o. IsTrue (state S.Store conn.old).is_open
-        × ((d : _) (m : _) → Keeps (state S.Store conn.old) d m → AllNamed m → option_map rows_view o ≡ m id.now)) }
+    ensures found { HasCleanDisk (state S.Store conn.new) → IfOk result (λ f. IsTrue (state S.Store conn.old).is_open
+        × ((d : _) (m : _) → Keeps (state S.Store conn.old) d m → AllNamed m → ShowsRecord f (m id.now))) }
     ensures cause { HasCleanDisk (state S.Store conn.new) → conn.old.step_limit ≡ None → IfErr result (λ e.
         (d : _) (m : _) → Keeps (state S.Store conn.old) d m → AllNamed m
         → IsExcused (state S.Store conn.old) (state S.Store conn.new) e) }
@@ -125,15 +78,11 @@ pub fn find<S: Alter>(
     ensures untouched { IsSettled (state S.Store conn.old) → (d : _) (m : _) → Keeps (state S.Store conn.old) d m
         → Stays (state S.Store conn.old) (state S.Store conn.new) }
 {
-    match find_head(conn, id)? {
-        Some(shown) => {
-            let objects = find_things(conn, alloc, id)?;
-            Ok(Some(RecordRows {
-                form: shown.form,
-                root: shown.root,
-                objects,
-            }))
-        }
-        None => Ok(None),
+    let head = find_record(conn, id)?;
+    if head.is_empty() {
+        let objects = Vec::new(alloc);
+        return Ok(FoundRecord { head, objects });
     }
+    let objects = find_objects(conn, id)?;
+    Ok(FoundRecord { head, objects })
 }

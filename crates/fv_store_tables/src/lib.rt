@@ -17,7 +17,7 @@ mod updating;
 pub use about::{read_about, write_about};
 pub use creating::create_tables;
 pub use entries::{put_record, remove_record, set_object};
-pub use entry::{ObjectRow, RecordRows};
+pub use entry::{FoundRecord, ObjectRow, RecordRows};
 pub use finding::find;
 pub use listing::{find_all_ids, find_ids};
 pub use migrating::{OldRow, find_old, replace_tables};

@@ -1,5 +1,5 @@
 //! The statements on the rows of the two tables.
-ghost use Rattle.std.specs.Prelude.{◌≡◌, ◌+◌, ◌∷◌, [], false, length, option_map, IfErr, IfOk, IsSome, MatchOption, None, OnOk, Some};
+ghost use Rattle.std.specs.Prelude.{◌≡◌, ◌+◌, ◌∷◌, [], false, length, IfErr, IfOk, IsSome, MatchOption, None, OnOk, Some};
 ghost use Rattle.sqlite.specs.State.{KeepsCommit};
 ghost use Rattle.sqlite.specs.Held.{state};
 ghost use Rattle.sqlite_rules.specs.Lists.{Has};
@@ -341,20 +341,19 @@ fn write_new<S: Alter>(
     insert_objects(tx, id, objects)
 }
 
-/// The form and the root of the record, if there is one.
-fn find_head<S: Alter>(tx: &mut Transaction<'_, S>, id: &str) -> Result<Option<HeadRow>, Error>
+/// The row that shows the form and the root of the record, if there is one.
+fn find_head<S: Alter>(tx: &mut Transaction<'_, S>, id: &str) -> Result<Vec<Row>, Error>
     ensures same_reference { tx.new.conn.ghost_name ≡ tx.old.conn.ghost_name }
     ensures frame { Frame (state S.Store tx.old.conn.now) (state S.Store tx.new.conn.now) }
     ensures limit { tx.new.conn.now.step_limit ≡ tx.old.conn.now.step_limit }
     ensures kept { Inside S.Store tx.old.conn.now tx.new.conn.now KeepsCommit }
     ensures done { Inside S.Store tx.old.conn.now tx.new.conn.now (λ old new. OnOk result (Advances old new (λ was is. is ≡ was))) }
-    ensures found { Inside S.Store tx.old.conn.now tx.new.conn.now (λ old new. IfOk result (λ o. (d : _) (t : _)
-        → SpellsTables old.now d t → option_map head_view o ≡ t.heads id.now)) }
+    ensures shown { Inside S.Store tx.old.conn.now tx.new.conn.now (λ old new. IfOk result (λ v. (d : _) (t : _)
+        → SpellsTables old.now d t → ShowsHead v.items (t.heads id.now))) }
     ensures cause { Inside S.Store tx.old.conn.now tx.new.conn.now (λ old new. tx.old.conn.now.step_limit ≡ None
         → IfErr result (λ e. (d : _) (t : _) → SpellsTables old.now d t → IsExcused old new e)) }
 {
-    let rows = tx.query_all(FIND_RECORD, params![id])?;
-    head_in(&rows)
+    tx.query_all(FIND_RECORD, params![id])
 }
 
 /// Writes the head of the record of the id anew, where it isn't this one.
@@ -375,7 +374,7 @@ fn write_head<S: Alter>(
         → IfErr result (λ e. (d : _) (t : _) → SpellsTables old.now d t → IsOwned t
         → HasRooms 0 old.now → IsShortHead id.now (record { form = form.now; root = root.now }) → IsExcused old new e)) }
 {
-    if head.form.as_str() == form && head.root.as_str() == root {
+    if head.form == form && head.root == root {
         return Ok(0);
     }
     tx.execute(UPDATE_RECORD, params![id, form, root])
@@ -401,7 +400,8 @@ pub(crate) fn write_record<S: Alter>(
         → HasRooms (1 + length objects.now) old.now → IsShortHead id.now (record { form = form.now; root = root.now })
         → AreShort id.now (objects_view objects.now) → IsExcused old new e)) }
 {
-    match find_head(tx, id)? {
+    let rows = find_head(tx, id)?;
+    match head_in(&rows)? {
         Some(head) => {
             write_head(tx, id, &head, form, root)?;
             replace_objects(tx, id, objects)

@@ -2,12 +2,13 @@
 use Rattle.std.specs.Prelude.{◌+◌, ℕ, List, [], ◌∷◌, Option, length, map, option_map, string_bytes}
 use Rattle.sqlite.specs.Effect.{Database}
 use Rattle.fv_store_tables.specs.Causes.{AreShort, IsShortHead}
-use Rattle.fv_store_tables.specs.Changes.{AreApart}
+use Rattle.fv_store_tables.specs.Changes.{AllTexts, AreApart, NamedTexts}
 use Rattle.fv_store_tables.specs.Olds.{Old}
 use Rattle.fv_store_tables.specs.Stands.{Entry, TableEntries, with_entry}
 use Rattle.fv_store_tables.specs.Steps.{Turns}
-use Rattle.fv_store_tables.specs.Stored.{rows_view}
+use Rattle.fv_store_upgrade.specs.declared.records.NewObject.{NewObject}
 use Rattle.fv_store_upgrade.specs.declared.records.NewRecord.{NewRecord}
+use Rattle.fv_store_upgrade.specs.declared.records.NewRows.{NewRows}
 use Rattle.fv_store_upgrade.specs.Upgraded.{entry_in}
 
 -- a record with its id
@@ -18,9 +19,21 @@ Named = List ℕ × Entry
 abbrev pub named_in : List ℕ × Old → Option Named
 named_in e = option_map (λ k. (e.0, k)) (entry_in e.1)
 
--- as the code has it
+-- an object, as the code has it
+abbrev pub new_object_view : NewObject → NamedTexts
+new_object_view o = (string_bytes o.name, record { kind = string_bytes o.kind; fields = string_bytes o.fields })
+
+-- objects
+abbrev pub new_objects_view : List NewObject → AllTexts
+new_objects_view os = map new_object_view os
+
+-- a record
+abbrev pub new_rows_view : NewRows → Entry
+new_rows_view r = record { form = string_bytes r.form; root = string_bytes r.root; objects = new_objects_view r.objects.items }
+
+-- the same with its id
 abbrev pub new_view : NewRecord → Named
-new_view r = (string_bytes r.id, rows_view r.rows)
+new_view r = (string_bytes r.id, new_rows_view r.rows)
 
 -- as the code has them
 abbrev pub news_view : List NewRecord → List Named

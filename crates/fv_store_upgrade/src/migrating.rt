@@ -8,19 +8,18 @@ ghost use Rattle.fv_store_tables.specs.Creating.{no_entries};
 ghost use Rattle.fv_store_tables.specs.Olds.{IsFirst, KeepsOlds, Olds};
 ghost use Rattle.fv_store_tables.specs.Stands.{Frame, IsLive, IsSettled, Keeps, TablesStand, Stays, about_row};
 ghost use Rattle.fv_store_tables.specs.Steps.{Advances, Inside};
-ghost use Rattle.fv_store_tables.specs.Stored.{row_view, things_view};
-ghost use Rattle.fv_store_upgrade.specs.Steps.{AllApart, EachShort, Puts, all_put, new_view, news_view, rows_taken};
+ghost use Rattle.fv_store_upgrade.specs.Steps.{AllApart, EachShort, Puts, all_put, new_object_view, new_objects_view, new_view, news_view, rows_taken};
 ghost use Rattle.fv_store_upgrade.specs.Upgraded.{AllShort, AllUpgrade, HasFew, upgraded};
 
 use crate::fault::UpgradeFault;
-use crate::records::{NewRecord, records_of};
-use fv_store_tables::{ObjectRow, ObjectText, find_old, put_record, replace_tables};
+use crate::records::{NewObject, NewRecord, records_of};
+use fv_store_tables::{ObjectText, find_old, put_record, replace_tables};
 use sqlite::{Alter, Connection, Error, Transaction};
 use std::alloc::{AllocError, Global};
 
 /// What an object's row shall keep. Its name and its type's name aren't copied.
-fn text_of(row: &ObjectRow) -> Result<ObjectText<'_>, AllocError>
-    ensures { IfOk result (λ o. object_view o ≡ row_view row.now) }
+fn text_of(row: &NewObject) -> Result<ObjectText<'_>, AllocError>
+    ensures { IfOk result (λ o. object_view o ≡ new_object_view row.now) }
 {
     Ok(ObjectText {
         name: row.name.as_str(),
@@ -30,8 +29,8 @@ fn text_of(row: &ObjectRow) -> Result<ObjectText<'_>, AllocError>
 }
 
 /// The same of each row, in their order.
-fn texts_of(alloc: Global, rows: &[ObjectRow]) -> Result<Vec<ObjectText<'_>>, AllocError>
-    ensures { IfOk result (λ v. objects_view v.items ≡ things_view rows.now) }
+fn texts_of(alloc: Global, rows: &[NewObject]) -> Result<Vec<ObjectText<'_>>, AllocError>
+    ensures { IfOk result (λ v. objects_view v.items ≡ new_objects_view rows.now) }
 {
     let mut texts = Vec::with_capacity(alloc, rows.len())?;
     for row in rows {

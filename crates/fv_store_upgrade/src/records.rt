@@ -5,28 +5,43 @@ ghost use Rattle.serde_json.specs.View.{view as json_view, members_view};
 ghost use Rattle.fv_datum.specs.Members.{each_some, pairs};
 ghost use Rattle.fv_datum.specs.Outcomes.{Gives};
 ghost use Rattle.fv_store_tables.specs.Olds.{old_view, olds_view};
-ghost use Rattle.fv_store_tables.specs.Stored.{row_view, rows_view, things_view};
-ghost use Rattle.fv_store_upgrade.specs.Steps.{named_in, new_view, news_view};
+ghost use Rattle.fv_store_upgrade.specs.Steps.{named_in, new_object_view, new_objects_view, new_rows_view, new_view, news_view};
 ghost use Rattle.fv_store_upgrade.specs.Upgraded.{bundle_in, upgraded_entry, object_in};
 ghost use Rattle.fv_store_upgrade.specs.declared.fault.UpgradeFault.TheVariants.{Damaged};
 
 use crate::fault::UpgradeFault;
 use crate::writing::fields_text;
 use fv_datum::{has_only, object_at, read_text, text_at};
-use fv_store_tables::{ObjectRow, OldRow, RecordRows};
+use fv_store_tables::OldRow;
 use serde_json::{Map, Value};
 use std::alloc::Global;
 
-/// A record with its id, as its rows keep it.
+/// What the row of an object shall keep.
+#[derive(Drop)]
+pub(crate) struct NewObject {
+    pub(crate) name: String,
+    pub(crate) kind: String,
+    pub(crate) fields: String,
+}
+
+/// What the rows of a record shall keep.
+#[derive(Drop)]
+pub(crate) struct NewRows {
+    pub(crate) form: String,
+    pub(crate) root: String,
+    pub(crate) objects: Vec<NewObject>,
+}
+
+/// The same with the record's id.
 #[derive(Drop)]
 pub(crate) struct NewRecord {
     pub(crate) id: String,
-    pub(crate) rows: RecordRows,
+    pub(crate) rows: NewRows,
 }
 
 /// The object of that name that a value is.
-fn object_row(alloc: Global, name: &str, value: &Value) -> Result<ObjectRow, UpgradeFault>
-    ensures { Gives UpgradeFault.Memory row_view result
+fn object_row(alloc: Global, name: &str, value: &Value) -> Result<NewObject, UpgradeFault>
+    ensures { Gives UpgradeFault.Memory new_object_view result
         (ok_or (object_in (name.now, json_view value.now)) Damaged) }
 {
     if !has_only(value, &["fields", "type"]) {
@@ -34,7 +49,7 @@ fn object_row(alloc: Global, name: &str, value: &Value) -> Result<ObjectRow, Upg
     }
     let kind = text_at(value, "type").ok_or(UpgradeFault::Damaged)?;
     let fields = value.get("fields").ok_or(UpgradeFault::Damaged)?;
-    Ok(ObjectRow {
+    Ok(NewObject {
         name: String::from_str(alloc, name)?,
         kind: String::from_str(alloc, kind)?,
         fields: fields_text(alloc, fields)?,
@@ -42,8 +57,8 @@ fn object_row(alloc: Global, name: &str, value: &Value) -> Result<ObjectRow, Upg
 }
 
 /// The objects that members are, in the order of their names.
-fn object_rows(alloc: Global, objects: &Map<String, Value>) -> Result<Vec<ObjectRow>, UpgradeFault>
-    ensures { Gives UpgradeFault.Memory (λ v. things_view v.items) result
+fn object_rows(alloc: Global, objects: &Map<String, Value>) -> Result<Vec<NewObject>, UpgradeFault>
+    ensures { Gives UpgradeFault.Memory (λ v. new_objects_view v.items) result
         (ok_or (each_some object_in (pairs (members_view objects.now.entries))) Damaged) }
 {
     let mut rows = Vec::with_capacity(alloc, objects.len())?;
@@ -54,8 +69,8 @@ fn object_rows(alloc: Global, objects: &Map<String, Value>) -> Result<Vec<Object
 }
 
 /// The record of that form whose bundle a value is.
-fn record_rows(alloc: Global, form: String, value: &Value) -> Result<RecordRows, UpgradeFault>
-    ensures { Gives UpgradeFault.Memory rows_view result
+fn record_rows(alloc: Global, form: String, value: &Value) -> Result<NewRows, UpgradeFault>
+    ensures { Gives UpgradeFault.Memory new_rows_view result
         (ok_or (option_map (upgraded_entry (string_bytes form)) (bundle_in (json_view value.now))) Damaged) }
 {
     if !has_only(value, &["objects", "root"]) {
@@ -63,7 +78,7 @@ fn record_rows(alloc: Global, form: String, value: &Value) -> Result<RecordRows,
     }
     let root = text_at(value, "root").ok_or(UpgradeFault::Damaged)?;
     let objects = object_at(value, "objects").ok_or(UpgradeFault::Damaged)?;
-    Ok(RecordRows {
+    Ok(NewRows {
         form,
         root: String::from_str(alloc, root)?,
         objects: object_rows(alloc, objects)?,
