@@ -1,5 +1,5 @@
 -- The text that is put together from what a bundle's rows keep is the bundle's.
-use Rattle.std.proofs.Common.{◌≡◌, ◌++◌, ℕ, List, [], ◌∷◌, Bool, true, false, codes, map, string_bytes, refl, sym, ap, ◌∙◌, append_assoc}
+use Rattle.std.proofs.Common.{◌≡◌, ◌<◌, ◌+◌, ◌++◌, ℕ, List, [], ◌∷◌, Bool, true, false, codes, drop, get_or, length, map, refl, sym, ap, ◌∙◌, append_assoc, add-one, drop-cons}
 use Rattle.std.specs.Map.{keys_of}
 use Rattle.json.specs.Print.{quoted, escape_byte}
 use Rattle.serde_json.specs.Data as json
@@ -14,7 +14,8 @@ use Rattle.fv_store.specs.Records.{Kept}
 use Rattle.fv_store.specs.Written.{written_of, entry_of}
 use Rattle.fv_store_tables.specs.Changes.{AllTexts}
 use Rattle.fv_store_tables.specs.Stands.{Entry, ObjectTexts}
-use Rattle.fv_store_tables.specs.Stored.{rows_view, things_view}
+use Rattle.fv_store_tables.specs.Stored.{row_view, rows_view, things_view}
+use Rattle.fv_store_tables.specs.declared.entry.ObjectRow.{ObjectRow}
 use Rattle.fv_store_tables.specs.declared.entry.RecordRows.{RecordRows}
 
 -- what the rows keep of objects
@@ -48,9 +49,16 @@ pub kept_text : (k : Kept) (rows : RecordRows) (text : List ℕ) → text ≡ ro
 kept_text k rows text is ascending same = is ∙ ap (λ (e : Entry). rows_text e.root e.objects) same ∙ text_is k.bundle ascending
 
 -- one object more
-pub one_behind : (left front after new : List ℕ) (o : List ℕ × ObjectTexts) (os : AllTexts) → after ≡ left ++ front → new ≡ after ++ object_text o
+one_behind : (left front after new : List ℕ) (o : List ℕ × ObjectTexts) (os : AllTexts) → after ≡ left ++ front → new ≡ after ++ object_text o
     → new ++ objects_text (codes ",") os ≡ left ++ objects_text front (o ∷ os)
 one_behind left front after new o os pushed added =
     let text = object_text o in
     let behind = objects_text (codes ",") os in
     rw (added, pushed) (append_assoc (left ++ front) text behind ∙ append_assoc left front (text ++ behind))
+
+-- one object more of those from a place on
+pub one_more : (all : List ObjectRow) (i : ℕ) (d : ObjectRow) (left front after new : List ℕ) → i < length all → after ≡ left ++ front → new ≡ after ++ object_text (row_view (get_or all i d))
+    → new ++ objects_text (codes ",") (things_view (drop (i + 1) all)) ≡ left ++ objects_text front (things_view (drop i all))
+one_more all i d left front after new h pushed added =
+    let turn : drop i all ≡ get_or all i d ∷ drop (i + 1) all = rw (add-one, drop-cons all i d h) refl in
+    one_behind left front after new (row_view (get_or all i d)) (things_view (drop (i + 1) all)) pushed added ∙ ap (λ os. left ++ objects_text front (things_view os)) (sym turn)

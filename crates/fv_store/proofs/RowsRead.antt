@@ -30,16 +30,15 @@ use Rattle.fv_store_tables.specs.declared.entry.RecordRows.{RecordRows}
 
 -- ---- one row after another
 
-rows_turn : (rs : List ObjectRow) (i : ℕ) (r : ObjectRow) → i < length rs → r ≡ get_or rs i r → things_view (drop i rs) ≡ row_view r ∷ things_view (drop (i + 1) rs)
-rows_turn rs i r h is = rw (add-one, drop-cons rs i r h, ← is) refl
+rows_turn : (rs : List ObjectRow) (i : ℕ) (d : ObjectRow) → i < length rs → things_view (drop i rs) ≡ row_view (get_or rs i d) ∷ things_view (drop (i + 1) rs)
+rows_turn rs i d h = rw (add-one, drop-cons rs i d h) refl
 
-pub row_more : (front : List (List ℕ × (List ℕ × json.Members))) (rs : List ObjectRow) (i : ℕ) (r : ObjectRow) (y : List ℕ × (List ℕ × json.Members)) → i < length rs → r ≡ get_or rs i r → row_read (row_view r) ≡ Some y
+pub row_more : (front : List (List ℕ × (List ℕ × json.Members))) (rs : List ObjectRow) (i : ℕ) (d : ObjectRow) (y : List ℕ × (List ℕ × json.Members)) → i < length rs → row_read (row_view (get_or rs i d)) ≡ Some y
     → with_front front (each_some row_read (things_view (drop i rs))) ≡ with_front (front ++ y ∷ []) (each_some row_read (things_view (drop (i + 1) rs)))
-row_more front rs i r y h is e = rw (rows_turn rs i r h is) (front_more row_read front (row_view r) (things_view (drop (i + 1) rs)) y e)
+row_more front rs i d y h e = rw (rows_turn rs i d h) (front_more row_read front (row_view (get_or rs i d)) (things_view (drop (i + 1) rs)) y e)
 
-pub row_none : (front : List (List ℕ × (List ℕ × json.Members))) (rs : List ObjectRow) (i : ℕ) (r : ObjectRow) → i < length rs → r ≡ get_or rs i r → row_read (row_view r) ≡ None
-    → with_front front (each_some row_read (things_view (drop i rs))) ≡ None
-row_none front rs i r h is e = rw (rows_turn rs i r h is) (front_none row_read front (row_view r) (things_view (drop (i + 1) rs)) e)
+pub row_none : (front : List (List ℕ × (List ℕ × json.Members))) (rs : List ObjectRow) (i : ℕ) (d : ObjectRow) → i < length rs → row_read (row_view (get_or rs i d)) ≡ None → with_front front (each_some row_read (things_view (drop i rs))) ≡ None
+row_none front rs i d h e = rw (rows_turn rs i d h) (front_none row_read front (row_view (get_or rs i d)) (things_view (drop (i + 1) rs)) e)
 
 pub read_turn : {X : Type 0} (view : X → List ℕ × (List ℕ × json.Members)) (rs : List X) (i : ℕ) (r : X) → i < length rs → r ≡ get_or rs i r → map view (drop i rs) ≡ view r ∷ map view (drop (i + 1) rs)
 read_turn view rs i r h is = rw (add-one, drop-cons rs i r h, ← is) refl

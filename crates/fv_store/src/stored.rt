@@ -41,7 +41,7 @@ pub(crate) fn stored_if(
     found: Option<RecordRows>,
 ) -> Result<Option<Stored>, StoreFault>
     ensures read { (o : Option Kept) → ForSome o (λ k. IsWellTyped (types_view types.now) k.bundle)
-        → option_map rows_view found ≡ option_map entry_of (option_map written_of o)
+        → option_map rows_view found.entry ≡ option_map entry_of (option_map written_of o)
         → Gives StoreFault.Memory (option_map stored_view) result (Ok o) }
     ensures typed { IfOk result (λ o. IfSome o (λ s. IsWellTyped (types_view types.now) (bundle_view s.bundle))) }
 {

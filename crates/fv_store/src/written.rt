@@ -37,11 +37,11 @@ pub(crate) fn written_if(
     found: Option<RecordRows>,
 ) -> Result<Option<Written>, AllocError>
     ensures text { IfOk result (λ w. (types : Declared) (o : Option Kept) → ForSome o (λ k. IsWellTyped types k.bundle)
-        → option_map rows_view found ≡ option_map entry_of (option_map written_of o)
+        → option_map rows_view found.entry ≡ option_map entry_of (option_map written_of o)
         → option_map text_view w ≡ option_map text_of o) }
     ensures read { IfOk result (λ w. (types : Declared) (o : Option Kept) → has_deep types ≡ false
         → ForSome o (λ k. IsWellTyped types k.bundle)
-        → option_map rows_view found ≡ option_map entry_of (option_map written_of o)
+        → option_map rows_view found.entry ≡ option_map entry_of (option_map written_of o)
         → option_map written_view w ≡ option_map untyped o) }
 {
     match found {

@@ -1,4 +1,4 @@
-use Rattle.std.proofs.Common.{Ok, sym, ap, ap₂}
+use Rattle.std.proofs.Common.{Ok, sym, ap, ap₂, ◌∙◌}
 use Rattle.fv_bundle.specs.Views.{bundle_view}
 use Rattle.fv_bundle.specs.TypesView.{types_view}
 use Rattle.fv_store.specs.Stored.{stored_view}
@@ -17,4 +17,4 @@ pub returns-clause-read : goal.returns-clause-read
 returns-clause-read c k typed same =
     let read = record_back (types_view c.args.types.now) k c.args.rows.now c.args.types.now.shallow typed same in
     let bundle = same_ok k.bundle (bundle_view c.in_ok-bundle.bundle) (c.in_ok-bundle.ensures.read k.bundle typed (root_back k c.args.rows.now same) read) in
-    ap₂ (λ f b. Ok (record { form = f; bundle = b })) (sym (ap (λ (e : Entry). e.form) same)) bundle
+    ap₂ (λ f b. Ok (record { form = f; bundle = b })) (sym (c.in_ok-form.ensures.ok ∙ ap (λ (e : Entry). e.form) same)) bundle

@@ -7,9 +7,9 @@ use Rattle.fv_store.proofs.written.written_from.Goals as goal
 
 pub returns-clause-text : goal.returns-clause-text
 returns-clause-text c types k typed same =
-    ap₂ (λ f t. (f, t)) (ap (λ (e : Entry). e.form) same) (kept_text k c.args.rows.now _ c.in_ok-bundle.ensures typed.ascending same)
+    ap₂ (λ f t. (f, t)) (c.in_ok-form.ensures.ok ∙ ap (λ (e : Entry). e.form) same) (kept_text k c.args.rows.now _ c.in_ok-bundle.ensures typed.ascending same)
 
 pub returns-clause-read : goal.returns-clause-read
 returns-clause-read c types k few typed same =
     let text = kept_text k c.args.rows.now _ c.in_ok-bundle.ensures typed.ascending same in
-    ap₂ (λ f j. (f, j)) (ap (λ (e : Entry). e.form) same) (ap read text ∙ bundle_back types k.bundle few typed)
+    ap₂ (λ f j. (f, j)) (c.in_ok-form.ensures.ok ∙ ap (λ (e : Entry). e.form) same) (ap read text ∙ bundle_back types k.bundle few typed)
