@@ -91,6 +91,8 @@ fn wanted(form: FormName) -> &'static str {
         FormName::Flag => "true or false",
         FormName::Value => "a 64-bit whole number, a text, a boolean or an array of texts",
         FormName::Held => "a type by its word or an object",
+        FormName::Place => "an object, as {\"type\":\"text\"}",
+        FormName::Use | FormName::Composing => "an object, as {\"constraint\":\"NotNull\"}",
         FormName::Names | FormName::Uses | FormName::Compose | FormName::Sequence => "an array",
         _ => "an object",
     }
