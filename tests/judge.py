@@ -39,7 +39,7 @@ ALLOWED = 1024
 LEAST_GAIN = 3.4
 # seconds, and how many such windows: a processor of a virtual machine is half as fast again, or as slow, from one second to the next
 WINDOW = 0.5
-WINDOWS = 24
+WINDOWS = 48
 
 
 def asked():
