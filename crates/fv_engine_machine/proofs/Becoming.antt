@@ -6,11 +6,13 @@ use Rattle.std.proofs.lemmas.Bool.{lt-ltb, le-ltb}
 use Rattle.sqlite.specs.State.{State, HasCleanDisk}
 use Rattle.serde_json.specs.Data as json
 use Rattle.serde_json.specs.Find.{as_str, get as get_at}
+use Rattle.serde_json.specs.Read.{read}
+use Rattle.serde_json.specs.Written.{compact_text}
 use Rattle.fv_datum.specs.Forms.{required, maybe, optional, map2, map3, map4}
 use Rattle.fv_datum.specs.Members.{has_only}
 use Rattle.fv_datum.specs.Lookup.{at_name}
 use Rattle.fv_declare_schema.specs.Declarations.{Declarations}
-use Rattle.fv_engine_machine.specs.Causes.{StoreHasFailed, HasCause, GivesOut, Causes, Handles}
+use Rattle.fv_engine_machine.specs.Causes.{StoreHasFailed, HasCause, GivesOut, Causes, Handles, IsReplied}
 use Rattle.fv_engine_machine.specs.Keeping.{Unchanged, Fails, Checks, unjudged}
 use Rattle.fv_engine_machine.specs.Machines.{Machine, over, with_map, contents, room_in, Becomes}
 use Rattle.fv_engine_machine.specs.Refusals.{when, first_of, is_too_long, batch_parts, refusal}
@@ -19,11 +21,12 @@ use Rattle.fv_engine_machine.specs.Step.{done_by, Changes, Checked, Serves, Answ
 use Rattle.fv_declare_schema.specs.Groups.{numbers_of}
 use Rattle.fv_declare_schema.specs.Judged.{unknown_group_in}
 use Rattle.fv_bundle.specs.Bundles.{Bundled}
+use Rattle.fv_model.specs.Writing.{bundle_json}
 use Rattle.fv_model.specs.declared.fault.BundleFault.{BundleFault}
 use Rattle.fv_model.specs.declared.fault.BundleFault.TheVariants as fault
 use Rattle.fv_registry.specs.Meanings.{Meanings}
 use Rattle.fv_engine_reply.specs.Answers.{Answer, done, shown, violated, checked, field_checked, value_checked, ids, refused, part_refused, redeclared, misdeclared, unfit}
-use Rattle.fv_engine_reply.specs.Texts.{TakesMemory}
+use Rattle.fv_engine_reply.specs.Texts.{TakesMemory, Tells}
 use Rattle.fv_engine_reply.specs.declared.answer.Done.{Done}
 use Rattle.fv_engine_reply.specs.declared.answer.Done.TheVariants.{Batch}
 use Rattle.fv_engine_reply.specs.declared.answer.Refusal.{Refusal}
@@ -32,6 +35,8 @@ use Rattle.fv_store.specs.Lists.{Lists}
 use Rattle.fv_store.specs.Records.{Kept, Records}
 use Rattle.fv_store.specs.declared.fault.StoreFault.{StoreFault}
 use Rattle.fv_store.specs.declared.fault.StoreFault.TheVariants as store
+use Rattle.fv_store.specs.Stored.{text_of, untyped}
+use Rattle.fv_store.specs.Texts.{bundle_text}
 use Rattle.fv_store.specs.Stands.{Frame, HoldsRecords, Stays}
 use Rattle.fv_validate.specs.declared.fault.ValidateFault.{ValidateFault}
 use Rattle.fv_validate.specs.declared.fault.ValidateFault.TheVariants as validate
@@ -301,6 +306,39 @@ module _ (means : Meanings) (now : ℤ) where
   told_memory r short x y answer takes answers =
       out_of_memory means now r x y (not_done_stays r x y answer (λ what e. subst TakesMemory e takes) answers) short
 
+  -- a text that tells an answer is a reply, also where memory was refused for it
+  pub told_reply : (r : Request) → is_too_long r ≡ false → (x y : Machine Records) (answer : Answer) (text : List ℕ) → Tells text answer → Handles means now r x answer y → IsReplied means now r x text y
+  told_reply r short x y answer text (inl is) handles = (answer, is, handles)
+  told_reply r short x y answer text (inr made) handles = (refused Memory, made.1, told_memory r short x y answer made.0 handles)
+
+-- ---- the text of a record
+
+-- no text is that of no record
+pub got_no_text : (o : Option Kept) → None ≡ option_map text_of o → o ≡ None
+got_no_text None is = refl
+got_no_text (Some k) is = cc
+
+-- the record whose form and whose bundle's text these are
+got_text : (o : Option Kept) (form bundle : List ℕ) → Some (form, bundle) ≡ option_map text_of o → Some (form, read bundle) ≡ option_map untyped o
+    → (k : Kept) × (o ≡ Some k) × (form ≡ k.form) × (bundle ≡ compact_text (bundle_json k.bundle)) × (read bundle ≡ Some (bundle_json k.bundle))
+unfolding bundle_text
+got_text None form bundle texts reads = cc
+got_text (Some k) form bundle texts reads = (
+  k,
+  refl,
+  ap (λ (o : Option (List ℕ × List ℕ)). (unwrap_or o ([], [])).0) texts,
+  ap (λ (o : Option (List ℕ × List ℕ)). (unwrap_or o ([], [])).1) texts,
+  ap (λ (o : Option (List ℕ × Option json.Data)). (unwrap_or o ([], None)).1) reads,
+)
+
+module _ (means : Meanings) (now : ℤ) (id : List ℕ) (x y : Machine Records) (stay : Unchanged x y) where
+  pub got_shown : IsTrue x.is_open → (form bundle text : List ℕ) → Some (form, bundle) ≡ option_map text_of (x.records id) → Some (form, read bundle) ≡ option_map untyped (x.records id)
+      → ((b : Bundled) → bundle ≡ compact_text (bundle_json b) → read bundle ≡ Some (bundle_json b) → Tells text (shown id form b)) → IsReplied means now (get id) x text y
+  got_shown live form bundle text texts reads tells =
+      let got = got_text (x.records id) form bundle texts reads in
+      told_reply means now (get id) refl x y (shown id got.0.form got.0.bundle) text (subst (λ (f : List ℕ). Tells text (shown id f got.0.bundle)) got.2 (tells got.0.bundle got.3 got.4))
+      (got_some means now id x y stay live got.0 got.1)
+
 -- ---- requests
 
 short_if : (b : Bool) (p q : Option Request) → is_too_long (unwrap_or p shape) ≡ false → is_too_long (unwrap_or q shape) ≡ false → is_too_long (unwrap_or (if b then p else q) shape) ≡ false
@@ -394,6 +432,17 @@ short_json (Some j) = short_command j
 pub asked_of : {H : Type 0} (held : H → State) (old new : Machine H) (means : Meanings) (now : ℤ) (answer : Answer) (o : Option Request) (r : Request) → Some r ≡ o
     → Becomes held old new (λ x y. Handles means now r x answer y) → Becomes held old new (λ x y. Handles means now (unwrap_or o shape) x answer y)
 asked_of held old new means now answer o r is becoming = subst (λ (p : Option Request). Becomes held old new (λ x y. Handles means now (unwrap_or p shape) x answer y)) is becoming
+
+-- the same of its reply
+pub asked_reply : {H : Type 0} (held : H → State) (old new : Machine H) (means : Meanings) (now : ℤ) (text : List ℕ) (o : Option Request) (r : Request) → Some r ≡ o
+    → Becomes held old new (λ x y. IsReplied means now r x text y) → Becomes held old new (λ x y. IsReplied means now (unwrap_or o shape) x text y)
+asked_reply held old new means now text o r is becoming = subst (λ (p : Option Request). Becomes held old new (λ x y. IsReplied means now (unwrap_or p shape) x text y)) is becoming
+
+-- the text that tells the answer to a command is its reply
+pub replied : {H : Type 0} (held : H → State) (old new : Machine H) (means : Meanings) (now : ℤ) (j : json.Data) (r : Request) → Some r ≡ command_of j → (answer : Answer) (text : List ℕ) → Tells text answer
+    → Becomes held old new (λ x y. Handles means now r x answer y) → Becomes held old new (λ x y. IsReplied means now (unwrap_or (command_of j) shape) x text y)
+replied held old new means now j r is answer text tells becoming =
+    weaker held old new _ _ (λ x y handles. told_reply means now _ (short_command j) x y answer text tells handles) (asked_of held old new means now answer (command_of j) r is becoming)
 
 -- ---- lines
 

@@ -54,6 +54,10 @@ pub record Causes (means : Meanings) (now : ℤ) (r : Request) (answer : Answer)
 abbrev pub Handles : Meanings → ℤ → Request → Machine Records → Answer → Machine Records → Type 0
 Handles means now r old answer new = Step means old.declared old.records r now answer new.records × Causes means now r answer old new
 
--- that of what a line asks for, told by the text of its answer
+-- the same, told by the text of the answer
+abbrev pub IsReplied : Meanings → ℤ → Request → Machine Records → List ℕ → Machine Records → Type 0
+IsReplied means now r old text new = (answer : Answer) × (text ≡ answer_text answer) × Handles means now r old answer new
+
+-- that of what a line asks for
 abbrev pub Caused : Meanings → Machine Records → List ℕ → ℤ → List ℕ → Machine Records → Type 0
-Caused means old line moment text new = (answer : Answer) × (text ≡ answer_text answer) × Handles means moment (asked line) old answer new
+Caused means old line moment text new = IsReplied means moment (asked line) old text new

@@ -4,10 +4,10 @@ ghost use Rattle.fv_datum.specs.Moments.{IsMoment};
 ghost use Rattle.fv_datum.specs.Parsing.{json_of};
 ghost use Rattle.fv_declare_schema.specs.Declarations.{Declarations};
 ghost use Rattle.fv_engine_machine.specs.Machines.{over, Becomes};
-ghost use Rattle.fv_engine_machine.specs.Services.{Attends, GoesOn, Replies, serving};
+ghost use Rattle.fv_engine_machine.specs.Services.{GoesOn, Replies, serving};
 ghost use Rattle.fv_engine_command.specs.CommandView.{part_view};
 ghost use Rattle.fv_engine_command.specs.Commands.{alone, asks_json, batch, get, command_of, shape};
-ghost use Rattle.fv_engine_machine.specs.Causes.{Handles};
+ghost use Rattle.fv_engine_machine.specs.Causes.{Handles, IsReplied};
 ghost use Rattle.fv_registry.specs.Meanings.{Meanings};
 ghost use Rattle.fv_engine_reply.specs.AnswerView.{answer_view};
 ghost use Rattle.fv_bundle.specs.TypesView.{types_view};
@@ -18,7 +18,7 @@ use crate::changing::{change, done_by};
 use crate::checking::check;
 use crate::fields::{check_field, check_value};
 use crate::listing::list;
-use crate::redeclaring::redeclare;
+use crate::redeclaring::{are_shallow, redeclare};
 use crate::refusing::undone;
 use crate::shared_rules::SharedRules;
 use fv_bundle::Types;
@@ -33,13 +33,13 @@ use sqlite::Alter;
 use std::alloc::Global;
 
 /// Makes a part by itself.
-fn alone<'a, R: RuleSet, S: Alter>(
+fn alone<R: RuleSet, S: Alter>(
     store: &mut Store<S>,
     alloc: Global,
     book: &Rulebook<R>,
-    part: Part<'a>,
+    part: Part,
     now: i64,
-) -> Answer<'a>
+) -> Answer
     requires { IsMoment now }
     ensures text { store.new.text ≡ store.old.text }
     ensures becomes { Becomes (state S.Store) (over (state S.Store) book.now store.old)
@@ -51,13 +51,13 @@ fn alone<'a, R: RuleSet, S: Alter>(
 }
 
 /// Makes all parts of a batch, or none.
-fn batch<'a, R: RuleSet, S: Alter>(
+fn batch<R: RuleSet, S: Alter>(
     store: &mut Store<S>,
     alloc: Global,
     book: &Rulebook<R>,
-    parts: &[Part<'a>],
+    parts: &[Part],
     now: i64,
-) -> Answer<'a>
+) -> Answer
     requires { IsMoment now }
     ensures text { store.new.text ≡ store.old.text }
     ensures becomes { Becomes (state S.Store) (over (state S.Store) book.now store.old)
@@ -67,45 +67,48 @@ fn batch<'a, R: RuleSet, S: Alter>(
     change(store, alloc, book, parts, Done::Batch, now)
 }
 
-/// Shows a record.
-fn get<'a, S: Alter>(store: &mut Store<S>, alloc: Global, types: &Types, id: &'a str) -> Answer<'a>
+/// Shows a record: by a reply at once, since what is written of it is text already.
+fn get<S: Alter>(store: &mut Store<S>, alloc: Global, types: &Types, id: &str) -> Reply
     ensures text { store.new.text ≡ store.old.text }
     ensures becomes { (ds : Declarations) (means : Meanings) (now : ℤ) → ds.types ≡ types_view types.now
         → Becomes (state S.Store) (over (state S.Store) ds store.old) (over (state S.Store) ds store.new)
-        (λ x y. Handles means now (get id.now) x (answer_view result) y) }
+        (λ x y. IsReplied means now (get id.now) x result y) }
 {
-    match store.get(alloc, types, id) {
-        Ok(None) => Answer::Refused(Refusal::NoRecord),
-        Ok(Some(stored)) => Answer::Shown {
-            id,
-            form: stored.form,
-            bundle: stored.bundle,
-        },
-        Err(fault) => Answer::Refused(undone(fault)),
+    are_shallow(types);
+    match store.written(alloc, id) {
+        Ok(None) => Reply::refused(alloc, Refusal::NoRecord),
+        Ok(Some(written)) => {
+            Reply::shown(alloc, id, written.form.as_str(), written.bundle.as_str())
+        }
+        Err(fault) => Reply::refused(alloc, undone(fault)),
     }
 }
 
-/// The answer to a line's JSON.
-fn answer<'a, R: RuleSet, S: Alter>(
+/// The reply to a line's JSON that is no redeclare.
+fn reply<R: RuleSet, S: Alter>(
     store: &mut Store<S>,
     alloc: Global,
     book: &Rulebook<R>,
-    value: &'a Value,
+    value: &Value,
     now: i64,
-) -> Answer<'a>
+) -> Reply
     requires { IsMoment now }
     ensures text { store.new.text ≡ store.old.text }
     ensures becomes { Becomes (state S.Store) (over (state S.Store) book.now store.old)
         (over (state S.Store) book.now store.new)
-        (λ x y. Handles R.meaning now (unwrap_or (command_of (json_view value.now)) shape) x (answer_view result) y) }
+        (λ x y. IsReplied R.meaning now (unwrap_or (command_of (json_view value.now)) shape) x result y) }
 {
     match command_of(alloc, value) {
-        Err(_) => Answer::Refused(Refusal::Memory),
-        Ok(None) => Answer::Refused(Refusal::Shape),
-        Ok(Some(Command::Alone(part))) => alone(store, alloc, book, part, now),
-        Ok(Some(Command::Batch { parts })) => batch(store, alloc, book, &parts, now),
+        Err(_) => Reply::refused(alloc, Refusal::Memory),
+        Ok(None) => Reply::refused(alloc, Refusal::Shape),
+        Ok(Some(Command::Alone(part))) => Reply::of(alloc, &alone(store, alloc, book, part, now)),
+        Ok(Some(Command::Batch { parts })) => {
+            Reply::of(alloc, &batch(store, alloc, book, &parts, now))
+        }
         Ok(Some(Command::Get { id })) => get(store, alloc, book.schema().types(), id),
-        Ok(Some(Command::Check { id, groups })) => check(store, alloc, book, id, &groups, now),
+        Ok(Some(Command::Check { id, groups })) => {
+            Reply::of(alloc, &check(store, alloc, book, id, &groups, now))
+        }
         Ok(
             Some(
                 Command::CheckField {
@@ -115,7 +118,10 @@ fn answer<'a, R: RuleSet, S: Alter>(
                     groups,
                 },
             ),
-        ) => check_field(store, alloc, book, id, object, field, &groups, now),
+        ) => Reply::of(
+            alloc,
+            &check_field(store, alloc, book, id, object, field, &groups, now),
+        ),
         Ok(
             Some(
                 Command::CheckValue {
@@ -125,30 +131,16 @@ fn answer<'a, R: RuleSet, S: Alter>(
                     groups,
                 },
             ),
-        ) => check_value(alloc, book, type_name, field, value, &groups, now),
+        ) => Reply::of(
+            alloc,
+            &check_value(alloc, book, type_name, field, value, &groups, now),
+        ),
         Ok(Some(Command::List { form, after, limit })) => {
-            list(store, alloc, book.schema(), form, after, limit)
+            Reply::of(
+                alloc,
+                &list(store, alloc, book.schema(), form, after, limit),
+            )
         }
-    }
-}
-
-/// The answer to a line's JSON, a redeclare among what it may ask for.
-fn attend<'a, R: RuleSet + Drop, S: Alter>(
-    store: &mut Store<S>,
-    alloc: Global,
-    rules: &SharedRules<R>,
-    book: &mut Rulebook<SharedRules<R>>,
-    value: &'a Value,
-    now: i64,
-) -> Answer<'a>
-    requires { IsMoment now }
-    ensures { GoesOn (state S.Store) (serving (state S.Store) (R.known rules.now) book.old store.old)
-        (serving (state S.Store) (R.known rules.now) book.new store.new)
-        (λ x y. Attends R.meaning now (asks_json (Some (json_view value.now))) x (answer_view result) y) }
-{
-    match redeclare_of(value) {
-        Some(text) => redeclare(store, alloc, rules, book, text, now),
-        None => answer(store, alloc, book, value, now),
     }
 }
 
@@ -166,8 +158,10 @@ fn reply_to<R: RuleSet + Drop, S: Alter>(
         (serving (state S.Store) (R.known rules.now) book.new store.new)
         (λ x y. Replies R.meaning now (asks_json (Some (json_view value.now))) x result y) }
 {
-    let answer = attend(store, alloc, rules, book, value, now);
-    Reply::of(alloc, &answer)
+    match redeclare_of(value) {
+        Some(text) => Reply::of(alloc, &redeclare(store, alloc, rules, book, text, now)),
+        None => reply(store, alloc, book, value, now),
+    }
 }
 
 /// The reply to a line that isn't over the limit: one step of the service. The declarations in force

@@ -29,13 +29,13 @@ use serde_json::Value;
 use std::alloc::Global;
 
 /// What a command that leaves these records is told: their violations, or that it is done.
-fn judged<'a, R: RuleSet>(
+fn judged<R: RuleSet>(
     alloc: Global,
     book: &Rulebook<R>,
-    pending: &Pending<'_>,
+    pending: &Pending,
     done: Done,
     now: i64,
-) -> Answer<'a>
+) -> Answer
     requires moment { IsMoment now }
     requires typed { AreTyped book.now.types (pending_view pending.now) }
     ensures { JudgesWay R.meaning book.now now (pending_view pending.now) done (answer_view result) }
@@ -51,13 +51,13 @@ fn judged<'a, R: RuleSet>(
 }
 
 /// Makes parts in order where there is no record, and judges what they leave: refused as `change` is.
-fn judge_parts<'a, R: RuleSet>(
+fn judge_parts<R: RuleSet>(
     alloc: Global,
     book: &Rulebook<R>,
-    parts: &[Part<'a>],
+    parts: &[Part],
     done: Done,
     now: i64,
-) -> Answer<'a>
+) -> Answer
     requires { IsMoment now }
     ensures { ChangesBare R.meaning book.now now (map part_view parts.now) done (answer_view result) }
 {
@@ -75,12 +75,7 @@ fn judge_parts<'a, R: RuleSet>(
 }
 
 /// Judges a part by itself.
-fn judge_alone<'a, R: RuleSet>(
-    alloc: Global,
-    book: &Rulebook<R>,
-    part: Part<'a>,
-    now: i64,
-) -> Answer<'a>
+fn judge_alone<R: RuleSet>(alloc: Global, book: &Rulebook<R>, part: Part, now: i64) -> Answer
     requires { IsMoment now }
     ensures { ServesBare R.meaning book.now now (alone (part_view part.entry)) (answer_view result) }
 {
@@ -89,7 +84,7 @@ fn judge_alone<'a, R: RuleSet>(
 }
 
 /// Lists the ids of a form, of which there is none.
-fn list_none<'a>(alloc: Global, schema: &Schema, form: &str) -> Answer<'a>
+fn list_none(alloc: Global, schema: &Schema, form: &str) -> Answer
     ensures { (means : Meanings) (now : _) (after : _) (limit : _)
         → ServesBare means schema.now now (list form.now after limit) (answer_view result) }
 {
@@ -102,12 +97,7 @@ fn list_none<'a>(alloc: Global, schema: &Schema, form: &str) -> Answer<'a>
 }
 
 /// The answer to a line's JSON.
-fn answer<'a, R: RuleSet>(
-    alloc: Global,
-    book: &Rulebook<R>,
-    value: &'a Value,
-    now: i64,
-) -> Answer<'a>
+fn answer<R: RuleSet>(alloc: Global, book: &Rulebook<R>, value: &Value, now: i64) -> Answer
     requires { IsMoment now }
     ensures { ServesBare R.meaning book.now now (unwrap_or (command_of (json_view value.now)) shape) (answer_view result) }
 {
@@ -134,7 +124,7 @@ fn answer<'a, R: RuleSet>(
 }
 
 /// The answer to declarations: taken, or their first fault. They aren't put in force.
-fn judge_declarations<'a, R: RuleSet>(alloc: Global, rules: &R, text: &str) -> Answer<'a>
+fn judge_declarations<R: RuleSet>(alloc: Global, rules: &R, text: &str) -> Answer
     ensures { (means : Meanings) (ds : _) (now : _)
         → AnswersBare (R.known rules.now) means ds now (redeclare text.now) (answer_view result) }
 {
@@ -148,13 +138,13 @@ fn judge_declarations<'a, R: RuleSet>(alloc: Global, rules: &R, text: &str) -> A
 }
 
 /// The answer to a line's JSON, declarations among what it may ask for.
-fn attend<'a, R: RuleSet>(
+fn attend<R: RuleSet>(
     alloc: Global,
     rules: &SharedRules<R>,
     book: &Rulebook<SharedRules<R>>,
-    value: &'a Value,
+    value: &Value,
     now: i64,
-) -> Answer<'a>
+) -> Answer
     requires { IsMoment now }
     ensures { AnswersBare (R.known rules.now) R.meaning book.now now (asks_json (Some (json_view value.now))) (answer_view result) }
 {

@@ -40,7 +40,7 @@ pub(crate) fn done_by(part: &Part) -> Done
 }
 
 /// How a part that can't be done is told: in a batch with its number.
-fn told_part<'a>(done: Done, part: usize, why: Refusal) -> Answer<'a>
+fn told_part(done: Done, part: usize, why: Refusal) -> Answer
     ensures { answer_view result ≡ told_part done part why }
 {
     match done {
@@ -50,7 +50,7 @@ fn told_part<'a>(done: Done, part: usize, why: Refusal) -> Answer<'a>
 }
 
 /// The refusal of a part, or of all for want of memory.
-pub(crate) fn unmade<'a>(done: Done, part: usize, fault: PartFault) -> Answer<'a>
+pub(crate) fn unmade(done: Done, part: usize, fault: PartFault) -> Answer
     ensures memory { fault ≡ PartFault.Memory → answer_view result ≡ refused Refusal.Memory }
     ensures other { fault ≢ PartFault.Memory → answer_view result ≡ told_part done part (part_refusal fault) }
 {
@@ -98,13 +98,13 @@ fn changes_of(
 }
 
 /// Stores what stands on the way: one object alone, where its name is given.
-fn keep<'a, 'b, S: Alter>(
+fn keep<S: Alter>(
     store: &mut Store<S>,
     alloc: Global,
-    pending: Pending<'b>,
+    pending: Pending,
     object: Option<&str>,
     done: Done,
-) -> Answer<'a>
+) -> Answer
     ensures frame { Frame (state S.Store store.old) (state S.Store store.new) }
     ensures text { store.new.text ≡ store.old.text }
     ensures moves { (ds : Declarations) (bytes : _) (m : _) → AreTyped ds.types (pending_view pending.entry)
@@ -123,15 +123,15 @@ fn keep<'a, 'b, S: Alter>(
 
 /// Judges what stands on the way, and stores it where nothing of it has a violation: one object alone,
 /// where its name is given.
-fn settle<'a, R: RuleSet, S: Alter>(
+fn settle<R: RuleSet, S: Alter>(
     store: &mut Store<S>,
     alloc: Global,
     book: &Rulebook<R>,
-    pending: Pending<'a>,
+    pending: Pending,
     object: Option<&str>,
     done: Done,
     now: i64,
-) -> Answer<'a>
+) -> Answer
     requires moment { IsMoment now }
     requires typed { AreTyped book.now.types (pending_view pending) }
     ensures frame { Frame (state S.Store store.old) (state S.Store store.new) }
@@ -154,14 +154,14 @@ fn settle<'a, R: RuleSet, S: Alter>(
 /// Makes parts in order and stores what they leave, all of it or nothing: refused for a put whose
 /// bundle isn't of a bundle's form, then by the first part that can't be done, then where one of the
 /// records that were put or set has more than 4,096 visits, then by the violations of all of them.
-pub(crate) fn change<'a, R: RuleSet, S: Alter>(
+pub(crate) fn change<R: RuleSet, S: Alter>(
     store: &mut Store<S>,
     alloc: Global,
     book: &Rulebook<R>,
-    parts: &[Part<'a>],
+    parts: &[Part],
     done: Done,
     now: i64,
-) -> Answer<'a>
+) -> Answer
     requires { IsMoment now }
     ensures text { store.new.text ≡ store.old.text }
     ensures becomes { Becomes (state S.Store) (over (state S.Store) book.now store.old)

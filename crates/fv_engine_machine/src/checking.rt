@@ -46,13 +46,13 @@ pub(crate) fn groups_named(
 
 /// The violations of a bundle for groups by their names. Refused for a name that is no group's, then
 /// for too many visits.
-fn checked<'a, R: RuleSet>(
+fn checked<R: RuleSet>(
     alloc: Global,
     book: &Rulebook<R>,
     bundle: &Bundle,
     names: &[&str],
     now: i64,
-) -> Answer<'a>
+) -> Answer
     requires moment { IsMoment now }
     requires typed { IsWellTyped book.now.types (bundle_view bundle.now) }
     ensures { Checks R.meaning book.now now (bundle_view bundle.now) (map (λ n. n.now) names.now) (answer_view result) }
@@ -69,14 +69,14 @@ fn checked<'a, R: RuleSet>(
 }
 
 /// Checks a record.
-pub(crate) fn check<'a, R: RuleSet, S: Alter>(
+pub(crate) fn check<R: RuleSet, S: Alter>(
     store: &mut Store<S>,
     alloc: Global,
     book: &Rulebook<R>,
-    id: &'a str,
+    id: &str,
     names: &[&str],
     now: i64,
-) -> Answer<'a>
+) -> Answer
     requires { IsMoment now }
     ensures text { store.new.text ≡ store.old.text }
     ensures becomes { Becomes (state S.Store) (over (state S.Store) book.now store.old)

@@ -34,14 +34,14 @@ use std::alloc::Global;
 /// The violations of a field of a bundle's object for groups by their names. Refused for a name that
 /// is no group's, then where there is no such object or its type has no such field, then for too many
 /// visits.
-fn object_checked<'a, R: RuleSet>(
+fn object_checked<R: RuleSet>(
     alloc: Global,
     book: &Rulebook<R>,
     object: Option<&Object>,
     field: &str,
     names: &[&str],
     now: i64,
-) -> Answer<'a>
+) -> Answer
     requires moment { IsMoment now }
     requires typed { IfSome object (λ o. IsOfType book.now.types (object_view o.now)) }
     ensures { ChecksField R.meaning book.now now (option_map (λ o. object_view o.now) object.entry) field.now
@@ -62,16 +62,16 @@ fn object_checked<'a, R: RuleSet>(
 }
 
 /// Checks a field of an object of a record.
-pub(crate) fn check_field<'a, R: RuleSet, S: Alter>(
+pub(crate) fn check_field<R: RuleSet, S: Alter>(
     store: &mut Store<S>,
     alloc: Global,
     book: &Rulebook<R>,
-    id: &'a str,
+    id: &str,
     object: &str,
     field: &str,
     names: &[&str],
     now: i64,
-) -> Answer<'a>
+) -> Answer
     requires { IsMoment now }
     ensures text { store.new.text ≡ store.old.text }
     ensures becomes { Becomes (state S.Store) (over (state S.Store) book.now store.old)
@@ -114,7 +114,7 @@ fn value_in(
 
 /// The violations that a datum would have in the field of that name in the type of that name, for
 /// groups by their names. Refused as `object_checked`: no datum stands for no such field.
-fn datum_checked<'a, R: RuleSet>(
+fn datum_checked<R: RuleSet>(
     alloc: Global,
     book: &Rulebook<R>,
     type_name: &str,
@@ -122,7 +122,7 @@ fn datum_checked<'a, R: RuleSet>(
     datum: Option<&Datum>,
     names: &[&str],
     now: i64,
-) -> Answer<'a>
+) -> Answer
     requires moment { IsMoment now }
     requires fits { IfSome datum (λ d. IsValueOf book.now.types type_name.now field.now (view d.now)) }
     ensures { ChecksField R.meaning book.now now (valued_by book.now.types type_name.now field.now (option_map (λ d. view d.now) datum.entry))
@@ -143,7 +143,7 @@ fn datum_checked<'a, R: RuleSet>(
 }
 
 /// Checks a value that isn't stored. It needs no store.
-pub(crate) fn check_value<'a, R: RuleSet>(
+pub(crate) fn check_value<R: RuleSet>(
     alloc: Global,
     book: &Rulebook<R>,
     type_name: &str,
@@ -151,7 +151,7 @@ pub(crate) fn check_value<'a, R: RuleSet>(
     value: &Value,
     names: &[&str],
     now: i64,
-) -> Answer<'a>
+) -> Answer
     requires { IsMoment now }
     ensures { (x : Machine Records) → x.declared ≡ book.now
         → Handles R.meaning now (check_value type_name.now field.now (json_view value.now) (map (λ n. n.now) names.now)) x (answer_view result) x }

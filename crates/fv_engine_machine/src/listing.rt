@@ -15,14 +15,14 @@ use sqlite::Alter;
 use std::alloc::Global;
 
 /// Lists the ids of a form above one, so many at most.
-pub(crate) fn list<'a, S: Alter>(
+pub(crate) fn list<S: Alter>(
     store: &mut Store<S>,
     alloc: Global,
     schema: &Schema,
     form: &str,
     after: Option<&str>,
     limit: u32,
-) -> Answer<'a>
+) -> Answer
     ensures text { store.new.text ≡ store.old.text }
     ensures becomes { (means : Meanings) (now : _) → Becomes (state S.Store) (over (state S.Store) schema.now store.old)
         (over (state S.Store) schema.now store.new)

@@ -41,7 +41,7 @@ pub fn read_rulebook<R: RuleSet + Drop>(
 }
 
 /// The answer to declarations that aren't taken.
-pub(crate) fn misdeclared<'a>(fault: DeclFault) -> Answer<'a>
+pub(crate) fn misdeclared(fault: DeclFault) -> Answer
     ensures memory { fault ≡ DeclFault.Memory → answer_view result ≡ refused Refusal.Memory }
     ensures other { fault ≢ DeclFault.Memory → answer_view result ≡ misdeclared fault }
 {
@@ -63,7 +63,7 @@ fn misfit(fault: PartFault) -> Misfit
 
 /// The answer where a pass over all records found one that can't be read again or that has too many
 /// visits, or failed.
-fn unjudged<'a>(fault: RejudgeFault) -> Answer<'a>
+fn unjudged(fault: RejudgeFault) -> Answer
     ensures { answer_view result ≡ told_pass fault }
 {
     match fault {
@@ -78,7 +78,7 @@ fn unjudged<'a>(fault: RejudgeFault) -> Answer<'a>
 }
 
 /// No type has another in it deeper than is written back.
-fn are_shallow(_types: &Types)
+pub(crate) fn are_shallow(_types: &Types)
     ensures { has_deep (types_view _types.now) ≡ false }
 {}
 
@@ -89,13 +89,13 @@ fn are_apart(_types: &Types)
 
 /// Judges all stored records, read again under the declarations of a rulebook, and writes the text of
 /// these declarations in place of those in force, where no record has a violation.
-fn put_in_force<'a, R: RuleSet, S: Alter>(
+fn put_in_force<R: RuleSet, S: Alter>(
     store: &mut Store<S>,
     alloc: Global,
     next: &Rulebook<R>,
     text: &str,
     now: i64,
-) -> Result<(), Answer<'a>>
+) -> Result<(), Answer>
     requires { IsMoment now }
     ensures { (known : _) (ds : Declarations) → has_deep ds.types ≡ false → Declares known text.now (Ok next.now)
         → MatchResult result
@@ -123,14 +123,14 @@ fn put_in_force<'a, R: RuleSet, S: Alter>(
 /// Declarations are judged with all stored records, read again under them, and put in force: refused
 /// by their first fault, then by the first record by id that can't be read again, then where one has
 /// more than 4,096 visits for the groups of its form, then by the violations of all of them.
-pub(crate) fn redeclare<'a, R: RuleSet + Drop, S: Alter>(
+pub(crate) fn redeclare<R: RuleSet + Drop, S: Alter>(
     store: &mut Store<S>,
     alloc: Global,
     rules: &SharedRules<R>,
     book: &mut Rulebook<SharedRules<R>>,
     text: &str,
     now: i64,
-) -> Answer<'a>
+) -> Answer
     requires { IsMoment now }
     ensures { GoesOn (stock_state S.Store) (serving (stock_state S.Store) (R.known rules.now) book.old store.old)
         (serving (stock_state S.Store) (R.known rules.now) book.new store.new)

@@ -1,5 +1,6 @@
 pub mod Apart
 pub mod Ends
 pub mod NoFloats
+pub mod OneLine
 pub mod Shown
 pub mod Told

@@ -1,15 +1,13 @@
--- The answer that an answer of the code is.
+-- The answer that an answer of the code is. A record that is shown is none of the code's: its reply is made from text at once.
 use Rattle.std.specs.Prelude.{map, string_bytes}
-use Rattle.fv_bundle.specs.Views.{bundle_view}
 use Rattle.fv_validate.specs.ViolationView.{judged_view, violation_view}
 use Rattle.fv_engine_reply.specs.Answers as spec
 use Rattle.fv_engine_reply.specs.declared.answer.Answer.{Answer}
-use Rattle.fv_engine_reply.specs.declared.answer.Answer.TheVariants.{Done, Shown, Violated, Checked, FieldChecked, ValueChecked, Ids, Refused, PartRefused, Redeclared, Misdeclared, Unfit}
+use Rattle.fv_engine_reply.specs.declared.answer.Answer.TheVariants.{Done, Violated, Checked, FieldChecked, ValueChecked, Ids, Refused, PartRefused, Redeclared, Misdeclared, Unfit}
 
 -- the answer that it is
 abbrev pub answer_view : Answer → spec.Answer
 answer_view (Done what) = spec.done what
-answer_view (Shown id form bundle) = spec.shown id.now (string_bytes form) (bundle_view bundle)
 answer_view (Violated records) = spec.violated (map judged_view records.items)
 answer_view (Checked violations) = spec.checked (map violation_view violations.items)
 answer_view (FieldChecked violations) = spec.field_checked (map violation_view violations.items)

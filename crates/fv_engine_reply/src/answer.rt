@@ -1,7 +1,6 @@
 ghost use Rattle.std.specs.Prelude.{◌≡◌};
 ghost use Rattle.fv_engine_reply.specs.Texts.{misfit_code, refusal_told};
 
-use fv_bundle::Bundle;
 use fv_declare_judging::DeclFault;
 use fv_model::BundleFault;
 use fv_validate::{Judged, Violation};
@@ -17,52 +16,30 @@ pub enum Done {
 
 /// What a command is answered.
 #[derive(Drop)]
-pub enum Answer<'a> {
+pub enum Answer {
     /// A command that changes records was taken.
     Done(Done),
-    /// The record of an id.
-    Shown {
-        id: &'a str,
-        form: String,
-        bundle: Bundle,
-    },
     /// A command that changes records, or declarations over them, was refused, with all violations of
     /// the records that have some.
-    Violated {
-        records: Vec<Judged>,
-    },
+    Violated { records: Vec<Judged> },
     /// All violations of a record that was checked.
-    Checked {
-        violations: Vec<Violation>,
-    },
+    Checked { violations: Vec<Violation> },
     /// Those of a field of a stored object.
-    FieldChecked {
-        violations: Vec<Violation>,
-    },
+    FieldChecked { violations: Vec<Violation> },
     /// Those of a value that isn't stored.
-    ValueChecked {
-        violations: Vec<Violation>,
-    },
+    ValueChecked { violations: Vec<Violation> },
     /// Ids of a form.
-    Ids {
-        ids: Vec<String>,
-    },
+    Ids { ids: Vec<String> },
     /// Another refusal.
     Refused(Refusal),
     /// The same for a part of a batch, by its number from 0.
-    PartRefused {
-        part: usize,
-        why: Refusal,
-    },
+    PartRefused { part: usize, why: Refusal },
     /// Declarations were changed.
     Redeclared,
     /// C13: declarations aren't taken, by their first fault.
     Misdeclared(DeclFault),
     /// C14: a stored record doesn't fit other declarations, the first by its id.
-    Unfit {
-        id: String,
-        why: Misfit,
-    },
+    Unfit { id: String, why: Misfit },
 }
 
 /// Why a stored record doesn't fit other declarations.

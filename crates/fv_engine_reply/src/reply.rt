@@ -1,13 +1,18 @@
-ghost use Rattle.std.specs.Prelude.{◌≡◌, IfOk, MatchResult, string_bytes};
+ghost use Rattle.std.specs.Prelude.{◌≡◌, Some, IfOk, MatchResult, string_bytes};
+ghost use Rattle.serde_json.specs.Read.{read};
+ghost use Rattle.serde_json.specs.Written.{compact_text};
+ghost use Rattle.fv_bundle.specs.Bundles.{Bundled};
+ghost use Rattle.fv_model.specs.Writing.{bundle_json};
 ghost use Rattle.fv_engine_lines.specs.Lines.{ended};
-ghost use Rattle.fv_engine_reply.specs.Answers.{done, redeclared, refused};
+ghost use Rattle.fv_engine_reply.specs.Answers.{done, redeclared, refused, shown};
 ghost use Rattle.fv_engine_reply.specs.AnswerView.{answer_view};
 ghost use Rattle.fv_engine_reply.specs.Content.{front, content_line};
 ghost use Rattle.fv_engine_reply.specs.Texts.{answer_text, Tells};
 
 use crate::answer::{Answer, Done, Refusal};
 use crate::texts::{
-    bundle_refused, ids_listed, listing, misdeclared, part_refused, record_shown, unfit, violated,
+    bundle_refused, ids_listed, is_json_line, listing, misdeclared, part_refused, record_shown,
+    unfit, violated,
 };
 use fv_engine_lines::Text;
 use std::alloc::{AllocError, Global};
@@ -107,9 +112,6 @@ impl Reply {
     {
         match answer {
             Answer::Done(what) => Reply::done(*what),
-            Answer::Shown { id, form, bundle } => {
-                Reply::or_memory(record_shown(alloc, id, form.as_str(), bundle))
-            }
             Answer::Violated { records } => Reply::or_memory(violated(alloc, records)),
             Answer::Checked { violations } => {
                 Reply::or_memory(listing(alloc, "check", violations))
@@ -128,6 +130,21 @@ impl Reply {
             Answer::Redeclared => Reply::redeclared(),
             Answer::Misdeclared(fault) => Reply::or_memory(misdeclared(alloc, *fault)),
             Answer::Unfit { id, why } => Reply::or_memory(unfit(alloc, id.as_str(), *why)),
+        }
+    }
+
+    /// The reply that shows the record of an id, by its form and its bundle's JSON with no space. Where
+    /// that is no JSON in one line, as no record's is, the reply is that the store couldn't do it; and the
+    /// refusal for want of memory where an allocation was refused.
+    #[tactic(auto, unfolding(json::specs::Print::escape_byte))]
+    pub fn shown(alloc: Global, id: &str, form: &str, bundle: &str) -> Reply
+        ensures { (b : Bundled) → bundle.now ≡ compact_text (bundle_json b) → read bundle.now ≡ Some (bundle_json b)
+            → Tells result (shown id.now form.now b) }
+    {
+        match is_json_line(alloc, bundle) {
+            Ok(true) => Reply::or_memory(record_shown(alloc, id, form, bundle)),
+            Ok(false) => Reply::fixed(STORE),
+            Err(_) => Reply::fixed(MEMORY),
         }
     }
 

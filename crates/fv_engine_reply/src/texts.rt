@@ -1,22 +1,25 @@
 //! The replies whose texts are made.
-ghost use Rattle.std.specs.Prelude.{◌≡◌, false, None, Some, IfOk, map, string_bytes, codes};
+ghost use Rattle.std.specs.Prelude.{◌≡◌, ◌↔◌, false, None, Some, IfOk, IsSome, IsTrue, map, string_bytes, codes};
+ghost use Rattle.fv_engine_lines.specs.Lines.{IsOpen};
 ghost use Rattle.fv_datum.specs.View.{view};
-ghost use Rattle.fv_bundle.specs.Views.{bundle_view};
+ghost use Rattle.fv_bundle.specs.Bundles.{Bundled};
 ghost use Rattle.fv_bundle.specs.Writing.{datum_json};
+ghost use Rattle.fv_model.specs.Writing.{bundle_json};
 ghost use Rattle.fv_engine_reply.specs.Answers.{violated, shown, ids as ids_told, misdeclared, unfit};
 ghost use Rattle.fv_engine_reply.specs.Texts.{violation_json, judged_json, listing_json, refused_json, answer_json, answer_text};
 ghost use Rattle.fv_validate.specs.ViolationView.{judged_view, violation_view};
+ghost use Rattle.json.specs.Json.{document};
 ghost use Rattle.serde_json.specs.Data as json;
 ghost use Rattle.serde_json.specs.View.{items_of, view as json_view};
 ghost use Rattle.serde_json.specs.Written.{compact_text, has_float};
 
 use crate::answer::{Misfit, Refusal};
 use crate::reply::Reply;
-use fv_bundle::Bundle;
 use fv_datum::{DatumFault, write_datum};
 use fv_declare_judging::DeclFault;
-use fv_model::{BundleFault, quoted, write_text};
+use fv_model::{BundleFault, quoted};
 use fv_validate::{Judged, Violation};
+use json::{Scratch, is_valid};
 use serde_json::{Value, json, push};
 use std::alloc::{AllocError, Global};
 
@@ -222,16 +225,28 @@ pub(crate) fn unfit(alloc: Global, id: &str, why: Misfit) -> Result<Reply, Alloc
     text_of(alloc, &value)
 }
 
+/// Whether a text is JSON in one line.
+pub(crate) fn is_json_line(alloc: Global, text: &str) -> Result<bool, AllocError>
+    ensures { IfOk result (λ b. IsTrue b ↔ (IsSome (document text.now) × IsOpen text.now)) }
+{
+    if text.as_bytes().contains(&b'\n') {
+        Ok(false)
+    } else {
+        let mut scratch = Scratch::new(alloc);
+        is_valid(text, &mut scratch)
+    }
+}
+
 /// `{"bundle":..,"form":..,"id":..,"ok":"get"}`.
 pub(crate) fn record_shown(
     alloc: Global,
     id: &str,
     form: &str,
-    bundle: &Bundle,
+    bundle: &str,
 ) -> Result<Reply, AllocError>
-    ensures { IfOk result (λ r. r ≡ answer_text (shown id.now form.now (bundle_view bundle.now))) }
+    ensures { IfOk result (λ r. (b : Bundled) → bundle.now ≡ compact_text (bundle_json b)
+        → r ≡ answer_text (shown id.now form.now b)) }
 {
-    let bundle = write_text(alloc, bundle)?;
     let form = quoted(alloc, form)?;
     let id = quoted(alloc, id)?;
     let text = format!(in alloc;

@@ -30,11 +30,6 @@ unfolding same_name joined
 works_are olds true is = rw is refl
 works_are olds false is = rw is refl
 
--- no table refers to `object`
-pub works_none : (depth : ℕ) (olds : List Row) → works store_schema Enforced depth 3 olds [] ≡ []
-unfolding same_name joined
-works_none depth olds = refl
-
 -- where nothing is left to do, the trees are the last
 settled : (n : ℕ) (db final : Trees) → Leads store_schema Enforced n db [] (Ok final) → db ≡ final
 settled zero db final h = let e = h.1 in cc

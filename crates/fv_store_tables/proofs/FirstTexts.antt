@@ -1,6 +1,5 @@
 -- What the texts mean on the tables of version 1, and what the one that reads `about` means on either.
 use Rattle.std.proofs.Common.{◌≡◌, ℕ, pos, List, [], ◌∷◌, codes, true, false, refl, lit≤}
-use Rattle.sqlite.specs.Change.{without_table}
 use Rattle.sqlite.specs.Term.{Term, lit, col}
 use Rattle.sqlite.specs.Schema.{Schema}
 use Rattle.sqlite.specs.Query.{Query}
@@ -10,7 +9,7 @@ use Rattle.sqlite_typing.specs.Types.{accepts_program}
 use Rattle.sqlite_tied.specs.Compute.{everything}
 use Rattle.sqlite.specs.Listing.{understood, reads_listing}
 use Rattle.sqlite.proofs.Callers.{IsPlain, command_of}
-use Rattle.fv_store_tables.specs.Tables.{bare_schema, store_schema}
+use Rattle.fv_store_tables.specs.Tables.{store_schema}
 use Rattle.fv_store_tables.specs.FirstTables.{old_schema}
 use Rattle.fv_store_tables.proofs.Texts.{IsWhole, RenewMeans, one_table}
 
@@ -86,7 +85,3 @@ version_text = codes "UPDATE about SET version = 2"
 pub version_means : RenewMeans version_text version_terms []
 unfolding understood everything
 version_means = record { is = refl; plain = (refl, refl); whole = (lit≤ tt, refl); accepted = refl }
-
--- after the DROP the schema is that of a database with `about` alone
-pub dropped_is : without_table old_schema 1 ≡ bare_schema
-dropped_is = refl

@@ -1,6 +1,5 @@
 -- The head of a record is looked up inside a transaction, and written anew where it differs.
-use Rattle.std.proofs.Common.{◌≡◌, ◌+◌, ◌⊎◌, inl, inr, ℕ, List, [], ◌∷◌, true, false, bytes_eq, Some, None, IsSome, Ok, Err, Result, IfOk, IfErr, OnOk, IsTrue, Vec, Option, codes, option_map, refl, sym, ap, subst, ◌∙◌, arith}
-use Rattle.std.proofs.lemmas.Bool.{cases_Bool}
+use Rattle.std.proofs.Common.{◌≡◌, ◌+◌, inl, inr, ℕ, List, [], ◌∷◌, Some, None, IsSome, Ok, Err, Result, IfOk, IfErr, OnOk, IsTrue, Vec, Option, codes, option_map, refl, sym, ap, subst, ◌∙◌, arith}
 use Rattle.std.proofs.lemmas.Slice.Eq.{bytes_eq-Decides}
 use Rattle.std.specs.declared.alloc.Global.{Global}
 use Rattle.sqlite.specs.declared.types.Value.TheVariants.{Text}
@@ -47,23 +46,7 @@ head_read old id rows v o same shown reads d t spelled = reads (t.heads id) (sub
 
 -- ---- the head
 
-put_same : (id : List ℕ) (h : Head) (t : Maps) → t.heads id ≡ Some h → put id h t ≡ t
-put_same id h t has = both (put id h t) t (λ i other. go other (cases_Bool (bytes_eq other id)) i) (λ at. refl)
-  where
-    go : (other : List ℕ) → (bytes_eq other id ≡ true) ⊎ (bytes_eq other id ≡ false) → (put id h t).heads other ≡ t.heads other
-    go other (inl same) = rw same (sym (ap t.heads ((bytes_eq-Decides other id).0 same) ∙ has))
-    go other (inr apart) = rw apart refl
-
--- a head that is the same stays
-pub head_stays : (s : State) (id : List ℕ) (h v : Head) → v ≡ h → IsTrue s.in_transaction → Advances s s (Makes 0 (HasHead id v) (put id h))
-head_stays s id h v is inside = record {
-  was_open = λ live. live;
-  mode = inside;
-  committed = refl;
-  change = λ d t spelled has. (subst (SpellsTables s.now d) (sym (put_same id h t (has ∙ ap Some is))) spelled, λ n room. fewer_rooms n (n + 0) s.now (omega arith) room);
-}
-
--- and another is written
+-- another head is written
 pub head_written : (old new : State) (id : List ℕ) (h v : Head) (r : Result ℕ Error) → IfOk r (λ count. Advances old new (UpdatesHead id h count)) → OnOk r (Advances old new (Makes 0 (HasHead id v) (put id h)))
 head_written old new id h v (Err e) updated = tt
 head_written old new id h v (Ok count) updated = record {

@@ -1,5 +1,5 @@
 -- What the queries show, and what they leave.
-use Rattle.std.proofs.Common.{◌≡◌, inl, inr, true, false, length, ℕ, List, [], ◌∷◌, map, Option, Some, None, Ok, Err, Result, IfOk, IfErr, OnOk, IsTrue, IsUtf8, ◌⊎◌, Vec, slice_get, codes, refl, sym, ap, subst, ◌∙◌, arith}
+use Rattle.std.proofs.Common.{◌≡◌, ◌<◌, inl, inr, true, false, length, ℕ, List, [], ◌∷◌, map, Option, Some, None, Ok, Err, Result, IfOk, IfErr, OnOk, IsTrue, IsUtf8, ◌⊎◌, Vec, slice_get, codes, refl, sym, ap, subst, ◌∙◌, arith}
 use Rattle.std.specs.List.{AllByRecursion}
 use Rattle.std.proofs.lemmas.Slice.Eq.{bytes_eq-Decides}
 use Rattle.sqlite.specs.Effect.{Database, RefusesToRead}
@@ -23,11 +23,12 @@ use Rattle.sqlite_rules.specs.Lists.{Has}
 use Rattle.fv_store_tables.specs.Tables.{store_schema}
 use Rattle.fv_store_tables.specs.Rows.{HasRows}
 use Rattle.fv_store_tables.specs.Changes.{AllTexts, IsNamed}
+use Rattle.fv_store_tables.specs.Stored.{front_two}
 use Rattle.fv_store_tables.specs.Stands.{Head, ObjectTexts, ObjectKey, Maps, Entry, TableEntries, Frame, IsSettled, SpellsTables, TablesStand, tables_of, Stays, Keeps, head_row, part_row, IsTextHead, IsTextOfHead, IsTextObject, IsTextPart, head_of, object_texts, shown_head, shown_part, ShowsHead}
 use Rattle.std.proofs.lemmas.Bool.{cases_Bool}
 use Rattle.sqlite_typing.specs.Types.{accepts_program}
 use Rattle.sqlite_tied.specs.Compute.{everything}
-use Rattle.fv_store_tables.specs.Causes.{IsExcused, IsRefusal}
+use Rattle.fv_store_tables.specs.Causes.{IsExcused}
 use Rattle.fv_store_tables.proofs.Refusals.{no_sum, never_steps, query_cause}
 use Rattle.fv_store_tables.proofs.Texts.{find_text, find_query, find_is, find_plain, find_whole, find_unlisted, parts_text, parts_query, parts_is, parts_plain, parts_whole, parts_unlisted, by_first}
 use Rattle.fv_store_tables.proofs.Layouts.{heads, parts}
@@ -203,6 +204,13 @@ pub some_first : (rows : List Row) (o : Option Head) (row : Row) → Some row �
 some_first [] o row some h = absurd cc
 some_first (r ∷ rows) o row some h = let same : row ≡ r = cc in (h.0, h.1, same ∙ h.2, h.3)
 
+abbrev head_in : Row → Head
+head_in row = record { form = bytes (column row 0); root = bytes (column row 1) }
+
+-- the head that is read of a row is the one that it shows
+pub same_head : (row : Row) (read h : Head) → front_two row ≡ shown_head read → row ≡ shown_head h → read ≡ h
+same_head row read h seen is = sym (ap head_in seen) ∙ ap head_in is
+
 -- the head is that of a record
 pub head_known : (o : Option Entry) (h : Head) → Some h ≡ head_of o → (k : Entry) × (o ≡ Some k) × (h.form ≡ k.form) × (h.root ≡ k.root)
 head_known None h is = absurd cc
@@ -216,6 +224,11 @@ head_known (Some k) h is =
 pub head_none : (o : Option Entry) → None ≡ head_of o → None ≡ o
 head_none None is = refl
 head_none (Some k) is = absurd cc
+
+-- and with it there is a record
+pub some_shown : (rows : List Row) (o : Option Entry) → 0 < length rows → ShowsHead rows (head_of o) → o ≡ None → ⊥
+some_shown [] o more shows none = omega (arith, more)
+some_shown (row ∷ rows) o more shows none = let wrong : head_of None ≡ Some shows.0 = subst (λ e. head_of e ≡ Some shows.0) none shows.1 in cc
 
 pub none_shown : (rows : List Row) (o : Option Entry) (k : Entry) → length rows ≡ 0 → ShowsHead rows (head_of o) → o ≡ Some k → ⊥
 none_shown [] o k empty none has = let wrong : head_of (Some k) ≡ None = subst (λ e. head_of e ≡ None) has none in cc

@@ -1,5 +1,5 @@
 -- A record as it is handed out.
-use Rattle.std.specs.Prelude.{◌≡◌, ℕ, List, [], ◌∷◌, Option, Some, map}
+use Rattle.std.specs.Prelude.{◌≡◌, ℕ, List, [], ◌∷◌, Option, Some, None, map}
 use Rattle.std.specs.List.{AllByRecursion}
 use Rattle.sqlite.specs.Order.{Row, column}
 use Rattle.fv_store_tables.specs.declared.entry.RecordRows.{RecordRows}
@@ -25,12 +25,17 @@ things_view os = map row_view os
 abbrev pub rows_view : RecordRows → Entry
 rows_view s = record { form = s.form.now; root = s.root.now; objects = things_view s.objects.items }
 
--- these rows were found of a record, or of none
+-- these rows were found of a record, and there are none where there is no record
 abbrev pub ShowsRecord : FoundRecord → Option Entry → Type 0
 ShowsRecord f o = ShowsHead f.head.items (head_of o)
     × ((k : Entry) → o ≡ Some k → (f.objects.items ≡ map shown_part k.objects) × AllByRecursion IsTextObject k.objects)
+    × (o ≡ None → f.objects.items ≡ [])
 
--- the first three columns
+-- the first two columns
+abbrev pub front_two : Row → Row
+front_two row = column row 0 ∷ column row 1 ∷ []
+
+-- the first three
 abbrev pub front : Row → Row
 front row = column row 0 ∷ column row 1 ∷ column row 2 ∷ []
 

@@ -1,12 +1,12 @@
 //! What the rows of a record keep, as it is written and handed out.
-ghost use Rattle.std.specs.Prelude.{◌≡◌, ◌<◌, ℕ, IfErr, IfOk, IsUtf8, length, map, option_map, List, Option};
+ghost use Rattle.std.specs.Prelude.{◌≡◌, ◌≢◌, ◌<◌, ℕ, IfErr, IfOk, OnErr, IsUtf8, length, map, option_map, List, Option};
 ghost use Rattle.std.specs.List.{AllByRecursion};
 ghost use Rattle.sqlite.specs.Order.{column};
 ghost use Rattle.sqlite.specs.declared.types.Value.TheVariants.{Text as Words};
 ghost use Rattle.fv_store_tables.specs.Causes.{IsRefusal};
 ghost use Rattle.fv_store_tables.specs.Changes.{NamedTexts, AllTexts, found_view};
 ghost use Rattle.fv_store_tables.specs.Stands.{Entry, Head, NumberedThing, ShowsHead, shown_head, shown_part, shown_row, IsTextOfHead, IsTextObject, IsTextRow};
-ghost use Rattle.fv_store_tables.specs.Stored.{head_view, front, front_four, row_view, things_view};
+ghost use Rattle.fv_store_tables.specs.Stored.{head_view, front, front_two, front_four, row_view, things_view};
 
 use sqlite::types::{Type, ValueRef};
 use sqlite::{Error, Row};
@@ -74,7 +74,8 @@ impl FoundRecord {
 /// Reads a column that shows text, which stays in the row.
 fn bytes_at(row: &Row, at: usize) -> Result<&[u8], Error>
     ensures shown { IfOk result (λ t. column row.now at ≡ Words t.now) }
-    ensures cause { IfErr result (λ e. (t : List ℕ) → at < length row.now → column row.now at ≡ Words t → ¬ IsRefusal e) }
+    ensures memory { IfErr result IsRefusal }
+    ensures cause { OnErr result ((t : List ℕ) → at < length row.now → column row.now at ≢ Words t) }
 {
     match row.get_ref(at)? {
         ValueRef::Text(text) => Ok(text),
@@ -85,7 +86,8 @@ fn bytes_at(row: &Row, at: usize) -> Result<&[u8], Error>
 /// The same as a `&str`.
 fn text_at(row: &Row, at: usize) -> Result<&str, Error>
     ensures shown { IfOk result (λ t. column row.now at ≡ Words t.now) }
-    ensures cause { IfErr result (λ e. (t : List ℕ) → at < length row.now → column row.now at ≡ Words t → IsUtf8 t → ¬ IsRefusal e) }
+    ensures memory { IfErr result IsRefusal }
+    ensures cause { OnErr result ((t : List ℕ) → at < length row.now → column row.now at ≡ Words t → ¬ IsUtf8 t) }
 {
     match str::from_utf8(bytes_at(row, at)?) {
         Ok(text) => Ok(text),
@@ -95,8 +97,9 @@ fn text_at(row: &Row, at: usize) -> Result<&str, Error>
 
 /// Reads the row that shows a record.
 fn read_head(row: &Row) -> Result<HeadRow<'_>, Error>
-    ensures shown { IfOk result (λ s. (h : Head) → row.now ≡ shown_head h → head_view s ≡ h) }
-    ensures cause { IfErr result (λ e. (h : Head) → row.now ≡ shown_head h → IsTextOfHead h → ¬ IsRefusal e) }
+    ensures shown { IfOk result (λ h. front_two row.now ≡ shown_head (head_view h)) }
+    ensures memory { IfErr result IsRefusal }
+    ensures cause { OnErr result ((h : Head) → row.now ≡ shown_head h → ¬ IsTextOfHead h) }
 {
     Ok(HeadRow {
         form: text_at(row, 0)?,
@@ -107,7 +110,8 @@ fn read_head(row: &Row) -> Result<HeadRow<'_>, Error>
 /// What the first of these rows shows of a record, if there is one.
 pub(crate) fn head_in(rows: &[Row]) -> Result<Option<HeadRow<'_>>, Error>
     ensures shown { IfOk result (λ s. (o : Option Head) → ShowsHead rows.now o → option_map head_view s ≡ o) }
-    ensures cause { IfErr result (λ e. (o : Option Head) → ShowsHead rows.now o → ¬ IsRefusal e) }
+    ensures memory { IfErr result IsRefusal }
+    ensures cause { OnErr result ((o : Option Head) → ¬ ShowsHead rows.now o) }
 {
     match rows.first() {
         Some(row) => Ok(Some(read_head(row)?)),
@@ -118,7 +122,8 @@ pub(crate) fn head_in(rows: &[Row]) -> Result<Option<HeadRow<'_>>, Error>
 /// Reads the row that shows an object.
 fn read_object(row: &Row) -> Result<ObjectRow<'_>, Error>
     ensures shown { IfOk result (λ o. front row.now ≡ shown_part (row_view o)) }
-    ensures cause { IfErr result (λ e. (o : NamedTexts) → row.now ≡ shown_part o → IsTextObject o → ¬ IsRefusal e) }
+    ensures memory { IfErr result IsRefusal }
+    ensures cause { OnErr result ((o : NamedTexts) → row.now ≡ shown_part o → ¬ IsTextObject o) }
 {
     Ok(ObjectRow {
         name: text_at(row, 0)?,

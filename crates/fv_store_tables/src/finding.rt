@@ -57,7 +57,7 @@ fn find_objects<S: Alter>(conn: &mut Connection<S>, id: &str) -> Result<Vec<Row>
 }
 
 /// The rows of the record of the id.
-/// Refused by `OutOfMemory`, and else only where the disk failed or the connection was shut before, if the tables stand and the names of objects ascend.
+/// Refused by `OutOfMemory`, and else only where the disk failed or the connection was shut before, if the tables stand.
 pub fn find<S: Alter>(
     conn: &mut Connection<S>,
     alloc: Global,
@@ -70,7 +70,7 @@ pub fn find<S: Alter>(
     ensures found { HasCleanDisk (state S.Store conn.new) → IfOk result (λ f. IsTrue (state S.Store conn.old).is_open
         × ((d : _) (m : _) → Keeps (state S.Store conn.old) d m → AllNamed m → ShowsRecord f (m id.now))) }
     ensures cause { HasCleanDisk (state S.Store conn.new) → conn.old.step_limit ≡ None → IfErr result (λ e.
-        (d : _) (m : _) → Keeps (state S.Store conn.old) d m → AllNamed m
+        (d : _) (m : _) → Keeps (state S.Store conn.old) d m
         → IsExcused (state S.Store conn.old) (state S.Store conn.new) e) }
     ensures same { HasCleanDisk (state S.Store conn.new) → OnOk result ((d : _) (m : _)
         → Keeps (state S.Store conn.old) d m → (state S.Store conn.new).now ≡ (state S.Store conn.old).now) }

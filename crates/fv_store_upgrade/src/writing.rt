@@ -1,4 +1,4 @@
-//! A JSON value is written as it stands, if each number in it is whole.
+//! A JSON value is written as it stands, if no number in it is a float.
 ghost use Rattle.std.specs.Prelude.{◌≡◌, string_bytes};
 ghost use Rattle.std.specs.Option.{ok_or};
 ghost use Rattle.serde_json.specs.View.{view as json_view, items_view, members_view};
@@ -11,7 +11,7 @@ use crate::fault::UpgradeFault;
 use serde_json::{Map, Value};
 use std::alloc::Global;
 
-/// Whether a number in a value isn't whole.
+/// Whether a number in a value is a float: one with a point or an exponent, `-0`, or an integer beyond 64 bits.
 #[cycle(float)]
 fn has_float(value: &Value) -> bool
     ensures { result ≡ has_float (json_view value.now) }
@@ -50,7 +50,7 @@ fn members_have_float(members: &Map<String, Value>) -> bool
     false
 }
 
-/// The text of an object with no space. `Damaged` where the value is none, or a number in it isn't whole; `Memory`
+/// The text of an object with no space. `Damaged` where the value is none, or a number in it is a float; `Memory`
 /// at any place.
 pub(crate) fn fields_text(alloc: Global, value: &Value) -> Result<String, UpgradeFault>
     ensures { Gives UpgradeFault.Memory string_bytes result (ok_or (fields_in (json_view value.now)) Damaged) }

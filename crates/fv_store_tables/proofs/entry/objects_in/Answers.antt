@@ -18,4 +18,4 @@ returns-in_err-read_object-clause-cause c =
     handed_on _ c.from_residual-in_err-read_object.result c.in_err-read_object.field-0.0 c.from_residual-in_err-read_object.ensures.1
     (λ os shows texts refused.
     let it = one_shown shown_part IsTextObject c.args.rows.now os c.loop-row.row-index c.row-item.result c.loop-row-test.true c.row-item.is shows texts in
-    c.in_err-read_object.ensures.cause it.0 it.1 it.2 refused)
+    c.in_err-read_object.ensures.cause it.0 it.1 it.2)

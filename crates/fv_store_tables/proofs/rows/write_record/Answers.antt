@@ -15,7 +15,7 @@ pub returns-in_err-head-clause-cause : goal.returns-in_err-head-clause-cause
 returns-in_err-head-clause-cause g c clean inside none =
     handed_on _ c.from_residual-in_err-head.result c.in_err-head.field-0.0 c.from_residual-in_err-head.ensures.1
     (λ d t spelled ready room one short refused.
-    absurd (c.in_err-head.ensures.cause (t.heads c.args.id.now) (subst (λ rows. ShowsHead rows (t.heads c.args.id.now)) (sym c.deref.ensures.value) (c.in_ok-rows.ensures.shown clean inside d t spelled)) refused))
+    absurd (c.in_err-head.ensures.cause (t.heads c.args.id.now) (subst (λ rows. ShowsHead rows (t.heads c.args.id.now)) (sym c.deref.ensures.value) (c.in_ok-rows.ensures.shown clean inside d t spelled))))
 
 pub returns-in_err-write_head-in-Some-clause-cause : goal.returns-in_err-write_head-in-Some-clause-cause
 returns-in_err-write_head-in-Some-clause-cause g c clean inside none =

@@ -1,5 +1,4 @@
-use Rattle.std.proofs.Common.{◌≡◌, Ok, inl, inr, not, ap, ◌∙◌}
-use Rattle.std.proofs.lemmas.Bool.{cases_Bool}
+use Rattle.std.proofs.Common.{◌≡◌, Ok, not, ap, ◌∙◌}
 use Rattle.sqlite.specs.Held.{state}
 use Rattle.fv_store.specs.Faults.{fault_of}
 use Rattle.fv_store.specs.Stands.{about_rows}
@@ -7,7 +6,6 @@ use Rattle.fv_store.proofs.Openings.{keeps_of, holds_still}
 use Rattle.fv_store.proofs.Holdings.{same_connection, rows_out, is_refusal}
 use Rattle.fv_store.proofs.Refusals.{handed_on}
 use Rattle.fv_store.proofs.Kept.{all_kept}
-use Rattle.fv_store.proofs.Named.{all_named}
 use Rattle.fv_store.proofs.store.Store.rows.Goals as goal
 
 pub returns-clause-found : goal.returns-clause-found
@@ -30,12 +28,8 @@ pub returns-in_err-find-clause-cause : goal.returns-in_err-find-clause-cause
 returns-in_err-find-clause-cause g c clean =
     let same : c.self.inside.connection ≡ c.args.self.now.connection = same_connection c.self.view_is in
     handed_on _ c.from_residual.result (fault_of c.in_err-find.field-0.0) c.from_residual.ensures.1
-    (λ is k holds. elim (cases_Bool (state g.S.Store c.args.self.now.connection).is_open) [
-      | inl live ↦
-          let named = all_named k (holds (rw same at (c.find.ensures.frame.clean clean)) live).0.fit in
-          rw same at (c.in_err-find.ensures.cause clean c.self.invariant.1 (about_rows k.bytes) (all_kept k.records)) (keeps_of (state g.S.Store c.args.self.now.connection) k holds) named (is_refusal c.in_err-find.field-0.0 is)
-      | inr shut ↦ inr shut
-    ])
+    (λ is k holds.
+    rw same at (c.in_err-find.ensures.cause clean c.self.invariant.1 (about_rows k.bytes) (all_kept k.records)) (keeps_of (state g.S.Store c.args.self.now.connection) k holds) (is_refusal c.in_err-find.field-0.0 is))
 
 pub returns-clause-same : goal.returns-clause-same
 returns-clause-same g c clean =

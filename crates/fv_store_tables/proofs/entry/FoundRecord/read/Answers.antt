@@ -8,7 +8,7 @@ use Rattle.fv_store_tables.proofs.entry.FoundRecord.read.Goals as goal
 pub returns-in_err-head-clause-cause : goal.returns-in_err-head-clause-cause
 returns-in_err-head-clause-cause c =
     handed_on _ c.from_residual.result c.in_err-head.field-0.0 c.from_residual.ensures.1
-    (λ o shows. c.in_err-head.ensures.cause (head_of o) (subst (λ rows. ShowsHead rows (head_of o)) (sym c.deref.ensures.value) shows.0))
+    (λ o shows refused. c.in_err-head.ensures.cause (head_of o) (subst (λ rows. ShowsHead rows (head_of o)) (sym c.deref.ensures.value) shows.0))
 
 pub returns-in_err-objects_in-in-Some-clause-cause : goal.returns-in_err-objects_in-in-Some-clause-cause
 returns-in_err-objects_in-in-Some-clause-cause c =
