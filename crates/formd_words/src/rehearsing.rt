@@ -4,6 +4,7 @@ ghost use Rattle.fv_datum.specs.Moments.{IsMoment};
 
 use crate::demonstration::in_memory;
 use crate::failure::Failure;
+use crate::running::Streams;
 use formd_task::{Service, read_file};
 use fv_engine::{Clock, Engine, Reply};
 use fv_engine_lines::{Responder, Text, answer_lines};
@@ -111,9 +112,7 @@ pub(crate) fn rehearse_file<R: RuleSet + Drop, I: Read, W: Write, E: Write, C: C
     rt: &HostRuntime,
     service: Service<'_>,
     registry: R,
-    reader: &mut I,
-    output: &mut W,
-    error: &mut E,
+    streams: &mut Streams<'_, I, W, E>,
     clock: &mut C,
 ) -> Result<(), Failure>
     requires { R.means registry }
@@ -123,12 +122,18 @@ pub(crate) fn rehearse_file<R: RuleSet + Drop, I: Read, W: Write, E: Write, C: C
     let engine = in_memory(alloc, registry, &declarations)?;
     let mut rehearsal = Rehearsal {
         engine,
-        error,
+        error: streams.error,
         lines: 0,
     };
     let answered = match service.clock {
-        None => answer_lines(alloc, &mut rehearsal, reader, output, clock),
-        Some(mut fixed) => answer_lines(alloc, &mut rehearsal, reader, output, &mut fixed),
+        None => answer_lines(alloc, &mut rehearsal, streams.input, streams.output, clock),
+        Some(mut fixed) => answer_lines(
+            alloc,
+            &mut rehearsal,
+            streams.input,
+            streams.output,
+            &mut fixed,
+        ),
     };
     answered.map_err(Failure::from)
 }

@@ -13,6 +13,14 @@ use fv_engine::Clock;
 use fv_registry::RuleSet;
 use std::io::{Read, Write};
 
+/// What a run reads, writes its answers to, and says what went wrong on.
+#[derive(Drop)]
+pub struct Streams<'s, I, W, E> {
+    pub input: &'s mut I,
+    pub output: &'s mut W,
+    pub error: &'s mut E,
+}
+
 /// Writes why the words aren't taken, and gives the exit status.
 fn report_words<E: Write>(refused: &Error, error: &mut E) -> u8 {
     if refused.kind() == ErrorKind::OutOfMemory {
@@ -35,29 +43,33 @@ fn run_task<R: RuleSet + Drop, I: Read, W: Write, E: Write, C: Clock>(
     rt: &HostRuntime,
     task: Task<'_>,
     registry: R,
-    reader: &mut I,
-    output: &mut W,
-    error: &mut E,
+    streams: &mut Streams<'_, I, W, E>,
     clock: &mut C,
 ) -> Result<(), Failure>
     requires { R.means registry }
 {
     match task {
-        Task::Demonstration => serve_demonstration(rt.alloc(), registry, reader, output),
-        Task::Declarations(path) => check_declarations(rt.alloc(), rt, path, &registry, output),
-        Task::Explain(asked) => explain_as_asked(rt, asked, &registry, output),
-        Task::Export(path) => export_file(rt, path, registry, output),
-        Task::Rehearse(service) => {
-            rehearse_file(rt, service, registry, reader, output, error, clock)
+        Task::Demonstration => {
+            serve_demonstration(rt.alloc(), registry, streams.input, streams.output)
         }
-        Task::Judge(service) => judge_file(rt, service, registry, reader, output, clock),
-        Task::Serve(service) => serve_files(rt, service, registry, reader, output, clock),
-        Task::Version => say_version(output),
+        Task::Declarations(path) => {
+            check_declarations(rt.alloc(), rt, path, &registry, streams.output)
+        }
+        Task::Explain(asked) => explain_as_asked(rt, asked, &registry, streams.output),
+        Task::Export(path) => export_file(rt, path, registry, streams.output),
+        Task::Rehearse(service) => rehearse_file(rt, service, registry, streams, clock),
+        Task::Judge(service) => {
+            judge_file(rt, service, registry, streams.input, streams.output, clock)
+        }
+        Task::Serve(service) => {
+            serve_files(rt, service, registry, streams.input, streams.output, clock)
+        }
+        Task::Version => say_version(streams.output),
     }
 }
 
 /// Does what the words ask, without the program's name: without words it serves the demonstration's
-/// declarations over a database in memory at the moment 0, the reader to the output writer;
+/// declarations over a database in memory at the moment 0, the input to the output;
 /// `declarations F` prints `ok` where the declarations of the file F are taken;
 /// `serve --declarations F --database G [--now N]` serves the database at the path G, at the moment N
 /// or at those of the clock, under its own declarations; under those of the file F where it is empty;
@@ -76,9 +88,7 @@ pub fn run_words<R: RuleSet + Drop, I: Read, W: Write, E: Write, C: Clock>(
     rt: &HostRuntime,
     words: &[String],
     registry: R,
-    reader: &mut I,
-    output: &mut W,
-    error: &mut E,
+    streams: &mut Streams<'_, I, W, E>,
     clock: &mut C,
 ) -> u8
     requires { R.means registry }
@@ -87,13 +97,13 @@ pub fn run_words<R: RuleSet + Drop, I: Read, W: Write, E: Write, C: Clock>(
         Ok(task) => task,
         Err(refused) => {
             if refused.kind() != ErrorKind::DisplayVersion {
-                return report_words(&refused, error);
+                return report_words(&refused, streams.error);
             }
             Task::Version
         }
     };
-    match run_task(rt, task, registry, reader, output, error, clock) {
+    match run_task(rt, task, registry, streams, clock) {
         Ok(()) => 0,
-        Err(failure) => failure.report(error),
+        Err(failure) => failure.report(streams.error),
     }
 }

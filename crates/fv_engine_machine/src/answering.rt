@@ -16,7 +16,7 @@ ghost use Rattle.fv_store.specs.Stock.{stock_state as state};
 
 use crate::changing::{change, done_by};
 use crate::checking::check;
-use crate::fields::{check_field, check_value};
+use crate::fields::{StoredField, TypeField, check_field, check_value};
 use crate::listing::list;
 use crate::redeclaring::{are_shallow, redeclare};
 use crate::refusing::undone;
@@ -118,10 +118,10 @@ fn reply<R: RuleSet, S: Alter>(
                     groups,
                 },
             ),
-        ) => Reply::of(
-            alloc,
-            &check_field(store, alloc, book, id, object, field, &groups, now),
-        ),
+        ) => {
+            let at = StoredField { id, object, field };
+            Reply::of(alloc, &check_field(store, alloc, book, &at, &groups, now))
+        }
         Ok(
             Some(
                 Command::CheckValue {
@@ -131,10 +131,10 @@ fn reply<R: RuleSet, S: Alter>(
                     groups,
                 },
             ),
-        ) => Reply::of(
-            alloc,
-            &check_value(alloc, book, type_name, field, value, &groups, now),
-        ),
+        ) => {
+            let at = TypeField { type_name, field };
+            Reply::of(alloc, &check_value(alloc, book, &at, value, &groups, now))
+        }
         Ok(Some(Command::List { form, after, limit })) => {
             Reply::of(
                 alloc,

@@ -13,7 +13,7 @@ ghost use Rattle.fv_registry.specs.Meanings.{Meanings};
 ghost use Rattle.serde_json.specs.View.{view as json_view};
 
 use crate::changing::{done_by, unmade};
-use crate::fields::check_value;
+use crate::fields::{TypeField, check_value};
 use crate::redeclaring::misdeclared;
 use crate::refusing::unjudged;
 use crate::shared_rules::SharedRules;
@@ -118,7 +118,10 @@ fn answer<R: RuleSet>(alloc: Global, book: &Rulebook<R>, value: &Value, now: i64
                     groups,
                 },
             ),
-        ) => check_value(alloc, book, type_name, field, value, &groups, now),
+        ) => {
+            let at = TypeField { type_name, field };
+            check_value(alloc, book, &at, value, &groups, now)
+        }
         Ok(Some(Command::List { form, .. })) => list_none(alloc, book.schema(), form),
     }
 }

@@ -31,6 +31,19 @@ use serde_json::Value;
 use sqlite::Alter;
 use std::alloc::Global;
 
+/// A field of an object of a record, by their names.
+pub(crate) struct StoredField<'a> {
+    pub(crate) id: &'a str,
+    pub(crate) object: &'a str,
+    pub(crate) field: &'a str,
+}
+
+/// A field of a type, by their names.
+pub(crate) struct TypeField<'a> {
+    pub(crate) type_name: &'a str,
+    pub(crate) field: &'a str,
+}
+
 /// The violations of a field of a bundle's object for groups by their names. Refused for a name that
 /// is no group's, then where there is no such object or its type has no such field, then for too many
 /// visits.
@@ -66,9 +79,7 @@ pub(crate) fn check_field<R: RuleSet, S: Alter>(
     store: &mut Store<S>,
     alloc: Global,
     book: &Rulebook<R>,
-    id: &str,
-    object: &str,
-    field: &str,
+    at: &StoredField,
     names: &[&str],
     now: i64,
 ) -> Answer
@@ -76,13 +87,21 @@ pub(crate) fn check_field<R: RuleSet, S: Alter>(
     ensures text { store.new.text ≡ store.old.text }
     ensures becomes { Becomes (state S.Store) (over (state S.Store) book.now store.old)
         (over (state S.Store) book.now store.new)
-        (λ x y. Handles R.meaning now (check_field id.now object.now field.now (map (λ n. n.now) names.now)) x (answer_view result) y) }
+        (λ x y. Handles R.meaning now (check_field at.now.id.now at.now.object.now at.now.field.now
+        (map (λ n. n.now) names.now)) x (answer_view result) y) }
 {
     objects_are_of_their_types();
-    match store.get(alloc, book.schema().types(), id) {
+    match store.get(alloc, book.schema().types(), at.id) {
         Ok(None) => Answer::Refused(Refusal::NoRecord),
         Ok(Some(stored)) => {
-            object_checked(alloc, book, stored.bundle.object(object), field, names, now)
+            object_checked(
+                alloc,
+                book,
+                stored.bundle.object(at.object),
+                at.field,
+                names,
+                now,
+            )
         }
         Err(fault) => Answer::Refused(undone(fault)),
     }
@@ -117,16 +136,15 @@ fn value_in(
 fn datum_checked<R: RuleSet>(
     alloc: Global,
     book: &Rulebook<R>,
-    type_name: &str,
-    field: &str,
+    at: &TypeField,
     datum: Option<&Datum>,
     names: &[&str],
     now: i64,
 ) -> Answer
     requires moment { IsMoment now }
-    requires fits { IfSome datum (λ d. IsValueOf book.now.types type_name.now field.now (view d.now)) }
-    ensures { ChecksField R.meaning book.now now (valued_by book.now.types type_name.now field.now (option_map (λ d. view d.now) datum.entry))
-        field.now (map (λ n. n.now) names.now) value_checked (answer_view result) }
+    requires fits { IfSome datum (λ d. IsValueOf book.now.types at.now.type_name.now at.now.field.now (view d.now)) }
+    ensures { ChecksField R.meaning book.now now (valued_by book.now.types at.now.type_name.now at.now.field.now (option_map (λ d. view d.now) datum.entry))
+        at.now.field.now (map (λ n. n.now) names.now) value_checked (answer_view result) }
 {
     let asked = match groups_named(alloc, book.schema().groups(), names) {
         Err(_) => return Answer::Refused(Refusal::Memory),
@@ -136,7 +154,7 @@ fn datum_checked<R: RuleSet>(
     let Some(datum) = datum else {
         return Answer::Refused(Refusal::NoSuchField);
     };
-    match validate_value(alloc, book, type_name, field, datum, &asked, now) {
+    match validate_value(alloc, book, at.type_name, at.field, datum, &asked, now) {
         Ok(violations) => Answer::ValueChecked { violations },
         Err(fault) => Answer::Refused(unjudged(fault)),
     }
@@ -146,18 +164,17 @@ fn datum_checked<R: RuleSet>(
 pub(crate) fn check_value<R: RuleSet>(
     alloc: Global,
     book: &Rulebook<R>,
-    type_name: &str,
-    field: &str,
+    at: &TypeField,
     value: &Value,
     names: &[&str],
     now: i64,
 ) -> Answer
     requires { IsMoment now }
     ensures { (x : Machine Records) → x.declared ≡ book.now
-        → Handles R.meaning now (check_value type_name.now field.now (json_view value.now) (map (λ n. n.now) names.now)) x (answer_view result) x }
+        → Handles R.meaning now (check_value at.now.type_name.now at.now.field.now (json_view value.now) (map (λ n. n.now) names.now)) x (answer_view result) x }
 {
-    match value_in(alloc, book.schema().types(), type_name, field, value) {
+    match value_in(alloc, book.schema().types(), at.type_name, at.field, value) {
         Err(fault) => Answer::Refused(misread(fault)),
-        Ok(datum) => datum_checked(alloc, book, type_name, field, datum.as_ref(), names, now),
+        Ok(datum) => datum_checked(alloc, book, at, datum.as_ref(), names, now),
     }
 }

@@ -1,5 +1,5 @@
 -- Records that are read again fit the declarations under which they are read, and the same is written of them.
-use Rattle.std.proofs.Common.{◌≡◌, ℕ, List, Bool, true, false, cond, Option, Some, None, Ok, bytes_eq, option_map, option_and_then, refl, ap, subst}
+use Rattle.std.proofs.Common.{◌≡◌, ℕ, List, Option, Some, None, Ok, option_map, option_and_then, refl, ap, subst}
 use Rattle.std.proofs.Math.Path.{fun_ext}
 use Rattle.fv_datum.specs.Lookup.{at_name}
 use Rattle.fv_bundle.specs.Types.{Declared, FieldsApart}
@@ -9,8 +9,8 @@ use Rattle.fv_model.specs.Writing.{bundle_json, bundle_written}
 use Rattle.fv_model.proofs.Again.{alike, again_typed}
 use Rattle.fv_model.proofs.Typed.{read_root}
 use Rattle.fv_store.specs.Again.{with_bundle, all_read, ReadsUnder, AllRead}
-use Rattle.fv_store.specs.Records.{Kept, Records, Roots, RecordFits, Contents, AllFit, with_record, without_record}
-use Rattle.fv_store.specs.Written.{written_of, writings, with_written, without_written}
+use Rattle.fv_store.specs.Records.{Kept, Roots, RecordFits, Contents, AllFit}
+use Rattle.fv_store.specs.Written.{written_of, writings}
 
 -- ---- one record
 
@@ -57,19 +57,3 @@ all_read_written c types forms read apart reads fit all = fun_ext (λ id. at id 
     at id (Some k) is =
         let found = all id k is in
         rw found.1 (ap (λ w. Some w) (record_written c.types types c.roots forms k found.0 apart (fit id k is) (reads k found.0 found.1)))
-
--- ---- what is written of records that change
-
-put_at : (b : Bool) (k : Kept) (o : Option Kept) → option_map written_of (cond b (Some k) o) ≡ cond b (Some (written_of k)) (option_map written_of o)
-put_at true k o = refl
-put_at false k o = refl
-
-pub written_with : (id : List ℕ) (k : Kept) (m : Records) → writings (with_record id k m) ≡ with_written id (written_of k) (writings m)
-written_with id k m = fun_ext (λ other. put_at (bytes_eq other id) k (m other))
-
-gone_at : (b : Bool) (o : Option Kept) → option_map written_of (cond b None o) ≡ cond b None (option_map written_of o)
-gone_at true o = refl
-gone_at false o = refl
-
-pub written_without : (id : List ℕ) (m : Records) → writings (without_record id m) ≡ without_written id (writings m)
-written_without id m = fun_ext (λ other. gone_at (bytes_eq other id) (m other))

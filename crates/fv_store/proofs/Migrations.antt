@@ -1,11 +1,10 @@
 -- What an open does to a database that isn't blank: one of version 1 is migrated, and any other stays.
-use Rattle.std.proofs.Common.{◌≡◌, ◌≢◌, ◌≤◌, ◌&&◌, nat_eq, length, ℕ, ℤ, pos, List, IsTrue, Result, Ok, Err, OnOk, inl, refl, sym, ap, subst, ◌∙◌}
+use Rattle.std.proofs.Common.{◌≡◌, ◌≤◌, ◌&&◌, nat_eq, length, ℕ, ℤ, pos, List, IsTrue, Result, Ok, Err, OnOk, inl, refl, sym, subst, ◌∙◌}
 use Rattle.sqlite.specs.Schema.{Schema}
 use Rattle.sqlite_schema.specs.Names.{same_name}
 use Rattle.sqlite.specs.State.{State, HasCleanDisk}
 use Rattle.fv_store_tables.specs.Olds.{Olds}
 use Rattle.fv_store_tables.specs.Olds as first
-use Rattle.fv_store_tables.specs.Tables.{no_schema}
 use Rattle.fv_store_tables.specs.FirstTables.{old_schema}
 use Rattle.fv_store_tables.proofs.Steps.{failed_then}
 use Rattle.fv_store_upgrade.specs.Upgraded.{AllShort, AllUpgrade, HasFew, upgraded}
@@ -14,8 +13,8 @@ use Rattle.fv_store_upgrade.specs.declared.fault.UpgradeFault.TheVariants.{Damag
 use Rattle.fv_store.specs.declared.fault.OpenStoreFault.TheVariants as refusal
 use Rattle.fv_store.specs.Causes.{HasFailed, IsShortAbout}
 use Rattle.fv_store.specs.Faults.{upgrade_fault}
-use Rattle.fv_store.specs.Stands.{Frame, are_first, IsBlank, MayBeFirst, KeepsFirst, Stays, first_rows, first_version, HasFirstTables, TellsAbout}
-use Rattle.fv_store.specs.Steps.{IsCaused, IsOpenExcused, IsTaken, IsTakenAs, IsUpgraded}
+use Rattle.fv_store.specs.Stands.{Frame, are_first, MayBeFirst, KeepsFirst, Stays, first_rows, first_version, HasFirstTables, TellsAbout}
+use Rattle.fv_store.specs.Steps.{IsOpenExcused, IsTaken, IsTakenAs, IsUpgraded}
 
 -- what is read leaves the rows of version 1
 pub first_kept : (old mid : State) → Stays old mid → (d : List ℕ) (m : Olds) → KeepsFirst old d m → KeepsFirst mid d m
@@ -58,19 +57,6 @@ not_first old new number text frame live taken other d m keeps = (λ clean. absu
         let was = (keeps (frame.clean clean) (frame.was_open clean (live clean))).0 in
         other ((taken clean) first_version d (inl was.schema, was.about)).1
 
--- and a blank one isn't of version 1
-pub blank_upgraded : (old new : State) → Frame old new → (HasCleanDisk new → IsTrue new.is_open) → IsBlank old.now → IsUpgraded old new
-blank_upgraded old new frame live blank d m keeps = (λ clean. absurd (never clean), λ clean open_now. absurd (never clean))
-  where
-    zero_is_not_two : ◌≢◌ {A = ℕ} 0 2
-    zero_is_not_two e = cc
-
-    no_tables : no_schema ≡ old_schema → ⊥
-    no_tables e = zero_is_not_two (ap (λ (s : Schema). length s.tables) e)
-
-    never : HasCleanDisk new → ⊥
-    never clean = no_tables (sym blank ∙ (keeps (frame.clean clean) (frame.was_open clean (live clean))).0.schema)
-
 pub then_upgraded : (old mid new : State) → Stays old mid → IsUpgraded mid new → IsUpgraded old new
 then_upgraded old mid new stays made d m keeps = made d m (first_kept old mid stays d m keeps)
 
@@ -81,12 +67,6 @@ stays_then a b c p q clean live =
     (early.0, early.1, late.2 ∙ early.2, late.3 ∙ early.3)
 
 -- ---- a migration that is refused
-
--- it isn't refused for the row of `about`
-pub no_about_fault : (s : State) (e : UpgradeFault) → IsCaused s (upgrade_fault e)
-no_about_fault s Damaged is = absurd is
-no_about_fault s Database is = absurd is
-no_about_fault s Memory is = absurd is
 
 -- only a damaged row or the disk is the cause
 pub migration_excused : (old mid new : State) (e : UpgradeFault) → HasCleanDisk mid → Frame old mid → mid.faults ≤ new.faults → Stays old mid

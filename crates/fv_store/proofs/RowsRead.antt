@@ -1,5 +1,5 @@
 -- The rows of a well-typed bundle's objects are read as what is written of them.
-use Rattle.std.proofs.Common.{◌≡◌, ◌<◌, ◌+◌, ◌++◌, ℕ, List, [], ◌∷◌, false, None, Some, Option, drop, get_or, length, true, is_some, map, option_map, option_and_then, unwrap_or, String, string_bytes, refl, ap, ◌∙◌, add-one, drop-cons}
+use Rattle.std.proofs.Common.{◌≡◌, ◌<◌, ◌+◌, ◌++◌, ℕ, List, [], ◌∷◌, false, None, Some, Option, drop, get_or, length, true, is_some, map, option_map, option_and_then, unwrap_or, String, refl, ap, ◌∙◌, add-one, drop-cons}
 use Rattle.std.specs.List.{AllByRecursion}
 use Rattle.std.specs.Option.{ForSome}
 use Rattle.serde_json.specs.Data as json
@@ -12,7 +12,7 @@ use Rattle.serde_json.specs.declared.value.Value.{Value}
 use Rattle.fv_model.specs.Views.{given_view}
 use Rattle.fv_bundle.specs.Bundles.{Thing, Things}
 use Rattle.fv_bundle.specs.WellTyped.{FitsType, IsWellTyped}
-use Rattle.fv_datum.proofs.Fronts.{with_front, front_more, front_none}
+use Rattle.fv_datum.proofs.Fronts.{with_front, front_more}
 use Rattle.fv_datum.specs.Members.{each_some}
 use Rattle.fv_model.specs.Writing.{named_written}
 use Rattle.fv_bundle.specs.Types.{Declared, has_deep}
@@ -36,12 +36,6 @@ rows_turn rs i d h = rw (add-one, drop-cons rs i d h) refl
 pub row_more : (front : List (List ℕ × (List ℕ × json.Members))) (rs : List ObjectRow) (i : ℕ) (d : ObjectRow) (y : List ℕ × (List ℕ × json.Members)) → i < length rs → row_read (row_view (get_or rs i d)) ≡ Some y
     → with_front front (each_some row_read (things_view (drop i rs))) ≡ with_front (front ++ y ∷ []) (each_some row_read (things_view (drop (i + 1) rs)))
 row_more front rs i d y h e = rw (rows_turn rs i d h) (front_more row_read front (row_view (get_or rs i d)) (things_view (drop (i + 1) rs)) y e)
-
-pub row_none : (front : List (List ℕ × (List ℕ × json.Members))) (rs : List ObjectRow) (i : ℕ) (d : ObjectRow) → i < length rs → row_read (row_view (get_or rs i d)) ≡ None → with_front front (each_some row_read (things_view (drop i rs))) ≡ None
-row_none front rs i d h e = rw (rows_turn rs i d h) (front_none row_read front (row_view (get_or rs i d)) (things_view (drop (i + 1) rs)) e)
-
-pub read_turn : {X : Type 0} (view : X → List ℕ × (List ℕ × json.Members)) (rs : List X) (i : ℕ) (r : X) → i < length rs → r ≡ get_or rs i r → map view (drop i rs) ≡ view r ∷ map view (drop (i + 1) rs)
-read_turn view rs i r h is = rw (add-one, drop-cons rs i r h, ← is) refl
 
 -- ---- a row
 

@@ -90,10 +90,6 @@ of_records s Refuses (Err e) h = λ d m. h (about_rows d) (all_kept m)
 
 -- ---- one change after another
 
--- no change yet
-pub begun_step : (s : State) → IsTrue s.in_transaction → Advances s s (MakesAll [])
-begun_step s inside = record { was_open = λ live. live; mode = inside; committed = refl; change = λ d m spelled. (spelled, λ n room. fewer_rooms n (n + 0) s.now (omega arith) room) }
-
 after_all-push : (cs : List Change) (c : Change) (m : Records) → after_all (cs ++ c ∷ []) m ≡ after c (after_all cs m)
 after_all-push [] c m = refl
 after_all-push (x ∷ cs) c m = after_all-push cs c (after x m)

@@ -1,6 +1,5 @@
 -- What is written of records, and the rows that keep it.
-use Rattle.std.specs.Prelude.{ℕ, List, Option, Some, None, map, option_map, if◌then◌else◌}
-use Rattle.std.specs.Str.{bytes_eq}
+use Rattle.std.specs.Prelude.{ℕ, List, Option, map, option_map}
 use Rattle.serde_json.specs.Data as json
 use Rattle.serde_json.specs.Written.{compact_text}
 use Rattle.fv_model.specs.Writing.{named_written}
@@ -24,14 +23,6 @@ Writings = List ℕ → Option Written
 -- what is written of each of these records
 abbrev pub writings : Records → Writings
 writings m id = option_map written_of (m id)
-
--- this is written of the id's record, and of the others the same as before
-abbrev pub with_written : List ℕ → Written → Writings → Writings
-with_written id w ws other = if bytes_eq other id then Some w else ws other
-
--- the id has no record, and of the others the same is written as before
-abbrev pub without_written : List ℕ → Writings → Writings
-without_written id ws other = if bytes_eq other id then None else ws other
 
 -- ---- the rows
 

@@ -1,5 +1,5 @@
 -- Records that are written one after another in a transaction.
-use Rattle.std.proofs.Common.{◌≡◌, ◌+◌, ◌<◌, ◌≤◌, ◌++◌, zero, suc, take, get_or, length, ℕ, List, [], ◌∷◌, IsTrue, Result, OnOk, IfErr, refl, sym, ap, subst, arith}
+use Rattle.std.proofs.Common.{◌≡◌, ◌+◌, ◌<◌, ◌≤◌, ◌++◌, zero, suc, take, get_or, length, ℕ, List, [], ◌∷◌, Result, OnOk, IfErr, refl, sym, ap, subst, arith}
 use Rattle.std.proofs.lemmas.List.{length-map}
 use Rattle.sqlite.specs.Effect.{Database}
 use Rattle.sqlite.specs.Order.{Row}
@@ -44,10 +44,6 @@ module _ (id form root : List ℕ) (objects : List ObjectText) where
       h d m stands apart.0 (fewer_rooms (1 + length objects) (rows_taken ((id, given) ∷ [])) old.now (omega (arith, same)) room) short.0.0 short.0.1)
 
 -- ---- one record after another
-
--- no record yet
-pub begun_step : (s : State) → IsTrue s.in_transaction → Advances s s (Puts [])
-begun_step s inside = record { was_open = λ live. live; mode = inside; committed = refl; change = λ d m stands apart. (stands, λ n room. fewer_rooms n (n + 0) s.now (omega arith) room) }
 
 all_put-push : (ks : List Named) (k : Named) (m : TableEntries) → all_put (ks ++ k ∷ []) m ≡ with_entry k.0 k.1 (all_put ks m)
 all_put-push [] k m = refl

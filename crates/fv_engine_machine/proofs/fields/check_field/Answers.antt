@@ -21,7 +21,7 @@ returns-in-Ok-None-clause-becomes g c =
     let same : ds.types ≡ types_view c.types.result.now = sym (c.types.ensures ∙ ap (λ (d : Declarations). d.types) c.schema.ensures) in
     let found = rw c.in-Ok-None.field-0-is at c.in-Ok-None.ensures.found in
     unchanged (state g.S.Store) ds _ _ c.in-Ok-None.ensures.frame (λ bytes m holds. c.in-Ok-None.ensures.untouched (contents bytes ds m) holds) _
-    (λ clean bytes m holds stay. field_none g.R.RuleSet.meaning c.args.now c.args.id.now c.args.object.now c.args.field.now names _ _ stay (c.in-Ok-None.ensures.frame.was_open clean (c.in-Ok-None.ensures.open clean))
+    (λ clean bytes m holds stay. field_none g.R.RuleSet.meaning c.args.now c.args.at.now.id.now c.args.at.now.object.now c.args.at.now.field.now names _ _ stay (c.in-Ok-None.ensures.frame.was_open clean (c.in-Ok-None.ensures.open clean))
     (sym (found clean (contents bytes ds m) same holds)))
     (λ bytes m holds. c.in-Ok-None.ensures.stays (contents bytes ds m) holds)
 
@@ -33,7 +33,7 @@ returns-in-Ok-Some-clause-becomes g c =
     let found = rw c.in-Ok-Some.field-0-is at c.in-Ok-Some.ensures.found in
     let told = rw (c.object.ensures, to_z-of_z w64 c.args.now c.ranges.now) at c.object_checked.ensures in
     unchanged (state g.S.Store) ds _ _ c.in-Ok-Some.ensures.frame (λ bytes m holds. c.in-Ok-Some.ensures.untouched (contents bytes ds m) holds) _
-    (λ clean bytes m holds stay. field_some g.R.RuleSet.meaning c.args.now c.args.id.now c.args.object.now c.args.field.now names _ _ stay (c.in-Ok-Some.ensures.frame.was_open clean (c.in-Ok-Some.ensures.open clean)) (stored_view c.in-Ok-Some.stored)
+    (λ clean bytes m holds stay. field_some g.R.RuleSet.meaning c.args.now c.args.at.now.id.now c.args.at.now.object.now c.args.at.now.field.now names _ _ stay (c.in-Ok-Some.ensures.frame.was_open clean (c.in-Ok-Some.ensures.open clean)) (stored_view c.in-Ok-Some.stored)
     (sym (found clean (contents bytes ds m) same holds)) _ told)
     (λ bytes m holds. c.in-Ok-Some.ensures.stays (contents bytes ds m) holds)
 
@@ -42,7 +42,7 @@ returns-in-Err-clause-becomes g c =
     let ds = c.args.book.now in
     let names = map (λ n. n.now) c.args.names.now in
     let same : ds.types ≡ types_view c.types.result.now = sym (c.types.ensures ∙ ap (λ (d : Declarations). d.types) c.schema.ensures) in
-    unchanged (state g.S.Store) ds _ _ c.in-Err.ensures.frame (λ bytes m holds. c.in-Err.ensures.untouched (contents bytes ds m) holds) _ (λ clean bytes m holds stay. not_found g.R.RuleSet.meaning c.args.now (check_field c.args.id.now c.args.object.now c.args.field.now names) _ _ stay refl (refl, refl, refl) c.undone.result
+    unchanged (state g.S.Store) ds _ _ c.in-Err.ensures.frame (λ bytes m holds. c.in-Err.ensures.untouched (contents bytes ds m) holds) _ (λ clean bytes m holds stay. not_found g.R.RuleSet.meaning c.args.now (check_field c.args.at.now.id.now c.args.at.now.object.now c.args.at.now.field.now names) _ _ stay refl (refl, refl, refl) c.undone.result
     (fails_so c.in-Err.fault c.undone.result _ c.undone.ensures.store c.undone.ensures.memory (λ is. c.in-Err.ensures.cause clean is (contents bytes ds m) same holds)))
     (λ bytes m holds. c.in-Err.ensures.stays (contents bytes ds m) holds)
 
@@ -50,4 +50,4 @@ pub object_checked-requires-clause-typed : goal.object_checked-requires-clause-t
 object_checked-requires-clause-typed g c =
     let same : types_view c.types.result.now ≡ c.args.book.now.types = c.types.ensures ∙ ap (λ (d : Declarations). d.types) c.schema.ensures in
     let typed = subst (λ (ts : Declared). IsWellTyped ts (bundle_view c.in-Ok-Some.stored.bundle)) same (rw c.in-Ok-Some.field-0-is at c.in-Ok-Some.ensures.typed) in
-    found_typed (λ o. object_view o.now) c.object.result c.args.book.now.types (bundle_view c.in-Ok-Some.stored.bundle) c.args.object.now c.object.ensures typed c.objects_are_of_their_types.ensures
+    found_typed (λ o. object_view o.now) c.object.result c.args.book.now.types (bundle_view c.in-Ok-Some.stored.bundle) c.args.at.now.object.now c.object.ensures typed c.objects_are_of_their_types.ensures

@@ -40,7 +40,7 @@ returns-in_default g c =
     let named = all_named c.groups.result.now names (indices c.in-Ok-Some.asked.items) some in
     let numbers : indices c.in-Ok-Some.asked.items ≡ numbers_of ds.groups names = named.1 ∙ ap (λ (gs : Groups). numbers_of gs names) same in
     let known : unknown_group_in ds.groups names ≡ false = subst (λ (gs : Groups). unknown_group_in gs names ≡ false) same named.0 in
-    subst (λ (o : Option (Bor Datum)). ChecksField m ds c.args.now (valued_by ds.types c.args.type_name.now c.args.field.now (option_map (λ x. view x.now) o)) c.args.field.now names value_checked (refused NoSuchField)) (sym c.in_default.is) (inr (inl (known, refl)))
+    subst (λ (o : Option (Bor Datum)). ChecksField m ds c.args.now (valued_by ds.types c.args.at.now.type_name.now c.args.at.now.field.now (option_map (λ x. view x.now) o)) c.args.at.now.field.now names value_checked (refused NoSuchField)) (sym c.in_default.is) (inr (inl (known, refl)))
 
 pub returns-in-Ok : goal.returns-in-Ok
 returns-in-Ok g c =
@@ -53,15 +53,15 @@ returns-in-Ok g c =
     let numbers : indices c.in-Ok-Some.asked.items ≡ numbers_of ds.groups names = named.1 ∙ ap (λ (gs : Groups). numbers_of gs names) same in
     let known : unknown_group_in ds.groups names ≡ false = subst (λ (gs : Groups). unknown_group_in gs names ≡ false) same named.0 in
     let d = view c.in-Some.datum.now in
-    let thing = valued ds.types c.args.type_name.now c.args.field.now d in
+    let thing = valued ds.types c.args.at.now.type_name.now c.args.at.now.field.now d in
     let vs = map violation_view c.in-Ok.violations.items in
     let of = rw c.in-Some.is at c.requires.fits in
-    let fits : FitsField ds.types c.args.type_name.now c.args.field.now d = use_fits ds.types c.args.type_name.now c.args.field.now d of in
+    let fits : FitsField ds.types c.args.at.now.type_name.now c.args.at.now.field.now d = use_fits ds.types c.args.at.now.type_name.now c.args.at.now.field.now d of in
     let few : HasFewVisitsAt ds thing (indices c.in-Ok-Some.asked.items) = rw c.deref.ensures.value at c.in-Ok.ensures.few in
-    let listing : IsListingOfField m ds c.args.now thing c.args.field.now (indices c.in-Ok-Some.asked.items) vs = rw (c.deref.ensures.value, to_z-of_z w64 c.args.now c.ranges.now) at (c.in-Ok.ensures.listing fits) in
-    subst (λ (o : Option (Bor Datum)). ChecksField m ds c.args.now (valued_by ds.types c.args.type_name.now c.args.field.now (option_map (λ x. view x.now) o)) c.args.field.now names value_checked (value_checked vs)) (sym c.in-Some.is)
-    (field_listed m ds c.args.now thing c.args.field.now names value_checked known vs c.in-Ok.ensures.there (subst (λ (gs : List ℕ). HasFewVisitsAt ds thing gs) numbers few)
-    (subst (λ (gs : List ℕ). IsListingOfField m ds c.args.now thing c.args.field.now gs vs) numbers listing))
+    let listing : IsListingOfField m ds c.args.now thing c.args.at.now.field.now (indices c.in-Ok-Some.asked.items) vs = rw (c.deref.ensures.value, to_z-of_z w64 c.args.now c.ranges.now) at (c.in-Ok.ensures.listing fits) in
+    subst (λ (o : Option (Bor Datum)). ChecksField m ds c.args.now (valued_by ds.types c.args.at.now.type_name.now c.args.at.now.field.now (option_map (λ x. view x.now) o)) c.args.at.now.field.now names value_checked (value_checked vs)) (sym c.in-Some.is)
+    (field_listed m ds c.args.now thing c.args.at.now.field.now names value_checked known vs c.in-Ok.ensures.there (subst (λ (gs : List ℕ). HasFewVisitsAt ds thing gs) numbers few)
+    (subst (λ (gs : List ℕ). IsListingOfField m ds c.args.now thing c.args.at.now.field.now gs vs) numbers listing))
 
 pub returns : goal.returns
 returns g c =
@@ -74,9 +74,9 @@ returns g c =
     let numbers : indices c.in-Ok-Some.asked.items ≡ numbers_of ds.groups names = named.1 ∙ ap (λ (gs : Groups). numbers_of gs names) same in
     let known : unknown_group_in ds.groups names ≡ false = subst (λ (gs : Groups). unknown_group_in gs names ≡ false) same named.0 in
     let d = view c.in-Some.datum.now in
-    let thing = valued ds.types c.args.type_name.now c.args.field.now d in
+    let thing = valued ds.types c.args.at.now.type_name.now c.args.at.now.field.now d in
     let many = rw c.deref.ensures.value at c.in-Err-validate_value.ensures.many in
-    subst (λ (o : Option (Bor Datum)). ChecksField m ds c.args.now (valued_by ds.types c.args.type_name.now c.args.field.now (option_map (λ x. view x.now) o)) c.args.field.now names value_checked (refused c.unjudged.result)) (sym c.in-Some.is)
-    (subst (λ (r : Refusal). ChecksField m ds c.args.now (Some thing) c.args.field.now names value_checked (refused r)) (sym c.unjudged.ensures)
-    (field_told m ds c.args.now thing c.args.field.now names value_checked known c.in-Err-validate_value.fault c.in-Err-validate_value.ensures.known c.in-Err-validate_value.ensures.absent
-    (λ is. subst (λ (gs : List ℕ). (is_some (field_number ds.types thing.type_name c.args.field.now) ≡ true) × HasTooManyVisitsAt ds thing gs) numbers (many is))))
+    subst (λ (o : Option (Bor Datum)). ChecksField m ds c.args.now (valued_by ds.types c.args.at.now.type_name.now c.args.at.now.field.now (option_map (λ x. view x.now) o)) c.args.at.now.field.now names value_checked (refused c.unjudged.result)) (sym c.in-Some.is)
+    (subst (λ (r : Refusal). ChecksField m ds c.args.now (Some thing) c.args.at.now.field.now names value_checked (refused r)) (sym c.unjudged.ensures)
+    (field_told m ds c.args.now thing c.args.at.now.field.now names value_checked known c.in-Err-validate_value.fault c.in-Err-validate_value.ensures.known c.in-Err-validate_value.ensures.absent
+    (λ is. subst (λ (gs : List ℕ). (is_some (field_number ds.types thing.type_name c.args.at.now.field.now) ≡ true) × HasTooManyVisitsAt ds thing gs) numbers (many is))))
