@@ -7,7 +7,7 @@
 
 The lines are those of tests/data/rows that go to a service: puts, batches, checks of values and others, each with the declarations and the moment of its table. All lines of a
 table go to one judge; each that is compared goes to `formd serve` over a file that isn't there before. A million lines have to be answered at the peak memory of ten thousand, but for a mebibyte,
-and on four processors four judges, who take the lines in turn, have to answer 3.4 times as many a second as one, by what they have answered in windows of half a second.
+and on four processors four judges, who take the lines in turn, have to be done with the same lines 3.4 times as fast as one.
 """
 
 import itertools
@@ -37,9 +37,9 @@ FEW = 10_000
 # KiB: the system counts pages for each processor by itself, so runs of the same lines differ by some hundred; the least that a line could leave, 16 bytes, is three times as much in the end
 ALLOWED = 1024
 LEAST_GAIN = 3.4
-# seconds, and how many such windows: a processor of a virtual machine is half as fast again, or as slow, from one second to the next
-WINDOW = 0.5
-WINDOWS = 48
+# how many lines one judge and four are given, and how often: a processor of a virtual machine is half as fast again, or as slow, from one second to the next
+LINES = 480_000
+ROUNDS = 5
 
 
 def asked():
@@ -147,35 +147,34 @@ def look_at_peaks(folder):
     print(f"peak memory: {few} KiB of {FEW:,} lines, {many} KiB of {MANY:,}")
 
 
-def answered_at_once(declarations, parts):
-    """How many lines as many judges as there are parts answer side by side, until `WINDOW` seconds have gone by."""
+def seconds_for(declarations, parts):
+    """How long as many judges as there are parts take, side by side, until the last has answered each line of its part."""
     with tempfile.TemporaryDirectory(dir=ROOM) as folder:
         replies = [Path(folder) / part.name for part in parts]
-        runs = []
+        begun, runs = time.monotonic(), []
         for part, reply in zip(parts, replies):
             with open(part, "rb") as lines, open(reply, "wb") as out:
                 runs.append(subprocess.Popen([PROGRAM, "judge", "--declarations", declarations, "--now=0"], stdin=lines, stdout=out))
-        time.sleep(WINDOW)
-        for run in runs:
-            look("a judge that has lines left", run.poll(), None)
-            run.kill()
-        for run in runs:
-            run.wait()
-        return sum(reply.read_bytes().count(b"\n") for reply in replies)
+        statuses = [run.wait() for run in runs]
+        seconds = time.monotonic() - begun
+        look("judges' statuses", statuses, [0] * len(parts))
+        look("lines answered", sum(reply.read_bytes().count(b"\n") for reply in replies), LINES)
+        return seconds
 
 
 def look_at_four(folder):
-    """The order's lines by one judge, and by four who take them in turn, in windows of time that alternate."""
+    """The order's lines by one judge, and by four who take them in turn, one after the other `ROUNDS` times."""
     declarations = folder / "declarations.json"
     declarations.write_text(compact(SHAPES["order"].declarations))
-    lines = list(puts("order", 120_000))
-    quarters = [folder / f"lines{at}" for at in range(4)]
+    lines = list(puts("order", LINES))
+    whole, *quarters = (folder / name for name in ("all", "first", "second", "third", "fourth"))
+    whole.write_bytes(b"".join(lines))
     for at, quarter in enumerate(quarters):
         quarter.write_bytes(b"".join(lines[at::4]))
-    windows = [(answered_at_once(declarations, quarters[at % 4 :][:1]), answered_at_once(declarations, quarters)) for at in range(WINDOWS)]
-    gains = sorted(four / one for one, four in windows)
-    gain = sum(four for _, four in windows) / sum(one for one, _ in windows)
-    print(f"four judges answer {gain:.2f} times as many lines a second as one ({WINDOWS} pairs of windows: {gains[0]:.2f} to {gains[-1]:.2f}; {os.cpu_count()} processors)")
+    rounds = [(seconds_for(declarations, [whole]), seconds_for(declarations, quarters)) for _ in range(ROUNDS)]
+    gain = sum(one for one, _ in rounds) / sum(four for _, four in rounds)
+    told = ", ".join(f"{one:.2f} s and {four:.2f} s" for one, four in rounds)
+    print(f"four judges answer {LINES:,} lines {gain:.2f} times as fast as one, on {os.cpu_count()} processors ({told})")
     if os.cpu_count() >= 4:
         look("four judges beside one", gain >= LEAST_GAIN, True)
 

@@ -40,48 +40,44 @@ pub(crate) fn drafted<'a>(which: BuiltinName, attrs: &'a Attrs) -> Option<Draft<
 fn accepted<'a>(which: BuiltinName, attrs: &'a Attrs) -> Option<Draft<'a>>
     ensures { option_map draft_view result ≡ accepted which attrs.now }
 {
-    match which {
-        BuiltinName::Null => Some(Draft::Ready(Builtin::Null)),
-        BuiltinName::NotNull => Some(Draft::Ready(Builtin::NotNull)),
-        BuiltinName::AssertTrue => Some(Draft::Ready(Builtin::AssertTrue)),
-        BuiltinName::AssertFalse => Some(Draft::Ready(Builtin::AssertFalse)),
-        BuiltinName::Min => {
-            let units = whole_bound(attrs)?;
-            Some(Draft::Ready(Builtin::Min { units }))
-        }
-        BuiltinName::Max => {
-            let units = whole_bound(attrs)?;
-            Some(Draft::Ready(Builtin::Max { units }))
-        }
+    let constraint = match which {
+        BuiltinName::Null => Builtin::Null,
+        BuiltinName::NotNull => Builtin::NotNull,
+        BuiltinName::AssertTrue => Builtin::AssertTrue,
+        BuiltinName::AssertFalse => Builtin::AssertFalse,
+        BuiltinName::Min => Builtin::Min {
+            units: whole_bound(attrs)?,
+        },
+        BuiltinName::Max => Builtin::Max {
+            units: whole_bound(attrs)?,
+        },
         BuiltinName::DecimalMin => {
             let (units, inclusive) = decimal_bound(attrs)?;
-            Some(Draft::Ready(Builtin::DecimalMin { units, inclusive }))
+            Builtin::DecimalMin { units, inclusive }
         }
         BuiltinName::DecimalMax => {
             let (units, inclusive) = decimal_bound(attrs)?;
-            Some(Draft::Ready(Builtin::DecimalMax { units, inclusive }))
+            Builtin::DecimalMax { units, inclusive }
         }
-        BuiltinName::Positive => Some(Draft::Ready(Builtin::Positive)),
-        BuiltinName::PositiveOrZero => Some(Draft::Ready(Builtin::PositiveOrZero)),
-        BuiltinName::Negative => Some(Draft::Ready(Builtin::Negative)),
-        BuiltinName::NegativeOrZero => Some(Draft::Ready(Builtin::NegativeOrZero)),
+        BuiltinName::Positive => Builtin::Positive,
+        BuiltinName::PositiveOrZero => Builtin::PositiveOrZero,
+        BuiltinName::Negative => Builtin::Negative,
+        BuiltinName::NegativeOrZero => Builtin::NegativeOrZero,
         BuiltinName::Digits => {
             let (integer, fraction) = digit_counts(attrs)?;
-            Some(Draft::Ready(Builtin::Digits { integer, fraction }))
+            Builtin::Digits { integer, fraction }
         }
         BuiltinName::Size => {
             let (min, max) = size_bounds(attrs)?;
-            Some(Draft::Ready(Builtin::Size { min, max }))
+            Builtin::Size { min, max }
         }
-        BuiltinName::NotEmpty => Some(Draft::Ready(Builtin::NotEmpty)),
-        BuiltinName::NotBlank => Some(Draft::Ready(Builtin::NotBlank)),
-        BuiltinName::Past => Some(Draft::Ready(Builtin::Past)),
-        BuiltinName::PastOrPresent => Some(Draft::Ready(Builtin::PastOrPresent)),
-        BuiltinName::Future => Some(Draft::Ready(Builtin::Future)),
-        BuiltinName::FutureOrPresent => Some(Draft::Ready(Builtin::FutureOrPresent)),
-        BuiltinName::Pattern => {
-            let regexp = regexp_of(attrs)?;
-            Some(Draft::ToMatch(regexp))
-        }
-    }
+        BuiltinName::NotEmpty => Builtin::NotEmpty,
+        BuiltinName::NotBlank => Builtin::NotBlank,
+        BuiltinName::Past => Builtin::Past,
+        BuiltinName::PastOrPresent => Builtin::PastOrPresent,
+        BuiltinName::Future => Builtin::Future,
+        BuiltinName::FutureOrPresent => Builtin::FutureOrPresent,
+        BuiltinName::Pattern => return Some(Draft::ToMatch(regexp_of(attrs)?)),
+    };
+    Some(Draft::Ready(constraint))
 }

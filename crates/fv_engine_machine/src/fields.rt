@@ -32,6 +32,7 @@ use sqlite::Alter;
 use std::alloc::Global;
 
 /// A field of an object of a record, by their names.
+#[derive(Drop)]
 pub(crate) struct StoredField<'a> {
     pub(crate) id: &'a str,
     pub(crate) object: &'a str,
@@ -39,6 +40,7 @@ pub(crate) struct StoredField<'a> {
 }
 
 /// A field of a type, by their names.
+#[derive(Drop)]
 pub(crate) struct TypeField<'a> {
     pub(crate) type_name: &'a str,
     pub(crate) field: &'a str,

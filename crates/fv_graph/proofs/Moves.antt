@@ -1,6 +1,7 @@
 -- The same steps on what the code holds.
 use Rattle.std.proofs.Common.{◌≡◌, ◌<◌, ◌≤◌, ◌+◌, ℕ, List, [], ◌∷◌, ◌++◌, map, ◌⊎◌, inl, inr, refl, sym, Bool, true, false, ap, subst, arith, zero, suc, ◌∙◌, get_or, length, reverse, drop, All, Option, Some, length-drop, Vec}
 use Rattle.std.proofs.Math.ListN.{set}
+use Rattle.std.specs.Prelude.{if◌then◌else◌}
 use Rattle.std.proofs.lemmas.List.{reverse-append, drop_more, nil_from_length}
 use Rattle.std.proofs.lemmas.List.Elements.{All-get_or}
 use Rattle.std.proofs.lemmas.Option.{slice_get-get_or}
@@ -160,7 +161,7 @@ move_round edges marks order stack stack' f v j s all e more q x at is p' =
     taken_on edges marks order stack stack' f j true t
     (closes (next_of edges) (length edges) marks (reverse order) f.node j (drop (f.next + 1) (next_of edges f.node)) f.meets (stands edges stack) small mark (topped edges marks order stack f _ s t)) p'
 
-pub move_back : (edges : List (Vec ℕ Global)) (marks : List Mark) (order order' : List ℕ) (stack : List Frame) (f : Frame) (v : Vec ℕ Global)
+move_back : (edges : List (Vec ℕ Global)) (marks : List Mark) (order order' : List ℕ) (stack : List Frame) (f : Frame) (v : Vec ℕ Global)
     → Searches edges marks order (stack ++ f ∷ []) → v ≡ get_or edges f.node v → length v.items ≤ f.next → f.meets ≡ false → order' ≡ order ++ f.node ∷ []
     → Searches edges (set marks f.node Done) order' stack × (weighs edges (set marks f.node Done) stack < weighs edges marks (stack ++ f ∷ []))
 move_back edges marks order order' stack f v s e more plain p =
@@ -174,7 +175,7 @@ move_back edges marks order order' stack f v s e more plain p =
       omega (arith, u, a),
     )
 
-pub move_out : (edges : List (Vec ℕ Global)) (marks : List Mark) (order : List ℕ) (stack : List Frame) (f : Frame) (v : Vec ℕ Global)
+move_out : (edges : List (Vec ℕ Global)) (marks : List Mark) (order : List ℕ) (stack : List Frame) (f : Frame) (v : Vec ℕ Global)
     → Searches edges marks order (stack ++ f ∷ []) → v ≡ get_or edges f.node v → length v.items ≤ f.next → f.meets ≡ true
     → Searches edges (set marks f.node Meets) order stack × (weighs edges (set marks f.node Meets) stack < weighs edges marks (stack ++ f ∷ []))
 move_out edges marks order stack f v s e more flagged =
@@ -185,3 +186,20 @@ move_out edges marks order stack f v s e more flagged =
       gives_up (next_of edges) (length edges) marks (reverse order) f.node f.meets (stands edges stack) flagged (topped edges marks order stack f _ s t),
       omega (arith, u, a),
     )
+
+-- the topmost node is left
+pub move_off : (edges : List (Vec ℕ Global)) (marks marks' : List Mark) (order order' : List ℕ) (stack : List Frame) (f : Frame) (v : Vec ℕ Global)
+    → Searches edges marks order (stack ++ f ∷ []) → v ≡ get_or edges f.node v → length v.items ≤ f.next
+    → marks' ≡ set marks f.node (if f.meets then Meets else Done) → order' ≡ (if f.meets then order else (order ++ f.node ∷ []))
+    → Searches edges marks' order' stack × (weighs edges marks' stack < weighs edges marks (stack ++ f ∷ []))
+move_off edges marks marks' order order' stack f v s e more m o = go f.meets refl m o
+  where
+    go : (b : Bool) → f.meets ≡ b → marks' ≡ set marks f.node (if b then Meets else Done) → order' ≡ (if b then order else (order ++ f.node ∷ []))
+        → Searches edges marks' order' stack × (weighs edges marks' stack < weighs edges marks (stack ++ f ∷ []))
+    go true flagged m o =
+        subst (λ (ms : List Mark). Searches edges ms order' stack × (weighs edges ms stack < weighs edges marks (stack ++ f ∷ []))) (sym m)
+        (subst (λ (l : List ℕ). Searches edges (set marks f.node Meets) l stack × (weighs edges (set marks f.node Meets) stack < weighs edges marks (stack ++ f ∷ []))) (sym o)
+        (move_out edges marks order stack f v s e more flagged))
+    go false plain m o =
+        subst (λ (ms : List Mark). Searches edges ms order' stack × (weighs edges ms stack < weighs edges marks (stack ++ f ∷ []))) (sym m)
+        (move_back edges marks order order' stack f v s e more plain o)

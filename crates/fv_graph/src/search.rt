@@ -1,10 +1,10 @@
 //! A walk along all edges, in depth first.
 #![tactic(auto)]
 
-ghost use Rattle.std.specs.Prelude.{◌≡◌, ◌<◌, ◌↔◌, ◌++◌, ◌∷◌, [], length, IfOk, OnOk, IsTrue};
+ghost use Rattle.std.specs.Prelude.{◌≡◌, ◌<◌, ◌↔◌, ◌++◌, ◌∷◌, [], length, set, if◌then◌else◌, IfOk, OnOk, IsTrue};
 ghost use Rattle.fv_graph.specs.Graph.{next_of, AreWithin, IsRestOrder, Orders};
 ghost use Rattle.fv_graph.specs.Search.{Searches, IsStep, StayMarked, IsMarked};
-ghost use Rattle.fv_graph.specs.declared.search.Mark.TheVariants.{New};
+ghost use Rattle.fv_graph.specs.declared.search.Mark.TheVariants.{New, Done, Meets};
 
 use std::alloc::{AllocError, Global};
 
@@ -33,6 +33,22 @@ struct Frame {
     meets: bool,
 }
 
+/// Leaves the node of `frame`, all of whose edges were taken: it comes next in the order, unless it
+/// meets a cycle.
+fn leave(marks: &mut Vec<Mark>, order: &mut Vec<usize>, frame: Frame) -> Result<(), AllocError>
+    requires { frame.node < length marks.old.items }
+    ensures marks { marks.new.items ≡ set marks.old.items frame.node (if frame.meets then Meets else Done) }
+    ensures order { OnOk result (order.new.items ≡ (if frame.meets then order.old.items else (order.old.items ++ frame.node ∷ []))) }
+{
+    if frame.meets {
+        marks[frame.node] = Mark::Meets;
+        return Ok(());
+    }
+    marks[frame.node] = Mark::Done;
+    order.push(frame.node)?;
+    Ok(())
+}
+
 /// Takes the next edge of `frame`, which was on top of the stack. An edge to a new node is taken
 /// again when that node has been left.
 fn advance(
@@ -48,16 +64,9 @@ fn advance(
         marks.new.items order.new.items stack.new.items) }
     ensures marked { OnOk result (StayMarked marks.old.items marks.new.items) }
 {
-    let node = frame.node;
-    let successors = &edges[node];
+    let successors = &edges[frame.node];
     if frame.next >= successors.len() {
-        if frame.meets {
-            marks[node] = Mark::Meets;
-            return Ok(());
-        }
-        marks[node] = Mark::Done;
-        order.push(node)?;
-        return Ok(());
+        return leave(marks, order, frame);
     }
     let successor = successors[frame.next];
     match marks[successor] {
@@ -73,17 +82,16 @@ fn advance(
         }
         Mark::Open | Mark::Meets => {
             stack.push(Frame {
-                node,
                 next: frame.next + 1,
                 meets: true,
+                ..frame
             })?;
             Ok(())
         }
         Mark::Done => {
             stack.push(Frame {
-                node,
                 next: frame.next + 1,
-                meets: frame.meets,
+                ..frame
             })?;
             Ok(())
         }
