@@ -8,32 +8,59 @@ use Rattle.fv_constraint_tree.specs.TargetFits.{tree_fits}
 use Rattle.fv_constraint_tree.specs.Trees.{Tree}
 use Rattle.fv_declare_draft.specs.AllCascades.{Cascade, cascades_in}
 use Rattle.fv_declare_draft.specs.AllUses.{DraftUse, uses_in}
-use Rattle.fv_declare_draft.specs.DraftViews.{draft_view}
+use Rattle.fv_declare_draft.specs.DraftViews.{draft_view, type_view, form_view}
+use Rattle.fv_declare_draft.specs.Drafts.{Drafted}
 use Rattle.fv_declare_draft.specs.declared.draft.Draft.{Draft}
+use Rattle.fv_declare_draft.specs.declared.draft.FormDraft.{FormDraft}
+use Rattle.fv_declare_draft.specs.declared.draft.TypeDraft.{TypeDraft}
 use Rattle.fv_declare_groups.specs.Grouping.{groups_in, is_misplaced}
 use Rattle.fv_declare_groups.specs.Numbered.{type_ranks, valid_places}
 use Rattle.fv_declare_schema.specs.Declarations.{Placed, Declarations, count_nodes}
 use Rattle.fv_declare_schema.specs.Fits.{placed_fits, fits}
-use Rattle.fv_declare_schema.specs.NumberViews.{valid_place_view}
+use Rattle.fv_declare_schema.specs.NumberViews.{sequences_view, valid_place_view}
 use Rattle.fv_declare_schema.specs.Ordered.{AreOrdered}
 use Rattle.fv_declare_schema.specs.PlacedView.{placed_view}
-use Rattle.fv_declare_schema.specs.SchemaView.{declared_by}
+use Rattle.fv_declare_schema.specs.SchemaView.{declared_by, forms_view, form_groups_view}
 use Rattle.fv_declare_schema.specs.Groups.{Groups}
 use Rattle.fv_message.specs.Table.{Messages, all_messages}
 use Rattle.fv_declare_judging.specs.declared.placed.PlacedWording.{PlacedWording}
+use Rattle.fv_bundle.specs.Types.{Declared}
 use Rattle.fv_bundle.specs.TypesView.{types_view}
 use Rattle.fv_bundle.specs.declared.types.Types.{Types}
 use Rattle.fv_registry.specs.Rules.{Known}
 use Rattle.fv_declare_judging.specs.Conditions.{used_in}
 use Rattle.fv_declare_judging.specs.Judging.{placed_from}
-use Rattle.fv_declare_judging.specs.Parts.{IsChecked, IsNumbered}
-use Rattle.fv_declare_judging.specs.Schemas.{form_grouped, IsPlacedAs, IsDeclared}
+use Rattle.fv_declare_judging.specs.Parts.{IsChecked}
+use Rattle.fv_declare_judging.specs.Schemas.{form_declared, form_grouped, IsPlacedAs, IsDeclared}
 use Rattle.fv_declare_judging.specs.Types.{types_declared}
-use Rattle.fv_declare_judging.specs.declared.build.Numbers.{Numbers}
+use Rattle.fv_declare_schema.specs.declared.schema.NumberedParts.{NumberedParts}
 use Rattle.fv_declare_judging.specs.declared.parts.Parts.{Parts}
+use Rattle.fv_datum.proofs.Inserted.{map_twice}
 use Rattle.fv_declare_judging.proofs.Found.{names_good}
 use Rattle.fv_declare_judging.proofs.Ordered.{ordered, placed, placed_fit}
 use Rattle.fv_declare_judging.proofs.Valid.{none_misplaced}
+
+-- what is said of a draft's uses, with these trees, of its sequences, of these cascades and of its forms, by the numbers of its types and
+-- of these groups
+pub record IsNumbered (d : Drafted) (all : Declared) (gs : Groups) (us : List DraftUse) (cs : List Cascade) (ts : List (Tree Node)) (n : NumberedParts) : Type 0 where
+  pub occurrences : map placed_view n.occurrences.items ≡ placed_from gs 0 us ts
+  pub sequences : sequences_view n.sequences.items ≡ map (type_ranks gs) d.types
+  pub valid_places : map valid_place_view n.valid_places.items ≡ valid_places gs cs
+  pub forms : forms_view all n.forms ≡ map form_declared d.forms
+  pub form_groups : form_groups_view n.forms ≡ map (form_grouped gs) d.forms
+
+pub are_numbered : (draft : Draft) (all : Declared) (gs : Groups) (us : List DraftUse) (cs : List Cascade) (ts : List (Tree Node)) (n : NumberedParts) (fs : List FormDraft) (types : List TypeDraft)
+    → fs ≡ draft.forms.items → types ≡ draft.types.items → map placed_view n.occurrences.items ≡ placed_from gs 0 us ts
+    → map (λ f. form_declared (form_view f)) fs ≡ forms_view all n.forms → map (λ f. form_grouped gs (form_view f)) fs ≡ form_groups_view n.forms
+    → sequences_view n.sequences.items ≡ map (type_ranks gs) (map type_view types) → map valid_place_view n.valid_places.items ≡ valid_places gs cs
+    → IsNumbered (draft_view draft) all gs us cs ts n
+are_numbered draft all gs us cs ts n fs types fs-are types-are uses-are roots grouped ranks places = record {
+  occurrences = uses-are;
+  sequences = ranks ∙ ap (λ (ws : List TypeDraft). map (type_ranks gs) (map type_view ws)) types-are;
+  valid_places = places;
+  forms = sym roots ∙ ap (map (λ f. form_declared (form_view f))) fs-are ∙ map_twice form_view form_declared draft.forms.items;
+  form_groups = sym grouped ∙ ap (map (λ f. form_grouped gs (form_view f))) fs-are ∙ map_twice form_view (form_grouped gs) draft.forms.items;
+}
 
 -- what is told of the messages that are there
 pub told : (P : Messages → Type 0) (r : Result Messages PlacedWording) (m : Messages) → r ≡ Ok m → IfOk r P → P m
@@ -52,7 +79,7 @@ module _
     (cascades : cs ≡ cascades_in (draft_view draft).types)
     (os : List (Tree Node))
     (each : length os ≡ length us)
-    (n : Numbers)
+    (n : NumberedParts)
     (numbered : IsNumbered (draft_view draft) (types_view types) gs us cs os n) where
   at : map placed_view n.occurrences.items ≡ placed_from gs 0 (uses_in (draft_view draft).types) os
   at = numbered.occurrences ∙ ap (λ (ws : List DraftUse). placed_from gs 0 ws os) checked.uses
@@ -66,7 +93,7 @@ module _
   module _ (messages : Messages) where
     -- the declarations
     abbrev pub all : Declarations
-    all = declared_by types n.occurrences.items n.forms gs n.sequences.items n.valid_places.items messages
+    all = declared_by types gs messages n
 
     -- are ordered
     pub in_order : count_nodes os ≤ 1024 → AreOrdered all

@@ -1,31 +1,21 @@
 -- The parts of a draft; for private clauses.
 use Rattle.std.specs.Prelude.{◌≡◌, ◌≢◌, List, true, false, Some, None, Result, Ok, Err, is_ok, map, IfOk, IfErr}
 use Rattle.fv_datum.specs.Outcomes.{first}
-use Rattle.fv_declare_draft.specs.AllCascades.{Cascade}
 use Rattle.fv_declare_draft.specs.AllUses.{DraftUse, uses_in}
 use Rattle.fv_declare_draft.specs.Drafts.{Drafted}
 use Rattle.fv_declare_draft.specs.UseViews.{cascade_view}
 use Rattle.fv_declare_groups.specs.Grouping.{IsGrouping}
-use Rattle.fv_declare_groups.specs.Numbered.{type_ranks, valid_places}
-use Rattle.fv_declare_schema.specs.NumberViews.{sequences_view, valid_place_view}
-use Rattle.fv_declare_schema.specs.PlacedView.{placed_view}
-use Rattle.fv_declare_schema.specs.SchemaView.{forms_view, form_groups_view}
-use Rattle.fv_constraint_tree.specs.Nodes.{Node}
-use Rattle.fv_constraint_tree.specs.Trees.{Tree}
-use Rattle.fv_declare_schema.specs.Groups.{Groups}
-use Rattle.fv_bundle.specs.Types.{Declared, too_many}
+use Rattle.fv_bundle.specs.Types.{too_many}
 use Rattle.fv_message.specs.Table.{all_messages}
 use Rattle.fv_bundle.specs.TypesView.{types_view}
 use Rattle.fv_message.specs.declared.fault.MessageFault.TheVariants.{Memory}
 use Rattle.fv_bundle.specs.Whereabouts.{large_at}
 use Rattle.fv_bundle.specs.declared.fault.TypesAt.{TypesAt}
 use Rattle.fv_bundle.specs.declared.types.Types.{Types}
-use Rattle.fv_declare_judging.specs.Judging.{AreLed, name_conditions, lacks_memory, placed_from}
+use Rattle.fv_declare_judging.specs.Judging.{AreLed, name_conditions, lacks_memory}
 use Rattle.fv_declare_judging.specs.Types.{types_declared}
 use Rattle.fv_declare_judging.specs.Wording.{IsFirstFault}
 use Rattle.fv_declare_judging.specs.WordingPlaces.{fault_told, limit_told, IsWordedAt, IsWordyAt}
-use Rattle.fv_declare_judging.specs.Schemas.{form_declared, form_grouped}
-use Rattle.fv_declare_judging.specs.declared.build.Numbers.{Numbers}
 use Rattle.fv_declare_judging.specs.declared.parts.Parts.{Parts}
 
 -- the types of a draft, or which of their limits they pass
@@ -49,12 +39,3 @@ pub record IsChecked (d : Drafted) (us : List DraftUse) (p : Parts) : Type 0 whe
 pub record IsWhole (p : Parts) : Type 0 where
   pub types : is_ok p.types ≡ true
   pub messages : fault_told p.wording ≡ None
-
--- what is said of a draft's uses, with these trees, of its sequences, of these cascades and of its forms, by the numbers of its types and
--- of these groups
-pub record IsNumbered (d : Drafted) (all : Declared) (gs : Groups) (us : List DraftUse) (cs : List Cascade) (ts : List (Tree Node)) (n : Numbers) : Type 0 where
-  pub occurrences : map placed_view n.occurrences.items ≡ placed_from gs 0 us ts
-  pub sequences : sequences_view n.sequences.items ≡ map (type_ranks gs) d.types
-  pub valid_places : map valid_place_view n.valid_places.items ≡ valid_places gs cs
-  pub forms : forms_view all n.forms ≡ map form_declared d.forms
-  pub form_groups : form_groups_view n.forms ≡ map (form_grouped gs) d.forms

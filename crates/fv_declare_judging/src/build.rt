@@ -15,18 +15,18 @@ ghost use Rattle.fv_declare_judging.specs.Conditions.{unknown_root, used_in};
 ghost use Rattle.fv_declare_judging.specs.Schemas.{form_declared, form_grouped, IsDeclared};
 ghost use Rattle.fv_declare_schema.specs.Fits.{fits};
 ghost use Rattle.fv_declare_judging.specs.Judging.{placed_from};
-ghost use Rattle.fv_declare_judging.specs.Parts.{IsChecked, IsWhole, IsNumbered};
+ghost use Rattle.fv_declare_judging.specs.Parts.{IsChecked, IsWhole};
 ghost use Rattle.fv_declare_schema.specs.PlacedView.{placed_view};
 ghost use Rattle.fv_declare_schema.specs.SchemaView.{forms_view, form_groups_view};
-ghost use Rattle.fv_declare_draft.specs.UseViews.{use_view, cascade_view};
+ghost use Rattle.fv_declare_draft.specs.UseViews.{use_view};
 
 use crate::fault::DeclFault;
 use crate::parts::Parts;
 use fv_bundle::{TypeId, Types};
 use fv_constraint_tree::Occurrence;
-use fv_declare_draft::{Cascade, Draft, FormDraft, Use};
+use fv_declare_draft::{Draft, FormDraft, Use};
 use fv_declare_groups::{Grouping, groups_named, sequences_of, valid_places};
-use fv_declare_schema::{Form, GroupId, Groups, Placed, Schema, ValidPlace};
+use fv_declare_schema::{Form, Groups, NumberedParts, Placed, Schema};
 use indexmap::IndexMap;
 use std::alloc::{AllocError, Global};
 
@@ -85,45 +85,6 @@ fn forms_for(
     Ok(declared)
 }
 
-/// What a schema has beside the types, groups and messages, in which types and groups stand by their
-/// numbers.
-#[derive(Drop)]
-struct Numbers {
-    occurrences: Vec<Placed>,
-    sequences: Vec<Option<Vec<GroupId>>>,
-    valid_places: Vec<ValidPlace>,
-    forms: IndexMap<String, Form>,
-}
-
-/// What a draft says of uses, sequences, valid places and forms, by the numbers of types and groups.
-fn numbered(
-    alloc: Global,
-    draft: &Draft,
-    uses: &[Use],
-    types: &Types,
-    groups: &Groups,
-    cascades: &[Cascade],
-    trees: Vec<Occurrence>,
-) -> Result<Numbers, DeclFault>
-    requires known { unknown_root (types_view types.now) (draft_view draft.now).forms ≡ false }
-    requires each { length trees.items ≡ length uses.now }
-    requires few { count_nodes trees.items ≤ 1024 }
-    ensures taken { IfOk result (λ n. IsNumbered (draft_view draft.now) (types_view types.now) groups.now
-        (map use_view uses.now) (map cascade_view cascades.now) trees.items n) }
-    ensures refused { IfErr result (λ f. f ≡ DeclFault.Memory) }
-{
-    let occurrences = place_all(alloc, groups, uses, trees)?;
-    let sequences = sequences_of(alloc, groups, &draft.types)?;
-    let valid_places = valid_places(alloc, groups, cascades)?;
-    let forms = forms_for(alloc, types, groups, &draft.forms)?;
-    Ok(Numbers {
-        occurrences,
-        sequences,
-        valid_places,
-        forms,
-    })
-}
-
 /// The schema that a draft without fault declares, of its parts and of the trees of its uses.
 pub(crate) fn build(
     alloc: Global,
@@ -150,14 +111,11 @@ pub(crate) fn build(
     let Ok(groups) = graph.finish(alloc) else {
         return Err(DeclFault::Memory);
     };
-    let numbered = numbered(alloc, draft, uses, &types, &groups, &cascades, trees)?;
-    Ok(Schema::new(
-        types,
-        numbered.occurrences,
-        numbered.forms,
-        groups,
-        numbered.sequences,
-        numbered.valid_places,
-        messages,
-    ))
+    let numbered = NumberedParts {
+        occurrences: place_all(alloc, &groups, uses, trees)?,
+        forms: forms_for(alloc, &types, &groups, &draft.forms)?,
+        sequences: sequences_of(alloc, &groups, &draft.types)?,
+        valid_places: valid_places(alloc, &groups, &cascades)?,
+    };
+    Ok(Schema::new(types, groups, messages, numbered))
 }

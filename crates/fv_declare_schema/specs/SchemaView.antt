@@ -1,19 +1,17 @@
 -- The declarations that a schema stands for.
-use Rattle.std.specs.Prelude.{ℕ, List, map, Option, String, Vec, string_bytes}
+use Rattle.std.specs.Prelude.{ℕ, List, map, String, string_bytes}
 use Rattle.std.specs.declared.alloc.Global.{Global}
 use Rattle.fv_bundle.specs.Types.{Declared, TextMap, name_at}
 use Rattle.fv_bundle.specs.TypesView.{types_view}
 use Rattle.fv_declare_schema.specs.NumberViews.{sequences_view, valid_place_view}
-use Rattle.fv_declare_schema.specs.declared.valid_place.ValidPlace as places
 use Rattle.fv_declare_schema.specs.Groups.{Groups}
 use Rattle.fv_declare_schema.specs.Tables.{indices}
-use Rattle.fv_declare_schema.specs.declared.declared.GroupId.{GroupId}
 use Rattle.fv_message.specs.Table.{Messages}
 use Rattle.fv_bundle.specs.declared.types.Types.{Types}
 use Rattle.fv_declare_schema.specs.Declarations.{Declarations}
 use Rattle.fv_declare_schema.specs.PlacedView.{placed_view}
-use Rattle.fv_declare_schema.specs.declared.placed.Placed.{Placed}
 use Rattle.fv_declare_schema.specs.declared.schema.Form.{Form}
+use Rattle.fv_declare_schema.specs.declared.schema.NumberedParts.{NumberedParts}
 
 -- a form's name and its root's type by name
 abbrev pub form_entry : Declared → String Global × Form → List ℕ × List ℕ
@@ -31,16 +29,15 @@ form_groups_entry e = (string_bytes e.0, indices e.1.groups.items)
 abbrev pub form_groups_view : TextMap Form → List (List ℕ × List ℕ)
 form_groups_view m = map form_groups_entry m.entries
 
--- the declarations by the types, the occurrences, the forms, the groups, the types' sequences, the places whose objects are validated and
--- the messages
-abbrev pub declared_by : Types → List Placed → TextMap Form → Groups → List (Option (Vec GroupId Global)) → List places.ValidPlace → Messages → Declarations
-declared_by types occurrences forms groups sequences valid_places messages = record {
+-- the declarations by the types, the groups, the messages and the parts that name types and groups by their numbers
+abbrev pub declared_by : Types → Groups → Messages → NumberedParts → Declarations
+declared_by types groups messages n = record {
   types = types_view types;
-  occurrences = map placed_view occurrences;
-  forms = forms_view (types_view types) forms;
+  occurrences = map placed_view n.occurrences.items;
+  forms = forms_view (types_view types) n.forms;
   groups = groups;
-  form_groups = form_groups_view forms;
-  sequences = sequences_view sequences;
-  valid_places = map valid_place_view valid_places;
+  form_groups = form_groups_view n.forms;
+  sequences = sequences_view n.sequences.items;
+  valid_places = map valid_place_view n.valid_places.items;
   messages = messages;
 }

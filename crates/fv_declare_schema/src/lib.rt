@@ -29,5 +29,5 @@ pub use place::Place;
 pub use placed::Placed;
 pub use ranking::add_new;
 pub use rings::{inheritance_ring, sequence_ring};
-pub use schema::{Form, Schema};
+pub use schema::{Form, NumberedParts, Schema};
 pub use valid_place::{GroupConversion, ValidPlace};

@@ -32,23 +32,29 @@ pub struct Form {
     pub groups: Vec<GroupId>,
 }
 
+/// What of declarations names types and groups by their numbers.
+#[derive(Drop)]
+pub struct NumberedParts {
+    /// The uses of constraints, each at its number: by types, in a type those at itself and then by
+    /// fields, in a field those at it and then those inside it.
+    pub occurrences: Vec<Placed>,
+    /// The forms by their names.
+    pub forms: IndexMap<String, Form>,
+    /// For each type the ranks of the sequence that redefines `Default` for it, if there is one.
+    pub sequences: Vec<Option<Vec<GroupId>>>,
+    /// The places whose objects are validated: by types, in a type by fields, in a field from the
+    /// outermost place inwards.
+    pub valid_places: Vec<ValidPlace>,
+}
+
 /// What declarations declare. Contracts see it as the declarations.
 #[derive(Drop)]
 pub struct Schema {
     types: Types,
-    /// The uses of constraints, each at its number: by types, in a type those at itself and then by
-    /// fields, in a field those at it and then those inside it.
-    occurrences: Vec<Placed>,
-    /// The forms by their names.
-    forms: IndexMap<String, Form>,
     groups: Groups,
-    /// For each type the ranks of the sequence that redefines `Default` for it, if there is one.
-    sequences: Vec<Option<Vec<GroupId>>>,
-    /// The places whose objects are validated: by types, in a type by fields, in a field from the
-    /// outermost place inwards.
-    valid_places: Vec<ValidPlace>,
     /// The messages by their keys.
     messages: Messages,
+    numbered: NumberedParts,
 }
 
 impl Model for Schema {
@@ -65,39 +71,24 @@ impl Model for Schema {
 
     ghost coded = { Prim.hlevel (codes, type_use_code, tree_code {N = Node} (Prim.hlevel (codes, pattern_code))) };
 
-    ghost view = { λ s.
-        declared_by s.types s.occurrences.items s.forms s.groups s.sequences.items s.valid_places.items s.messages };
+    ghost view = { λ s. declared_by s.types s.groups s.messages s.numbered };
 
-    ghost invariant = { λ s.
-        AreOrdered (declared_by s.types s.occurrences.items s.forms s.groups s.sequences.items s.valid_places.items s.messages) };
+    ghost invariant = { λ s. AreOrdered (declared_by s.types s.groups s.messages s.numbered) };
 }
 
 impl Schema {
     ghost use Rattle.fv_declare_schema.specs.SchemaView.{declared_by, form_groups_view, forms_view};
 
-    /// What these parts declare: the types, the uses of constraints, the forms by their names, the
-    /// groups, the ranks of each type's sequence, the places whose objects are validated, and the
-    /// messages.
-    pub fn new(
-        types: Types,
-        occurrences: Vec<Placed>,
-        forms: IndexMap<String, Form>,
-        groups: Groups,
-        sequences: Vec<Option<Vec<GroupId>>>,
-        valid_places: Vec<ValidPlace>,
-        messages: Messages,
-    ) -> Schema
-        requires { AreOrdered (declared_by types occurrences.items forms groups sequences.items valid_places.items messages) }
-        ensures { result ≡ declared_by types occurrences.items forms groups sequences.items valid_places.items messages }
+    /// What these types, groups and messages declare, with the parts that name them by their numbers.
+    pub fn new(types: Types, groups: Groups, messages: Messages, numbered: NumberedParts) -> Schema
+        requires { AreOrdered (declared_by types groups messages numbered) }
+        ensures { result ≡ declared_by types groups messages numbered }
     {
         Schema {
             types,
-            occurrences,
-            forms,
             groups,
-            sequences,
-            valid_places,
             messages,
+            numbered,
         }
     }
 
@@ -113,7 +104,7 @@ impl Schema {
         ensures uses { map placed_view result.now ≡ self.now.occurrences }
         ensures ordered { AreOrdered self.now }
     {
-        &self.occurrences
+        &self.numbered.occurrences
     }
 
     /// The forms by their names.
@@ -121,14 +112,14 @@ impl Schema {
         ensures roots { forms_view self.now.types result.now ≡ self.now.forms }
         ensures groups { form_groups_view result.now ≡ self.now.form_groups }
     {
-        &self.forms
+        &self.numbered.forms
     }
 
     /// The type of a form's root.
     pub fn root_of(&self, form: &str) -> Option<TypeId>
         ensures { option_map (λ t. name_at self.now.types t.index) result ≡ at_name form.now self.now.forms }
     {
-        match self.forms.get(form) {
+        match self.numbered.forms.get(form) {
             None => None,
             Some(found) => Some(found.root),
         }
@@ -139,7 +130,7 @@ impl Schema {
         ensures groups { option_map (λ g. indices g.now) result ≡ at_name form.now self.now.form_groups }
         ensures within { IfSome result (λ g. AreGroups self.now.groups (indices g.now)) }
     {
-        match self.forms.get(form) {
+        match self.numbered.forms.get(form) {
             None => None,
             Some(found) => Some(&found.groups),
         }
@@ -158,7 +149,7 @@ impl Schema {
         ensures { option_map (λ g. indices g.now) result
             ≡ option_and_then (λ ranks. ranks) (slice_get self.now.sequences type_id.index) }
     {
-        match self.sequences.get(type_id.index) {
+        match self.numbered.sequences.get(type_id.index) {
             Some(Some(ranks)) => Some(ranks),
             _ => None,
         }
@@ -168,7 +159,7 @@ impl Schema {
     pub fn valid_places(&self) -> &[ValidPlace]
         ensures { map valid_place_view result.now ≡ self.now.valid_places }
     {
-        &self.valid_places
+        &self.numbered.valid_places
     }
 
     /// The places of a type whose objects are validated, in order.
@@ -176,7 +167,7 @@ impl Schema {
         ensures places { map valid_place_view result.now ≡ filter (λ p. nat_eq p.type type_id.index) self.now.valid_places }
         ensures ordered { AreOrdered self.now }
     {
-        let places = self.valid_places.as_slice();
+        let places = self.numbered.valid_places.as_slice();
         let first = places.partition_point(|place| place.type_index < type_id.index);
         let (_, rest) = places.split_at(first);
         let count = rest.partition_point(|place| place.type_index <= type_id.index);
@@ -194,7 +185,7 @@ impl Schema {
     pub fn fits<R: RuleSet>(&self, rules: &R) -> bool
         ensures { result ≡ fits (R.known rules.now) self.now }
     {
-        all_fit(rules, &self.occurrences)
+        all_fit(rules, &self.numbered.occurrences)
     }
 }
 

@@ -14,13 +14,13 @@ pub returns-in-None-clause-groups : goal.returns-in-None-clause-groups
 returns-in-None-clause-groups c =
     let s = c.self.inside in
     rw (← c.self.view_is) (ap (option_map (λ (x : Bor Form). indices x.now.groups.items)) (sym c.in-None.is)
-    ∙ found_in (λ (x : Form). indices x.groups.items) c.args.form.now s.forms.entries c.get.result c.get.ensures.value)
+    ∙ found_in (λ (x : Form). indices x.groups.items) c.args.form.now s.numbered.forms.entries c.get.result c.get.ensures.value)
 
 pub returns-in-Some-clause-groups : goal.returns-in-Some-clause-groups
 returns-in-Some-clause-groups c =
     let s = c.self.inside in
     rw (← c.self.view_is) (ap (λ (gs : List GroupId). Some (indices gs)) c.deref.ensures.value ∙ ap (option_map (λ (x : Bor Form). indices x.now.groups.items)) (sym c.in-Some.is)
-    ∙ found_in (λ (x : Form). indices x.groups.items) c.args.form.now s.forms.entries c.get.result c.get.ensures.value)
+    ∙ found_in (λ (x : Form). indices x.groups.items) c.args.form.now s.numbered.forms.entries c.get.result c.get.ensures.value)
 
 pub returns-in-Some-clause-within : goal.returns-in-Some-clause-within
 returns-in-Some-clause-within c =

@@ -10,11 +10,11 @@ returns-in-None c =
     let s = c.self.inside in
     let ts = types_view s.types in
     rw (← c.self.view_is) (ap (option_map (λ (x : Bor Form). name_at ts x.now.root.index)) (sym c.in-None.is)
-    ∙ found_in (λ (x : Form). name_at ts x.root.index) c.args.form.now s.forms.entries c.get.result c.get.ensures.value)
+    ∙ found_in (λ (x : Form). name_at ts x.root.index) c.args.form.now s.numbered.forms.entries c.get.result c.get.ensures.value)
 
 pub returns-in-Some : goal.returns-in-Some
 returns-in-Some c =
     let s = c.self.inside in
     let ts = types_view s.types in
     rw (← c.self.view_is) (ap (option_map (λ (x : Bor Form). name_at ts x.now.root.index)) (sym c.in-Some.is)
-    ∙ found_in (λ (x : Form). name_at ts x.root.index) c.args.form.now s.forms.entries c.get.result c.get.ensures.value)
+    ∙ found_in (λ (x : Form). name_at ts x.root.index) c.args.form.now s.numbered.forms.entries c.get.result c.get.ensures.value)
