@@ -1,4 +1,4 @@
-ghost use Rattle.std.specs.Prelude.{◌≡◌, ◌≢◌, ℕ, List, [], ◌++◌, Option, OnOk, OnErr, IsErrOf, ◌<◌, ◌≤◌, length};
+ghost use Rattle.std.specs.Prelude.{◌≡◌, ◌≢◌, ℕ, List, [], ◌++◌, Option, OnOk, OnErr, IsErrOf, ◌<◌, length};
 ghost use Rattle.std.specs.Io.KnownBytes.{Appends, Consumes, IsAtEnd};
 ghost use Rattle.fv_datum.specs.Moments.{IsMoment};
 ghost use Rattle.fv_engine_lines.specs.Buffering.{kept, Buffered, Broken, Taken};
@@ -166,10 +166,7 @@ fn read_once<P: Responder, R: Input, W: Write, C: Clock>(
     writer: &mut W,
     clock: &mut C,
     line: &mut Line,
-    chunk: &mut [u8],
 ) -> Turn
-    requires some { 0 < length chunk.old }
-    requires few { length chunk.old ≤ 4096 }
     ensures read { R.reads reader.old reader.new }
     ensures end { result ≡ Turn.End → IsAtEnd (R.remaining reader.new) }
     ensures more { result ≡ Turn.More → (bytes : List ℕ) × (0 < length bytes)
@@ -181,7 +178,8 @@ fn read_once<P: Responder, R: Input, W: Write, C: Clock>(
         Taken P.step C.ticks r (R.remaining reader.old) line.old start (responder.old, clock.old, W.contents writer.old) →
         Stopped P.step C.ticks r (R.remaining reader.new) start (responder.new, clock.new, W.contents writer.new) }
 {
-    match reader.fill(chunk) {
+    let mut chunk = [0u8; 4096];
+    match reader.fill(&mut chunk) {
         Err(_) => Turn::ReadFailed,
         Ok(0) => Turn::End,
         Ok(count) => match take_bytes(alloc, responder, writer, clock, line, &chunk[..count]) {
@@ -215,9 +213,8 @@ fn serve_lines<P: Responder, R: Input, W: Write, C: Clock>(
         (responder.old, clock.old, W.contents writer.old) (responder.new, clock.new, W.contents writer.new) }
     ensures memory { IsErrOf result ServeFault.Memory → ⊥ }
 {
-    let mut chunk = [0u8; 4096];
     for _turn in 0..READS {
-        match read_once(alloc, responder, reader, writer, clock, line, &mut chunk) {
+        match read_once(alloc, responder, reader, writer, clock, line) {
             Turn::More => {}
             Turn::End => {
                 return match finish(alloc, responder, writer, clock, line) {

@@ -4,7 +4,9 @@ use fv_bundle::{Bundle, TypeUse};
 use fv_datum::{object_at, text_at};
 use fv_explain_faults::{Found, Named, Untold, Written, say};
 use fv_model::BundleFault;
-use fv_model_fault::{FaultPlace, Inner, SetPlace, place_in_bundle, place_in_set, place_in_value};
+use fv_model_fault::{
+    DatumSet, FaultPlace, Inner, SetPlace, place_in_bundle, place_in_set, place_in_value,
+};
 use indexmap::IndexMap;
 use serde_json::Value;
 
@@ -78,17 +80,16 @@ fn push_datum(out: &mut Found, at: &FaultPlace, own: &str, fault: BundleFault) -
 pub(crate) fn set_words(
     out: &mut Words,
     bundle: &Bundle,
-    (object, field): (&str, &str),
-    value: &Value,
+    set: &DatumSet,
     fault: BundleFault,
 ) -> Written {
     let types = out.schema.types();
-    let place = place_in_set(out.found.alloc, types, bundle, object, field, value, fault)?;
+    let place = place_in_set(out.found.alloc, types, bundle, set, fault)?;
     match place.ok_or(Untold::Absent)? {
-        SetPlace::Object => no_object(&mut out.found, bundle, object),
-        SetPlace::Field => no_field(out, bundle, object, field),
+        SetPlace::Object => no_object(&mut out.found, bundle, set.object),
+        SetPlace::Field => no_field(out, bundle, set.object, set.field),
         SetPlace::Datum(place) => {
-            to_field(&mut out.found, "object", object, field)?;
+            to_field(&mut out.found, "object", set.object, set.field)?;
             let named = bundle.object(place.value.as_str().unwrap_or(""));
             let own = named.map_or("", |object| object.type_name());
             push_datum(&mut out.found, &place, own, fault)

@@ -8,6 +8,7 @@ use fv_datum::text_at;
 use fv_declare_schema::{GroupId, Schema};
 use fv_explain_faults::{Found, Named, Told, Untold, Written, say};
 use fv_model::BundleFault;
+use fv_model_fault::DatumSet;
 use serde_json::Value;
 
 /// The most names that are listed.
@@ -144,5 +145,10 @@ pub(crate) fn data_words(
         return value_words(out, (type_name, field), value, fault);
     }
     let (bundle, object) = (stored.ok_or(Untold::Absent)?, text_in(command, "object")?);
-    set_words(out, bundle, (object, field), value, fault)
+    let set = DatumSet {
+        object,
+        field,
+        value,
+    };
+    set_words(out, bundle, &set, fault)
 }

@@ -25,7 +25,7 @@ use Rattle.fv_walk.specs.FailureView as told
 use Rattle.fv_walk.specs.declared.failure.Failure.{Failure}
 use Rattle.fv_listing.specs.Arrivals.{Arrival}
 use Rattle.fv_listing.specs.Courses.{bundle_in, judging}
-use Rattle.fv_listing.specs.Listed.{AreLocal, IsFailingAt, AddsFailing, AreFailing, IsHidden, IsToldOf, Tells, TellsOpen, AreTold}
+use Rattle.fv_listing.specs.Listed.{AreLocal, IsFailingAt, AddsFailing, AreFailing, IsHidden, IsToldOf, Tells, AreTold}
 use Rattle.fv_listing.specs.Turns.{turns_view}
 use Rattle.fv_listing.specs.Visits.{visit_view}
 use Rattle.fv_listing.specs.declared.course.Course.{Course}
@@ -135,6 +135,10 @@ seen_at f (y ∷ xs) zero x less is = inl (ap f (sym is))
 seen_at f (y ∷ xs) (suc k) x less is = inr (seen_at f xs k x (omega arith) is)
 
 -- ---- what is told
+
+-- what fails at a visit is told, unless failing turns shadow it
+pub record TellsOpen (request : GraphRequest) (failing : List Turns) (a : Arrival) (before after : List Violation) : Type 0 where
+  pub exact : (some : List Arrival) → AreTold request failing some before → AreTold request failing (some ++ a ∷ []) after
 
 module _ (request : GraphRequest) where
   -- what fails at a visit, as it is told by another request

@@ -45,10 +45,6 @@ pub record Tells (request : GraphRequest) (a : Arrival) (before after : List Vio
 pub record AreTold (request : GraphRequest) (failing : List Turns) (some : List Arrival) (vs : List Violation) : Type 0 where
   pub exact : (v : Violation) → IsIn vs v ↔ ((a : Arrival) × IsIn some a × (IsHidden failing a.turns → ⊥) × IsToldOf request a v)
 
--- what fails at a visit is told, unless failing turns shadow it
-pub record TellsOpen (request : GraphRequest) (failing : List Turns) (a : Arrival) (before after : List Violation) : Type 0 where
-  pub exact : (some : List Arrival) → AreTold request failing some before → AreTold request failing (some ++ a ∷ []) after
-
 -- exactly the violations
 pub record AreViolations (request : GraphRequest) (vs : List Violation) : Type 0 where
   pub exact : (v : Violation) → IsIn vs v ↔ IsViolation request v

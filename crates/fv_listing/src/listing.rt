@@ -13,7 +13,7 @@ ghost use Rattle.fv_walk_traces.specs.Violations.{Violation, IsViolation, value_
 ghost use Rattle.fv_walk.specs.FailureView.{failure_view};
 ghost use Rattle.fv_listing.specs.Arrivals.{IsArrival};
 ghost use Rattle.fv_listing.specs.Courses.{IsSound, visiting, judging, bundle_in, objects_in, groups_in};
-ghost use Rattle.fv_listing.specs.Listed.{AreLocal, IsFailingAt, AddsFailing, AreFailing, IsHidden, Tells, TellsOpen, AreTold, AreViolations};
+ghost use Rattle.fv_listing.specs.Listed.{AreLocal, IsFailingAt, AddsFailing, AreFailing, IsHidden, Tells, AreTold, AreViolations};
 ghost use Rattle.fv_listing.specs.Turns.{turns_view};
 ghost use Rattle.fv_listing.specs.Visits.{visit_view, IsWithin};
 
@@ -186,31 +186,6 @@ fn tell<R: RuleSet>(
     Ok(())
 }
 
-/// Adds what fails at a visit, unless one of these lists of turns shadows it.
-fn tell_open<R: RuleSet>(
-    alloc: Global,
-    failures: &mut Vec<Failure>,
-    course: &Course,
-    rulebook: &Rulebook<R>,
-    failing: &[Vec<Turn>],
-    visit: &Visit,
-    now: i64,
-) -> Result<(), AllocError>
-    requires moment { IsMoment now }
-    requires sound { IsSound course.now }
-    requires same { rulebook.now ≡ course.now.schema.now }
-    requires within { IsWithin (objects_in course.now) (groups_in course.now) visit.now }
-    requires arrival { IsArrival (visiting course.now) (visit_view visit.now) }
-    ensures { OnOk result (TellsOpen (judging R.meaning now course.now) (map turns_view failing.now) (visit_view visit.now)
-        (map failure_view failures.old.items) (map failure_view failures.new.items)) }
-{
-    if is_hidden(failing, visit) {
-        return Ok(());
-    }
-    tell(alloc, failures, course, rulebook, visit, now)?;
-    Ok(())
-}
-
 /// What fails at the visits that none of these lists of turns shadows.
 fn told_of<R: RuleSet>(
     alloc: Global,
@@ -230,7 +205,9 @@ fn told_of<R: RuleSet>(
 {
     let mut failures = Vec::new(alloc);
     for visit in visits {
-        tell_open(alloc, &mut failures, course, rulebook, failing, visit, now)?;
+        if !is_hidden(failing, visit) {
+            tell(alloc, &mut failures, course, rulebook, visit, now)?;
+        }
     }
     Ok(failures)
 }

@@ -11,6 +11,6 @@ mod placing;
 mod search;
 mod setting;
 
-pub use place::{FaultPlace, Inner, SetPlace};
+pub use place::{DatumSet, FaultPlace, Inner, SetPlace};
 pub use placing::{place_in_bundle, place_in_value};
 pub use setting::place_in_set;

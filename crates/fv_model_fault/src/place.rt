@@ -25,6 +25,14 @@ pub struct FaultPlace<'t, 'a> {
     pub type_use: Option<&'t TypeUse>,
 }
 
+/// A set of a bundle's datum: this value in the field of that name of the object of that name.
+#[derive(Clone, Copy)]
+pub struct DatumSet<'a> {
+    pub object: &'a str,
+    pub field: &'a str,
+    pub value: &'a Value,
+}
+
 /// Where a set of a bundle's datum has a fault.
 #[derive(Drop)]
 pub enum SetPlace<'t, 'a> {

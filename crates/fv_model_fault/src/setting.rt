@@ -10,12 +10,11 @@ ghost use Rattle.fv_bundle.specs.Names.{object_types_view};
 ghost use Rattle.fv_bundle.specs.Types.{type_use_view};
 ghost use Rattle.fv_bundle.specs.TypesView.{types_view};
 
-use crate::place::SetPlace;
+use crate::place::{DatumSet, SetPlace};
 use crate::placing::place_in_value;
 use fv_bundle::{Bundle, Objects, TypeNames, TypeUse, Types, use_in};
 use fv_model::BundleFault;
 use indexmap::IndexMap;
-use serde_json::Value;
 use std::alloc::{AllocError, Global};
 
 /// What the field of that name of a type holds.
@@ -51,23 +50,21 @@ pub fn place_in_set<'t, 'a>(
     alloc: Global,
     types: &'t Types,
     bundle: &Bundle,
-    object: &str,
-    field: &str,
-    value: &'a Value,
+    set: &DatumSet<'a>,
     fault: BundleFault,
 ) -> Result<Option<SetPlace<'t, 'a>>, AllocError>
     ensures placed { IfOk result (λ r. IfSome r (λ p. IsInSet (types_view types.now) (bundle_view bundle.now)
-        object.now field.now (json_view value.now) fault (set_place_view p))) }
+        set.now.object.now set.now.field.now (json_view set.now.value.now) fault (set_place_view p))) }
     ensures found { IfOk result (λ r. bundle_set (types_view types.now) (bundle_view bundle.now)
-        object.now field.now (json_view value.now) ≡ Err fault → IsSome r) }
+        set.now.object.now set.now.field.now (json_view set.now.value.now) ≡ Err fault → IsSome r) }
 {
-    let Some(found) = bundle.object(object) else {
+    let Some(found) = bundle.object(set.object) else {
         return Ok(absent(fault == BundleFault::NoObject, SetPlace::Object));
     };
-    let Some(type_use) = use_of(types, found.type_name(), field) else {
+    let Some(type_use) = use_of(types, found.type_name(), set.field) else {
         return Ok(absent(fault == BundleFault::UnknownField, SetPlace::Field));
     };
     let names = object_types(alloc, bundle.objects())?;
-    let place = place_in_value(alloc, type_use, &names, value, fault)?;
+    let place = place_in_value(alloc, type_use, &names, set.value, fault)?;
     Ok(place.map(SetPlace::Datum))
 }
