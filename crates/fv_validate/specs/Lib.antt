@@ -1,4 +1,5 @@
 pub mod FaultNames
+pub mod FieldValues
 pub mod Listing
 pub mod Values
 pub mod ViolationView

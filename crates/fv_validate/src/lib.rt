@@ -6,6 +6,7 @@
 pub mod by_id;
 mod by_name;
 mod fault;
+mod field_value;
 mod fields;
 mod listing;
 mod node;
@@ -14,4 +15,5 @@ mod violation;
 
 pub use by_name::{validate, validate_property, validate_value};
 pub use fault::ValidateFault;
+pub use field_value::FieldValue;
 pub use violation::{Judged, Violation};
