@@ -15,7 +15,7 @@ use Rattle.fv_walk.specs.Stacks.{IsGood, SkipsWays, on_way, path_on, what_owes, 
 use Rattle.fv_walk.specs.Walks as walk
 use Rattle.fv_walk.specs.declared.course.Course.{Course}
 use Rattle.fv_walk.specs.declared.frame.Frame.{Frame}
-use Rattle.fv_walk.specs.declared.frame.Visit.{Visit}
+use Rattle.fv_walk.specs.declared.frame.GroupVisit.{GroupVisit}
 use Rattle.fv_walk.specs.declared.walking.Judge.{Judge}
 use Rattle.fv_walk.specs.declared.walking.Walked.{Walked}
 
@@ -73,13 +73,13 @@ module _ {R : Type 0} where
   asked_of m j = judging m j.moment j.course
 
   -- what is entered and found of a visit's object itself above a stack, in the group that is carried there
-  abbrev pub entering : Meanings → Judge R → List Frame → Visit → List (Event Reached)
+  abbrev pub entering : Meanings → Judge R → List Frame → GroupVisit → List (Event Reached)
   entering m j below v =
       Entered ∷ own_log (judging m j.moment j.course) (objects_in j.course) (path_on (visiting j.course) below) v.object
       (carried_at (visiting j.course) v.group.index v.rank)
 
   -- the frame that is put on the stack there
-  abbrev pub entered_frame : Meanings → Judge R → Visit → Frame
+  abbrev pub entered_frame : Meanings → Judge R → GroupVisit → Frame
   entered_frame m j v = fresh_frame (judging m j.moment j.course) (objects_in j.course) v.object v.group v.rank
 
   -- what a stack still owes
