@@ -97,25 +97,26 @@ fn changes_of(
     }
 }
 
-/// Stores what stands on the way: one object alone, where its name is given.
-fn keep<S: Alter>(
-    store: &mut Store<S>,
-    alloc: Global,
-    pending: Pending,
-    object: Option<&str>,
+/// What is told of parts that are taken; and the object that is written alone, where they are one set.
+#[derive(Clone, Copy)]
+struct Taken<'a> {
+    object: Option<&'a str>,
     done: Done,
-) -> Answer
+}
+
+/// Stores what stands on the way: one object alone, where its name is given.
+fn keep<S: Alter>(store: &mut Store<S>, alloc: Global, pending: Pending, taken: &Taken) -> Answer
     ensures frame { Frame (state S.Store store.old) (state S.Store store.new) }
     ensures text { store.new.text ≡ store.old.text }
     ensures moves { (ds : Declarations) (bytes : _) (m : _) → AreTyped ds.types (pending_view pending.entry)
         → FitsWhereHeld (state S.Store store.old) (contents bytes ds m) (pending_view pending.entry)
-        → IsOneSet (option_map (λ s. s.now) object.entry) (pending_view pending.entry) m
-        → Moves (state S.Store) ds bytes m store.old store.new (λ x y. Keeps (rows_on (option_map (λ s. s.now) object.entry) (pending_view pending.entry)) (pending_view pending.entry) done x (answer_view result) y) }
+        → IsOneSet (option_map (λ s. s.now) taken.now.object) (pending_view pending.entry) m
+        → Moves (state S.Store) ds bytes m store.old store.new (λ x y. Keeps (rows_on (option_map (λ s. s.now) taken.now.object) (pending_view pending.entry)) (pending_view pending.entry) taken.now.done x (answer_view result) y) }
 {
-    match changes_of(alloc, pending, object) {
+    match changes_of(alloc, pending, taken.object) {
         Err(_) => Answer::Refused(Refusal::Memory),
         Ok(changes) => match store.commit(alloc, &changes) {
-            Ok(()) => Answer::Done(done),
+            Ok(()) => Answer::Done(taken.done),
             Err(fault) => Answer::Refused(undone(fault)),
         },
     }
@@ -128,8 +129,7 @@ fn settle<R: RuleSet, S: Alter>(
     alloc: Global,
     book: &Rulebook<R>,
     pending: Pending,
-    object: Option<&str>,
-    done: Done,
+    taken: &Taken,
     now: i64,
 ) -> Answer
     requires moment { IsMoment now }
@@ -137,14 +137,14 @@ fn settle<R: RuleSet, S: Alter>(
     ensures frame { Frame (state S.Store store.old) (state S.Store store.new) }
     ensures text { store.new.text ≡ store.old.text }
     ensures moves { (bytes : _) (m : _) → FitsWhereHeld (state S.Store store.old) (contents bytes book.now m) (pending_view pending.entry)
-        → IsOneSet (option_map (λ s. s.now) object.entry) (pending_view pending.entry) m
+        → IsOneSet (option_map (λ s. s.now) taken.now.object) (pending_view pending.entry) m
         → Moves (state S.Store) book.now bytes m store.old store.new
-        (λ x y. Settles R.meaning now (rows_on (option_map (λ s. s.now) object.entry) (pending_view pending.entry)) (pending_view pending.entry) done x (answer_view result) y) }
+        (λ x y. Settles R.meaning now (rows_on (option_map (λ s. s.now) taken.now.object) (pending_view pending.entry)) (pending_view pending.entry) taken.now.done x (answer_view result) y) }
 {
     match judge(alloc, book, &pending, now) {
         Err(fault) => Answer::Refused(unjudged(fault)),
         Ok(records) => if records.is_empty() {
-            keep(store, alloc, pending, object, done)
+            keep(store, alloc, pending, taken)
         } else {
             Answer::Violated { records }
         },
@@ -180,6 +180,12 @@ pub(crate) fn change<R: RuleSet, S: Alter>(
     };
     match apply_all(&mut pending, alloc, schema.types(), steps) {
         Err((part, fault)) => unmade(done, part, fault),
-        Ok(()) => settle(store, alloc, book, pending, set_object(parts), done, now),
+        Ok(()) => {
+            let taken = Taken {
+                object: set_object(parts),
+                done,
+            };
+            settle(store, alloc, book, pending, &taken, now)
+        }
     }
 }

@@ -28,7 +28,7 @@ pub data Staged : Type 0 where
 -- the part that a step of the code is
 abbrev pub step_view : Step → Staged
 step_view (Put id form bundle) = put_step id.now form.now (result_map_both bundle_view (λ e. e) bundle)
-step_view (Set id object field value) = set_step id.now object.now field.now (json_view value.now)
+step_view (Set step) = set_step step.id.now step.object.now step.field.now (json_view step.value.now)
 step_view (Remove id) = remove_step id.now
 
 -- a fault of a bundle is a part's

@@ -12,11 +12,10 @@ ghost use Rattle.std.specs.Result.{result_map_both};
 
 use crate::fault::PartFault;
 use crate::pending::Pending;
-use crate::step::Step;
+use crate::step::{SetStep, Step};
 use fv_bundle::{Bundle, Types};
 use fv_model::{BundleFault, set_field};
 use fv_store::Stored;
-use serde_json::Value;
 use std::alloc::Global;
 
 /// The fault of a part whose bundle, or the value for it, has a fault.
@@ -68,23 +67,27 @@ fn set<'a>(
     pending: &mut Pending<'a>,
     alloc: Global,
     types: &Types,
-    id: &'a str,
-    object: &str,
-    field: &str,
-    value: &Value,
+    step: &SetStep<'a>,
 ) -> Result<(), PartFault>
     ensures made { Gives PartFault.Memory (λ _. pending_view pending.new) result
-        (set_on (types_view types.now) id.now object.now field.now (json_view value.now) (pending_view pending.old)
-        (standing_at id.now (pending_view pending.old))) }
+        (set_on (types_view types.now) step.now.id.now step.now.object.now step.now.field.now (json_view step.now.value.now)
+        (pending_view pending.old) (standing_at step.now.id.now (pending_view pending.old))) }
     ensures keeps { OnOk result (Keeps (types_view types.now)
-        (set_step id.now object.now field.now (json_view value.now) ∷ []) (pending_view pending.old)
-        (pending_view pending.new)) }
+        (set_step step.now.id.now step.now.object.now step.now.field.now (json_view step.now.value.now) ∷ [])
+        (pending_view pending.old) (pending_view pending.new)) }
 {
-    let Some(mut stored) = pending.take(id) else {
+    let Some(mut stored) = pending.take(step.id) else {
         return Err(PartFault::NoRecord);
     };
-    match set_field(alloc, &mut stored.bundle, types, object, field, value) {
-        Ok(()) => leave(pending, id, Some(stored)),
+    match set_field(
+        alloc,
+        &mut stored.bundle,
+        types,
+        step.object,
+        step.field,
+        step.value,
+    ) {
+        Ok(()) => leave(pending, step.id, Some(stored)),
         Err(fault) => Err(part_fault(fault)),
     }
 }
@@ -114,12 +117,7 @@ fn apply<'a>(
 {
     match step {
         Step::Put { id, form, bundle } => put(pending, alloc, id, form, bundle),
-        Step::Set {
-            id,
-            object,
-            field,
-            value,
-        } => set(pending, alloc, types, id, object, field, value),
+        Step::Set(step) => set(pending, alloc, types, &step),
         Step::Remove { id } => remove(pending, id),
     }
 }

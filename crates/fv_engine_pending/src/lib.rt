@@ -21,4 +21,4 @@ pub use judging::{judge, judge_record};
 pub use pending::Pending;
 pub use reading::read_parts;
 pub use rejudging::{RejudgeFault, judge_all};
-pub use step::Step;
+pub use step::{SetStep, Step};

@@ -11,7 +11,7 @@ ghost use Rattle.serde_json.specs.View.{view as json_view};
 
 use crate::applying::part_fault;
 use crate::fault::PartFault;
-use crate::step::Step;
+use crate::step::{SetStep, Step};
 use fv_bundle::{Bundle, TypeId};
 use fv_declare_schema::Schema;
 use fv_engine_command::Part;
@@ -96,12 +96,12 @@ fn read_part<'a>(
             object,
             field,
             value,
-        } => Ok(Some(Step::Set {
+        } => Ok(Some(Step::Set(SetStep {
             id,
             object,
             field,
             value,
-        })),
+        }))),
         Part::Remove { id } => Ok(Some(Step::Remove { id })),
     }
 }

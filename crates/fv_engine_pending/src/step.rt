@@ -3,6 +3,15 @@ use crate::fault::PartFault;
 use fv_bundle::Bundle;
 use serde_json::Value;
 
+/// One datum of the record of an id is what a value spells.
+#[derive(Clone, Copy)]
+pub struct SetStep<'a> {
+    pub id: &'a str,
+    pub object: &'a str,
+    pub field: &'a str,
+    pub value: &'a Value,
+}
+
 /// A part of a command, its bundle read.
 #[derive(Drop)]
 pub enum Step<'a> {
@@ -12,13 +21,8 @@ pub enum Step<'a> {
         form: &'a str,
         bundle: Result<Bundle, PartFault>,
     },
-    /// One datum of the record is what a value spells.
-    Set {
-        id: &'a str,
-        object: &'a str,
-        field: &'a str,
-        value: &'a Value,
-    },
+    /// One datum changes.
+    Set(SetStep<'a>),
     /// The id's record goes.
     Remove {
         id: &'a str,

@@ -18,13 +18,13 @@ pub returns-in-Ok-commit-clause-moves : goal.returns-in-Ok-commit-clause-moves
 returns-in-Ok-commit-clause-moves g c = λ ds bytes m typed fits one.
     let done = rw c.deref.ensures.value at c.in-Ok-commit.ensures.done in
     let room = rw c.deref.ensures.value at c.in-Ok-commit.ensures.room in
-    moves_on (state g.S.Store) ds bytes m c.args.store.now c.commit.new.self _ (pending_view c.args.pending) c.args.done _ c.in-Ok-commit.ensures.frame c.in-Ok-commit.ensures.open done (c.in-Ok.ensures.after m one) (c.in-Ok.ensures.rows ds.types m typed one) room (c.in-Ok.ensures.fit ds.types ds.forms m one) fits
+    moves_on (state g.S.Store) ds bytes m c.args.store.now c.commit.new.self _ (pending_view c.args.pending) c.args.taken.now.done _ c.in-Ok-commit.ensures.frame c.in-Ok-commit.ensures.open done (c.in-Ok.ensures.after m one) (c.in-Ok.ensures.rows ds.types m typed one) room (c.in-Ok.ensures.fit ds.types ds.forms m one) fits
 
 pub returns-clause-moves : goal.returns-clause-moves
 returns-clause-moves g c = λ ds bytes m typed fits one.
     let rows = c.in-Ok.ensures.rows ds.types m typed one in
     let cause = rw c.deref.ensures.value at c.in-Err-commit.ensures.cause in
-    moves_not (state g.S.Store) ds bytes m c.args.store.now c.commit.new.self (λ x y. Keeps (rows_on (option_map (λ s. s.now) c.args.object) (pending_view c.args.pending)) (pending_view c.args.pending) c.args.done x (refused c.undone.result) y) c.in-Err-commit.ensures.frame (λ holds. c.in-Err-commit.ensures.undone (contents bytes ds m) holds) (λ holds. c.in-Err-commit.ensures.untouched) (λ clean holds stay. inr (
+    moves_not (state g.S.Store) ds bytes m c.args.store.now c.commit.new.self (λ x y. Keeps (rows_on (option_map (λ s. s.now) c.args.taken.now.object) (pending_view c.args.pending)) (pending_view c.args.pending) c.args.taken.now.done x (refused c.undone.result) y) c.in-Err-commit.ensures.frame (λ holds. c.in-Err-commit.ensures.undone (contents bytes ds m) holds) (λ holds. c.in-Err-commit.ensures.untouched) (λ clean holds stay. inr (
       c.undone.result,
       fails_so c.in-Err-commit.fault c.undone.result _ c.undone.ensures.store c.undone.ensures.memory (λ is room. cause clean is (contents bytes ds m) holds
           (room_for (state g.S.Store c.args.store.now).now (rows_of_all c.in-Ok.changes.items) (omega (arith, rows, room.0))) (c.in-Ok.ensures.short room.1)),

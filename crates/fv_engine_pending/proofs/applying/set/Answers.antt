@@ -15,13 +15,13 @@ use Rattle.fv_engine_pending.proofs.applying.set.Goals as goal
 pub returns-in-Ok-clause-keeps : goal.returns-in-Ok-clause-keeps
 returns-in-Ok-clause-keeps c =
     let types = types_view c.args.types.now in
-    let id = c.args.id.now in
+    let id = c.args.step.now.id.now in
     let way = pending_view c.args.pending.now in
     let less = pending_view c.take.new.self in
     let new = pending_view c.leave.new.pending in
     let k = stored_view c.in-Some.stored in
     let b = bundle_view c.set_field.new.bundle in
     let kept : Kept = record { form = k.form; bundle = b } in
-    where_made Memory new c.leave.result (Ok (left_at id (Some kept) less)) (Keeps types (set_step id c.args.object.now c.args.field.now (json_view c.args.value.now) ∷ []) way new) c.leave.ensures
-    (λ made. keeps_set types id c.args.object.now c.args.field.now (json_view c.args.value.now) way new k b c.in-Some.ensures.value c.set_field.ensures.well_typed c.set_field.ensures.root
+    where_made Memory new c.leave.result (Ok (left_at id (Some kept) less)) (Keeps types (set_step id c.args.step.now.object.now c.args.step.now.field.now (json_view c.args.step.now.value.now) ∷ []) way new) c.leave.ensures
+    (λ made. keeps_set types id c.args.step.now.object.now c.args.step.now.field.now (json_view c.args.step.now.value.now) way new k b c.in-Some.ensures.value c.set_field.ensures.well_typed c.set_field.ensures.root
     (subst (λ (w : Way). left_at id (Some kept) w ≡ new) c.in-Some.ensures.others (same_value (left_at id (Some kept) less) new made)))
