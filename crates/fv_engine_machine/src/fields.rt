@@ -25,7 +25,6 @@ use fv_local::Rulebook;
 use fv_model::{BundleFault, read_value};
 use fv_registry::RuleSet;
 use fv_store::Store;
-use fv_validate::FieldValue;
 use fv_validate::by_id::{validate_property, validate_value};
 use fv_walk::objects_are_of_their_types;
 use serde_json::Value;
@@ -157,12 +156,7 @@ fn datum_checked<R: RuleSet>(
     let Some(datum) = datum else {
         return Answer::Refused(Refusal::NoSuchField);
     };
-    let value = FieldValue {
-        type_name: at.type_name,
-        field: at.field,
-        datum,
-    };
-    match validate_value(alloc, book, &value, &asked, now) {
+    match validate_value(alloc, book, at.type_name, at.field, datum, &asked, now) {
         Ok(violations) => Answer::ValueChecked { violations },
         Err(fault) => Answer::Refused(unjudged(fault)),
     }

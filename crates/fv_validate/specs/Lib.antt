@@ -1,5 +1,4 @@
 pub mod FaultNames
-pub mod FieldValues
 pub mod Listing
 pub mod Values
 pub mod ViolationView

@@ -1,11 +1,12 @@
 //! The violations of a bundle, or in one field, for groups by their names.
 ghost use Rattle.std.specs.Prelude.{◌≡◌, ◌≢◌, None, true, false, is_some, map, string_bytes, IfOk, IfErr, OnOk};
 ghost use Rattle.fv_datum.specs.Moments.{IsMoment};
+ghost use Rattle.fv_datum.specs.View.{view};
 ghost use Rattle.fv_declare_schema.specs.Groups.{numbers_of};
 ghost use Rattle.fv_declare_schema.specs.Judged.{unknown_group_in};
 ghost use Rattle.fv_bundle.specs.Views.{object_view, bundle_view};
 ghost use Rattle.fv_bundle.specs.WellTyped.{IsOfType, IsWellTyped};
-ghost use Rattle.fv_validate.specs.FieldValues.{FitsField, valued};
+ghost use Rattle.fv_validate.specs.Values.{FitsField, valued};
 ghost use Rattle.fv_validate.specs.ViolationView.{violation_view};
 ghost use Rattle.fv_validate.specs.Violations.{IsListing, IsListingOfField};
 ghost use Rattle.fv_validate.specs.declared.fault.ValidateFault.{ValidateFault};
@@ -14,10 +15,10 @@ ghost use Rattle.fv_walk.specs.Properties.{field_number};
 ghost use Rattle.fv_walk.specs.Visits.{HasFewVisits, HasTooManyVisits};
 
 use crate::fault::ValidateFault;
-use crate::field_value::FieldValue;
 use crate::violation::Violation;
 use crate::{fields, validating};
 use fv_bundle::{Bundle, Object};
+use fv_datum::Datum;
 use fv_local::Rulebook;
 use fv_registry::RuleSet;
 use fv_walk::groups_named;
@@ -96,9 +97,10 @@ pub fn validate_property<R: RuleSet>(
     fields::validate_property(alloc, rulebook, object, field, &asked, now)
 }
 
-/// The violations in its field of an object that has this value there, and null in its other fields. All
-/// else is as for `validate_property`: the datum is null or of what the field holds, within the limits,
-/// and a reference in it may be any name; for another datum nothing is told.
+/// The violations in the field of that name of an object of a type, where this datum stands in the
+/// field and null in the others. All else is as for `validate_property`: the datum is null or of what
+/// the field holds, within the limits, and a reference in it may be any name; for another datum nothing
+/// is told.
 ///
 /// Refused by `UnknownGroup` where a group isn't declared, else by `NoSuchField` where the type isn't
 /// declared or has no such field, else by `TooManyVisits` for more than 4,096 ranks of the groups that
@@ -106,27 +108,27 @@ pub fn validate_property<R: RuleSet>(
 pub fn validate_value<R: RuleSet>(
     alloc: Global,
     rulebook: &Rulebook<R>,
-    value: &FieldValue,
+    type_name: &str,
+    field: &str,
+    datum: &Datum,
     asked: &[String],
     now: i64,
 ) -> Result<Vec<Violation>, ValidateFault>
     requires { IsMoment now }
-    ensures listing { IfOk result (λ v. FitsField rulebook.now.types value.now
-        → IsListingOfField R.meaning rulebook.now now (valued rulebook.now.types value.now) value.now.field.now
+    ensures listing { IfOk result (λ v. FitsField rulebook.now.types type_name.now field.now (view datum.now)
+        → IsListingOfField R.meaning rulebook.now now (valued rulebook.now.types type_name.now field.now (view datum.now)) field.now
         (numbers_of rulebook.now.groups (map string_bytes asked.now)) (map violation_view v.items)) }
-    ensures few { OnOk result (HasFewVisitsAt rulebook.now (valued rulebook.now.types value.now)
-        (numbers_of rulebook.now.groups (map string_bytes asked.now))) }
+    ensures few { OnOk result (HasFewVisitsAt rulebook.now (valued rulebook.now.types type_name.now field.now (view datum.now)) (numbers_of rulebook.now.groups (map string_bytes asked.now))) }
     ensures known { OnOk result (unknown_group_in rulebook.now.groups (map string_bytes asked.now) ≡ false) }
-    ensures there { OnOk result (is_some (field_number rulebook.now.types value.now.type_name.now value.now.field.now) ≡ true) }
+    ensures there { OnOk result (is_some (field_number rulebook.now.types type_name.now field.now) ≡ true) }
     ensures unknown { IfErr result (λ fault. fault ≡ ValidateFault.UnknownGroup → unknown_group_in rulebook.now.groups (map string_bytes asked.now) ≡ true) }
     ensures absent { IfErr result (λ fault. fault ≡ ValidateFault.NoSuchField
-        → (unknown_group_in rulebook.now.groups (map string_bytes asked.now) ≡ false)
-        × (field_number rulebook.now.types value.now.type_name.now value.now.field.now ≡ None)) }
+        → (unknown_group_in rulebook.now.groups (map string_bytes asked.now) ≡ false) × (field_number rulebook.now.types type_name.now field.now ≡ None)) }
     ensures many { IfErr result (λ fault. fault ≡ ValidateFault.TooManyVisits
         → (unknown_group_in rulebook.now.groups (map string_bytes asked.now) ≡ false)
-        × (is_some (field_number rulebook.now.types value.now.type_name.now value.now.field.now) ≡ true)
-        × HasTooManyVisitsAt rulebook.now (valued rulebook.now.types value.now) (numbers_of rulebook.now.groups (map string_bytes asked.now))) }
+        × (is_some (field_number rulebook.now.types type_name.now field.now) ≡ true)
+        × HasTooManyVisitsAt rulebook.now (valued rulebook.now.types type_name.now field.now (view datum.now)) (numbers_of rulebook.now.groups (map string_bytes asked.now))) }
 {
     let asked = groups_named(alloc, rulebook.schema().groups(), asked)?;
-    fields::validate_value(alloc, rulebook, value, &asked, now)
+    fields::validate_value(alloc, rulebook, type_name, field, datum, &asked, now)
 }

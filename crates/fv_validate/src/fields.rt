@@ -1,21 +1,22 @@
 //! The violations in one field of an object.
 ghost use Rattle.std.specs.Prelude.{◌≡◌, ◌≢◌, ◌<◌, All, None, true, map, length, is_some, IfOk, IfErr, OnOk};
 ghost use Rattle.fv_datum.specs.Moments.{IsMoment};
+ghost use Rattle.fv_datum.specs.View.{view};
 ghost use Rattle.fv_declare_schema.specs.Tables.{indices};
 ghost use Rattle.fv_bundle.specs.Views.{object_view};
 ghost use Rattle.fv_bundle.specs.WellTyped.{IsOfType};
 ghost use Rattle.fv_walk.specs.Properties.{field_number};
 ghost use Rattle.fv_walk.specs.FieldVisits.{HasFewVisitsAt, HasTooManyVisitsAt};
-ghost use Rattle.fv_validate.specs.FieldValues.{FitsField, valued};
+ghost use Rattle.fv_validate.specs.Values.{FitsField, valued};
 ghost use Rattle.fv_validate.specs.ViolationView.{violation_view};
 ghost use Rattle.fv_validate.specs.Violations.{IsListingOfField};
 ghost use Rattle.fv_validate.specs.declared.fault.ValidateFault.{ValidateFault};
 
 use crate::fault::ValidateFault;
-use crate::field_value::FieldValue;
 use crate::validating::listing_of;
 use crate::violation::Violation;
 use fv_bundle::Object;
+use fv_datum::Datum;
 use fv_declare_schema::GroupId;
 use fv_local::Rulebook;
 use fv_model::single;
@@ -65,9 +66,10 @@ pub fn validate_property<R: RuleSet>(
     Ok(listing_of(alloc, schema.occurrences(), schema.messages(), failures)?)
 }
 
-/// The violations in its field of an object that has this value there, and null in its other fields. All
-/// else is as for `validate_property`: the datum is null or of what the field holds, within the limits,
-/// and a reference in it may be any name; for another datum nothing is told.
+/// The violations in the field of that name of an object of a type, where this datum stands in the
+/// field and null in the others. All else is as for `validate_property`: the datum is null or of what
+/// the field holds, within the limits, and a reference in it may be any name; for another datum nothing
+/// is told.
 ///
 /// Refused by `NoSuchField` where the type isn't declared or has no such field, else by
 /// `TooManyVisits` for more than 4,096 ranks of the groups that are asked for, before any validator is
@@ -75,35 +77,36 @@ pub fn validate_property<R: RuleSet>(
 pub fn validate_value<R: RuleSet>(
     alloc: Global,
     rulebook: &Rulebook<R>,
-    value: &FieldValue,
+    type_name: &str,
+    field: &str,
+    datum: &Datum,
     asked: &[GroupId],
     now: i64,
 ) -> Result<Vec<Violation>, ValidateFault>
     requires moment { IsMoment now }
     requires asked { All (λ g. g.index < length rulebook.now.groups) asked.now }
-    ensures listing { IfOk result (λ v. FitsField rulebook.now.types value.now
-        → IsListingOfField R.meaning rulebook.now now (valued rulebook.now.types value.now) value.now.field.now
+    ensures listing { IfOk result (λ v. FitsField rulebook.now.types type_name.now field.now (view datum.now)
+        → IsListingOfField R.meaning rulebook.now now (valued rulebook.now.types type_name.now field.now (view datum.now)) field.now
         (indices asked.now) (map violation_view v.items)) }
     // What is judged twice at one moment is judged alike.
-    ensures alike { IfOk result (λ v. FitsField rulebook.now.types value.now
+    ensures alike { IfOk result (λ v. FitsField rulebook.now.types type_name.now field.now (view datum.now)
         → (vs : _) → IsListingOfField R.meaning rulebook.now now
-        (valued rulebook.now.types value.now) value.now.field.now (indices asked.now) vs
+        (valued rulebook.now.types type_name.now field.now (view datum.now)) field.now (indices asked.now) vs
         → vs ≡ map violation_view v.items) }
-    ensures there { OnOk result (is_some (field_number rulebook.now.types value.now.type_name.now value.now.field.now) ≡ true) }
-    ensures few { OnOk result (HasFewVisitsAt rulebook.now (valued rulebook.now.types value.now) (indices asked.now)) }
-    ensures absent { IfErr result (λ fault. fault ≡ ValidateFault.NoSuchField
-        → field_number rulebook.now.types value.now.type_name.now value.now.field.now ≡ None) }
+    ensures there { OnOk result (is_some (field_number rulebook.now.types type_name.now field.now) ≡ true) }
+    ensures few { OnOk result (HasFewVisitsAt rulebook.now (valued rulebook.now.types type_name.now field.now (view datum.now)) (indices asked.now)) }
+    ensures absent { IfErr result (λ fault. fault ≡ ValidateFault.NoSuchField → field_number rulebook.now.types type_name.now field.now ≡ None) }
     ensures many { IfErr result (λ fault. fault ≡ ValidateFault.TooManyVisits
-        → (is_some (field_number rulebook.now.types value.now.type_name.now value.now.field.now) ≡ true)
-        × HasTooManyVisitsAt rulebook.now (valued rulebook.now.types value.now) (indices asked.now)) }
+        → (is_some (field_number rulebook.now.types type_name.now field.now) ≡ true)
+        × HasTooManyVisitsAt rulebook.now (valued rulebook.now.types type_name.now field.now (view datum.now)) (indices asked.now)) }
     ensures known { IfErr result (λ fault. fault ≢ ValidateFault.UnknownGroup) }
 {
     let types = rulebook.schema().types();
-    let Some((type_id, _)) = types.find_with_fields(value.type_name) else {
+    let Some((type_id, _)) = types.find_with_fields(type_name) else {
         return Err(ValidateFault::NoSuchField);
     };
-    let Some(object) = single(alloc, types, type_id, value.field, value.datum)? else {
+    let Some(object) = single(alloc, types, type_id, field, datum)? else {
         return Err(ValidateFault::NoSuchField);
     };
-    validate_property(alloc, rulebook, &object, value.field, asked, now)
+    validate_property(alloc, rulebook, &object, field, asked, now)
 }

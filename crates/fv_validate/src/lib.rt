@@ -6,7 +6,6 @@
 pub mod by_id;
 mod by_name;
 mod fault;
-mod field_value;
 mod fields;
 mod listing;
 mod node;
@@ -15,5 +14,4 @@ mod violation;
 
 pub use by_name::{validate, validate_property, validate_value};
 pub use fault::ValidateFault;
-pub use field_value::FieldValue;
 pub use violation::{Judged, Violation};

@@ -9,9 +9,7 @@ use fv_datum::{Datum, read_text, write_datum};
 use fv_declare_schema::GroupId;
 use fv_local::Rulebook;
 use fv_model::{read_value, single};
-use fv_validate::{
-    FieldValue, ValidateFault, Violation, validate, validate_property, validate_value,
-};
+use fv_validate::{ValidateFault, Violation, validate, validate_property, validate_value};
 use std::alloc::Global;
 use std::process::Abort;
 use std::test::Fail;
@@ -102,12 +100,7 @@ fn of_datum(
     let group = schema.groups().find("Default").ok_or("a group")?;
     let local = local_of(alloc, book, &object, group)?;
     let asked = Vec::new(alloc);
-    let value = FieldValue {
-        type_name,
-        field,
-        datum,
-    };
-    let listed = validate_value(alloc, book, &value, &asked, 0);
+    let listed = validate_value(alloc, book, type_name, field, datum, &asked, 0);
     let listed = shown(alloc, listed)?;
     Ok(format!(in alloc; "{local:?} {listed}")?)
 }

@@ -23,9 +23,9 @@ use Rattle.fv_validate.proofs.fields.validate_value.Goals as goal
 pub returns-in_default-2-clause-absent : goal.returns-in_default-2-clause-absent
 returns-in_default-2-clause-absent g c =
     let ts = types_view c.types-types.result.now in
-    let type = c.args.value.now.type_name.now in
-    let name = c.args.value.now.field.now in
-    let d = kept (view c.args.value.now.datum.now) in
+    let type = c.args.type_name.now in
+    let name = c.args.field.now in
+    let d = kept (view c.args.datum.now) in
     let fields = fields_view c.in-Some.field-0-1.now in
     let same : ts ≡ c.args.rulebook.now.types = c.types-types.ensures ∙ ap (λ (x : Declarations). x.types) c.schema.ensures in
     let none : None ≡ single_of ts c.in-Some.type_id.index name d = rw c.in_default-2.is at c.in_ok-object.ensures in
@@ -36,10 +36,10 @@ returns-clause-listing g c =
     let m = g.R.RuleSet.meaning in
     let ds = c.args.rulebook.now in
     let ts = types_view c.types-types.result.now in
-    let type = c.args.value.now.type_name.now in
-    let name = c.args.value.now.field.now in
+    let type = c.args.type_name.now in
+    let name = c.args.field.now in
     let asked = indices c.args.asked.now in
-    let d = view c.args.value.now.datum.now in
+    let d = view c.args.datum.now in
     let fields = fields_view c.in-Some.field-0-1.now in
     let object = object_view c.in-Some-2.object in
     let same : ts ≡ ds.types = c.types-types.ensures ∙ ap (λ (x : Declarations). x.types) c.schema.ensures in
@@ -56,10 +56,10 @@ returns-clause-alike g c =
     let m = g.R.RuleSet.meaning in
     let ds = c.args.rulebook.now in
     let ts = types_view c.types-types.result.now in
-    let type = c.args.value.now.type_name.now in
-    let name = c.args.value.now.field.now in
+    let type = c.args.type_name.now in
+    let name = c.args.field.now in
     let asked = indices c.args.asked.now in
-    let d = view c.args.value.now.datum.now in
+    let d = view c.args.datum.now in
     let fields = fields_view c.in-Some.field-0-1.now in
     let object = object_view c.in-Some-2.object in
     let same : ts ≡ ds.types = c.types-types.ensures ∙ ap (λ (x : Declarations). x.types) c.schema.ensures in
@@ -74,16 +74,16 @@ returns-clause-alike g c =
 pub returns-clause-few : goal.returns-clause-few
 returns-clause-few g c =
     let ds = c.args.rulebook.now in
-    on_ok_weaker c.validate_property.result (few_of_any ds (object_view c.in-Some-2.object) (valued ds.types c.args.value.now.type_name.now c.args.value.now.field.now (view c.args.value.now.datum.now)) (indices c.args.asked.now)) c.validate_property.ensures.few
+    on_ok_weaker c.validate_property.result (few_of_any ds (object_view c.in-Some-2.object) (valued ds.types c.args.type_name.now c.args.field.now (view c.args.datum.now)) (indices c.args.asked.now)) c.validate_property.ensures.few
 
 pub returns-clause-many : goal.returns-clause-many
 returns-clause-many g c =
     let ds = c.args.rulebook.now in
     let ts = types_view c.types-types.result.now in
-    let type = c.args.value.now.type_name.now in
-    let name = c.args.value.now.field.now in
+    let type = c.args.type_name.now in
+    let name = c.args.field.now in
     let asked = indices c.args.asked.now in
-    let d = view c.args.value.now.datum.now in
+    let d = view c.args.datum.now in
     let fields = fields_view c.in-Some.field-0-1.now in
     let object = object_view c.in-Some-2.object in
     let some : Some object ≡ single_of ts c.in-Some.type_id.index name (kept d) = rw c.in-Some-2.is at c.in_ok-object.ensures in
