@@ -1,7 +1,7 @@
 -- The compact text of JSON data is one line, and what reads as data is a document.
-use Rattle.std.proofs.Common.{◌≡◌, ◌≢◌, ℕ, zero, suc, pos, negsuc, ◌+◌, ◌/◌, ◌%◌, Bool, true, false, cond, ◌||◌, ◌==◌, nat_lt, List, [], ◌∷◌, ◌++◌, decimal, Option, Some, None, IsSome, option_and_then, inl, inr, refl, ap, ◌∙◌, arith}
-use Rattle.std.proofs.lemmas.Bool.{eqb-true, ltb-false, or_cases}
-use Rattle.std.specs.List.{AllByRecursion}
+use Rattle.std.proofs.Common.{◌≡◌, ◌≢◌, ℕ, zero, suc, pos, negsuc, ◌+◌, ◌/◌, ◌%◌, Bool, true, false, cond, not, ◌&&◌, ◌||◌, ◌==◌, nat_lt, List, [], ◌∷◌, ◌++◌, decimal, Option, Some, None, IsSome, option_and_then, inl, inr, refl, ap, ◌∙◌, arith}
+use Rattle.std.proofs.lemmas.Bool.{eqb-true, eqb-false, ltb-false, or_cases}
+use Rattle.std.specs.List.{AllByRecursion, list_all}
 use Rattle.std.specs.Char.{digit_char}
 use Rattle.std.specs.Fmt.{digit_glyph, digits_onto, digits}
 use Rattle.json.specs.Token.{Token}
@@ -22,9 +22,18 @@ use Rattle.serde_json.specs.Written.{number_text, comma_if, compact_text, items_
 abbrev OneLine : List ℕ → Type 0
 OneLine = AllByRecursion (λ b. b ≢ 10)
 
-both : (xs ys : List ℕ) → OneLine xs → OneLine ys → OneLine (xs ++ ys)
+pub both : (xs ys : List ℕ) → OneLine xs → OneLine ys → OneLine (xs ++ ys)
 both [] ys p q = q
 both (x ∷ xs) ys p q = (p.0, both xs ys p.1 q)
+
+-- no byte is 10, as a test tells
+pub none_ends : (xs : List ℕ) → list_all (λ b. not (b == 10)) xs ≡ true → OneLine xs
+none_ends [] e = tt
+none_ends (x ∷ xs) e = by (x == 10) refl e (λ more. none_ends xs more)
+  where
+    by : (b : Bool) → (x == 10) ≡ b → (not b && list_all (λ b. not (b == 10)) xs) ≡ true → (list_all (λ b. not (b == 10)) xs ≡ true → OneLine xs) → OneLine (x ∷ xs)
+    by true is e more = cc
+    by false is e more = (eqb-false x 10 is, more e)
 
 -- a letter or a digit, whatever the test says
 glyph : (t : Bool) (d : ℕ) → cond t (48 + d) (87 + d) ≢ 10
@@ -62,7 +71,7 @@ escaped : (s : List ℕ) → OneLine (escape s)
 escaped [] = tt
 escaped (x ∷ xs) = both (escape_byte x) (escape xs) (byte x) (escaped xs)
 
-in_quotes : (s : List ℕ) → OneLine (quoted s)
+pub in_quotes : (s : List ℕ) → OneLine (quoted s)
 in_quotes s = (λ e. omega arith, both (escape s) (34 ∷ []) (escaped s) (λ e. omega arith, tt))
 
 spelled : (k n : ℕ) (acc : List ℕ) → OneLine acc → OneLine (digits_onto k 10 false n acc)

@@ -1,9 +1,10 @@
-ghost use Rattle.std.specs.Prelude.{◌≡◌, Some, IfOk, MatchResult, string_bytes};
+ghost use Rattle.std.specs.Prelude.{◌≡◌, ◌⊎◌, Some, IfOk, IsSome, MatchResult, string_bytes};
+ghost use Rattle.json.specs.Json.{document};
 ghost use Rattle.serde_json.specs.Read.{read};
 ghost use Rattle.serde_json.specs.Written.{compact_text};
 ghost use Rattle.fv_bundle.specs.Bundles.{Bundled};
 ghost use Rattle.fv_model.specs.Writing.{bundle_json};
-ghost use Rattle.fv_engine_lines.specs.Lines.{ended};
+ghost use Rattle.fv_engine_lines.specs.Lines.{ended, IsOpen};
 ghost use Rattle.fv_engine_reply.specs.Answers.{done, redeclared, refused, shown};
 ghost use Rattle.fv_engine_reply.specs.AnswerView.{answer_view};
 ghost use Rattle.fv_engine_reply.specs.Content.{front, content_line};
@@ -138,8 +139,12 @@ impl Reply {
     /// refusal for want of memory where an allocation was refused.
     #[tactic(auto, unfolding(json::specs::Print::escape_byte))]
     pub fn shown(alloc: Global, id: &str, form: &str, bundle: &str) -> Reply
-        ensures { (b : Bundled) → bundle.now ≡ compact_text (bundle_json b) → read bundle.now ≡ Some (bundle_json b)
+        ensures told { (b : Bundled) → bundle.now ≡ compact_text (bundle_json b) → read bundle.now ≡ Some (bundle_json b)
             → Tells result (shown id.now form.now b) }
+        // Whatever is given as the bundle.
+        ensures foreign { (IsSome (document bundle.now) → IsOpen bundle.now → ⊥)
+            → (result ≡ answer_text (refused Refusal.Store)) ⊎ (result ≡ answer_text (refused Refusal.Memory)) }
+        ensures line { IsOpen result }
     {
         match is_json_line(alloc, bundle) {
             Ok(true) => Reply::or_memory(record_shown(alloc, id, form, bundle)),

@@ -244,8 +244,9 @@ pub(crate) fn record_shown(
     form: &str,
     bundle: &str,
 ) -> Result<Reply, AllocError>
-    ensures { IfOk result (λ r. (b : Bundled) → bundle.now ≡ compact_text (bundle_json b)
+    ensures text { IfOk result (λ r. (b : Bundled) → bundle.now ≡ compact_text (bundle_json b)
         → r ≡ answer_text (shown id.now form.now b)) }
+    ensures line { IfOk result (λ r. IsOpen bundle.now → IsOpen r) }
 {
     let form = quoted(alloc, form)?;
     let id = quoted(alloc, id)?;
