@@ -3,7 +3,7 @@
 #![tactic(auto)]
 
 use formd_task::MachineClock;
-use formd_words::{Failure, Streams, given_words, run_words};
+use formd_words::{Failure, given_words, run_words};
 use fv_bundle::Object;
 use fv_datum::{Attrs, Datum};
 use fv_house::{house_registry, luhn, not_after, one_of, sum_is};
@@ -28,16 +28,13 @@ fn run(rt: &HostRuntime) -> Result<u8, Failure> {
     let Ok(registry) = house_registry(alloc, digits, listed, ordered, summed) else {
         return Err(Failure::Memory);
     };
-    let mut streams = Streams {
-        input: &mut rt.stdin(),
-        output: &mut rt.stdout(),
-        error: &mut rt.stderr(),
-    };
     Ok(run_words(
         rt,
         &words,
         registry,
-        &mut streams,
+        &mut rt.stdin(),
+        &mut rt.stdout(),
+        &mut rt.stderr(),
         &mut MachineClock::new(rt),
     ))
 }

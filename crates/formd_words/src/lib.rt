@@ -19,4 +19,4 @@ mod telling;
 
 pub use failure::Failure;
 pub use given::given_words;
-pub use running::{Streams, run_words};
+pub use running::run_words;

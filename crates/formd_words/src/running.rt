@@ -15,10 +15,10 @@ use std::io::{Read, Write};
 
 /// What a run reads, writes its answers to, and says what went wrong on.
 #[derive(Drop)]
-pub struct Streams<'s, I, W, E> {
-    pub input: &'s mut I,
-    pub output: &'s mut W,
-    pub error: &'s mut E,
+pub(crate) struct Streams<'s, I, W, E> {
+    pub(crate) input: &'s mut I,
+    pub(crate) output: &'s mut W,
+    pub(crate) error: &'s mut E,
 }
 
 /// Writes why the words aren't taken, and gives the exit status.
@@ -69,7 +69,7 @@ fn run_task<R: RuleSet + Drop, I: Read, W: Write, E: Write, C: Clock>(
 }
 
 /// Does what the words ask, without the program's name: without words it serves the demonstration's
-/// declarations over a database in memory at the moment 0, the input to the output;
+/// declarations over a database in memory at the moment 0, the reader to the output writer;
 /// `declarations F` prints `ok` where the declarations of the file F are taken;
 /// `serve --declarations F --database G [--now N]` serves the database at the path G, at the moment N
 /// or at those of the clock, under its own declarations; under those of the file F where it is empty;
@@ -88,7 +88,9 @@ pub fn run_words<R: RuleSet + Drop, I: Read, W: Write, E: Write, C: Clock>(
     rt: &HostRuntime,
     words: &[String],
     registry: R,
-    streams: &mut Streams<'_, I, W, E>,
+    reader: &mut I,
+    output: &mut W,
+    error: &mut E,
     clock: &mut C,
 ) -> u8
     requires { R.means registry }
@@ -97,12 +99,17 @@ pub fn run_words<R: RuleSet + Drop, I: Read, W: Write, E: Write, C: Clock>(
         Ok(task) => task,
         Err(refused) => {
             if refused.kind() != ErrorKind::DisplayVersion {
-                return report_words(&refused, streams.error);
+                return report_words(&refused, error);
             }
             Task::Version
         }
     };
-    match run_task(rt, task, registry, streams, clock) {
+    let mut streams = Streams {
+        input: reader,
+        output,
+        error,
+    };
+    match run_task(rt, task, registry, &mut streams, clock) {
         Ok(()) => 0,
         Err(failure) => failure.report(streams.error),
     }
