@@ -21,9 +21,10 @@ returns-in-Ok-Some-clause-becomes g c = λ ds means now same.
     let texts = rw c.in-Ok-Some.field-0-is at c.in-Ok-Some.ensures.as_text in
     let found = rw c.in-Ok-Some.field-0-is at c.in-Ok-Some.ensures.found in
     let shallow : has_deep ds.types ≡ false = subst (λ (ts : Declared). has_deep ts ≡ false) (sym same) c.are_shallow.ensures in
+    let told = rw (c.as_str.ensures.value, c.as_str-in-Ok-Some.ensures.value) at c.shown.ensures.told in
     unchanged (state g.S.Store) ds _ _ c.in-Ok-Some.ensures.frame (λ bytes m holds. c.in-Ok-Some.ensures.untouched (contents bytes ds m) holds) _
     (λ clean bytes m holds stay. got_shown means now c.args.id.now _ _ stay (c.in-Ok-Some.ensures.frame.was_open clean (c.in-Ok-Some.ensures.open clean))
-    (string_bytes c.in-Ok-Some.written.form) (string_bytes c.in-Ok-Some.written.bundle) _ (texts clean (contents bytes ds m) holds) (found clean (contents bytes ds m) shallow holds) c.shown.ensures)
+    (string_bytes c.in-Ok-Some.written.form) (string_bytes c.in-Ok-Some.written.bundle) c.shown.result (texts clean (contents bytes ds m) holds) (found clean (contents bytes ds m) shallow holds) told)
     (λ bytes m holds. c.in-Ok-Some.ensures.stays (contents bytes ds m) holds)
 
 pub returns-in-Err-clause-becomes : goal.returns-in-Err-clause-becomes

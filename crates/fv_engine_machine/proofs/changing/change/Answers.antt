@@ -72,8 +72,8 @@ settle-requires-clause-typed g c =
     let typed : AreTyped ds.types (pending_view c.in-Ok.pending) = rw first at c.in-Ok.ensures.typed in
     (keeps ds.forms fits).0 typed
 
-pub returns-clause-becomes : goal.returns-clause-becomes
-returns-clause-becomes g c =
+pub returns-in-Ok-apply_all-clause-becomes : goal.returns-in-Ok-apply_all-clause-becomes
+returns-in-Ok-apply_all-clause-becomes g c =
     let held = state g.S.Store in
     let ds = c.args.book.now in
     let parts = map part_view c.args.parts.now in

@@ -26,8 +26,8 @@ returns-then-is_empty-clause-moves g c = λ bytes m fits one clean holds.
     let t = c.keep.ensures.moves c.args.book.now bytes m c.requires.typed fits one clean holds in
     (t.0, settled_none g.R.RuleSet.meaning c.args.now _ (pending_view c.args.pending) c.args.taken.now.done _ _ _ none t.1, t.2)
 
-pub returns-clause-moves : goal.returns-clause-moves
-returns-clause-moves g c = λ bytes m fits one.
+pub returns-else-is_empty-clause-moves : goal.returns-else-is_empty-clause-moves
+returns-else-is_empty-clause-moves g c = λ bytes m fits one.
     let judged : AreListingsOf g.R.RuleSet.meaning c.args.book.now c.args.now (IsStanding (pending_view c.args.pending)) (map judged_view c.in-Ok.records.items) = rw (to_z-of_z w64 c.args.now c.ranges.now) at c.in-Ok.ensures in
     let some : length c.in-Ok.records.items ≡ 0 → ⊥ = λ e. grind (arith, common_steps, c.if-is_empty.ensures, c.in-Ok.records.ok) in
     moves_not (state g.S.Store) c.args.book.now bytes m c.args.store.now c.args.store.now (λ x y. Settles g.R.RuleSet.meaning c.args.now (rows_on (option_map (λ s. s.now) c.args.taken.now.object) (pending_view c.args.pending)) (pending_view c.args.pending) c.args.taken.now.done x (violated (map judged_view c.in-Ok.records.items)) y) (frame_still _) (λ holds. holds) (λ holds clean live. (clean, live, refl, refl)) (λ clean holds stay.
