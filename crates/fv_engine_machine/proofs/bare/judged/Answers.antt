@@ -20,8 +20,8 @@ returns-then-is_empty g c =
     judged_none g.R.RuleSet.meaning c.args.book.now c.args.now (pending_view c.args.pending.now) c.args.done
     (subst (λ (ls : List Judged). AreListingsOf g.R.RuleSet.meaning c.args.book.now c.args.now (IsStanding (pending_view c.args.pending.now)) ls) (no_items judged_view c.in-Ok.records.items empty) judged)
 
-pub returns : goal.returns
-returns g c =
+pub returns-else-is_empty : goal.returns-else-is_empty
+returns-else-is_empty g c =
     let judged : AreListingsOf g.R.RuleSet.meaning c.args.book.now c.args.now (IsStanding (pending_view c.args.pending.now)) (map judged_view c.in-Ok.records.items) = rw (to_z-of_z w64 c.args.now c.ranges.now) at c.in-Ok.ensures in
     let some : length c.in-Ok.records.items ≡ 0 → ⊥ = λ is. grind (arith, common_steps, c.if-is_empty.ensures, c.in-Ok.records.ok) in
     judged_some g.R.RuleSet.meaning c.args.book.now c.args.now (pending_view c.args.pending.now) c.args.done (map judged_view c.in-Ok.records.items) judged (some_items judged_view c.in-Ok.records.items some)
