@@ -4,7 +4,6 @@ ghost use Rattle.fv_datum.specs.Moments.{IsMoment};
 
 use crate::demonstration::in_memory;
 use crate::failure::Failure;
-use crate::running::Streams;
 use formd_task::{Service, read_file};
 use fv_engine::{Clock, Engine, Reply};
 use fv_engine_lines::{Responder, Text, answer_lines};
@@ -112,7 +111,9 @@ pub(crate) fn rehearse_file<R: RuleSet + Drop, I: Read, W: Write, E: Write, C: C
     rt: &HostRuntime,
     service: Service<'_>,
     registry: R,
-    streams: &mut Streams<'_, I, W, E>,
+    reader: &mut I,
+    output: &mut W,
+    error: &mut E,
     clock: &mut C,
 ) -> Result<(), Failure>
     requires { R.means registry }
@@ -122,18 +123,12 @@ pub(crate) fn rehearse_file<R: RuleSet + Drop, I: Read, W: Write, E: Write, C: C
     let engine = in_memory(alloc, registry, &declarations)?;
     let mut rehearsal = Rehearsal {
         engine,
-        error: streams.error,
+        error,
         lines: 0,
     };
     let answered = match service.clock {
-        None => answer_lines(alloc, &mut rehearsal, streams.input, streams.output, clock),
-        Some(mut fixed) => answer_lines(
-            alloc,
-            &mut rehearsal,
-            streams.input,
-            streams.output,
-            &mut fixed,
-        ),
+        None => answer_lines(alloc, &mut rehearsal, reader, output, clock),
+        Some(mut fixed) => answer_lines(alloc, &mut rehearsal, reader, output, &mut fixed),
     };
     answered.map_err(Failure::from)
 }

@@ -13,14 +13,6 @@ use fv_engine::Clock;
 use fv_registry::RuleSet;
 use std::io::{Read, Write};
 
-/// What a run reads, writes its answers to, and says what went wrong on.
-#[derive(Drop)]
-pub(crate) struct Streams<'s, I, W, E> {
-    pub(crate) input: &'s mut I,
-    pub(crate) output: &'s mut W,
-    pub(crate) error: &'s mut E,
-}
-
 /// Writes why the words aren't taken, and gives the exit status.
 fn report_words<E: Write>(refused: &Error, error: &mut E) -> u8 {
     if refused.kind() == ErrorKind::OutOfMemory {
@@ -43,28 +35,24 @@ fn run_task<R: RuleSet + Drop, I: Read, W: Write, E: Write, C: Clock>(
     rt: &HostRuntime,
     task: Task<'_>,
     registry: R,
-    streams: &mut Streams<'_, I, W, E>,
+    reader: &mut I,
+    output: &mut W,
+    error: &mut E,
     clock: &mut C,
 ) -> Result<(), Failure>
     requires { R.means registry }
 {
     match task {
-        Task::Demonstration => {
-            serve_demonstration(rt.alloc(), registry, streams.input, streams.output)
+        Task::Demonstration => serve_demonstration(rt.alloc(), registry, reader, output),
+        Task::Declarations(path) => check_declarations(rt.alloc(), rt, path, &registry, output),
+        Task::Explain(asked) => explain_as_asked(rt, asked, &registry, output),
+        Task::Export(path) => export_file(rt, path, registry, output),
+        Task::Rehearse(service) => {
+            rehearse_file(rt, service, registry, reader, output, error, clock)
         }
-        Task::Declarations(path) => {
-            check_declarations(rt.alloc(), rt, path, &registry, streams.output)
-        }
-        Task::Explain(asked) => explain_as_asked(rt, asked, &registry, streams.output),
-        Task::Export(path) => export_file(rt, path, registry, streams.output),
-        Task::Rehearse(service) => rehearse_file(rt, service, registry, streams, clock),
-        Task::Judge(service) => {
-            judge_file(rt, service, registry, streams.input, streams.output, clock)
-        }
-        Task::Serve(service) => {
-            serve_files(rt, service, registry, streams.input, streams.output, clock)
-        }
-        Task::Version => say_version(streams.output),
+        Task::Judge(service) => judge_file(rt, service, registry, reader, output, clock),
+        Task::Serve(service) => serve_files(rt, service, registry, reader, output, clock),
+        Task::Version => say_version(output),
     }
 }
 
@@ -104,13 +92,8 @@ pub fn run_words<R: RuleSet + Drop, I: Read, W: Write, E: Write, C: Clock>(
             Task::Version
         }
     };
-    let mut streams = Streams {
-        input: reader,
-        output,
-        error,
-    };
-    match run_task(rt, task, registry, &mut streams, clock) {
+    match run_task(rt, task, registry, reader, output, error, clock) {
         Ok(()) => 0,
-        Err(failure) => failure.report(streams.error),
+        Err(failure) => failure.report(error),
     }
 }
