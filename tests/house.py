@@ -11,7 +11,11 @@ import re
 import sys
 from collections import Counter, defaultdict
 
-CHAIN, EDGES, LINES, FUNCTIONS, EDITS, CITATIONS, PATHS = 13, 340, 1_500, 100, 30, 155, 12_000
+CHAIN, EDGES, LINES, FUNCTIONS, EDITS, CITATIONS, PATHS = 13, 340, 1_500, 100, 30, 140, 12_000
+BODY, PARAMETERS = 40, 6
+
+# Functions that take more than PARAMETERS: as many as callers of the library were promised. This list may only shrink.
+PROMISED = {"fv_validate validate_value", "fv_walk validate_value", "formd_words run_words"}
 
 # The types whose name two libraries have, and how many have it: this list may only shrink.
 SHARED = {"Part": 4, "Draft": 3, "Course": 2, "Failure": 2, "GroupDraft": 2, "Node": 2, "Place": 2, "Spot": 2, "Step": 2, "Use": 2}
@@ -46,6 +50,43 @@ def lines_of(crate):
 
 def functions_of(crate):
     return sum(len(FUNCTION.findall(text)) for text in texts(crate, "src", ".rt"))
+
+
+def long_functions(crate):
+    """The functions of a library whose body has too many lines, or that take too many parameters: each with both numbers."""
+    for text in texts(crate, "src", ".rt"):
+        for match in FUNCTION.finditer(text):
+            name = match.group().split()[-1]
+            indent = re.match(r"\n*([ ]*)", match.group())[1]
+            begin = text.index("(", match.end())
+            begin = begin if "<" not in text[match.end() : begin] else text.index("(", generics_end(text, match.end()))
+            parameters, end = count_parameters(text, begin)
+            closing = re.compile(rf"^{indent}}}$", re.M).search(text, end)
+            opening = re.compile(rf"(?:^{indent}|[^\n ] ){{$", re.M).search(text, end)
+            lines = text.count("\n", opening.end(), closing.start()) - 1 if closing and opening and opening.start() < closing.start() else 0
+            if (lines > BODY or parameters > PARAMETERS) and f"{crate} {name}" not in PROMISED:
+                yield name, lines, parameters
+
+
+def generics_end(text, at):
+    """Where the generic parameters end that begin behind a function's name."""
+    depth = 0
+    for place in range(at, len(text)):
+        depth += {"<": 1, ">": text[place - 1] != "-" and -1}.get(text[place], 0)
+        if depth == 0:
+            return place
+
+
+def count_parameters(text, at):
+    """How many parameters the parentheses that open there have, and where they close."""
+    depth, commas, place = 0, 0, at
+    for place in range(at, len(text)):
+        depth += {"(": 1, "[": 1, "<": 1, ")": -1, "]": -1, ">": text[place - 1] != "-" and -1}.get(text[place], 0)
+        commas += depth == 1 and text[place] == ","
+        if depth == 0:
+            break
+    inside = text[at + 1 : place].strip()
+    return commas + bool(inside) - inside.endswith(","), place
 
 
 def edits_of(crate):
@@ -110,6 +151,9 @@ def beyond(below):
             yield f"{crate}: {lines_of(crate)} lines, at most {LINES}"
         if functions_of(crate) > FUNCTIONS:
             yield f"{crate}: {functions_of(crate)} functions, at most {FUNCTIONS}"
+        if not crate.startswith("test_"):
+            for name, lines, parameters in long_functions(crate):
+                yield f"{crate} {name}: {lines} lines and {parameters} parameters, at most {BODY} and {PARAMETERS}"
     if edits > EDITS:
         yield f"{edits} edits in must-fail/, at most {EDITS}"
     if cited.total() > CITATIONS:
