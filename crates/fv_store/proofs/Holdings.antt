@@ -45,6 +45,11 @@ given_is : (r : Result (Option Stored) StoreFault) (o : Option Kept) → Gives M
 given_is (Err e) o h = tt
 given_is (Ok x) o h = cc
 
+-- where none is handed out, none was found
+pub none_out : {X E : Type 0} (Was Lacks : Type 0) (r : Result (Option X) E) → IfOk r (λ o. o ≡ None → Was) → (Was → Lacks) → IfOk r (λ o. o ≡ None → Lacks)
+none_out Was Lacks (Err e) h to = tt
+none_out Was Lacks (Ok o) h to = λ none. to (h none)
+
 -- ---- what the rows of a record keep
 
 module _ (s : State) (id : List ℕ) (clean : HasCleanDisk s) (live : IsTrue s.is_open) where

@@ -1,18 +1,22 @@
 -- What an open finds and leaves.
-use Rattle.std.proofs.Common.{◌≡◌, ◌≢◌, ◌⊎◌, ◌==◌, ◌||◌, ℕ, Bool, true, false, not, cond, length, List, [], ◌∷◌, slice_get, Option, Some, None, Result, Ok, Err, IfOk, IfErr, IsTrue, inl, inr, refl, sym, ap, subst, ◌∙◌}
+use Rattle.std.proofs.Common.{◌≡◌, ◌≢◌, ◌⊎◌, ◌==◌, ◌||◌, ℕ, pos, Bool, true, false, not, cond, length, List, [], ◌∷◌, slice_get, Option, Some, None, Result, Ok, Err, IfOk, IfErr, IsTrue, inl, inr, refl, sym, ap, subst, ◌∙◌}
 use Rattle.sqlite.specs.Schema.{Schema}
 use Rattle.sqlite.specs.declared.error.Error.{Error}
 use Rattle.sqlite.specs.Effect.{Database}
-use Rattle.sqlite.specs.Order.{Row}
+use Rattle.sqlite.specs.Order.{Row, column}
+use Rattle.sqlite.specs.declared.types.Value.TheVariants.{Int, Blob}
+use Rattle.sqlite_rules.specs.Lists.{Has}
 use Rattle.sqlite.specs.State.{State, HasCleanDisk}
 use Rattle.fv_datum.specs.Outcomes.{Gives, unless_fault}
 use Rattle.fv_store.specs.declared.fault.OpenStoreFault.{OpenStoreFault}
 use Rattle.fv_store.specs.declared.fault.OpenStoreFault.TheVariants.{OtherVersion, Store, Memory}
 use Rattle.fv_store.specs.Faults.{about_fault, open_fault_of, IsAboutFault}
 use Rattle.fv_store.specs.Records.{Kept, Records, Contents, AllFit, no_records, with_records}
-use Rattle.fv_store_tables.specs.About.{ShowsAbout, shown_about}
+use Rattle.fv_store_tables.specs.About.{HasTables, IsOfAbout, ShowsAbout, shown_about}
+use Rattle.fv_store_tables.specs.FirstTables.{old_schema}
 use Rattle.fv_store_tables.specs.Tables.{store_schema}
-use Rattle.fv_store.specs.Stands.{Frame, Stands, StandsFirst, HoldsRecords, HoldsFirst, Opens, IsBlank, MayBeFirst, Stays, TellsAbout, about_rows, first_version, olds, tables_version}
+use Rattle.fv_store.specs.declared.about.About.{About}
+use Rattle.fv_store.specs.Stands.{Frame, Stands, StandsFirst, HoldsRecords, HoldsFirst, Opens, HasAbout, IsBlank, KeepsAbout, MayBeFirst, Stays, TellsAbout, about_rows, first_version, olds, tables_version}
 use Rattle.fv_store.specs.Steps.{Keeps, IsTaken, IsTakenAs, IsCaused, IsRefusal, IsOpenExcused, IsUpgraded}
 use Rattle.fv_store.specs.Stored.{Told, told}
 use Rattle.fv_store.proofs.Upgraded.{upgraded_olds}
@@ -42,6 +46,18 @@ about_first (r ∷ rows) version d row some h = let same : row ≡ r = cc in sam
 pub about_never : (rows : List Row) (version : ℕ) (d : List ℕ) → None ≡ slice_get rows 0 → ShowsAbout rows version d → ⊥
 about_never [] version d none h = h
 about_never (row ∷ rows) version d none h = absurd cc
+
+first_has : (rows : List Row) (row : Row) → Some row ≡ slice_get rows 0 → Has rows row
+first_has [] row some = absurd cc
+first_has (r ∷ rows) row some = let same : row ≡ r = cc in inl same
+
+-- what is read of the first row that is shown is kept in a row of `about`
+pub kept_first : (s : State) (rows : List Row) (row : Row) (r : Answer About) → Some row ≡ slice_get rows 0 → (HasTables s.now → (x : Row) → Has rows x → IsOfAbout s.now x)
+    → IfOk r (λ a. (column row 0 ≡ Int a.version) × (column row 1 ≡ Blob a.declarations.items)) → IfOk r (λ a. KeepsAbout a.version a.declarations.items s.now)
+kept_first s rows row (Err e) first of h = tt
+kept_first s rows row (Ok a) first of h = λ tables.
+    let it = of tables row (first_has rows row first) in
+    (it.0, it.1, sym (ap (λ (x : Row). column x 0) it.2) ∙ h.0, sym (ap (λ (x : Row). column x 1) it.2) ∙ h.1)
 
 judges_ok : {X : Type 0} (view : X → Told) (x : X) (o : Option OpenStoreFault) (stored : Told) → Judges view (Ok x) o stored → (o ≡ None) × (view x ≡ stored)
 judges_ok view x None stored h = (refl, let same : stored ≡ view x = cc in sym same)
@@ -95,6 +111,17 @@ zero_is_not_three e = cc
 
 pub never_blank : (db : Database) → IsBlank db → db.schema ≡ store_schema → ⊥
 never_blank db blank is = zero_is_not_three (ap (λ (s : Schema). length s.tables) (sym blank ∙ is))
+
+zero_is_not_two : ◌≢◌ {A = ℕ} 0 2
+zero_is_not_two e = cc
+
+blank_lacks : (db : Database) → IsBlank db → HasTables db → ⊥
+blank_lacks db blank (inl is) = zero_is_not_two (ap (λ (s : Schema). length s.tables) (sym blank ∙ is))
+blank_lacks db blank (inr is) = never_blank db blank is
+
+-- it has no row of `about` to look for
+pub blank_kept : (db : Database) (text : List ℕ) → IsBlank db → HasAbout text db
+blank_kept db text blank = (pos first_version, λ tables. absurd (blank_lacks db blank tables))
 
 -- ---- what stands
 

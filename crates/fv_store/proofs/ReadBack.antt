@@ -22,8 +22,9 @@ use Rattle.fv_datum.specs.Written.{is_null}
 use Rattle.fv_bundle.specs.Types.{TypeUse, DeclaredFields, Declared, nested, deep_in, has_deep}
 use Rattle.fv_datum.proofs.Bools.{or_left, or_right}
 use Rattle.fv_datum.proofs.Lists.{none_each}
-use Rattle.fv_bundle.proofs.Members.{all_put, ascending_put, put_again}
-use Rattle.fv_bundle.proofs.PlainJson.{IsWhole, IsPlain, ArePlainItems, ArePlain, IsFlat, Fields, no_fields, fits_flat}
+use Rattle.fv_datum.proofs.Members.{all_put, ascending_put, put_again}
+use Rattle.fv_datum.proofs.PlainJson.{IsWhole, IsPlain, ArePlainItems, ArePlain, IsFlat, Fields, no_fields}
+use Rattle.fv_bundle.proofs.PlainJson.{fits_flat}
 use Rattle.fv_bundle.specs.Bundles.{Thing, Things, Bundled}
 use Rattle.fv_bundle.specs.WellTyped.{NamesObject, FitsUse, FieldsAre, FitsType, IsWellTyped}
 use Rattle.fv_bundle.specs.Writing.{datum_json}

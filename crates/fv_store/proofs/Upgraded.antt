@@ -7,7 +7,7 @@ use Rattle.serde_json.specs.Data.{Num, unsigned, negative, float, Data, null, bo
 use Rattle.serde_json.specs.Find.{is_float}
 use Rattle.serde_json.specs.Written.{has_float, items_have_float, members_have_float}
 use Rattle.fv_datum.specs.Members.{pairs, each_some}
-use Rattle.fv_bundle.proofs.PlainJson.{IsWhole, IsPlain, ArePlainItems, ArePlain}
+use Rattle.fv_datum.proofs.PlainJson.{IsWhole, IsPlain, ArePlainItems, ArePlain}
 use Rattle.fv_bundle.specs.Types.{Declared, has_deep}
 use Rattle.fv_bundle.specs.Bundles.{Thing, Things, Bundled}
 use Rattle.fv_bundle.specs.WellTyped.{FitsType, IsWellTyped}

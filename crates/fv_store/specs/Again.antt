@@ -13,7 +13,7 @@ with_bundle k b = record { form = k.form; bundle = b }
 
 -- the records with what their bundles are read as; none at an id whose bundle isn't read
 abbrev pub all_read : (Kept → Option Bundled) → Records → Records
-all_read read m id = option_and_then (λ k. option_map (with_bundle k) (read k)) (m id)
+all_read read m id = option_and_then (λ k. option_map (λ b. record { form = k.form; bundle = b }) (read k)) (m id)
 
 -- what is read of a record is what is written of it, under these types and as a bundle of its form, which has to be declared
 abbrev pub ReadsUnder : Declared → Roots → (Kept → Option Bundled) → Type 0

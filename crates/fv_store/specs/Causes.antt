@@ -19,7 +19,8 @@ IsShortObject id o = IsShortPart (id, o.0) (object_kept (named_written o)).1
 
 -- the rows of a record are not too long for the database
 abbrev pub IsShort : List ℕ → Kept → Type 0
-IsShort id k = IsShortHead id (record { form = k.form; root = k.bundle.root }) × AllByRecursion (IsShortObject id) k.bundle.objects
+IsShort id k = IsShortHead id (record { form = k.form; root = k.bundle.root })
+    × AllByRecursion (λ o. IsShortPart (id, o.0) (object_kept (named_written o)).1) k.bundle.objects
 
 -- what a change writes is short
 abbrev pub WritesShort : Change → Type 0

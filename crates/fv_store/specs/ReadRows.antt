@@ -4,7 +4,7 @@ use Rattle.serde_json.specs.Data as json
 use Rattle.serde_json.specs.Find.{as_object}
 use Rattle.serde_json.specs.Read.{read}
 use Rattle.serde_json.specs.View.{view as json_view}
-use Rattle.fv_store.specs.declared.reading.ReadRow.{ReadRow}
+use Rattle.fv_store.specs.declared.stored.ReadRow.{ReadRow}
 use Rattle.fv_store_tables.specs.Changes.{NamedTexts}
 
 -- the object's name, its type's name and its fields' JSON; none where their text isn't that of a JSON object

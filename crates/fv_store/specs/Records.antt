@@ -5,7 +5,7 @@ use Rattle.fv_datum.specs.Lookup.{at_name}
 use Rattle.fv_bundle.specs.Types.{Declared}
 use Rattle.fv_bundle.specs.Bundles.{Bundled, Thing}
 use Rattle.fv_bundle.specs.Replaced.{changed_at}
-use Rattle.fv_bundle.specs.WellTyped.{IsWellTyped, HasRootType}
+use Rattle.fv_bundle.specs.WellTyped.{IsWellTyped, NamesObject}
 
 -- a record: the name of its form, and its bundle
 pub record Kept : Type 0 where
@@ -45,7 +45,7 @@ pub record RecordFits (types : Declared) (roots : Roots) (k : Kept) : Type 0 whe
   pub root : List ℕ
   pub declared : at_name k.form roots ≡ Some root
   pub typed : IsWellTyped types k.bundle
-  pub rooted : HasRootType root k.bundle
+  pub rooted : NamesObject k.bundle.objects root k.bundle.root
 
 -- what a store keeps: the bytes of the declarations, the types and the roots of forms that they declare, and the records
 pub record Contents : Type 0 where

@@ -1,8 +1,8 @@
 -- The records that a database stands for.
 pub use Rattle.fv_store_tables.specs.Creating.{IsBlank}
 pub use Rattle.fv_store_tables.specs.Stands.{Frame, IsLive, Stays}
-pub use Rattle.fv_store_tables.specs.About.{TellsAbout}
-use Rattle.std.specs.Prelude.{◌≡◌, ◌⊎◌, ◌&&◌, ℕ, Bool, false, IsTrue, List, [], ◌∷◌, codes, length, nat_eq, option_map}
+pub use Rattle.fv_store_tables.specs.About.{KeepsAbout, TellsAbout}
+use Rattle.std.specs.Prelude.{◌≡◌, ◌⊎◌, ◌&&◌, ℕ, ℤ, Bool, false, IsTrue, List, [], ◌∷◌, codes, length, nat_eq, option_map}
 use Rattle.sqlite.specs.Effect.{Database}
 use Rattle.sqlite.specs.Order.{Row}
 use Rattle.sqlite.specs.State.{State, HasCleanDisk}
@@ -14,7 +14,7 @@ use Rattle.fv_store_tables.specs.Olds.{Old, Olds}
 use Rattle.fv_store_tables.specs.Stands as tables
 use Rattle.fv_store.specs.Records.{Kept, Records, Contents, AllFit, no_records}
 use Rattle.fv_store.specs.Texts.{bundle_text}
-use Rattle.fv_store.specs.Written.{Writings, writings, entries}
+use Rattle.fv_store.specs.Written.{Writings, writings, entries, entry_of}
 
 -- the version of the tables
 abbrev pub tables_version : ℕ
@@ -32,9 +32,10 @@ about_rows declarations = tables.about_row tables_version declarations ∷ []
 abbrev pub Spells : Database → List ℕ → Writings → Type 0
 Spells db declarations ws = tables.TablesStand db (about_rows declarations) (entries ws)
 
--- the database spells what is written of the records, under their declarations, and each fits
+-- The tables, with the declarations, and with what is written of each record: a row of `record` for it and a row of `object` for each of its
+-- objects. Each record fits.
 pub record Stands (db : Database) (c : Contents) : Type 0 where
-  pub spells : Spells db c.bytes (writings c.records)
+  pub spells : tables.TablesStand db (about_rows c.bytes) (λ id. option_map entry_of (writings c.records id))
   pub fit : AllFit c
 
 -- What a connection outside a transaction stands for, now and as committed. It says nothing once the disk has lied or has shut the connection.
@@ -47,9 +48,9 @@ HoldsRecords s c = HasCleanDisk s → IsTrue s.is_open → Stands s.now c × Sta
 abbrev pub old_of : Kept → Old
 old_of k = record { form = k.form; bundle = bundle_text k.bundle }
 
--- the same of each record
+-- what a row of version 1 keeps of each record: its form and its bundle's text
 abbrev pub olds : Records → Olds
-olds m id = option_map old_of (m id)
+olds m id = option_map (λ k. record { form = k.form; bundle = bundle_text k.bundle }) (m id)
 
 -- the one row of `about` in version 1
 abbrev pub first_rows : List ℕ → List Row
@@ -57,7 +58,8 @@ first_rows declarations = tables.about_row first_version declarations ∷ []
 
 -- what a connection outside a transaction keeps in tables of version 1, now and as committed: the declarations, and rows of records
 abbrev pub KeepsFirst : State → List ℕ → Olds → Type 0
-KeepsFirst s declarations = first.KeepsOlds s (first_rows declarations)
+KeepsFirst s declarations m = HasCleanDisk s → IsTrue s.is_open
+    → first.SpellsFirst s.now (first_rows declarations) m × first.SpellsFirst s.committed (first_rows declarations) m
 
 -- the tables of version 1, with the declarations and a row of `record` for each record, and each record fits
 pub record StandsFirst (db : Database) (c : Contents) : Type 0 where
@@ -89,6 +91,10 @@ abbrev pub MayBeFirst : Database → Type 0
 MayBeFirst db = HasFirstTables db × ((version : ℕ) (stored : List ℕ) → TellsAbout version stored db → version ≡ first_version)
 
 -- ---- opening
+
+-- where the tables are those of either version, a row of `about` keeps these declarations, whatever else is there
+abbrev pub HasAbout : List ℕ → Database → Type 0
+HasAbout declarations db = (version : ℤ) × KeepsAbout version declarations db
 
 -- What a database hands to a store that is opened over it, with these declarations for a blank one: no record and these where it is blank, else what
 -- it stands for, under its own, by the tables of either version.

@@ -4,7 +4,7 @@ ghost use Rattle.sqlite.specs.State.{HasCleanDisk};
 ghost use Rattle.sqlite.specs.Held.{state};
 ghost use Rattle.fv_store.specs.Causes.{IsShortAbout};
 ghost use Rattle.fv_store.specs.Records.{no_records};
-ghost use Rattle.fv_store.specs.Stands.{are_columns, are_first, first_version, Frame, HasFirstTables, IsBlank, IsLive, MayBeFirst, KeepsFirst, Stays, TellsAbout};
+ghost use Rattle.fv_store.specs.Stands.{are_columns, are_first, first_version, Frame, HasFirstTables, HasAbout, IsBlank, IsLive, KeepsAbout, MayBeFirst, KeepsFirst, Stays, TellsAbout};
 ghost use Rattle.fv_store.specs.Steps.{Keeps, IsSettled, IsTaken, IsTakenAs, IsCaused, IsExcused, IsOpenExcused, IsUpgraded};
 ghost use Rattle.fv_store_tables.specs.Olds.{Olds};
 ghost use Rattle.fv_store_upgrade.specs.Upgraded.{AllShort, AllUpgrade, HasFew, upgraded};
@@ -99,6 +99,8 @@ fn stored<S: Alter>(conn: &mut Connection<S>) -> Result<About, OpenStoreFault>
     ensures untouched { IsSettled (state S.Store conn.old) → Stays (state S.Store conn.old) (state S.Store conn.new) }
     ensures taken { HasCleanDisk (state S.Store conn.new)
         → IfOk result (λ a. IsTakenAs (state S.Store conn.old) a.version a.declarations.items) }
+    ensures kept { HasCleanDisk (state S.Store conn.new)
+        → IfOk result (λ a. KeepsAbout a.version a.declarations.items (state S.Store conn.old).now) }
     ensures cause { HasCleanDisk (state S.Store conn.new) → (IsBlank (state S.Store conn.old).now → ⊥)
         → IfErr result (IsCaused (state S.Store conn.old)) }
     ensures store_known { HasCleanDisk (state S.Store conn.new) → conn.old.step_limit ≡ None
@@ -124,6 +126,8 @@ pub fn kept_declarations<S: Alter>(conn: &mut Connection<S>) -> Result<Vec<u8>, 
     ensures untouched { IsSettled (state S.Store conn.old) → Stays (state S.Store conn.old) (state S.Store conn.new) }
     ensures taken { HasCleanDisk (state S.Store conn.new)
         → IfOk result (λ v. IsTaken (state S.Store conn.old) v.items) }
+    ensures kept { HasCleanDisk (state S.Store conn.new)
+        → IfOk result (λ v. HasAbout v.items (state S.Store conn.old).now) }
     ensures cause { HasCleanDisk (state S.Store conn.new) → (IsBlank (state S.Store conn.old).now → ⊥)
         → IfErr result (IsCaused (state S.Store conn.old)) }
     ensures store_known { HasCleanDisk (state S.Store conn.new) → conn.old.step_limit ≡ None
@@ -148,6 +152,8 @@ fn kept<S: Alter>(conn: &mut Connection<S>, alloc: Global) -> Result<Vec<u8>, Op
     ensures upgraded { OnOk result (IsUpgraded (state S.Store conn.old) (state S.Store conn.new)) }
     ensures taken { HasCleanDisk (state S.Store conn.new)
         → IfOk result (λ v. IsTaken (state S.Store conn.old) v.items) }
+    ensures kept { HasCleanDisk (state S.Store conn.new)
+        → IfOk result (λ v. HasAbout v.items (state S.Store conn.old).now) }
     ensures untouched { OnErr result (Stays (state S.Store conn.old) (state S.Store conn.new)) }
     ensures cause { HasCleanDisk (state S.Store conn.new) → (IsBlank (state S.Store conn.old).now → ⊥)
         → IfErr result (IsCaused (state S.Store conn.old)) }
@@ -190,6 +196,8 @@ pub(crate) fn settle<S: Alter>(
     ensures upgraded { OnOk result (IsUpgraded (state S.Store conn.old) (state S.Store conn.new)) }
     ensures taken { HasCleanDisk (state S.Store conn.new)
         → IfOk result (λ v. IsTaken (state S.Store conn.old) v.items) }
+    ensures kept { HasCleanDisk (state S.Store conn.new)
+        → IfOk result (λ v. HasAbout v.items (state S.Store conn.old).now) }
     ensures untouched { OnErr result (Stays (state S.Store conn.old) (state S.Store conn.new)) }
     ensures cause { HasCleanDisk (state S.Store conn.new)
         → IfErr result (IsCaused (state S.Store conn.old)) }

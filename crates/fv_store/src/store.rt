@@ -8,7 +8,7 @@ ghost use Rattle.fv_bundle.specs.Views.{bundle_view};
 ghost use Rattle.fv_bundle.specs.WellTyped.{IsWellTyped};
 ghost use Rattle.fv_store.specs.Causes.{AreShort, HasFailed, HasRooms, IsShortAbout, LeavesRoom, rows_of_all};
 ghost use Rattle.fv_store.specs.Changes.{changed, ChangesFit};
-ghost use Rattle.fv_store.specs.Stands.{first_version, Frame, HoldsRecords, IsBlank, IsLive, MayBeFirst, KeepsFirst, Opens, Stays, TellsAbout};
+ghost use Rattle.fv_store.specs.Stands.{first_version, Frame, HasAbout, HoldsRecords, IsBlank, IsLive, MayBeFirst, KeepsFirst, Opens, Stays, TellsAbout};
 ghost use Rattle.fv_store.specs.Steps.{IsUpgraded};
 ghost use Rattle.fv_store_tables.specs.Olds.{Olds};
 ghost use Rattle.fv_store_upgrade.specs.Upgraded.{AllShort, AllUpgrade, HasFew, upgraded};
@@ -18,7 +18,7 @@ ghost use Rattle.fv_store.specs.Lists.{Lists, ListsOf};
 ghost use Rattle.fv_store.specs.Records.{AllFit, Contents};
 ghost use Rattle.fv_store.specs.Stored.{stored_view, text_of, text_view, untyped, written_view};
 ghost use Rattle.fv_store.specs.Written.{entry_of, writings, written_of};
-ghost use Rattle.fv_store_tables.specs.Stored.{ShowsRecord};
+ghost use Rattle.fv_store_tables.specs.Stored.{LacksId, ShowsNone, ShowsRecord};
 
 use crate::change::Change;
 use crate::fault::{OpenStoreFault, StoreFault};
@@ -99,6 +99,9 @@ impl<S: Alter + Drop> Store<S> {
         ensures taken { IfOk result (λ s. HasCleanDisk (stock_state S.Store s) → (version : _) (d : _)
             → TellsAbout version d (state S.Store connection).now
             → (about_fault version ≡ None) × (s.text ≡ d)) }
+        // Whatever else is there, in tables of either version a row of `about` keeps the declarations in force.
+        ensures kept { IfOk result (λ s. HasCleanDisk (stock_state S.Store s)
+            → HasAbout s.text (state S.Store connection).now) }
         ensures refused { IfErr result (λ e. IsAboutFault e.0 → HasCleanDisk (state S.Store e.1)
             → (version : _) (d : _) → TellsAbout version d (state S.Store connection).now
             → about_fault version ≡ Some e.0) }
@@ -154,6 +157,9 @@ impl<S: Alter> Store<S> {
         ensures found { HasCleanDisk (stock_state S.Store self.new)
             → IfOk result (λ o. (c : _) → c.types ≡ types_view types.now → HoldsRecords (stock_state S.Store self.old) c
             → option_map stored_view o ≡ c.records id.now) }
+        // None is told only where no row of the table of records has that id, whatever its rows keep else.
+        ensures none { HasCleanDisk (stock_state S.Store self.new) → IfOk result (λ o. o ≡ None
+            → LacksId id.now (stock_state S.Store self.old).now) }
         ensures typed { IfOk result (λ o. IfSome o (λ s. IsWellTyped (types_view types.now) (bundle_view s.bundle))) }
         ensures cause { HasCleanDisk (stock_state S.Store self.new) → IfErr result (λ e. e ≡ StoreFault.Store → (c : _)
             → c.types ≡ types_view types.now → HoldsRecords (stock_state S.Store self.old) c
@@ -178,6 +184,8 @@ impl<S: Alter> Store<S> {
         ensures found { HasCleanDisk (stock_state S.Store self.new)
             → IfOk result (λ f. (c : _) → HoldsRecords (stock_state S.Store self.old) c
             → ShowsRecord f (option_map entry_of (option_map written_of (c.records id.now)))) }
+        ensures none { HasCleanDisk (stock_state S.Store self.new) → IfOk result (λ f. ShowsNone f
+            → LacksId id.now (stock_state S.Store self.old).now) }
         ensures cause { HasCleanDisk (stock_state S.Store self.new) → IfErr result (λ e. e ≡ StoreFault.Store → (c : _)
             → HoldsRecords (stock_state S.Store self.old) c
             → HasFailed (stock_state S.Store self.old) (stock_state S.Store self.new)) }
@@ -206,6 +214,9 @@ impl<S: Alter> Store<S> {
         ensures as_text { HasCleanDisk (stock_state S.Store self.new)
             → IfOk result (λ o. (c : _) → HoldsRecords (stock_state S.Store self.old) c
             → option_map text_view o ≡ option_map text_of (c.records id.now)) }
+        // None is told only where no row of the table of records has that id, whatever its rows keep else.
+        ensures none { HasCleanDisk (stock_state S.Store self.new) → IfOk result (λ o. o ≡ None
+            → LacksId id.now (stock_state S.Store self.old).now) }
         ensures cause { HasCleanDisk (stock_state S.Store self.new) → IfErr result (λ e. e ≡ StoreFault.Store → (c : _)
             → HoldsRecords (stock_state S.Store self.old) c
             → HasFailed (stock_state S.Store self.old) (stock_state S.Store self.new)) }

@@ -1,5 +1,5 @@
 //! A record as its rows write it, with no types.
-ghost use Rattle.std.specs.Prelude.{◌≡◌, false, IfOk, Option, option_map};
+ghost use Rattle.std.specs.Prelude.{◌≡◌, false, IfOk, None, Option, option_map};
 ghost use Rattle.std.specs.Option.{ForSome};
 ghost use Rattle.fv_bundle.specs.Types.{Declared, has_deep};
 ghost use Rattle.fv_bundle.specs.WellTyped.{IsWellTyped};
@@ -43,6 +43,7 @@ pub(crate) fn written_if(
         → ForSome o (λ k. IsWellTyped types k.bundle)
         → option_map rows_view found.entry ≡ option_map entry_of (option_map written_of o)
         → option_map written_view w ≡ option_map untyped o) }
+    ensures none { IfOk result (λ w. w ≡ None → found.entry ≡ None) }
 {
     match found {
         Some(rows) => Ok(Some(written_from(alloc, &rows)?)),

@@ -18,7 +18,7 @@ use Rattle.sqlite_typing.specs.Types.{accepts_program}
 use Rattle.fv_store_tables.specs.Tables.{store_schema}
 use Rattle.fv_store_tables.specs.FirstTables.{old_schema}
 use Rattle.fv_store_tables.specs.Stands.{about_row}
-use Rattle.fv_store_tables.specs.About.{HasTables, TellsAbout, ShowsAbout, shown_about}
+use Rattle.fv_store_tables.specs.About.{HasTables, IsOfAbout, TellsAbout, ShowsAbout, shown_about}
 use Rattle.fv_store_tables.specs.Causes.{IsExcused}
 use Rattle.fv_store_tables.proofs.FirstTexts.{read_text, read_query, ReadMeans, read_of_old, read_of_new}
 use Rattle.fv_store_tables.proofs.OneTable.{shown_sound, shown_complete}
@@ -71,4 +71,19 @@ read_cause old new none (Ok rows) h = tt
 read_cause old new none (Err e) h = λ tables. elim tables [
   | inl is ↦ cause_under old_schema read_of_old old new is none e h
   | inr is ↦ cause_under store_schema read_of_new old new is none e h
+]
+
+-- each row that is shown is one of `about`
+of_about : (schema : Schema) (means : ReadMeans schema) (old new : State) (has : old.now.schema ≡ schema) (rows : List Row) → Shown read_text [] old new rows → (x : Row) → Has rows x → IsOfAbout old.now x
+of_about schema means old new has rows h x there =
+    let read = reads_as read_text [] old new schema has (Select (record { lets = []; body = read_query }) (codes "version" ∷ codes "declarations" ∷ [])) means.is means.plain means.unlisted rows h in
+    let r = shown_sound 0 [] (col 1 2 ∷ col 1 3 ∷ []) [] (overlay old.now.trees []) [] rows (read.answer Null) x there in
+    (r.0, r.1, r.3)
+
+pub read_of_rows : (old new : State) (r : Result (Vec Row Global) Error) → IfOk r (λ rows. Shown read_text [] old new rows.items)
+    → IfOk r (λ rows. HasTables old.now → (row : Row) → Has rows.items row → IsOfAbout old.now row)
+read_of_rows old new (Err e) h = tt
+read_of_rows old new (Ok rows) h = λ tables. elim tables [
+  | inl is ↦ of_about old_schema read_of_old old new is rows.items h
+  | inr is ↦ of_about store_schema read_of_new old new is rows.items h
 ]

@@ -5,10 +5,11 @@ use Rattle.std.specs.Ordering.{is_eq}
 use Rattle.std.proofs.lemmas.Map.Text.{is_eq-slice_cmp}
 use Rattle.std.proofs.lemmas.Bool.{false_from_ne_true}
 use Rattle.std.proofs.lemmas.Cmp.{tied_itself}
+use Rattle.std.proofs.lemmas.Slice.Eq.{bytes_eq-Decides}
 use Rattle.std.proofs.lemmas.List.Sorted.{IsPermutation-sym, length_permutation}
 use Rattle.sqlite.specs.declared.types.Value.TheVariants.{Int, Text}
 use Rattle.sqlite.specs.Collation.TheVariants.{Binary}
-use Rattle.sqlite.specs.Order.{Row}
+use Rattle.sqlite.specs.Order.{Row, column}
 use Rattle.sqlite.specs.Ops.{binary, is_true, from_truth}
 use Rattle.sqlite.specs.Term.{Term, Env, lit, col, holds}
 use Rattle.sqlite.specs.Tree.{Trees, rowid, IsTable}
@@ -149,6 +150,10 @@ and_true false = refl
 
 pub head_by_id : (m : List ℕ → Option Head) (id : List ℕ) (more row : Row) (it : IsRowOf head_row IsTextHead m row) → list_all (holds ((Text id ∷ more) ∷ row ∷ [])) by_first ≡ bytes_eq it.key id
 head_by_id m id more row it = rw (it.is, equal_texts it.key id) (and_true (bytes_eq it.key id))
+
+-- whatever else the row keeps
+pub row_by_id : (row : Row) (id : List ℕ) → column row 1 ≡ Text id → list_all (holds ((Text id ∷ []) ∷ row ∷ [])) by_first ≡ true
+row_by_id row id is = rw (is, equal_texts id id) (and_true (bytes_eq id id)) ∙ (bytes_eq-Decides id id).1 refl
 
 pub part_by_id : (m : ObjectKey → Option ObjectTexts) (id : List ℕ) (more row : Row) (it : IsRowOf part_row IsTextPart m row) → list_all (holds ((Text id ∷ more) ∷ row ∷ [])) by_first ≡ bytes_eq it.key.0 id
 part_by_id m id more row it = rw (it.is, equal_texts it.key.0 id) (and_true (bytes_eq it.key.0 id))

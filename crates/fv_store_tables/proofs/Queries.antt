@@ -23,7 +23,7 @@ use Rattle.sqlite_rules.specs.Lists.{Has}
 use Rattle.fv_store_tables.specs.Tables.{store_schema}
 use Rattle.fv_store_tables.specs.Rows.{HasRows}
 use Rattle.fv_store_tables.specs.Changes.{AllTexts, IsNamed}
-use Rattle.fv_store_tables.specs.Stored.{front_two}
+use Rattle.fv_store_tables.specs.Stored.{LacksId, front_two}
 use Rattle.fv_store_tables.specs.Stands.{Head, ObjectTexts, ObjectKey, Maps, Entry, TableEntries, Frame, IsSettled, SpellsTables, TablesStand, tables_of, Stays, Keeps, head_row, part_row, IsTextHead, IsTextOfHead, IsTextObject, IsTextPart, head_of, object_texts, shown_head, shown_part, ShowsHead}
 use Rattle.std.proofs.lemmas.Bool.{cases_Bool}
 use Rattle.sqlite_typing.specs.Types.{accepts_program}
@@ -32,7 +32,7 @@ use Rattle.fv_store_tables.specs.Causes.{IsExcused}
 use Rattle.fv_store_tables.proofs.Refusals.{no_sum, never_steps, query_cause}
 use Rattle.fv_store_tables.proofs.Texts.{find_text, find_query, find_is, find_plain, find_whole, find_unlisted, parts_text, parts_query, parts_is, parts_plain, parts_whole, parts_unlisted, by_first}
 use Rattle.fv_store_tables.proofs.Layouts.{heads, parts}
-use Rattle.fv_store_tables.proofs.OneTable.{head_by_id, shown_sound, shown_complete}
+use Rattle.fv_store_tables.proofs.OneTable.{head_by_id, row_by_id, shown_sound, shown_complete}
 use Rattle.fv_store_tables.proofs.Ordered.{shows_objects, has_part}
 
 module _ (db : Trees) (m : List ℕ → Option Head) (id : List ℕ) (rows : List Row) (s : HasRows head_row IsTextHead (db 1) m) (a : IsAnswer find_query (overlay db []) (Text id ∷ []) rows) where
@@ -194,7 +194,23 @@ module _ (old new : State) (clean : HasCleanDisk old) where
   objects_shown id (Err e) h = tt
   objects_shown id (Ok rows) h = λ d m holds. finds_objects old new id rows.items d m (holds clean (shown_open _ _ old new rows.items h)).0 h
 
+-- where no row of `record` is found, none has the id
+none_there : (old new : State) (id : List ℕ) (rows : List Row) → Shown find_text (Text id ∷ []) old new rows → rows ≡ [] → LacksId id old.now
+none_there old new id rows h none is row has key =
+    let read = reads_as find_text (Text id ∷ []) old new store_schema is (Select (record { lets = []; body = find_query }) (codes "form" ∷ codes "root" ∷ [])) find_is find_plain find_unlisted rows h in
+    let there = shown_complete 1 by_first (col 1 2 ∷ col 1 3 ∷ []) [] (overlay old.now.trees []) (Text id ∷ []) rows (read.answer Null) row has (row_by_id row id key) in
+    absurd (subst (λ l. Has l (column row 2 ∷ column row 3 ∷ [])) none there)
+
+pub none_found : (old new : State) (id : List ℕ) (r : Result (Vec Row Global) Error) → IfOk r (λ rows. Shown find_text (Text id ∷ []) old new rows.items)
+    → IfOk r (λ rows. rows.items ≡ [] → LacksId id old.now)
+none_found old new id (Err e) h = tt
+none_found old new id (Ok rows) h = none_there old new id rows.items h
+
 -- ---- the first row
+
+pub no_first : (rows : List Row) → None ≡ slice_get rows 0 → rows ≡ []
+no_first [] none = refl
+no_first (row ∷ rows) none = absurd cc
 
 pub none_first : (rows : List Row) (o : Option Head) → None ≡ slice_get rows 0 → ShowsHead rows o → None ≡ o
 none_first [] o none h = sym h

@@ -1,7 +1,8 @@
 -- What the row of `about` tells of a database of either version.
-use Rattle.std.specs.Prelude.{◌≡◌, ◌⊎◌, pos, ℕ, List, [], ◌∷◌}
+use Rattle.std.specs.Prelude.{◌≡◌, ◌⊎◌, pos, ℕ, ℤ, List, [], ◌∷◌}
 use Rattle.sqlite.specs.declared.types.Value.TheVariants.{Int, Blob as Raw}
-use Rattle.sqlite.specs.Order.{Row}
+use Rattle.sqlite.specs.Order.{Row, column}
+use Rattle.sqlite_rules.specs.Lists.{Has}
 use Rattle.sqlite.specs.Effect.{Database}
 use Rattle.fv_store_tables.specs.Tables.{store_schema}
 use Rattle.fv_store_tables.specs.FirstTables.{old_schema}
@@ -12,9 +13,9 @@ use Rattle.fv_store_tables.specs.Stands.{about_row, TableEntries, TablesStand}
 abbrev pub HasTables : Database → Type 0
 HasTables db = (db.schema ≡ old_schema) ⊎ (db.schema ≡ store_schema)
 
--- and `about` has one row: this version and these declarations
+-- the tables are those of version 1 or those of version 2, and `about` has one row: this version and these declarations
 abbrev pub TellsAbout : ℕ → List ℕ → Database → Type 0
-TellsAbout version declarations db = HasTables db × (db.trees 0 ≡ about_row version declarations ∷ [])
+TellsAbout version declarations db = ((db.schema ≡ old_schema) ⊎ (db.schema ≡ store_schema)) × (db.trees 0 ≡ about_row version declarations ∷ [])
 
 -- what a query shows of the version and the declarations
 abbrev pub shown_about : ℕ → List ℕ → Row
@@ -24,6 +25,14 @@ shown_about version declarations = Int (pos version) ∷ Raw declarations ∷ []
 abbrev pub ShowsAbout : List Row → ℕ → List ℕ → Type 0
 ShowsAbout [] version declarations = ⊥
 ShowsAbout (row ∷ rows) version declarations = row ≡ shown_about version declarations
+
+-- it is what a query shows of a row of `about`
+abbrev pub IsOfAbout : Database → Row → Type 0
+IsOfAbout db shown = (row : Row) × Has (db.trees 0) row × (shown ≡ column row 2 ∷ column row 3 ∷ [])
+
+-- where the tables are those of either version, a row of `about` keeps this version and these declarations, whatever else is there
+abbrev pub KeepsAbout : ℤ → List ℕ → Database → Type 0
+KeepsAbout version declarations db = HasTables db → (row : Row) × Has (db.trees 0) row × (column row 2 ≡ Int version) × (column row 3 ≡ Raw declarations)
 
 -- The row of `about` has these declarations since, whatever it had. The version and the records stay, and so does the room for rows.
 abbrev pub Redeclares : List ℕ → Database → Database → Type 0

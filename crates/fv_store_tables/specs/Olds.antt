@@ -34,7 +34,9 @@ IsTextOld id o = IsUtf8 id × IsUtf8 o.form × IsUtf8 o.bundle
 pub record SpellsFirst (db : Database) (rows : List Row) (m : Olds) : Type 0 where
   pub schema : db.schema ≡ old_schema
   pub about : db.trees 0 ≡ rows
-  pub records : HasRows old_row IsTextOld (db.trees 1) m
+  -- rows of the rowid, the id, the form and the bundle's text; what they keep as text is text
+  pub records : HasRows (λ n id (o : Old). Int n ∷ Words id ∷ Words o.form ∷ Words o.bundle ∷ [])
+      (λ id (o : Old). IsUtf8 id × IsUtf8 o.form × IsUtf8 o.bundle) (db.trees 1) m
 
 -- What a connection outside a transaction keeps of version 1, now and as committed. It says nothing once the disk has lied or has shut the connection.
 abbrev pub KeepsOlds : State → List Row → Olds → Type 0

@@ -143,7 +143,7 @@ tables_of m = record { heads = λ id. head_of (m id); parts = λ at. object_text
 
 -- the database stands for the records
 abbrev pub TablesStand : Database → List Row → TableEntries → Type 0
-TablesStand db rows m = SpellsTables db rows (tables_of m)
+TablesStand db rows m = SpellsTables db rows (record { heads = λ id. head_of (m id); parts = λ at. object_texts at.1 (m at.0) })
 
 -- ---- connections
 

@@ -1,5 +1,5 @@
 //! What the rows of a record keep, as it is written and handed out.
-ghost use Rattle.std.specs.Prelude.{◌≡◌, ◌≢◌, ◌<◌, ℕ, IfErr, IfOk, OnErr, IsUtf8, length, map, option_map, List, Option};
+ghost use Rattle.std.specs.Prelude.{◌≡◌, ◌≢◌, ◌<◌, [], None, ℕ, IfErr, IfOk, OnErr, IsUtf8, length, map, option_map, List, Option};
 ghost use Rattle.std.specs.List.{AllByRecursion};
 ghost use Rattle.sqlite.specs.Order.{column};
 ghost use Rattle.sqlite.specs.declared.types.Value.TheVariants.{Text as Words};
@@ -52,12 +52,13 @@ pub struct FoundRecord {
 }
 
 impl FoundRecord {
-    ghost use Rattle.fv_store_tables.specs.Stored.{ShowsRecord, rows_view};
+    ghost use Rattle.fv_store_tables.specs.Stored.{ShowsNone, ShowsRecord, rows_view};
 
     /// What the rows keep, if there are some. It stays in them.
     /// Refused by `OutOfMemory`, and else only where they don't show a record.
     pub fn read(&self, alloc: Global) -> Result<Option<RecordRows<'_>>, Error>
         ensures shown { IfOk result (λ r. (o : Option Entry) → ShowsRecord self.now o → option_map rows_view r ≡ o) }
+        ensures none { IfOk result (λ r. r ≡ None → ShowsNone self.now) }
         ensures cause { IfErr result (λ e. (o : Option Entry) → ShowsRecord self.now o → ¬ IsRefusal e) }
     {
         match head_in(&self.head)? {
@@ -110,6 +111,7 @@ fn read_head(row: &Row) -> Result<HeadRow<'_>, Error>
 /// What the first of these rows shows of a record, if there is one.
 pub(crate) fn head_in(rows: &[Row]) -> Result<Option<HeadRow<'_>>, Error>
     ensures shown { IfOk result (λ s. (o : Option Head) → ShowsHead rows.now o → option_map head_view s ≡ o) }
+    ensures none { IfOk result (λ s. s ≡ None → rows.now ≡ []) }
     ensures memory { IfErr result IsRefusal }
     ensures cause { OnErr result ((o : Option Head) → ¬ ShowsHead rows.now o) }
 {

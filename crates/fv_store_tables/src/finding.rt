@@ -1,11 +1,11 @@
 //! The record of an id, by two queries.
-ghost use Rattle.std.specs.Prelude.{◌≡◌, false, IsTrue, IfErr, IfOk, None, OnOk, Some, map};
+ghost use Rattle.std.specs.Prelude.{◌≡◌, [], false, IsTrue, IfErr, IfOk, None, OnOk, Some, map};
 ghost use Rattle.sqlite.specs.State.{HasCleanDisk};
 ghost use Rattle.sqlite.specs.Held.{state};
 ghost use Rattle.fv_store_tables.specs.Causes.{IsExcused};
 ghost use Rattle.fv_store_tables.specs.Changes.{IsNamed, AllNamed};
 ghost use Rattle.fv_store_tables.specs.Stands.{Frame, IsLive, IsSettled, Keeps, ShowsHead, Stays, head_of, shown_part};
-ghost use Rattle.fv_store_tables.specs.Stored.{ShowsRecord};
+ghost use Rattle.fv_store_tables.specs.Stored.{LacksId, ShowsNone, ShowsRecord};
 
 use crate::entry::FoundRecord;
 use sqlite::{Alter, Connection, Error, Row, params};
@@ -23,6 +23,7 @@ fn find_record<S: Alter>(conn: &mut Connection<S>, id: &str) -> Result<Vec<Row>,
     ensures open { OnOk result (IsLive (state S.Store conn.new)) }
     ensures shown { HasCleanDisk (state S.Store conn.new) → IfOk result (λ rows. IsTrue (state S.Store conn.old).is_open
         × ((d : _) (m : _) → Keeps (state S.Store conn.old) d m → ShowsHead rows.items (head_of (m id.now)))) }
+    ensures none { HasCleanDisk (state S.Store conn.new) → IfOk result (λ rows. rows.items ≡ [] → LacksId id.now (state S.Store conn.old).now) }
     ensures cause { HasCleanDisk (state S.Store conn.new) → conn.old.step_limit ≡ None → IfErr result (λ e.
         (d : _) (m : _) → Keeps (state S.Store conn.old) d m
         → IsExcused (state S.Store conn.old) (state S.Store conn.new) e) }
@@ -69,6 +70,7 @@ pub fn find<S: Alter>(
     ensures open { OnOk result (IsLive (state S.Store conn.new)) }
     ensures found { HasCleanDisk (state S.Store conn.new) → IfOk result (λ f. IsTrue (state S.Store conn.old).is_open
         × ((d : _) (m : _) → Keeps (state S.Store conn.old) d m → AllNamed m → ShowsRecord f (m id.now))) }
+    ensures none { HasCleanDisk (state S.Store conn.new) → IfOk result (λ f. ShowsNone f → LacksId id.now (state S.Store conn.old).now) }
     ensures cause { HasCleanDisk (state S.Store conn.new) → conn.old.step_limit ≡ None → IfErr result (λ e.
         (d : _) (m : _) → Keeps (state S.Store conn.old) d m
         → IsExcused (state S.Store conn.old) (state S.Store conn.new) e) }

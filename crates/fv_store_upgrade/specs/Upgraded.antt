@@ -34,7 +34,7 @@ upgraded_entry form b = record { form = form; root = b.0; objects = b.1 }
 
 -- the record that a row of version 1 is, where its text is JSON and a bundle by its form
 abbrev pub entry_in : Old → Option Entry
-entry_in o = option_map (upgraded_entry o.form) (option_and_then bundle_in (read o.bundle))
+entry_in o = option_map (λ b. record { form = o.form; root = b.0; objects = b.1 }) (option_and_then bundle_in (read o.bundle))
 
 -- the records of version 2
 abbrev pub upgraded : Olds → TableEntries
@@ -48,10 +48,10 @@ AllUpgrade m = (id : List ℕ) (o : Old) → m id ≡ Some o → IsSome (entry_i
 abbrev pub rows_in : Old → ℕ
 rows_in o = option_map_or (λ (k : Entry). 1 + length k.objects) (entry_in o) 0
 
--- the same of all these
+-- how many rows of version 2 these of version 1 make, each one for the record and one for each of its objects
 abbrev pub rows_of : List (List ℕ × Old) → ℕ
 rows_of [] = 0
-rows_of (e ∷ es) = rows_in e.1 + rows_of es
+rows_of (e ∷ es) = option_map_or (λ (k : Entry). 1 + length k.objects) (entry_in e.1) 0 + rows_of es
 
 -- fewer than there are rowids
 abbrev pub HasFew : Olds → Type 0

@@ -61,3 +61,9 @@ returns-then-not-is_first-clause-upgraded g c =
     let about = c.in_ok-about.about in
     not_first (state g.S.Store c.args.conn.now) (state g.S.Store c.stored.new.conn) about.version about.declarations.items c.stored.ensures.frame c.in_ok-about.ensures.open c.in_ok-about.ensures.taken
     (λ first. true≢false (sym (c.is_first.ensures.1 first) ∙ c.if-not-is_first.true))
+
+pub returns-clause-kept : goal.returns-clause-kept
+returns-clause-kept g c clean = (c.in_ok-about.about.version, c.in_ok-about.ensures.kept (c.migrate.ensures.frame.clean clean))
+
+pub returns-then-not-is_first-clause-kept : goal.returns-then-not-is_first-clause-kept
+returns-then-not-is_first-clause-kept g c clean = (c.in_ok-about.about.version, c.in_ok-about.ensures.kept clean)

@@ -1,6 +1,7 @@
+use Rattle.sqlite.specs.Held.{state}
 use Rattle.fv_store.specs.Faults.{open_fault_of}
 use Rattle.fv_store.proofs.Migrations.{given_more}
-use Rattle.fv_store.proofs.Openings.{is_refusal}
+use Rattle.fv_store.proofs.Openings.{blank_kept, is_refusal}
 use Rattle.fv_store.proofs.Refusals.{handed_on}
 use Rattle.fv_store.proofs.opening.settle.Goals as goal
 
@@ -14,3 +15,6 @@ returns-then-is_blank-clause-fresh g c blank = (c.in_ok-text.ensures.items_if_cl
 
 pub returns-clause-still : goal.returns-clause-still
 returns-clause-still g c = given_more _ _ c.kept.result c.kept.ensures.still
+
+pub returns-then-is_blank-clause-kept : goal.returns-then-is_blank-clause-kept
+returns-then-is_blank-clause-kept g c clean = blank_kept (state g.S.Store c.args.conn.now).now _ (c.is_blank.ensures.0 c.if-is_blank.true)

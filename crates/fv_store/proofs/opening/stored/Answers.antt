@@ -1,6 +1,6 @@
 use Rattle.sqlite.specs.Held.{state}
 use Rattle.fv_store.specs.Faults.{open_fault_of}
-use Rattle.fv_store.proofs.Openings.{about_first, about_never, taken_all, caused_all, excused_all, is_refusal}
+use Rattle.fv_store.proofs.Openings.{kept_first, about_first, about_never, taken_all, caused_all, excused_all, is_refusal}
 use Rattle.fv_store.proofs.Refusals.{handed_on}
 use Rattle.fv_store.specs.Stored.{about_view}
 use Rattle.fv_store.proofs.opening.stored.Goals as goal
@@ -8,12 +8,12 @@ use Rattle.fv_store.proofs.opening.stored.Goals as goal
 pub returns-in-Some-clause-taken : goal.returns-in-Some-clause-taken
 returns-in-Some-clause-taken g c clean =
     taken_all about_view (state g.S.Store c.args.conn.now) c.about_in.result
-    (λ version d tells. c.about_in.ensures version d (about_first _ version d c.in-Some.row.now (rw (c.in-Some.is, c.deref.ensures.value) at c.first.ensures.value) ((c.in_ok-rows.ensures.shown clean).1 version d tells)))
+    (λ version d tells. c.about_in.ensures.told version d (about_first _ version d c.in-Some.row.now (rw (c.in-Some.is, c.deref.ensures.value) at c.first.ensures.value) ((c.in_ok-rows.ensures.shown clean).1 version d tells)))
 
 pub returns-in-Some-clause-cause : goal.returns-in-Some-clause-cause
 returns-in-Some-clause-cause g c clean filled =
     caused_all about_view (state g.S.Store c.args.conn.now) c.about_in.result (c.in_ok-rows.ensures.shown clean).0 filled
-    (λ version d tells. c.about_in.ensures version d (about_first _ version d c.in-Some.row.now (rw (c.in-Some.is, c.deref.ensures.value) at c.first.ensures.value) ((c.in_ok-rows.ensures.shown clean).1 version d tells)))
+    (λ version d tells. c.about_in.ensures.told version d (about_first _ version d c.in-Some.row.now (rw (c.in-Some.is, c.deref.ensures.value) at c.first.ensures.value) ((c.in_ok-rows.ensures.shown clean).1 version d tells)))
 
 pub returns-in_err-rows-clause-store_known : goal.returns-in_err-rows-clause-store_known
 returns-in_err-rows-clause-store_known g c clean none =
@@ -23,8 +23,13 @@ returns-in_err-rows-clause-store_known g c clean none =
 pub returns-in-Some-clause-store_known : goal.returns-in-Some-clause-store_known
 returns-in-Some-clause-store_known g c clean none =
     excused_all about_view (state g.S.Store c.args.conn.now) (state g.S.Store c.read_about.new.conn) c.about_in.result
-    (λ version d tells. c.about_in.ensures version d (about_first _ version d c.in-Some.row.now (rw (c.in-Some.is, c.deref.ensures.value) at c.first.ensures.value) ((c.in_ok-rows.ensures.shown clean).1 version d tells)))
+    (λ version d tells. c.about_in.ensures.told version d (about_first _ version d c.in-Some.row.now (rw (c.in-Some.is, c.deref.ensures.value) at c.first.ensures.value) ((c.in_ok-rows.ensures.shown clean).1 version d tells)))
 
 pub returns-clause-store_known : goal.returns-clause-store_known
 returns-clause-store_known g c clean none version d tells is =
     absurd (about_never _ version d (rw (c.in-None.is, c.deref.ensures.value) at c.first.ensures.value) ((c.in_ok-rows.ensures.shown clean).1 version d tells))
+
+pub returns-in-Some-clause-kept : goal.returns-in-Some-clause-kept
+returns-in-Some-clause-kept g c clean =
+    kept_first (state g.S.Store c.args.conn.now) _ c.in-Some.row.now c.about_in.result (rw (c.in-Some.is, c.deref.ensures.value) at c.first.ensures.value)
+    (c.in_ok-rows.ensures.of_rows clean) c.about_in.ensures.kept

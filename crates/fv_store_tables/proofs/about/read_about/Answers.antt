@@ -2,7 +2,7 @@ use Rattle.std.proofs.Common.{[], arith}
 use Rattle.sqlite.specs.Held.{state}
 use Rattle.fv_store_tables.proofs.FirstTexts.{read_text}
 use Rattle.fv_store_tables.proofs.Bare.{read_bare}
-use Rattle.fv_store_tables.proofs.Abouts.{read_shown, read_cause}
+use Rattle.fv_store_tables.proofs.Abouts.{read_of_rows, read_shown, read_cause}
 use Rattle.fv_store_tables.proofs.Queries.{query_stays, query_open, query_live}
 use Rattle.fv_store_tables.proofs.about.read_about.Goals as goal
 
@@ -27,3 +27,6 @@ returns-clause-untouched g c settled clean =
 
 pub returns-clause-cause : goal.returns-clause-cause
 returns-clause-cause g c clean none = read_cause (state g.S.Store c.args.conn.now) (state g.S.Store c.query_all.new.self) none c.query_all.result (c.query_all.ensures.err clean)
+
+pub returns-clause-of_rows : goal.returns-clause-of_rows
+returns-clause-of_rows g c clean = read_of_rows (state g.S.Store c.args.conn.now) (state g.S.Store c.query_all.new.self) c.query_all.result (c.query_all.ensures.ok clean)

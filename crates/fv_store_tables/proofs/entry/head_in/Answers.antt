@@ -1,5 +1,5 @@
 use Rattle.std.proofs.Common.{Some, ap, sym, ◌∙◌}
-use Rattle.fv_store_tables.proofs.Queries.{none_first, same_head, some_first}
+use Rattle.fv_store_tables.proofs.Queries.{no_first, none_first, same_head, some_first}
 use Rattle.fv_store_tables.proofs.Refusals.{handed_on}
 use Rattle.fv_store_tables.proofs.entry.head_in.Goals as goal
 
@@ -17,3 +17,6 @@ returns-in_err-read_head-in-Some-clause-cause c =
     (λ o shows.
     let first = some_first _ _ c.in-Some.row.now (rw c.in-Some.is at c.first.ensures.value) shows in
     c.in_err-read_head-in-Some.ensures.cause first.0 first.2 first.3)
+
+pub returns-in-None-clause-none : goal.returns-in-None-clause-none
+returns-in-None-clause-none c none = no_first _ (rw c.in-None.is at c.first.ensures.value)

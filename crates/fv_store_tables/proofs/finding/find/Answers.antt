@@ -59,3 +59,9 @@ returns-in_err-objects-clause-cause g c clean none =
     (λ d m keeps refused.
     failed_then (state g.S.Store c.args.conn.now) (state g.S.Store c.find_record.new.conn) (state g.S.Store c.find_objects.new.conn) mid c.find_record.ensures.frame c.find_objects.ensures.frame.counts
     (c.in_err-objects.ensures.cause clean (c.find_record.ensures.limit ∙ none) d m (c.find_record.ensures.stays d m keeps) refused))
+
+pub returns-then-is_empty-clause-none : goal.returns-then-is_empty-clause-none
+returns-then-is_empty-clause-none g c clean = c.in_ok-head.ensures.none clean
+
+pub returns-clause-none : goal.returns-clause-none
+returns-clause-none g c clean = c.in_ok-head.ensures.none (c.find_objects.ensures.frame.clean clean)

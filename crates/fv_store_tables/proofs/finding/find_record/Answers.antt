@@ -2,7 +2,7 @@ use Rattle.std.proofs.Common.{[], ◌∷◌, arith}
 use Rattle.sqlite.specs.declared.types.Value.TheVariants.{Text}
 use Rattle.sqlite.specs.Held.{state}
 use Rattle.fv_store_tables.proofs.Texts.{find_text, find_plain}
-use Rattle.fv_store_tables.proofs.Queries.{find_shown, kept_stays, query_holds, query_same, query_open, query_live, find_cause}
+use Rattle.fv_store_tables.proofs.Queries.{find_shown, none_found, kept_stays, query_holds, query_same, query_open, query_live, find_cause}
 use Rattle.fv_store_tables.proofs.finding.find_record.Goals as goal
 
 pub returns-clause-frame : goal.returns-clause-frame
@@ -42,3 +42,8 @@ pub returns-clause-untouched : goal.returns-clause-untouched
 returns-clause-untouched g c settled d m keeps clean =
     kept_stays find_text (Text c.args.id.now ∷ []) (state g.S.Store c.args.conn.now) (state g.S.Store c.query_all.new.self) find_plain (omega (arith, c.query_all.ensures.survives.clean)) settled c.query_all.result
     (rw c.params-to_sql.ensures at (c.query_all.ensures.ok clean)) (rw c.params-to_sql.ensures at (c.query_all.ensures.err clean)) d m keeps clean
+
+pub returns-clause-none : goal.returns-clause-none
+returns-clause-none g c clean =
+    none_found (state g.S.Store c.args.conn.now) (state g.S.Store c.query_all.new.self) c.args.id.now c.query_all.result
+    (rw c.params-to_sql.ensures at (c.query_all.ensures.ok clean))

@@ -66,3 +66,6 @@ returns-in-Ok-clause-fresh g c blank = ((rw c.set_step_limit.ensures at c.in-Ok.
 
 pub returns-in-Ok-clause-still : goal.returns-in-Ok-clause-still
 returns-in-Ok-clause-still g c = rw c.set_step_limit.ensures at c.in-Ok.ensures.still
+
+pub returns-in-Ok-clause-kept : goal.returns-in-Ok-clause-kept
+returns-in-Ok-clause-kept g c clean = rw c.set_step_limit.ensures at (c.in-Ok.ensures.kept clean)

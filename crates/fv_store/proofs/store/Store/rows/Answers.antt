@@ -48,3 +48,8 @@ returns-in_err-find-clause-untouched g c =
     let same : c.self.inside.connection ≡ c.args.self.now.connection = same_connection c.self.view_is in
     λ k holds.
     rw same at (c.find.ensures.untouched (c.is_autocommit.ensures.settled (c.is_autocommit.ensures.value ∙ ap not c.self.invariant.0)) (about_rows k.bytes) (all_kept k.records)) (keeps_of (state g.S.Store c.args.self.now.connection) k holds)
+
+pub returns-clause-none : goal.returns-clause-none
+returns-clause-none g c clean =
+    let same : c.self.inside.connection ≡ c.args.self.now.connection = same_connection c.self.view_is in
+    rw same at (c.in_ok-find.ensures.none clean)

@@ -23,3 +23,6 @@ pub returns-in_err-rows-clause-cause : goal.returns-in_err-rows-clause-cause
 returns-in_err-rows-clause-cause g c clean =
     handed_on _ c.from_residual-in_err-rows.result (fault_of c.in_err-rows.field-0.0) c.from_residual-in_err-rows.ensures.1
     (λ is k holds. absurd (c.in_err-rows.ensures.cause _ (c.in_ok-found.ensures.found clean k holds) (is_refusal c.in_err-rows.field-0.0 is)))
+
+pub returns-clause-none : goal.returns-clause-none
+returns-clause-none g c clean = λ none. c.in_ok-found.ensures.none clean (c.in_ok-rows.ensures.none (c.in_ok-written_if.ensures.none none))

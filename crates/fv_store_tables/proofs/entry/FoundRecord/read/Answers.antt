@@ -28,3 +28,6 @@ returns-in_ok-objects_in-in-Some-clause-shown c o shows =
 
 pub returns-in-None-clause-shown : goal.returns-in-None-clause-shown
 returns-in-None-clause-shown c o shows = head_none o (rw c.in-None.is at (c.in_ok-head.ensures.shown (head_of o) (subst (λ rows. ShowsHead rows (head_of o)) (sym c.deref.ensures.value) shows.0)))
+
+pub returns-in-None-clause-none : goal.returns-in-None-clause-none
+returns-in-None-clause-none c none = sym c.deref.ensures.value ∙ c.in_ok-head.ensures.none c.in-None.is

@@ -2,7 +2,7 @@ use Rattle.std.proofs.Common.{◌≡◌, true, false, sym, ◌∙◌, rules}
 use Rattle.serde_json.specs.Read.{read}
 use Rattle.serde_json.specs.View.{view as json_view}
 use Rattle.fv_store.proofs.RowsRead.{none_there, read_there}
-use Rattle.fv_store.proofs.reading.read_row.Goals as goal
+use Rattle.fv_store.proofs.stored.read_row.Goals as goal
 
 pub returns-then-not-is_object : goal.returns-then-not-is_object
 returns-then-not-is_object c =

@@ -3,7 +3,7 @@ use Rattle.fv_bundle.specs.Views.{bundle_view}
 use Rattle.fv_model.specs.Writing.{named_written}
 use Rattle.fv_store.specs.Written.{object_kept}
 use Rattle.fv_store.proofs.Apart.{rows_of, rows_apart}
-use Rattle.fv_store.proofs.object_rows.object_rows.Goals as goal
+use Rattle.fv_store.proofs.changes.object_rows.Goals as goal
 use Rattle.fv_store_tables.specs.Changes.{AreApart, objects_view}
 
 pub returns-clause-apart : goal.returns-clause-apart

@@ -2,7 +2,7 @@ use Rattle.std.proofs.Common.{map, option_map, sym, ap, ◌∙◌}
 use Rattle.std.proofs.lemmas.List.{map-append}
 use Rattle.fv_store.specs.ReadRows.{read_view}
 use Rattle.fv_store.proofs.RowsRead.{row_more}
-use Rattle.fv_store.proofs.reading.read_rows.Goals as goal
+use Rattle.fv_store.proofs.stored.read_rows.Goals as goal
 
 pub loop-row-preserved : goal.loop-row-preserved
 loop-row-preserved c =
