@@ -4,8 +4,8 @@ ghost use Rattle.fv_datum.specs.Moments.{IsMoment};
 
 use crate::demonstration::in_memory;
 use crate::failure::Failure;
-use formd_task::{Service, read_file};
-use fv_engine::{Clock, Engine, Reply};
+use formd_task::read_file;
+use fv_engine::{Clock, Engine, FixedClock, Reply};
 use fv_engine_lines::{Responder, Text, answer_lines};
 use fv_explain_line::{Untold, explain_refusal, records_asked};
 use fv_registry::RuleSet;
@@ -25,7 +25,7 @@ fn refusal_words<R: RuleSet + Drop>(
 }
 
 /// An engine in memory, and where it tells in words why it refuses a line.
-struct Rehearsal<'e, R: RuleSet, E: Write> {
+pub(crate) struct Rehearsal<'e, R: RuleSet, E: Write> {
     engine: Engine<R, MemStore>,
     error: &'e mut E,
     /// How many lines were answered.
@@ -43,6 +43,28 @@ impl<'e, R: RuleSet + Drop, E: Write> Drop for Rehearsal<'e, R, E> {
 }
 
 impl<'e, R: RuleSet + Drop, E: Write> Rehearsal<'e, R, E> {
+    /// One over an empty database in memory under the declarations of the file at a path, that tells on
+    /// an error writer.
+    ///
+    /// Refused as declarations not readable, then by their fault; for want of memory at any place.
+    pub(crate) fn new(
+        rt: &HostRuntime,
+        path: &str,
+        registry: R,
+        error: &'e mut E,
+    ) -> Result<Rehearsal<'e, R, E>, Failure>
+        requires { R.means registry }
+    {
+        let alloc = rt.alloc();
+        let declarations = read_file(alloc, rt, path)?;
+        let engine = in_memory(alloc, registry, &declarations)?;
+        Ok(Rehearsal {
+            engine,
+            error,
+            lines: 0,
+        })
+    }
+
     /// The replies to gets of the records that are needed to tell why a line was refused.
     fn records(
         &mut self,
@@ -101,32 +123,20 @@ impl<'e, R: RuleSet + Drop, E: Write> Responder for Rehearsal<'e, R, E> {
     }
 }
 
-/// Answers lines over a database in memory under the declarations of a file, until the reader's end,
-/// as a service over an empty database would, and tells on the error writer in one line of words why
+/// Answers lines in a rehearsal, until the reader's end, as a service over an empty database would, at
+/// the fixed clock's moment where there is one, and tells on the error writer in one line of words why
 /// each line with C2 to C9, C13 or C14 was refused. Nothing is kept.
 ///
-/// Refused as declarations not readable, then by their fault, then as not read or not written; for want
-/// of memory at any place.
-pub(crate) fn rehearse_file<R: RuleSet + Drop, I: Read, W: Write, E: Write, C: Clock>(
-    rt: &HostRuntime,
-    service: Service<'_>,
-    registry: R,
+/// Refused as not read or not written, or for want of memory.
+pub(crate) fn rehearse<'e, R: RuleSet + Drop, I: Read, W: Write, E: Write, C: Clock>(
+    alloc: Global,
+    mut rehearsal: Rehearsal<'e, R, E>,
+    fixed: Option<FixedClock>,
     reader: &mut I,
     output: &mut W,
-    error: &mut E,
     clock: &mut C,
-) -> Result<(), Failure>
-    requires { R.means registry }
-{
-    let alloc = rt.alloc();
-    let declarations = read_file(alloc, rt, service.declarations)?;
-    let engine = in_memory(alloc, registry, &declarations)?;
-    let mut rehearsal = Rehearsal {
-        engine,
-        error,
-        lines: 0,
-    };
-    let answered = match service.clock {
+) -> Result<(), Failure> {
+    let answered = match fixed {
         None => answer_lines(alloc, &mut rehearsal, reader, output, clock),
         Some(mut fixed) => answer_lines(alloc, &mut rehearsal, reader, output, &mut fixed),
     };

@@ -4,7 +4,7 @@ use crate::explaining::explain_as_asked;
 use crate::exporting::export_file;
 use crate::failure::Failure;
 use crate::judging::judge_file;
-use crate::rehearsing::rehearse_file;
+use crate::rehearsing::{Rehearsal, rehearse};
 use crate::serving::serve_files;
 use clap::Error;
 use clap::error::ErrorKind;
@@ -28,32 +28,6 @@ fn say_version<W: Write>(output: &mut W) -> Result<(), Failure> {
         return Err(Failure::Write);
     }
     Ok(())
-}
-
-/// Does what is asked.
-fn run_task<R: RuleSet + Drop, I: Read, W: Write, E: Write, C: Clock>(
-    rt: &HostRuntime,
-    task: Task<'_>,
-    registry: R,
-    reader: &mut I,
-    output: &mut W,
-    error: &mut E,
-    clock: &mut C,
-) -> Result<(), Failure>
-    requires { R.means registry }
-{
-    match task {
-        Task::Demonstration => serve_demonstration(rt.alloc(), registry, reader, output),
-        Task::Declarations(path) => check_declarations(rt.alloc(), rt, path, &registry, output),
-        Task::Explain(asked) => explain_as_asked(rt, asked, &registry, output),
-        Task::Export(path) => export_file(rt, path, registry, output),
-        Task::Rehearse(service) => {
-            rehearse_file(rt, service, registry, reader, output, error, clock)
-        }
-        Task::Judge(service) => judge_file(rt, service, registry, reader, output, clock),
-        Task::Serve(service) => serve_files(rt, service, registry, reader, output, clock),
-        Task::Version => say_version(output),
-    }
 }
 
 /// Does what the words ask, without the program's name: without words it serves the demonstration's
@@ -83,7 +57,8 @@ pub fn run_words<R: RuleSet + Drop, I: Read, W: Write, E: Write, C: Clock>(
 ) -> u8
     requires { R.means registry }
 {
-    let task = match task_of(rt.alloc(), words) {
+    let alloc = rt.alloc();
+    let task = match task_of(alloc, words) {
         Ok(task) => task,
         Err(refused) => {
             if refused.kind() != ErrorKind::DisplayVersion {
@@ -92,7 +67,20 @@ pub fn run_words<R: RuleSet + Drop, I: Read, W: Write, E: Write, C: Clock>(
             Task::Version
         }
     };
-    match run_task(rt, task, registry, reader, output, error, clock) {
+    let done = match task {
+        Task::Demonstration => serve_demonstration(alloc, registry, reader, output),
+        Task::Declarations(path) => check_declarations(alloc, rt, path, &registry, output),
+        Task::Explain(asked) => explain_as_asked(rt, asked, &registry, output),
+        Task::Export(path) => export_file(rt, path, registry, output),
+        Task::Rehearse(service) => match Rehearsal::new(rt, service.declarations, registry, error) {
+            Ok(rehearsal) => rehearse(alloc, rehearsal, service.clock, reader, output, clock),
+            Err(failure) => Err(failure),
+        },
+        Task::Judge(service) => judge_file(rt, service, registry, reader, output, clock),
+        Task::Serve(service) => serve_files(rt, service, registry, reader, output, clock),
+        Task::Version => say_version(output),
+    };
+    match done {
         Ok(()) => 0,
         Err(failure) => failure.report(error),
     }

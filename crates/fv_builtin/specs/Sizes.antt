@@ -23,9 +23,9 @@ abbrev pub entry_count : Entries → ℕ
 entry_count no_entries = 0
 entry_count (entry k d es) = entry_count es + 1
 
--- the size of a text, a list or a map; other data have none
+-- the size of a text in UTF-16 code units, one for a character up to U+FFFF and else two, of a list or of a map; other data have none
 abbrev pub size_of : Data → Option ℕ
-size_of (text s) = Some (utf16_size s)
+size_of (text s) = Some (sum_by (λ c. if nat_lt c 65536 then 1 else 2) (chars s))
 size_of (list ds) = Some (item_count ds)
 size_of (map es) = Some (entry_count es)
 size_of _ = None

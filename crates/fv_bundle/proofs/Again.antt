@@ -20,9 +20,9 @@ use Rattle.fv_bundle.specs.Spelled.{datum_of, entry_read, only_item, list_of, ma
 use Rattle.fv_bundle.specs.Types.{TypeUse, texts, integers, decimals, booleans, dates, instants, references, lists, maps, optionals}
 use Rattle.fv_bundle.proofs.Fitted.{mapped, entry_parts}
 use Rattle.fv_datum.proofs.Lists.{both_some}
-use Rattle.fv_bundle.proofs.Members.{AreAscending, all_put, put_again, ascending_keys}
+use Rattle.fv_datum.proofs.Members.{AreAscending, all_put, put_again, ascending_keys}
 use Rattle.fv_bundle.proofs.Orders.{keyed, keys_in_order}
-use Rattle.fv_bundle.proofs.PlainJson.{IsWhole, IsPlain, ArePlainItems, ArePlain}
+use Rattle.fv_datum.proofs.PlainJson.{IsWhole, IsPlain, ArePlainItems, ArePlain}
 use Rattle.fv_bundle.proofs.Spelling.{keys_read}
 
 chained : {X Y : Type 0} (f : X → Option Y) (o : Option X) (y : Y) → option_and_then f o ≡ Some y → (x : X) × (o ≡ Some x) × (f x ≡ Some y)

@@ -20,6 +20,7 @@ use Rattle.fv_datum.specs.Written.{is_null, keys_fit, written, items_written, en
 use Rattle.fv_datum.specs.declared.fault.DatumFault.TheVariants.{WrongKind}
 use Rattle.fv_datum.specs.declared.kind.Kind.{Kind}
 use Rattle.fv_datum.specs.declared.kind.Kind.TheVariants as kind
+use Rattle.fv_datum.proofs.Sorted.{below_middle}
 use Rattle.fv_datum.proofs.Spelled.{spelled-written}
 use Rattle.fv_bundle.specs.Fits.{Referring, OrNull, IsOfUse, Fits}
 use Rattle.fv_bundle.specs.Flaws.{anywhere, referring, is_over, is_long}
@@ -29,7 +30,7 @@ use Rattle.fv_bundle.specs.Types.{TypeUse, texts, integers, decimals, booleans, 
 use Rattle.fv_bundle.specs.Writing.{IsWritten, datum_json}
 use Rattle.fv_datum.proofs.Bools.{or_false}
 use Rattle.fv_datum.proofs.Lists.{each_of, none_made, read_made}
-use Rattle.fv_bundle.proofs.Orders.{keyed, below_middle, keys_in_order}
+use Rattle.fv_bundle.proofs.Orders.{keyed, keys_in_order}
 use Rattle.fv_bundle.proofs.Plain.{fits_written}
 use Rattle.fv_bundle.proofs.Writable as can
 

@@ -6,7 +6,6 @@ pub mod Fitted
 pub mod Flawless
 pub mod Lookups
 pub mod Made
-pub mod Members
 pub mod Orders
 pub mod Placed
 pub mod Plain

@@ -1,8 +1,6 @@
 -- Members whose names ascend.
-use Rattle.std.proofs.Common.{◌≡◌, ℕ, List, [], ◌∷◌, ◌++◌, map, true, refl, Less, nat_cmp}
-use Rattle.std.specs.List.{AllByRecursion}
+use Rattle.std.proofs.Common.{◌≡◌, ℕ, List, [], ◌∷◌, map, true, refl}
 use Rattle.std.specs.List.Sorted.{IsStrictlySortedBy}
-use Rattle.std.specs.Cmp.Lexicographic.{slice_cmp}
 use Rattle.std.specs.Map.{keys_of}
 use Rattle.fv_datum.specs.Data.{Data, text, entries_of}
 use Rattle.fv_datum.specs.Written.{keys_fit}
@@ -11,11 +9,6 @@ use Rattle.fv_datum.specs.Ascending.{IsAscending}
 -- entries by their keys' texts
 abbrev pub keyed : List (List ℕ × Data) → List (Data × Data)
 keyed = map (λ e. (text e.0, e.1))
-
--- a name that is below those that follow is below one in their midst
-pub below_middle : {X : Type 0} (l k : List ℕ) (x : X) (front more : List (List ℕ × X)) → AllByRecursion (λ y. slice_cmp nat_cmp l y ≡ Less) (keys_of (front ++ (k, x) ∷ more)) → slice_cmp nat_cmp l k ≡ Less
-below_middle l k x [] more h = h.0
-below_middle l k x (e ∷ es) more h = below_middle l k x es more h.1
 
 -- keys that ascend are texts in order
 pub keys_in_order : (es : List (List ℕ × Data)) → IsAscending (keys_of es) → keys_fit (entries_of (keyed es)) ≡ true

@@ -1,12 +1,12 @@
 -- A datum that fits its type use is written plainly: whole numbers of 64 bits, members in order, and no more containers one in another than its type use has.
-use Rattle.std.proofs.Common.{◌≡◌, ◌≤◌, ◌<◌, ◌^◌, ℕ, ℤ, pos, negsuc, suc, length, List, [], ◌∷◌, map, Less, nat_cmp, sym, subst, Bool, true, false, refl, arith}
-use Rattle.std.specs.Prelude.{FitsSigned, ⊤}
+use Rattle.std.proofs.Common.{◌≡◌, ◌≤◌, ℕ, ℤ, pos, negsuc, suc, length, List, [], ◌∷◌, map, Less, nat_cmp, sym, subst, Bool, true, false, refl, arith}
+use Rattle.std.specs.Prelude.{FitsSigned}
 use Rattle.std.specs.List.{AllByRecursion}
 use Rattle.std.specs.List.Sorted.{IsStrictlySortedBy}
 use Rattle.std.specs.Map.{keys_of}
 use Rattle.std.specs.Cmp.Lexicographic.{slice_cmp}
 use Rattle.std.specs.Int.{w64}
-use Rattle.serde_json.specs.Data.{Num, unsigned, negative, float, Data, null, boolean, number, string, array, object, Items, no_items, item, Members, no_members, member, depth, items_depth, members_depth}
+use Rattle.serde_json.specs.Data.{Data, null, depth, items_depth}
 use Rattle.serde_json.specs.Find.{of_integer}
 use Rattle.serde_json.specs.View as seen
 use Rattle.fv_datum.specs.Data as datum
@@ -21,45 +21,8 @@ use Rattle.fv_bundle.specs.Types.{TypeUse, texts, integers, decimals, booleans, 
 use Rattle.fv_bundle.specs.Writing.{IsWritten, datum_json}
 use Rattle.fv_bundle.proofs.Back.{members_of, entry_json, list_is, map_is, optional_null, optional_some, null_or, null_is, fits_writable}
 use Rattle.fv_datum.proofs.Lists.{each_of}
-use Rattle.fv_bundle.proofs.Members.{AreAbove, AreAscending}
-
--- a whole number of 64 bits
-abbrev pub IsWhole : Num → Type 0
-IsWhole (unsigned n) = n < 2 ^ 63
-IsWhole (negative (pos n)) = ⊥
-IsWhole (negative (negsuc n)) = n < 2 ^ 63
-IsWhole (float x) = ⊥
-
--- whole numbers, and members in order
-abbrev mutual
-  pub IsPlain : Data → Type 0
-  IsPlain null = ⊤
-  IsPlain (boolean b) = ⊤
-  IsPlain (number n) = IsWhole n
-  IsPlain (string s) = ⊤
-  IsPlain (array ds) = ArePlainItems ds
-  IsPlain (object ms) = ArePlain ms × AreAscending ms
-
-  pub ArePlainItems : Items → Type 0
-  ArePlainItems no_items = ⊤
-  ArePlainItems (item d ds) = IsPlain d × ArePlainItems ds
-
-  pub ArePlain : Members → Type 0
-  ArePlain no_members = ⊤
-  ArePlain (member k d ms) = IsPlain d × ArePlain ms
-
--- plain, and no deeper than so
-abbrev pub IsFlat : ℕ → Data → Type 0
-IsFlat n d = IsPlain d × (depth d ≤ n)
-
--- members that are plain, in order, and no deeper than so
-pub record Fields (n : ℕ) (ms : Members) : Type 0 where
-  pub plain : ArePlain ms
-  pub ordered : AreAscending ms
-  pub flat : members_depth ms ≤ n
-
-pub no_fields : (n : ℕ) → Fields n no_members
-no_fields n = record { plain = tt; ordered = tt; flat = omega arith }
+use Rattle.fv_datum.proofs.Members.{AreAbove}
+use Rattle.fv_datum.proofs.PlainJson.{IsWhole, ArePlainItems, IsFlat, Fields, no_fields}
 
 -- ---- a datum of a kind
 

@@ -4,7 +4,7 @@ use Rattle.serde_json.specs.Data as json
 use Rattle.serde_json.specs.Find.{as_array}
 use Rattle.fv_datum.specs.Data.{Data, null, text, list, map, optional, items_of, entries_of}
 use Rattle.fv_datum.specs.Forms.{each_item, each_member}
-use Rattle.fv_datum.specs.Json.{is_null_json, spelled}
+use Rattle.fv_datum.specs.Json.{is_null_json, plain}
 use Rattle.fv_bundle.specs.Types.{TypeUse, lists, maps, optionals, kind_of}
 
 -- a list of these items
@@ -35,4 +35,4 @@ abbrev pub datum_of : TypeUse → json.Data → Option Data
 datum_of (lists held) j = or_null j (option_map list_of (each_item (datum_of held) j))
 datum_of (maps held) j = or_null j (option_map map_of (each_member (entry_read (datum_of held)) j))
 datum_of (optionals held) j = or_null j (option_map optional (option_and_then (only_item (datum_of held)) (as_array j)))
-datum_of type_use j = spelled (kind_of type_use) j
+datum_of type_use j = or_null j (plain (kind_of type_use) j)

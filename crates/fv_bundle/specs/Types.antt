@@ -10,7 +10,7 @@ use Rattle.fv_datum.specs.Outcomes.{first}
 use Rattle.fv_datum.specs.Lookup.{at_name}
 use Rattle.fv_datum.specs.declared.kind.Kind.{Kind}
 use Rattle.fv_datum.specs.declared.kind.Kind.TheVariants as kind
-use Rattle.fv_bundle.specs.TypeLimits.{most_types, most_fields, most_nested}
+use Rattle.fv_bundle.specs.TypeLimits.{most_fields, most_nested}
 use Rattle.fv_bundle.specs.declared.type_use.TypeUse as code
 use Rattle.fv_bundle.specs.declared.type_use.TypeUse.{fold-TypeUse}
 use Rattle.fv_bundle.specs.declared.type_use.TypeUse.TheOpen.{TypeUse-F}
@@ -108,9 +108,9 @@ is_unknown ts _ = false
 abbrev pub unknown_type_in : Declared → DeclaredFields → Bool
 unknown_type_in ts = list_any (λ f. is_unknown ts f.1)
 
--- the same, of one of the types
+-- a field of one of the types refers to a type that isn't declared
 abbrev pub has_unknown_type : Declared → Bool
-has_unknown_type ts = list_any (λ t. unknown_type_in ts t.1) ts
+has_unknown_type ts = list_any (λ t. list_any (λ f. is_unknown ts f.1) t.1) ts
 
 -- a type of more than 256 fields
 abbrev pub has_large_type : Declared → Bool
@@ -120,9 +120,9 @@ has_large_type = list_any (λ t. nat_lt most_fields (length t.1))
 abbrev pub deep_in : DeclaredFields → Bool
 deep_in = list_any (λ f. nat_lt most_nested (nested f.1))
 
--- the same, of one of the types
+-- a field of one of the types holds more than four containers one in another
 abbrev pub has_deep : Declared → Bool
-has_deep = list_any (λ t. deep_in t.1)
+has_deep = list_any (λ t. list_any (λ f. nat_lt 4 (nested f.1)) t.1)
 
 -- no name stands twice
 abbrev pub AreApart : {X : Type 0} → List (List ℕ × X) → Type 0
@@ -134,7 +134,7 @@ FieldsApart ts = All (λ t. AreApart t.1) ts
 
 -- more than 256 types, a type of more than 256 fields, or more than four containers one in another
 abbrev pub too_many : Declared → Bool
-too_many ts = nat_lt most_types (length ts) || has_large_type ts || has_deep ts
+too_many ts = nat_lt 256 (length ts) || list_any (λ t. nat_lt 256 (length t.1)) ts || has_deep ts
 
 -- the first fault of types that are declared
 abbrev pub types_fault : Declared → Option TypesFault

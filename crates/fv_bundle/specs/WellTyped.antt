@@ -5,7 +5,7 @@ use Rattle.std.specs.Map.{keys_of}
 use Rattle.fv_datum.specs.Data.{Data}
 use Rattle.fv_datum.specs.Lookup.{at_name}
 use Rattle.fv_datum.specs.Name.{names}
-use Rattle.fv_bundle.specs.Fits.{Referring, Fits}
+use Rattle.fv_bundle.specs.Fits.{Referring, Fits, OrNull, IsOfUse}
 use Rattle.fv_bundle.specs.Types.{TypeUse, DeclaredFields, Declared}
 use Rattle.fv_bundle.specs.Limits.{most_objects}
 use Rattle.fv_bundle.specs.Bundles.{IsAscending, Thing, Things, Bundled}
@@ -26,11 +26,12 @@ FitsUse os = Fits (NamesObject os)
 abbrev pub FieldsAre : Referring → DeclaredFields → List (List ℕ × Data) → Type 0
 FieldsAre Named = AllZip (λ d f. (f.0 ≡ d.0) × Fits Named d.1 f.1)
 
--- an object of a declared type, in a bundle of these objects
+-- an object of a declared type, in a bundle of these objects: each of the type's fields, in order, with null or a datum of its type use within
+-- the limits
 pub record FitsType (ts : Declared) (os : Things) (t : Thing) : Type 0 where
   pub fields : DeclaredFields
   pub declared : at_name t.type_name ts ≡ Some fields
-  pub fit : FieldsAre (NamesObject os) fields t.fields
+  pub fit : AllZip (λ d f. (f.0 ≡ d.0) × OrNull (IsOfUse (NamesObject os) d.1) f.1) fields t.fields
 
 -- each field of a type with null or a datum of its type use; a reference may be any name
 abbrev pub AreOfFields : DeclaredFields → List (List ℕ × Data) → Type 0

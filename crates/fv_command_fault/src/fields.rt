@@ -65,14 +65,10 @@ pub(crate) fn absent_field(
         → (p : _) → IsAt schema.now m (command_view command.now) Absence.Field p → result ≡ Some p }
 {
     match command {
-        Command::CheckField { object, field, .. } => {
-            absent_in_bundle(schema.types(), stored?, object, field)
+        Command::CheckField { at, .. } => {
+            absent_in_bundle(schema.types(), stored?, at.object, at.field)
         }
-        Command::CheckValue {
-            type_name,
-            field,
-            ..
-        } => absent_in_types(schema.types(), type_name, field),
+        Command::CheckValue { at, .. } => absent_in_types(schema.types(), at.type_name, at.field),
         _ => None,
     }
 }

@@ -49,10 +49,12 @@ is_set c name = is_some (at_name name c.given) || is_some (at_name name c.overri
 abbrev pub lacks_attribute : Signature → Composing → Bool
 lacks_attribute attributes c = list_any (λ a. not a.1.1 && not (is_set c a.0)) attributes
 
--- what is given and overridden doesn't suit the attributes of the composing constraint, or the outer ones of the composed one
+-- what is given and overridden doesn't suit the attributes of the composing constraint, or the outer ones of the composed one; or an attribute is
+-- both, or one without default is neither
 abbrev pub is_unsuited : Signature → Signature → Composing → Bool
 is_unsuited outer attributes c =
-    gives_foreign attributes c.given || overrides_foreign outer attributes c.overrides || gives_overridden c || lacks_attribute attributes c
+    gives_foreign attributes c.given || overrides_foreign outer attributes c.overrides
+    || list_any (λ o. is_some (at_name o.0 c.given)) c.overrides || list_any (λ a. not a.1.1 && not (is_set c a.0)) attributes
 
 -- a composing constraint of a definition is refused: it is neither built in nor declared, or what is given and overridden doesn't suit it
 abbrev pub refuses_composing : Definitions → Definition → Composing → Bool

@@ -47,4 +47,5 @@ unknown_rule k ds = list_any (λ d. is_unknown_rule k d.1.rule) ds
 
 -- a definition has a default of another kind, or a composing constraint that is refused
 abbrev pub bad_definition : Definitions → Bool
-bad_definition ds = list_any (λ d. bad_default d.1 || list_any (refuses_composing ds d.1) d.1.composing) ds
+bad_definition ds = list_any (λ d.
+    list_any (λ a. is_other_kind a.1.kind a.1.default) d.1.attributes || list_any (refuses_composing ds d.1) d.1.composing) ds

@@ -1,7 +1,7 @@
 -- The targets that contracts see.
 use Rattle.fv_constraint_tree.specs.Targets as spec
-use Rattle.fv_constraint_tree.specs.declared.target.Target.{Target}
-use Rattle.fv_constraint_tree.specs.declared.target.Target.TheVariants as place
+use Rattle.fv_constraint_tree.specs.declared.node.Target.{Target}
+use Rattle.fv_constraint_tree.specs.declared.node.Target.TheVariants as place
 
 -- what a constraint stands on
 abbrev pub target_view : Target → spec.Target

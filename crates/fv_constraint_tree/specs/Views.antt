@@ -8,8 +8,8 @@ use Rattle.fv_constraint_tree.specs.Says as says
 use Rattle.fv_constraint_tree.specs.declared.node.Node.{Node}
 use Rattle.fv_constraint_tree.specs.declared.node.Test.{Test}
 use Rattle.fv_constraint_tree.specs.declared.node.Test.TheVariants as test
-use Rattle.fv_constraint_tree.specs.declared.subject.Subject.{Subject}
-use Rattle.fv_constraint_tree.specs.declared.subject.Subject.TheVariants as subject
+use Rattle.fv_constraint_tree.specs.declared.reporting.Subject.{Subject}
+use Rattle.fv_constraint_tree.specs.declared.reporting.Subject.TheVariants as subject
 
 -- what a constraint asks itself
 abbrev pub test_view : Test → spec.Test

@@ -7,11 +7,8 @@ mod node;
 mod occurrence;
 mod passing;
 mod reporting;
-mod subject;
-mod target;
 
-pub use node::{Node, Test};
+pub use node::{Node, Target, Test};
 pub use occurrence::Occurrence;
 pub use passing::passes_all;
 pub use reporting::{report, report_object};
-pub use target::Target;

@@ -1,8 +1,18 @@
+//! A constraint in a tree of constraints, and where it stands.
 ghost use Rattle.std.specs.Prelude.{◌≡◌};
 ghost use Rattle.fv_constraint_tree.specs.Views.{node_view};
 
 use fv_builtin::Builtin;
-use fv_datum::Attrs;
+use fv_datum::{Attrs, Kind};
+
+/// Where a constraint stands.
+#[derive(Clone, Copy, Debug, PartialEq, Eq)]
+pub enum Target {
+    /// At objects.
+    Object,
+    /// At data of the kind.
+    Data(Kind),
+}
 
 /// What a constraint asks itself, apart from the constraints that it is composed of.
 #[derive(Drop)]

@@ -1,15 +1,17 @@
 -- Names that ascend, in a map that keeps the order of insertion: one above those before it goes last.
 use Rattle.std.proofs.Common.{◌≡◌, ℕ, ◌+◌, ◌<◌, ◌≤◌, List, [], ◌∷◌, ◌++◌, length, get_or, drop, map, false, String, Less, string_bytes, nat_cmp, bytes_eq, is_eq, refl, sym, ap, ◌∙◌, append_assoc, append-nil, add-one, drop-cons}
 use Rattle.std.proofs.lemmas.List.{map-append, at_drop_all}
+use Rattle.std.proofs.lemmas.Map.Keys.{sorted_head, sorted_tail}
 use Rattle.std.proofs.lemmas.Map.Text.{is_eq-slice_cmp}
 use Rattle.std.specs.declared.alloc.Global.{Global}
 use Rattle.std.specs.Cmp.Lexicographic.{slice_cmp}
 use Rattle.std.specs.List.Sorted.{IsStrictlySortedBy}
+use Rattle.std.specs.Map.{keys_of}
 use Rattle.std.specs.String.{string_eq}
 use Rattle.indexmap.specs.IndexMap as indexed
 use Rattle.fv_datum.specs.Ascending.{IsAscending}
 use Rattle.fv_datum.specs.EntryNames.{names_of}
-use Rattle.fv_datum.proofs.Sorted.{above_middle, above}
+use Rattle.fv_datum.proofs.Sorted.{below_middle, above_middle, above}
 
 other : (first name : List ℕ) → slice_cmp nat_cmp first name ≡ Less → bytes_eq name first ≡ false
 other first name h = sym (is_eq-slice_cmp name first) ∙ ap is_eq (above first name h)
@@ -25,6 +27,23 @@ insert_last (e ∷ es) k x more h =
 module _ {X : Type 0} (es new : List (String Global × X)) (k : String Global) (x : X) (name : List ℕ) (more : List (List ℕ)) where
   pub entries_insert : {Y : Type 0} (f : String Global × X → Y) → string_bytes k ≡ name → IsAscending (names_of es ++ name ∷ more) → new ≡ indexed.insert_entry string_eq es k x → map f new ≡ map f es ++ f (k, x) ∷ []
   entries_insert f is h e = let last : IsAscending (names_of es ++ string_bytes k ∷ more) = rw is h in ap (map f) (e ∙ insert_last es k x more last) ∙ map-append f es ((k, x) ∷ [])
+
+-- ---- the same, of entries as they are seen
+
+module _ {K V X : Type 0} (name : K → List ℕ) (view : V → X) where
+  -- what entries are seen as
+  abbrev pub all_seen : List (K × V) → List (List ℕ × X)
+  all_seen = map (λ e. (name e.0, view e.1))
+
+  -- an entry whose name is above those before it goes last
+  pub seen_last : (es : List (K × V)) (k : K) (v : V) (more : List (List ℕ × X)) → IsAscending (keys_of (all_seen es ++ (name k, view v) ∷ more))
+      → all_seen (indexed.insert_entry (λ a b. bytes_eq (name a) (name b)) es k v) ++ more ≡ all_seen es ++ (name k, view v) ∷ more
+  seen_last [] k v more h = refl
+  seen_last (e ∷ es) k v more h =
+      let rest = keys_of (all_seen es ++ (name k, view v) ∷ more) in
+      let below = below_middle (name e.0) (name k) (view v) (all_seen es) more (sorted_head (slice_cmp nat_cmp) (name e.0) rest h) in
+      let later = seen_last es k v more (sorted_tail (slice_cmp nat_cmp) (name e.0) rest h) in
+      rw (other (name e.0) (name k) below) (ap (λ xs. (name e.0, view e.1) ∷ xs) later)
 
 -- ---- steps of the loops that build a map: what is built, and what is still to come
 

@@ -1,3 +1,4 @@
+pub mod Apart
 pub mod Bools
 pub mod DateOrder
 pub mod DayLemmas
@@ -7,6 +8,9 @@ pub mod Inserted
 pub mod Lists
 pub mod Lookups
 pub mod Maps
+pub mod Members
+pub mod Outcomes
+pub mod PlainJson
 pub mod Sorted
 pub mod Spelled
 pub mod Unfit

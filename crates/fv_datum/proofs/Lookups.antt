@@ -1,8 +1,9 @@
 -- Look-ups by name, in maps and in lists.
-use Rattle.std.proofs.Common.{◌≡◌, ℕ, zero, suc, ◌<◌, List, [], ◌∷◌, length, get_or, map, Bool, true, false, cond, nat_lt, Option, Some, None, option_map, slice_get, zip, is_some, String, string_bytes, nat_cmp, bytes_eq, Bor, refl, sym, ap, ◌∙◌, position, not, arith}
-use Rattle.std.specs.List.{prefix_len}
+use Rattle.std.proofs.Common.{◌≡◌, ℕ, zero, suc, ◌<◌, List, [], ◌∷◌, length, get_or, map, Bool, true, false, cond, nat_lt, Option, Some, None, option_map, slice_get, zip, is_some, String, string_bytes, nat_cmp, bytes_eq, Bor, refl, sym, ap, subst, ◌∙◌, position, not, arith}
+use Rattle.std.specs.List.{prefix_len, All, AllByRecursion}
 use Rattle.std.proofs.lemmas.Bool.{ltb-false}
 use Rattle.std.proofs.lemmas.List.{length-map}
+use Rattle.std.proofs.lemmas.List.Elements.{recursion_from_All}
 use Rattle.std.proofs.lemmas.List.Quantifiers.{position-Some}
 use Rattle.std.proofs.lemmas.Map.Text.{is_eq-slice_cmp}
 use Rattle.std.proofs.lemmas.Option.{slice_get_past}
@@ -128,3 +129,15 @@ found_in f name es found value = option_map-copied f found ∙ ap (option_map f)
 module _ {X Y : Type 0} (f : X → Y) (name : List ℕ) (es : List (String Global × X)) (found : Option (Bor X)) (value : option_copied found ≡ lookup (is_at (λ k. slice_cmp nat_cmp name (string_bytes k))) es) where
   pub found_at : option_map (λ x. f x.now) found ≡ at_name name (map (λ e. (string_bytes e.0, f e.1)) es)
   found_at = option_map-copied f found ∙ ap (option_map f) value ∙ tree-at_name f name es
+
+-- what holds of each value holds of the one that is found by its name
+pub found_all : {X : Type 0} (P : X → Type 0) (name : List ℕ) (es : List (List ℕ × X)) (x : X) → AllByRecursion (λ e. P e.1) es → at_name name es ≡ Some x → P x
+found_all P name [] x all e = cc
+found_all {X} P name (d ∷ es) x all e = go (bytes_eq name d.0) e (found_all P name es x all.1)
+  where
+    go : (b : Bool) → cond b (Some d.1) (at_name name es) ≡ Some x → (at_name name es ≡ Some x → P x) → P x
+    go true e ih = let same : d.1 ≡ x = cc in subst P same all.0
+    go false e ih = ih e
+
+pub found_every : {X : Type 0} (P : X → Type 0) (name : List ℕ) (es : List (List ℕ × X)) (x : X) → All (λ e. P e.1) es → at_name name es ≡ Some x → P x
+found_every P name es x all e = found_all P name es x (recursion_from_All (λ e. P e.1) es all) e

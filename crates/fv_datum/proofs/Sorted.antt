@@ -21,6 +21,13 @@ unfolding IsStrictlySortedBy
 names-ascend [] h = tt
 names-ascend (e ∷ es) h = (below_names e.0 es h.0, names-ascend es h.1)
 
+-- a name that is below those that follow is below one in their midst
+pub below_middle : {X : Type 0} (l k : List ℕ) (x : X) (front more : List (List ℕ × X))
+    → AllByRecursion (λ y. slice_cmp nat_cmp l y ≡ Less) (keys_of (front ++ (k, x) ∷ more)) → slice_cmp nat_cmp l k ≡ Less
+below_middle l k x [] more h = h.0
+below_middle l k x (e ∷ es) more h = below_middle l k x es more h.1
+
+-- the same among names alone
 pub above_middle : (first : List ℕ) (done : List (List ℕ)) (name : List ℕ) (more : List (List ℕ)) → AllByRecursion (λ y. slice_cmp nat_cmp first y ≡ Less) (done ++ name ∷ more) → slice_cmp nat_cmp first name ≡ Less
 above_middle first [] name more h = h.0
 above_middle first (x ∷ done) name more h = above_middle first done name more h.1

@@ -21,6 +21,7 @@ use Rattle.fv_datum.specs.declared.kind.Kind.{Kind}
 use Rattle.fv_datum.specs.declared.kind.Kind.TheVariants as kind
 use Rattle.fv_datum.specs.declared.fault.DatumFault.{DatumFault}
 use Rattle.fv_datum.specs.declared.fault.DatumFault.TheVariants.{WrongKind, Memory}
+use Rattle.fv_datum.proofs.Outcomes.{ok_found}
 
 -- ---- what is spelled is of the kind
 
@@ -85,12 +86,8 @@ null_or false o d e = inr e
 pub spelled-fits : (k : Kind) (j : json.Data) (d : Data) → spelled k j ≡ Some d → FitsKind k d
 spelled-fits k j d e = elim (null_or (is_null_json j) (plain k j) d e) [ inl is ↦ inl is | inr more ↦ inr (plain-fits k j d more) ]
 
-read_some : (o : Option Data) (d : Data) → ok_or o WrongKind ≡ Ok d → o ≡ Some d
-read_some (Some x) d e = cc
-read_some None d e = cc
-
 pub gives-fits : (r : Result Datum DatumFault) (k : Kind) (j : json.Data) → Gives Memory view r (datum_read k j) → IfOk r (λ d. FitsKind k (view d))
-gives-fits (Ok d) k j given = spelled-fits k j (view d) (read_some (spelled k j) (view d) given)
+gives-fits (Ok d) k j given = spelled-fits k j (view d) (ok_found (spelled k j) WrongKind (view d) given)
 gives-fits (Err e) k j given = tt
 
 -- ---- what was written spells the datum again

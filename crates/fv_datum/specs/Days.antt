@@ -28,13 +28,15 @@ month_day_of s = digits_value 10 (take 2 (drop 8 s))
 abbrev pub is_calendar_day : ℕ → ℕ → ℕ → Bool
 is_calendar_day y m d = nat_le 1 y && nat_le 1 m && nat_le m 12 && nat_le 1 d && nat_le d (days_in_month (pos y) m)
 
--- the day of the calendar with these numbers, if there is one
+-- the day of the calendar with these numbers of a year, of a month and of a day of the month, if there is one, in the year 1 or a later one
 abbrev pub calendar_day : ℕ → ℕ → ℕ → Option ℤ
-calendar_day y m d = if is_calendar_day y m d then Some (days_from_civil (pos y) m d) else None
+calendar_day y m d =
+    if nat_le 1 y && nat_le 1 m && nat_le m 12 && nat_le 1 d && nat_le d (days_in_month (pos y) m) then Some (days_from_civil (pos y) m d) else None
 
 -- the day of a date, if the text is one
 abbrev pub day_of : List ℕ → Option ℤ
-day_of s = if has_date_form s then calendar_day (year_of s) (month_of s) (month_day_of s) else None
+day_of s =
+    if has_date_form s then calendar_day (digits_value 10 (take 4 s)) (digits_value 10 (take 2 (drop 5 s))) (digits_value 10 (take 2 (drop 8 s))) else None
 
 -- the text is a date
 abbrev pub is_date : List ℕ → Bool

@@ -49,12 +49,12 @@ fraction_units (Some s) = digits_value 10 s * 10 ^ (9 - length s)
 -- a decimal without a sign: its number in units of 10^-9
 abbrev pub unsigned_units : List ℕ → Option ℕ
 unsigned_units s = if is_whole_part (before_point s) && is_fraction (behind_point s)
-    then Some (whole_units (before_point s) + fraction_units (behind_point s))
+    then Some (digits_value 10 (before_point s) * 10 ^ 9 + fraction_units (behind_point s))
     else None
 
--- a decimal: its number in units of 10^-9
+-- a decimal, a minus first where it is below 0: its number in units of 10^-9
 abbrev pub decimal_units : List ℕ → Option ℤ
-decimal_units s = if is_negative s
+decimal_units s = if nat_lt 0 (length s) && (slice_index s 0 == 45)
     then option_map (λ n. neg_ℤ (pos n)) (unsigned_units (drop 1 s))
     else option_map (λ n. pos n) (unsigned_units s)
 

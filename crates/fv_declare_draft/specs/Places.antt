@@ -50,7 +50,7 @@ abbrev mutual
   -- `{"type":T,"constraints":[USE],"valid":BOOL,"convert":{GROUP:GROUP}}`, only `type` is required
   pub place_of : json.Data → Option PlaceDraft
   place_of (json.object ms) =
-      if has_only place_members (json.object ms)
+      if has_only (codes "type" ∷ codes "constraints" ∷ codes "valid" ∷ codes "convert" ∷ []) (json.object ms)
       then map3 place (uses_of (codes "constraints") (json.object ms)) (cascade_of (json.object ms)) (type_in ms)
       else None
   place_of _ = None

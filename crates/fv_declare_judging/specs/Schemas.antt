@@ -39,10 +39,10 @@ pub record IsDeclared (d : Drafted) (ts : List (Tree Planned)) (ds : Declaration
   pub fields_ascend : AllByRecursion (λ t. IsAscending (map (λ f. f.0) t.1)) ds.types
   pub uses : AllZip (IsPlacedAs (groups_in d)) (zip (uses_in d.types) ts) ds.occurrences
   pub numbered : AreNumbered 0 ds.occurrences
-  pub forms : ds.forms ≡ map form_declared d.forms
+  pub forms : ds.forms ≡ map (λ f. (f.name, f.root)) d.forms
   pub forms_ascend : IsAscending (map (λ f. f.0) ds.forms)
   pub groups : ds.groups ≡ groups_in d
-  pub form_groups : ds.form_groups ≡ map (form_grouped (groups_in d)) d.forms
+  pub form_groups : ds.form_groups ≡ map (λ f. (f.name, groups_named (groups_in d) f.groups)) d.forms
   pub sequences : ds.sequences ≡ map (type_ranks (groups_in d)) d.types
   pub valid_places : ds.valid_places ≡ valid_places (groups_in d) (cascades_in d.types)
   pub messages : ds.messages ≡ all_messages d.messages

@@ -78,10 +78,10 @@ Inherits gs g h = (g ≡ h) ⊎ Leads (inherit_next gs) g h
 abbrev pub ranked : (ℕ → Bool) → ℕ → List (List ℕ) → List ℕ
 ranked is_sequence i below = cond (is_sequence i) (once (concat below)) (i ∷ [])
 
--- the plain groups that a group stands for, in order
+-- the plain groups that a group stands for, in order: itself alone, or for a sequence all that its members stand for, a repeat after the first dropped
 abbrev pub ranks : Groups → ℕ → List ℕ
-ranks gs g = value (ranked (is_sequence gs)) (member_next gs) (length gs) g
+ranks gs g = value (λ i below. cond (is_sequence gs i) (once (concat below)) (i ∷ [])) (member_next gs) (length gs) g
 
--- a group is, or has as a member, directly or through others, one that is or inherits `Default`, the group of number 0
+-- a group is, or has as a member, directly or through others, one that is `Default`, the group of number 0, or inherits it, directly or through others
 abbrev pub MeetsDefault : Groups → ℕ → Type 0
-MeetsDefault gs g = (k : ℕ) × ((g ≡ k) ⊎ Leads (member_next gs) g k) × Inherits gs k 0
+MeetsDefault gs g = (k : ℕ) × ((g ≡ k) ⊎ Leads (member_next gs) g k) × ((k ≡ 0) ⊎ Leads (inherit_next gs) k 0)

@@ -35,9 +35,9 @@ has_inherited_sequence gs = list_any (λ g. sequence_in gs (inherited_by g.1)) g
 abbrev pub has_large_group : Groups → Bool
 has_large_group gs = list_any (λ g. nat_lt most_names (length (group_names_of g.1))) gs
 
--- a limit is passed
+-- a limit is passed: more than 256 groups, or more than 32 that one inherits or that are members of one
 abbrev pub are_too_large : Groups → Bool
-are_too_large gs = nat_lt most_groups (length gs) || has_large_group gs
+are_too_large gs = nat_lt 256 (length gs) || list_any (λ g. nat_lt most_names (length (group_names_of g.1))) gs
 
 -- all names are groups', no group inherits itself and no sequence contains itself, through whatever chain, and no sequence is inherited
 pub record AreSound (gs : Groups) : Type 0 where

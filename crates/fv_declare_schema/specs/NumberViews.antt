@@ -5,8 +5,8 @@ use Rattle.fv_extract.specs.Views.{step_view}
 use Rattle.fv_declare_schema.specs.Tables.{indices}
 use Rattle.fv_declare_schema.specs.declared.declared.GroupId.{GroupId}
 use Rattle.fv_declare_schema.specs.ValidPlaces as spec
-use Rattle.fv_declare_schema.specs.declared.valid_place.GroupConversion.{GroupConversion}
-use Rattle.fv_declare_schema.specs.declared.valid_place.ValidPlace.{ValidPlace}
+use Rattle.fv_declare_schema.specs.declared.place.GroupConversion.{GroupConversion}
+use Rattle.fv_declare_schema.specs.declared.place.ValidPlace.{ValidPlace}
 
 -- a group with the one that it is converted to
 abbrev pub conversion_numbers : GroupConversion → ℕ × ℕ

@@ -2,7 +2,7 @@
 use Rattle.fv_declare_schema.specs.Declarations as spec
 use Rattle.fv_declare_schema.specs.Tables.{indices}
 use Rattle.fv_declare_schema.specs.PlaceViews.{place_view}
-use Rattle.fv_declare_schema.specs.declared.placed.Placed.{Placed}
+use Rattle.fv_declare_schema.specs.declared.place.Placed.{Placed}
 
 -- the use that a placed occurrence is
 abbrev pub placed_view : Placed → spec.Placed

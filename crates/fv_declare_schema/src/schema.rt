@@ -15,9 +15,7 @@ ghost use Rattle.fv_constraint_tree.specs.Views.{test_view};
 
 use crate::declared::GroupId;
 use crate::groups::Groups;
-use crate::place::Place;
-use crate::placed::Placed;
-use crate::valid_place::ValidPlace;
+use crate::place::{Place, Placed, ValidPlace};
 use fv_bundle::{TypeId, Types};
 use fv_constraint_tree::Test;
 use fv_message::Messages;

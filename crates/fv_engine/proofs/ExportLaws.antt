@@ -17,7 +17,7 @@ use Rattle.fv_engine_command.specs.Commands.{alone, asks, asks_json, is_id, of_r
 use Rattle.fv_model.specs.Reading.{bundle_read}
 use Rattle.fv_model.specs.Writing.{bundle_json}
 use Rattle.fv_model.proofs.Law.{law_asked}
-pub use Rattle.fv_bundle.proofs.PlainJson.{IsPlain}
+pub use Rattle.fv_datum.proofs.PlainJson.{IsPlain}
 use Rattle.fv_bundle.specs.Types.{Declared, DeclaredFields, FieldsApart, name_at}
 use Rattle.fv_bundle.specs.declared.types.TypeId.{TypeId}
 use Rattle.fv_store.proofs.ReadBack.{text_back}

@@ -27,7 +27,7 @@ use Rattle.fv_engine_lines.specs.Writes.{AppendsFront}
 use Rattle.fv_model.specs.Writing.{bundle_json}
 use Rattle.fv_model.proofs.NoFloats.{bundle_float}
 use Rattle.fv_bundle.specs.Types.{has_deep}
-use Rattle.fv_store.proofs.Steps.{failed_then}
+use Rattle.fv_store_tables.proofs.Steps.{failed_then}
 use Rattle.fv_store.specs.Causes.{HasFailed}
 use Rattle.fv_store.specs.Records.{Contents, Kept, Records}
 use Rattle.fv_store.specs.Stands.{HoldsRecords}

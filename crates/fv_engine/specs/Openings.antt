@@ -48,7 +48,7 @@ pub record IsKept (old new : State) : Type 0 where
   pub still : (IsBlank old.now → ⊥) → Stays old new ⊎ (HasCleanDisk new → MayBeFirst old.now)
   pub upgraded : IsUpgraded old new
 
--- a database over which Store is told for its disk alone: tables that tell another version than the first (what isn't this one is refused as
+-- a database over which Store is told for its disk alone: tables that tell another version than the first (of these every one but 2 is refused as
 -- OtherVersion); those of version 1, whose rows all are records and fit; or an empty one
 abbrev pub FailsByDisk : State → List ℕ → Type 0
 FailsByDisk old given =

@@ -44,9 +44,9 @@ pub data Request : Type 0 where
 abbrev pub is_id : List ℕ → Bool
 is_id s = nat_lt 0 (length s) && nat_le (length s) 64 && list_all (λ b. is_ascii_alphanumeric b || b == 95 || b == 45) s
 
--- a string that is an id
+-- a string that is an id: 1 to 64 ASCII letters, ASCII digits, `_` and `-`
 abbrev pub id_in : json.Data → Option (List ℕ)
-id_in = string_of is_id
+id_in = string_of (λ s. nat_lt 0 (length s) && nat_le (length s) 64 && list_all (λ b. is_ascii_alphanumeric b || b == 95 || b == 45) s)
 
 -- the id at the member `id`
 abbrev pub id_at : json.Data → Option (List ℕ)
@@ -74,7 +74,8 @@ part_forms = (codes "put", put_of) ∷ (codes "set", set_of) ∷ (codes "remove"
 
 -- the part that a JSON value is, by the name at its member `do`
 abbrev pub part_of : json.Data → Option Part
-part_of j = option_and_then (λ name. option_and_then (λ form. form j) (at_name name part_forms)) (required as_str (codes "do") j)
+part_of j = option_and_then (λ name. option_and_then (λ form. form j)
+    (at_name name ((codes "put", put_of) ∷ (codes "set", set_of) ∷ (codes "remove", remove_of) ∷ []))) (required as_str (codes "do") j)
 
 -- the parts that an array has, 1 to 64 of them
 abbrev pub parts_in : json.Data → Option (List Part)
@@ -117,15 +118,16 @@ abbrev pub list_request : json.Data → Option Request
 list_request = only (codes "do" ∷ codes "form" ∷ codes "after" ∷ codes "limit" ∷ []) (λ j.
     map3 list (required as_str (codes "form") j) (maybe id_in (codes "after") j) (optional 100 limit_in (codes "limit") j))
 
--- the commands by their names
+-- the commands by their names, among them `{"do":"batch","parts":[PART,..]}`, `{"do":"get","id":ID}` and `{"do":"check","id":ID,"groups":[NAME,..]}`,
+-- where the groups may be missing
 abbrev pub forms : List (List ℕ × (json.Data → Option Request))
 forms =
     (codes "put", λ j. option_map alone (put_of j))
     ∷ (codes "set", λ j. option_map alone (set_of j))
     ∷ (codes "remove", λ j. option_map alone (remove_of j))
-    ∷ (codes "batch", batch_of)
-    ∷ (codes "get", get_of)
-    ∷ (codes "check", check_of)
+    ∷ (codes "batch", only (codes "do" ∷ codes "parts" ∷ []) (λ j. option_map batch (required parts_in (codes "parts") j)))
+    ∷ (codes "get", only (codes "do" ∷ codes "id" ∷ []) (λ j. option_map get (id_at j)))
+    ∷ (codes "check", only (codes "do" ∷ codes "id" ∷ codes "groups" ∷ []) (λ j. map2 check (id_at j) (groups_at j)))
     ∷ (codes "checkfield", check_field_of)
     ∷ (codes "checkvalue", check_value_of)
     ∷ (codes "list", list_request)

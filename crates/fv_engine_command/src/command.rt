@@ -18,6 +18,21 @@ pub const MOST_GROUPS: usize = 32;
 /// The most ids that a list gives.
 const MOST_IDS: u64 = 1000;
 
+/// A field of an object of a record, by their names.
+#[derive(Drop)]
+pub struct StoredField<'a> {
+    pub id: &'a str,
+    pub object: &'a str,
+    pub field: &'a str,
+}
+
+/// A field of a type, by their names.
+#[derive(Drop)]
+pub struct TypeField<'a> {
+    pub type_name: &'a str,
+    pub field: &'a str,
+}
+
 /// A command, its parts borrowed from the line's JSON.
 #[derive(Drop)]
 pub enum Command<'a> {
@@ -35,14 +50,11 @@ pub enum Command<'a> {
         groups: Vec<&'a str>,
     },
     CheckField {
-        id: &'a str,
-        object: &'a str,
-        field: &'a str,
+        at: StoredField<'a>,
         groups: Vec<&'a str>,
     },
     CheckValue {
-        type_name: &'a str,
-        field: &'a str,
+        at: TypeField<'a>,
         value: &'a Value,
         groups: Vec<&'a str>,
     },
@@ -104,14 +116,10 @@ fn check_field_of(alloc: Global, value: &Value) -> Result<Option<Command<'_>>, A
     let Some(field) = text_at(value, "field") else {
         return Ok(None);
     };
+    let at = StoredField { id, object, field };
     match groups_of(alloc, value)? {
         None => Ok(None),
-        Some(groups) => Ok(Some(Command::CheckField {
-            id,
-            object,
-            field,
-            groups,
-        })),
+        Some(groups) => Ok(Some(Command::CheckField { at, groups })),
     }
 }
 
@@ -130,11 +138,11 @@ fn check_value_of(alloc: Global, value: &Value) -> Result<Option<Command<'_>>, A
     let Some(told) = value.get("value") else {
         return Ok(None);
     };
+    let at = TypeField { type_name, field };
     match groups_of(alloc, value)? {
         None => Ok(None),
         Some(groups) => Ok(Some(Command::CheckValue {
-            type_name,
-            field,
+            at,
             value: told,
             groups,
         })),

@@ -6,7 +6,7 @@ mod ids;
 mod part;
 mod redeclaring;
 
-pub use command::{Command, MOST_GROUPS, command_of, limit_in};
+pub use command::{Command, MOST_GROUPS, StoredField, TypeField, command_of, limit_in};
 pub use ids::id_in;
 pub use part::{MOST_PARTS, Part};
 pub use redeclaring::redeclare_of;

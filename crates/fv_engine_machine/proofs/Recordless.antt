@@ -1,8 +1,7 @@
 -- What is answered where there is no record and no store.
-use Rattle.std.proofs.Common.{◌≡◌, ◌≢◌, ◌<◌, ◌⊎◌, ℕ, zero, suc, ℤ, List, [], ◌∷◌, map, length, take, IsTrue, Bool, true, false, Option, Some, None, Result, Ok, Err, inl, inr, refl, sym, ap, subst, ◌∙◌, arith}
-use Rattle.std.specs.List.{AllByRecursion}
+use Rattle.std.proofs.Common.{◌≡◌, ◌≢◌, ◌⊎◌, ℕ, zero, suc, ℤ, List, [], ◌∷◌, map, take, true, false, Option, Some, None, Ok, Err, inl, inr, refl, sym, ap, subst, ◌∙◌, arith}
 use Rattle.std.specs.List.Sorted.{IsStrictlySortedBy}
-use Rattle.std.specs.Option.{unwrap_or, option_map_or}
+use Rattle.std.specs.Option.{unwrap_or}
 use Rattle.std.specs.Result.{result_map_both}
 use Rattle.serde_json.specs.Data as json
 use Rattle.fv_datum.specs.Ascending.{IsAscending}
@@ -11,7 +10,7 @@ use Rattle.fv_declare_judging.specs.Declares.{Declares}
 use Rattle.fv_declare_judging.specs.declared.fault.DeclFault.{DeclFault}
 use Rattle.fv_declare_judging.specs.declared.fault.DeclFault.TheVariants as decl
 use Rattle.fv_declare_schema.specs.Declarations.{Declarations}
-use Rattle.fv_engine_command.specs.Commands.{Asked, Part, Request, alone, redeclare, of_records, get, check, check_field, check_value, list, too_long, not_json, shape, command_of, redeclare_of}
+use Rattle.fv_engine_command.specs.Commands.{Asked, Part, Request, redeclare, of_records, get, check, check_field, check_value, list, not_json, shape}
 use Rattle.fv_engine_pending.specs.Judging.{AreListingsOf, IsOfJudging, IsStanding, OneIsOverAmong}
 use Rattle.fv_engine_machine.specs.Causes.{Handles, HasCause, StoreHasFailed}
 use Rattle.fv_engine_machine.specs.Judges.{AnswersBare, ChangesBare, DoneOrTold, JudgesWay, RepliesBare, ServesBare, bare}
@@ -19,7 +18,7 @@ use Rattle.fv_engine_machine.specs.Keeping.{ChangesSo, Settles, Takes, told_part
 use Rattle.fv_engine_machine.specs.Machines.{Machine}
 use Rattle.fv_engine_machine.specs.Redeclaring.{IsAgain, under}
 use Rattle.fv_engine_machine.specs.Refusals.{is_too_long, made as parts_make, part_refusal}
-use Rattle.fv_engine_machine.proofs.Becoming.{IsOther, checked_none, got_none, listed_ids, out_of_memory, refused_at_once, short_command, stays_itself, unlisted}
+use Rattle.fv_engine_machine.proofs.Becoming.{IsOther, checked_none, got_none, listed_ids, out_of_memory, refused_at_once, stays_itself, unlisted}
 use Rattle.fv_engine_machine.proofs.Changes.{change_memory, change_misshapen, change_settled, change_unmade, told_other}
 use Rattle.fv_engine_machine.proofs.Makes.{bare_made, standing_touched, touched_stands}
 use Rattle.fv_engine_machine.proofs.OneField.{field_none}
@@ -31,13 +30,13 @@ use Rattle.fv_engine_pending.specs.Steps.{staged, steps_made}
 use Rattle.fv_engine_pending.specs.Ways.{Way, overlay}
 use Rattle.fv_engine_pending.specs.declared.fault.PartFault.{PartFault}
 use Rattle.fv_engine_reply.specs.Answers.{Answer, done, ids, misdeclared, redeclared, refused, violated}
-use Rattle.fv_engine_reply.specs.Texts.{Tells, answer_text}
+use Rattle.fv_engine_reply.specs.Texts.{Tells}
 use Rattle.fv_engine_reply.specs.declared.answer.Done.{Done}
 use Rattle.fv_engine_reply.specs.declared.answer.Refusal.TheVariants.{NoRecord, NotJson, Shape, TooManyVisits, UnknownForm, Store, Memory}
 use Rattle.fv_registry.specs.Meanings.{Meanings}
 use Rattle.fv_registry.specs.Rules.{Known}
 use Rattle.fv_store.specs.Lists.{Lists}
-use Rattle.fv_store.specs.Records.{Kept, Records, Roots, no_records}
+use Rattle.fv_store.specs.Records.{Records, Roots, no_records}
 use Rattle.fv_bundle.specs.Types.{Declared}
 use Rattle.fv_validate.specs.Violations.{Judged}
 use Rattle.fv_validate.specs.declared.fault.ValidateFault.{ValidateFault}

@@ -5,7 +5,6 @@ use Rattle.fv_engine_machine.specs.Machines.{Machine}
 use Rattle.fv_engine_machine.specs.Refusals.{batch_parts}
 use Rattle.fv_engine_machine.specs.Step.{IsTaken, LooksUp, Step}
 use Rattle.fv_engine_command.specs.Commands.{Part, set, Request, asked}
-use Rattle.fv_engine_pending.specs.Altering.{most_rows}
 use Rattle.fv_engine_pending.specs.Touched.{IsTouched, count_left}
 use Rattle.fv_registry.specs.Meanings.{Meanings}
 use Rattle.fv_engine_reply.specs.Answers.{Answer, done, refused}
@@ -13,6 +12,7 @@ use Rattle.fv_engine_reply.specs.Texts.{answer_text}
 use Rattle.fv_engine_reply.specs.declared.answer.Refusal.TheVariants.{Store, Memory}
 use Rattle.fv_store.specs.Causes.{IsShort}
 use Rattle.fv_store.specs.Records.{Kept, Records}
+use Rattle.fv_bundle.specs.Limits.{most_objects}
 
 -- the disk has failed more often since, or the connection was shut before
 abbrev pub StoreHasFailed : Machine Records → Machine Records → Type 0
@@ -22,7 +22,7 @@ StoreHasFailed old new = MoreFaults old.faults new.faults ⊎ (old.is_open ≡ f
 -- record those of one with as many objects as it may have
 abbrev pub rows_taken : List Part → ℕ
 rows_taken (set id object field j ∷ []) = 0
-rows_taken parts = most_rows * count_left parts
+rows_taken parts = (1 + most_objects) * count_left parts
 
 -- the database has room for what parts leave: so many rowids are left, and no row is too long
 abbrev pub HasRoomFor : List Part → Records → Machine Records → Type 0

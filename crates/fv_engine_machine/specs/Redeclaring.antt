@@ -5,7 +5,7 @@ use Rattle.fv_declare_judging.specs.declared.fault.DeclFault.{DeclFault}
 use Rattle.fv_declare_schema.specs.Declarations.{Declarations}
 use Rattle.fv_engine_pending.specs.Judging.{AreListingsOf, OneIsOverAmong}
 use Rattle.fv_engine_pending.specs.Rejudging.{IsFirstUnfit}
-use Rattle.fv_engine_pending.specs.Again.{all_again, AllReadAgain}
+use Rattle.fv_engine_pending.specs.Again.{AllReadAgain, again, if_read}
 use Rattle.fv_engine_pending.specs.declared.fault.PartFault.{PartFault}
 use Rattle.fv_engine_pending.specs.declared.fault.PartFault.TheVariants as part
 use Rattle.fv_engine_reply.specs.Answers.{Answer, redeclared, misdeclared, unfit, violated, refused}
@@ -16,6 +16,7 @@ use Rattle.fv_engine_reply.specs.declared.answer.Refusal.TheVariants.{TooManyVis
 use Rattle.fv_registry.specs.Meanings.{Meanings}
 use Rattle.fv_registry.specs.Rules.{Known}
 use Rattle.fv_store.specs.Records.{Kept, Records}
+use Rattle.fv_store.specs.Again.{all_read}
 
 -- the declarations in force, and the records under them
 pub record Reign : Type 0 where
@@ -24,7 +25,7 @@ pub record Reign : Type 0 where
 
 -- the same records, each read again under other declarations from what is written of it
 abbrev pub under : Declarations → Records → Records
-under ds = all_again ds.types ds.forms
+under ds = all_read (λ k. if_read (again ds.types ds.forms k))
 
 -- one of the records so read
 abbrev pub IsAgain : Declarations → Records → List ℕ → Kept → Type 0

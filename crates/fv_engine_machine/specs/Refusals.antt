@@ -7,7 +7,7 @@ use Rattle.fv_engine_command.specs.Commands.{Part, Request, too_long, not_json, 
 use Rattle.fv_declare_schema.specs.Judged.{unknown_group_in}
 use Rattle.fv_bundle.specs.Bundles.{Thing}
 use Rattle.fv_model.specs.Reading.{value_read}
-use Rattle.fv_engine_pending.specs.Parts.{parts_made, are_misshapen}
+use Rattle.fv_engine_pending.specs.Parts.{parts_made, is_misshapen}
 use Rattle.fv_engine_pending.specs.declared.fault.PartFault.{PartFault}
 use Rattle.fv_engine_pending.specs.declared.fault.PartFault.TheVariants as part
 use Rattle.fv_walk.specs.Properties.{field_number}
@@ -16,6 +16,7 @@ use Rattle.fv_engine_reply.specs.declared.answer.Refusal.{Refusal}
 use Rattle.fv_engine_reply.specs.declared.answer.Refusal.TheVariants.{LineTooLong, NotJson, Shape, UnknownForm, Bundle, NoRecord, UnknownGroup, NoSuchField, Memory}
 use Rattle.fv_store.specs.Records.{Records}
 use Rattle.fv_validate.specs.Values.{field_use}
+use Rattle.std.specs.List.{list_any}
 
 -- ---- the conditions
 
@@ -38,7 +39,7 @@ batch_parts _ = []
 -- no command, or one of the puts of a command has a bundle that isn't of a bundle's form
 abbrev pub is_misshapen_line : Declarations → Request → Bool
 is_misshapen_line ds shape = true
-is_misshapen_line ds r = are_misshapen ds.types ds.forms (batch_parts r)
+is_misshapen_line ds r = list_any (is_misshapen ds.types ds.forms) (batch_parts r)
 
 -- a list whose form isn't declared
 abbrev pub lacks_form : Declarations → Request → Bool

@@ -6,7 +6,7 @@ use Rattle.fv_declare_schema.specs.Declarations.{Declarations}
 use Rattle.fv_declare_judging.specs.Declares.{Declares}
 use Rattle.fv_engine_command.specs.Commands.{Asked, redeclare, of_records, asks}
 use Rattle.fv_engine_machine.specs.Causes.{StoreHasFailed, Handles}
-use Rattle.fv_engine_machine.specs.Machines.{Machine, StandsFor, over, with_map}
+use Rattle.fv_engine_machine.specs.Machines.{Machine, over, with_map, contents}
 use Rattle.fv_engine_machine.specs.Redeclaring.{Reign, RedeclareStep}
 use Rattle.fv_engine_pending.specs.Rejudging.{HasFewIds}
 use Rattle.fv_engine_machine.specs.Step.{Step}
@@ -19,6 +19,7 @@ use Rattle.fv_store.specs.Causes.{IsShortAbout}
 use Rattle.fv_store.specs.Records.{Records}
 use Rattle.fv_store.specs.Stock.{Stock}
 use Rattle.fv_store.specs.Written.{writings}
+use Rattle.fv_store.specs.Stands.{HoldsRecords}
 
 -- the rules that are there, the text of the declarations in force, and the machine under what they declare
 pub record Service (R : Type 0) : Type 0 where
@@ -40,7 +41,7 @@ reign_of s = record { declared = s.machine.declared; records = s.machine.records
 
 -- its database stands for these records, under the declarations in force
 abbrev pub ServiceKeeps : {H : Type 0} → (H → State) → Service H → Records → Type 0
-ServiceKeeps held s m = StandsFor held s.text s.machine m
+ServiceKeeps held s m = HoldsRecords (held s.machine.records) (contents s.text s.machine.declared m)
 
 -- The old service goes on as the new one: the rules stay, what is declared is still what the text in force declares, and where the disk is
 -- clean, the records that the old one stood for are in the relation with those that the new one stands for, each under its own declarations.

@@ -6,11 +6,11 @@ use Rattle.fv_datum.specs.Lookup.{at_name}
 use Rattle.fv_declare_schema.specs.Declarations.{Declarations}
 use Rattle.fv_engine_machine.specs.Refusals.{is_misshapen_line, is_too_long, lacks_form, made, batch_parts, refusal}
 use Rattle.fv_engine_command.specs.Commands.{Part, put, set, remove, Request, alone, batch, get, check, check_field, check_value, list, asked}
-use Rattle.fv_engine_pending.specs.Touched.{needed_id}
+use Rattle.fv_engine_pending.specs.Touched.{needed_id, IsTouched}
 use Rattle.fv_declare_schema.specs.Groups.{numbers_of}
 use Rattle.fv_bundle.specs.Bundles.{Thing, Bundled}
 use Rattle.fv_model.specs.Reading.{value_read}
-use Rattle.fv_engine_pending.specs.Judging.{OneIsOverVisited, AreListings}
+use Rattle.fv_engine_pending.specs.Judging.{OneIsOverAmong, AreListingsOf}
 use Rattle.fv_registry.specs.Meanings.{Meanings}
 use Rattle.fv_engine_reply.specs.Answers.{Answer, done, shown, violated, checked, field_checked, value_checked, ids, refused}
 use Rattle.fv_validate.specs.Violations.{Judged, Reported, IsListing, IsListingOfField}
@@ -36,9 +36,9 @@ done_by (remove id) = Remove
 -- taken, and the copy is the new map; else they are refused, with each record that has violations. Where they are refused the old map stays.
 abbrev pub Changes : Meanings → Declarations → ℤ → List Part → Done → Records → Answer → Records → Type 0
 Changes means ds now parts what old answer new = (copy : Records) × (made ds parts old ≡ Ok copy)
-    × ((OneIsOverVisited ds parts copy × (answer ≡ refused TooManyVisits) × (new ≡ old))
-    ⊎ ((AreListings means ds now parts copy [] × (answer ≡ done what) × (new ≡ copy))
-    ⊎ ((ls : List Judged) × AreListings means ds now parts copy ls × (ls ≢ []) × (answer ≡ violated ls) × (new ≡ old))))
+    × ((OneIsOverAmong ds (IsTouched parts copy) × (answer ≡ refused TooManyVisits) × (new ≡ old))
+    ⊎ ((AreListingsOf means ds now (IsTouched parts copy) [] × (answer ≡ done what) × (new ≡ copy))
+    ⊎ ((ls : List Judged) × AreListingsOf means ds now (IsTouched parts copy) ls × (ls ≢ []) × (answer ≡ violated ls) × (new ≡ old))))
 
 -- a bundle is checked at a moment for groups: it has too many visits, or these are its violations
 abbrev pub Checked : Meanings → Declarations → ℤ → Bundled → List ℕ → Answer → Type 0
@@ -46,7 +46,7 @@ Checked means ds now b groups answer =
     (HasTooManyVisits ds b groups × (answer ≡ refused TooManyVisits))
     ⊎ ((vs : List Reported) × HasFewVisits ds b groups × IsListing means ds now b groups vs × (answer ≡ checked vs))
 
--- the same for a field of an object by itself, of which violations are told so
+-- the same for a field of an object by itself; `lists` is how its violations are told
 abbrev pub FieldChecked : Meanings → Declarations → ℤ → Thing → List ℕ → List ℕ → (List Reported → Answer) → Answer → Type 0
 FieldChecked means ds now object field groups lists answer =
     (HasTooManyVisitsAt ds object groups × (answer ≡ refused TooManyVisits))

@@ -16,7 +16,7 @@ ghost use Rattle.fv_store.specs.Stock.{stock_state as state};
 
 use crate::changing::{change, done_by};
 use crate::checking::check;
-use crate::fields::{StoredField, TypeField, check_field, check_value};
+use crate::fields::{check_field, check_value};
 use crate::listing::list;
 use crate::redeclaring::{are_shallow, redeclare};
 use crate::refusing::undone;
@@ -109,30 +109,10 @@ fn reply<R: RuleSet, S: Alter>(
         Ok(Some(Command::Check { id, groups })) => {
             Reply::of(alloc, &check(store, alloc, book, id, &groups, now))
         }
-        Ok(
-            Some(
-                Command::CheckField {
-                    id,
-                    object,
-                    field,
-                    groups,
-                },
-            ),
-        ) => {
-            let at = StoredField { id, object, field };
+        Ok(Some(Command::CheckField { at, groups })) => {
             Reply::of(alloc, &check_field(store, alloc, book, &at, &groups, now))
         }
-        Ok(
-            Some(
-                Command::CheckValue {
-                    type_name,
-                    field,
-                    value,
-                    groups,
-                },
-            ),
-        ) => {
-            let at = TypeField { type_name, field };
+        Ok(Some(Command::CheckValue { at, value, groups })) => {
             Reply::of(alloc, &check_value(alloc, book, &at, value, &groups, now))
         }
         Ok(Some(Command::List { form, after, limit })) => {

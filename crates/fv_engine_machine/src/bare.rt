@@ -1,6 +1,6 @@
 //! A line is judged without a store: it is answered as by a service that has no record, and nothing of
 //! it is kept.
-ghost use Rattle.std.specs.Prelude.{◌≢◌, Some, map, option_map, unwrap_or};
+ghost use Rattle.std.specs.Prelude.{Some, map, unwrap_or};
 ghost use Rattle.fv_datum.specs.Moments.{IsMoment};
 ghost use Rattle.fv_datum.specs.Parsing.{json_of};
 ghost use Rattle.fv_engine_command.specs.CommandView.{part_view};
@@ -13,7 +13,7 @@ ghost use Rattle.fv_registry.specs.Meanings.{Meanings};
 ghost use Rattle.serde_json.specs.View.{view as json_view};
 
 use crate::changing::{done_by, unmade};
-use crate::fields::{TypeField, check_value};
+use crate::fields::check_value;
 use crate::redeclaring::misdeclared;
 use crate::refusing::unjudged;
 use crate::shared_rules::SharedRules;
@@ -109,17 +109,7 @@ fn answer<R: RuleSet>(alloc: Global, book: &Rulebook<R>, value: &Value, now: i64
         Ok(Some(Command::Get { .. })) => Answer::Refused(Refusal::NoRecord),
         Ok(Some(Command::Check { .. })) => Answer::Refused(Refusal::NoRecord),
         Ok(Some(Command::CheckField { .. })) => Answer::Refused(Refusal::NoRecord),
-        Ok(
-            Some(
-                Command::CheckValue {
-                    type_name,
-                    field,
-                    value,
-                    groups,
-                },
-            ),
-        ) => {
-            let at = TypeField { type_name, field };
+        Ok(Some(Command::CheckValue { at, value, groups })) => {
             check_value(alloc, book, &at, value, &groups, now)
         }
         Ok(Some(Command::List { form, .. })) => list_none(alloc, book.schema(), form),

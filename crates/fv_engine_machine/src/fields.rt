@@ -20,6 +20,7 @@ use crate::checking::groups_named;
 use crate::refusing::{misread, undone, unjudged};
 use fv_bundle::{Object, Types, use_in};
 use fv_datum::Datum;
+use fv_engine_command::{StoredField, TypeField};
 use fv_engine_reply::{Answer, Refusal};
 use fv_local::Rulebook;
 use fv_model::{BundleFault, read_value};
@@ -30,21 +31,6 @@ use fv_walk::objects_are_of_their_types;
 use serde_json::Value;
 use sqlite::Alter;
 use std::alloc::Global;
-
-/// A field of an object of a record, by their names.
-#[derive(Drop)]
-pub(crate) struct StoredField<'a> {
-    pub(crate) id: &'a str,
-    pub(crate) object: &'a str,
-    pub(crate) field: &'a str,
-}
-
-/// A field of a type, by their names.
-#[derive(Drop)]
-pub(crate) struct TypeField<'a> {
-    pub(crate) type_name: &'a str,
-    pub(crate) field: &'a str,
-}
 
 /// The violations of a field of a bundle's object for groups by their names. Refused for a name that
 /// is no group's, then where there is no such object or its type has no such field, then for too many

@@ -14,7 +14,7 @@ use Rattle.fv_bundle.specs.Replaced.{changed_at, thing_with, bundle_with}
 use Rattle.fv_model.specs.Setting.{bundle_set, set_conditions, datum_for}
 use Rattle.fv_bundle.specs.Views.{bundle_view}
 use Rattle.fv_model.specs.declared.fault.BundleFault.{BundleFault}
-use Rattle.fv_model.proofs.Typed.{head_false, unless_none}
+use Rattle.fv_datum.proofs.Outcomes.{head_false, unless_none}
 use Rattle.fv_bundle.specs.Names.{ObjectTypes}
 use Rattle.fv_bundle.specs.Types.{Declared}
 use Rattle.fv_engine_pending.specs.Altering.{Altered, sets, altered, IsOneObject}

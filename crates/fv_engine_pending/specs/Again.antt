@@ -5,16 +5,17 @@ use Rattle.fv_bundle.specs.Bundles.{Bundled}
 use Rattle.fv_model.specs.Unfit.{is_of_types}
 use Rattle.fv_model.specs.Writing.{bundle_json}
 use Rattle.fv_engine_pending.specs.Parts.{bundle_under}
-use Rattle.fv_engine_pending.specs.Steps.{faulty}
 use Rattle.fv_engine_pending.specs.declared.fault.PartFault.{PartFault}
 use Rattle.fv_engine_pending.specs.declared.fault.PartFault.TheVariants.{UnknownForm, Bundle}
 use Rattle.fv_store.specs.Again.{all_read}
 use Rattle.fv_store.specs.Records.{Kept, Records, Roots}
 use Rattle.fv_bundle.specs.Types.{Declared}
+use Rattle.std.specs.Result.{result_map_both}
 
 -- a record's bundle, read again from what is written of it, as a put of it under its form; or why there is none
 abbrev pub again : Declared → Roots → Kept → Result Bundled PartFault
-again types forms k = if is_some (at_name k.form forms) then faulty (bundle_under types forms k.form (bundle_json k.bundle)) else Err UnknownForm
+again types forms k =
+    if is_some (at_name k.form forms) then result_map_both (λ b. b) Bundle (bundle_under types forms k.form (bundle_json k.bundle)) else Err UnknownForm
 
 -- the bundle, if there is one
 abbrev pub if_read : Result Bundled PartFault → Option Bundled

@@ -1,5 +1,6 @@
 -- The compact text of JSON data is one line, and what reads as data is a document.
 use Rattle.std.proofs.Common.{◌≡◌, ◌≢◌, ℕ, zero, suc, pos, negsuc, ◌+◌, ◌/◌, ◌%◌, Bool, true, false, cond, not, ◌&&◌, ◌||◌, ◌==◌, nat_lt, List, [], ◌∷◌, ◌++◌, decimal, Option, Some, None, IsSome, option_and_then, inl, inr, refl, ap, ◌∙◌, arith}
+use Rattle.std.proofs.ByRecursion.{All-append}
 use Rattle.std.proofs.lemmas.Bool.{eqb-true, eqb-false, ltb-false, or_cases}
 use Rattle.std.specs.List.{AllByRecursion, list_all}
 use Rattle.std.specs.Char.{digit_char}
@@ -23,8 +24,7 @@ abbrev OneLine : List ℕ → Type 0
 OneLine = AllByRecursion (λ b. b ≢ 10)
 
 pub both : (xs ys : List ℕ) → OneLine xs → OneLine ys → OneLine (xs ++ ys)
-both [] ys p q = q
-both (x ∷ xs) ys p q = (p.0, both xs ys p.1 q)
+both = All-append (λ b. b ≢ 10)
 
 -- no byte is 10, as a test tells
 pub none_ends : (xs : List ℕ) → list_all (λ b. not (b == 10)) xs ≡ true → OneLine xs

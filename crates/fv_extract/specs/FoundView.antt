@@ -7,7 +7,7 @@ use Rattle.fv_datum.specs.View.{view}
 use Rattle.fv_datum.specs.declared.datum.Datum.{Datum}
 use Rattle.fv_extract.specs.Parts.{Locus}
 use Rattle.fv_extract.specs.Views.{part_view}
-use Rattle.fv_extract.specs.declared.part.Part.{Part}
+use Rattle.fv_extract.specs.declared.place.Part.{Part}
 
 -- a part with its locus
 abbrev pub found_view : Vec Part Global × Bor Datum → Locus × Data

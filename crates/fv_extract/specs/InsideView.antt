@@ -3,8 +3,8 @@ use Rattle.std.specs.Prelude.{List, [], ◌∷◌, drop, Some, None}
 use Rattle.fv_datum.specs.Data.{Data}
 use Rattle.fv_datum.specs.View.{view, items_view, entries_view}
 use Rattle.fv_extract.specs.Parts.{Locus, items_from, keys_in, values_in}
-use Rattle.fv_extract.specs.declared.inside.Inside.{Inside}
-use Rattle.fv_extract.specs.declared.inside.Inside.TheVariants.{Elements, Keys, Values, Content}
+use Rattle.fv_extract.specs.declared.finding.Inside.{Inside}
+use Rattle.fv_extract.specs.declared.finding.Inside.TheVariants.{Elements, Keys, Values, Content}
 
 -- the parts that are left
 abbrev pub inside_left : Inside → List (Locus × Data)

@@ -44,11 +44,11 @@ inside _ _ = []
 abbrev pub parts_below : Locus → Locus × Data → Locus × Data
 parts_below l p = (l ++ p.0, p.1)
 
--- the parts of a datum at these steps, in order: itself where there is no step, and else the parts at the other steps of all that lies
--- inside at the first
+-- the parts of a datum at these steps, in order, each with its whole locus: itself where there is no step, and else the parts at the other steps
+-- of all that lies inside at the first
 abbrev pub parts_of : List PlaceStep → Data → List (Locus × Data)
 parts_of [] d = ([], d) ∷ []
-parts_of (step ∷ steps) d = flat_map (λ p. each (parts_below p.0) (parts_of steps p.1)) (inside step d)
+parts_of (step ∷ steps) d = flat_map (λ p. each (λ q. (p.0 ++ q.0, q.1)) (parts_of steps p.1)) (inside step d)
 
 -- what lies one step further inside a part
 abbrev pub further : PlaceStep → Locus × Data → List (Locus × Data)

@@ -9,8 +9,8 @@ use Rattle.fv_extract.specs.Parts as part
 use Rattle.fv_extract.specs.declared.place.Step.{Step}
 use Rattle.fv_extract.specs.declared.place.Step.TheVariants as step
 use Rattle.fv_extract.specs.declared.place.Place.{Place}
-use Rattle.fv_extract.specs.declared.part.Part.{Part}
-use Rattle.fv_extract.specs.declared.part.Part.TheVariants as code
+use Rattle.fv_extract.specs.declared.place.Part.{Part}
+use Rattle.fv_extract.specs.declared.place.Part.TheVariants as code
 
 -- a step
 abbrev pub step_view : Step → place.PlaceStep

@@ -3,11 +3,7 @@
 #![tactic(auto)]
 
 mod finding;
-mod inside;
-mod part;
 mod place;
 
-pub use finding::{Found, extended, find};
-pub use inside::Inside;
-pub use part::{Locus, Part};
-pub use place::{Place, Step};
+pub use finding::{Found, Inside, extended, find};
+pub use place::{Locus, Part, Place, Step};

@@ -57,7 +57,8 @@ pub record IsNode (place : Target) (p : Planned) (n : Node) : Type 0 where
   pub attributes : IsMapOf (effective p.meant p.given) n.attributes
   pub asks : NodeAsks p.meant place p.given n.test
   pub single : n.single ≡ is_single p.meant
-  pub message : n.message ≡ template_of p.constraint p.meant p.own
+  -- its own template, else that of its declaration, else the default
+  pub message : n.message ≡ unwrap_or (option_or p.own (declared_template p.meant)) (default_template p.constraint p.meant)
 
 -- an entry of a planned tree's preorder is read as an entry of a tree's: its constraint at the place, with as many below it
 abbrev pub IsEntry : Target → Planned × ℕ → Node × ℕ → Type 0

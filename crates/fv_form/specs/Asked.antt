@@ -1,5 +1,5 @@
 -- What each form asks of JSON.
-use Rattle.std.specs.Prelude.{◌&&◌, is_some, nat_le, nat_lt}
+use Rattle.std.specs.Prelude.{Bool, true, false, ◌&&◌, is_some, nat_le, nat_lt}
 use Rattle.serde_json.specs.Data as json
 use Rattle.serde_json.specs.Find.{as_bool, as_str}
 use Rattle.fv_declare_definition.specs.Written.{attribute_kind_of, rule_of}
@@ -55,3 +55,23 @@ asked part.Objects j = members part.Object
 asked part.Object j = object of_object
 asked part.Given j = members part.Any
 asked part.Any j = fits
+
+-- the form asks the same of any JSON
+abbrev pub is_fixed : FormName → Bool
+is_fixed part.Group = false
+is_fixed part.Sequence = false
+is_fixed part.AttributeKind = false
+is_fixed part.Rule = false
+is_fixed part.Held = false
+is_fixed part.Value = false
+is_fixed part.Text = false
+is_fixed part.Flag = false
+is_fixed part.Command = false
+is_fixed part.CommandName = false
+is_fixed part.Part = false
+is_fixed part.PartName = false
+is_fixed part.Parts = false
+is_fixed part.AskedGroups = false
+is_fixed part.Id = false
+is_fixed part.Limit = false
+is_fixed _ = true

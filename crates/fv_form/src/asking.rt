@@ -1,7 +1,7 @@
 //! What each form asks of a value.
-ghost use Rattle.std.specs.Prelude.{◌≡◌};
+ghost use Rattle.std.specs.Prelude.{◌≡◌, IfSome, is_some};
 ghost use Rattle.serde_json.specs.View.{view as json_view};
-ghost use Rattle.fv_form.specs.Asked.{asked};
+ghost use Rattle.fv_form.specs.Asked.{asked, is_fixed};
 ghost use Rattle.fv_form.specs.Declarations.{value_form, group_form, sequence_form, held_form, container_form};
 ghost use Rattle.fv_form.specs.Entries.{leaf};
 ghost use Rattle.fv_form.specs.FormViews.{form_view};
@@ -103,11 +103,12 @@ fn held_form(value: &Value) -> ValueForm
     }
 }
 
-/// What a form asks of a value.
-pub fn ask(form: FormName, value: &Value) -> ValueForm
-    ensures { form_view result ≡ asked form (json_view value.now) }
+/// What a form asks, where it asks the same of each value; nothing where that is by the value.
+fn fixed_form(form: FormName) -> Option<ValueForm>
+    ensures fixed { IfSome result (λ fixed. (j : _) → form_view fixed ≡ asked form j) }
+    ensures some { is_some result ≡ is_fixed form }
 {
-    match form {
+    Some(match form {
         FormName::Declarations => ValueForm::Object(&DECLARATIONS),
         FormName::Types => ValueForm::Members(FormName::Type),
         FormName::Type => ValueForm::Object(&TYPE),
@@ -115,26 +116,46 @@ pub fn ask(form: FormName, value: &Value) -> ValueForm
         FormName::Forms => ValueForm::Members(FormName::Form),
         FormName::Form => ValueForm::Object(&FORM),
         FormName::Groups => ValueForm::Members(FormName::Group),
-        FormName::Group => group_form(value),
-        FormName::Sequence => sequence_form(value),
         FormName::Definitions => ValueForm::Members(FormName::Definition),
         FormName::Definition => ValueForm::Object(&DEFINITION),
         FormName::Attributes => ValueForm::Members(FormName::Attribute),
         FormName::Attribute => ValueForm::Object(&ATTRIBUTE),
-        FormName::AttributeKind => kind_form(value),
-        FormName::Rule => leaf(rule_of(value).is_some()),
         FormName::Compose => ValueForm::Items(FormName::Composing),
         FormName::Composing => ValueForm::Object(&COMPOSING),
         FormName::Override => ValueForm::Members(FormName::Text),
         FormName::Messages => ValueForm::Members(FormName::Text),
         FormName::Place => ValueForm::Object(&PLACE),
-        FormName::Held => held_form(value),
         FormName::Uses => ValueForm::Items(FormName::Use),
         FormName::Use => ValueForm::Object(&USE),
         FormName::With => ValueForm::Members(FormName::Value),
-        FormName::Value => value_form(value),
         FormName::Convert => ValueForm::Members(FormName::Text),
         FormName::Names => ValueForm::Items(FormName::Text),
+        FormName::Bundle => ValueForm::Object(&BUNDLE),
+        FormName::Objects => ValueForm::Members(FormName::Object),
+        FormName::Object => ValueForm::Object(&OBJECT),
+        FormName::Given => ValueForm::Members(FormName::Any),
+        FormName::Any => ValueForm::Fits,
+        FormName::Group | FormName::Sequence | FormName::Held | FormName::Value => return None,
+        FormName::AttributeKind | FormName::Rule | FormName::Text | FormName::Flag => return None,
+        FormName::Command | FormName::Part | FormName::Parts | FormName::AskedGroups => return None,
+        FormName::CommandName | FormName::PartName | FormName::Id | FormName::Limit => return None,
+    })
+}
+
+/// What a form asks of a value.
+pub fn ask(form: FormName, value: &Value) -> ValueForm
+    ensures { form_view result ≡ asked form (json_view value.now) }
+{
+    if let Some(fixed) = fixed_form(form) {
+        return fixed;
+    }
+    match form {
+        FormName::Group => group_form(value),
+        FormName::Sequence => sequence_form(value),
+        FormName::AttributeKind => kind_form(value),
+        FormName::Rule => leaf(rule_of(value).is_some()),
+        FormName::Held => held_form(value),
+        FormName::Value => value_form(value),
         FormName::Text => leaf(value.as_str().is_some()),
         FormName::Flag => leaf(value.as_bool().is_some()),
         FormName::Command => command_form(value),
@@ -145,10 +166,6 @@ pub fn ask(form: FormName, value: &Value) -> ValueForm
         FormName::AskedGroups => groups_form(value),
         FormName::Id => leaf(id_in(value).is_some()),
         FormName::Limit => leaf(limit_in(value).is_some()),
-        FormName::Bundle => ValueForm::Object(&BUNDLE),
-        FormName::Objects => ValueForm::Members(FormName::Object),
-        FormName::Object => ValueForm::Object(&OBJECT),
-        FormName::Given => ValueForm::Members(FormName::Any),
-        FormName::Any => ValueForm::Fits,
+        _ => unreachable!(),
     }
 }

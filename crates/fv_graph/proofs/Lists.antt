@@ -1,5 +1,5 @@
 -- Membership, and lists without repeats.
-use Rattle.std.proofs.Common.{◌≡◌, ◌≢◌, ℕ, List, [], ◌∷◌, ◌++◌, reverse, ◌⊎◌, inl, inr, refl, sym, subst, Bool, true, false, ◌||◌, nat_eq, arith}
+use Rattle.std.proofs.Common.{◌≡◌, ◌≢◌, ◌≤◌, ℕ, suc, List, [], ◌∷◌, ◌++◌, length, reverse, ◌⊎◌, inl, inr, refl, sym, ◌∙◌, subst, Bool, true, false, ◌||◌, nat_eq, arith}
 use Rattle.std.proofs.lemmas.List.{reverse-append, reverse-reverse}
 use Rattle.fv_graph.specs.Graph.{mem, IsIn, AllDiffer}
 
@@ -61,3 +61,36 @@ or_true false b h = inr h
 pub in_mem : (xs : List ℕ) (i : ℕ) → mem xs i ≡ true → IsIn xs i
 in_mem [] i h = cc
 in_mem (x ∷ xs) i h = elim (or_true (nat_eq x i) (mem xs i) h) [ inl e ↦ inl (eq_of x i e) | inr k ↦ inr (in_mem xs i k) ]
+
+-- ---- how long a list without repeats is
+
+-- a list without the first that is equal to one in it
+without : {X : Type 0} (xs : List X) (x : X) → IsIn xs x → List X
+without [] x h = []
+without (y ∷ xs) x (inl e) = xs
+without (y ∷ xs) x (inr h) = y ∷ without xs x h
+
+-- it is shorter by one
+length-without : {X : Type 0} (xs : List X) (x : X) (h : IsIn xs x) → length xs ≡ suc (length (without xs x h))
+unfolding without
+length-without [] x h = absurd h
+length-without (y ∷ xs) x (inl e) = refl
+length-without (y ∷ xs) x (inr h) = let e = length-without xs x h in omega (arith, e)
+
+-- it has what else is in the list
+in-without : {X : Type 0} (xs : List X) (x y : X) (h : IsIn xs x) → (x ≡ y → ⊥) → IsIn xs y → IsIn (without xs x h) y
+unfolding without
+in-without [] x y h d k = absurd h
+in-without (z ∷ xs) x y (inl e) d (inl k) = absurd (d (sym e ∙ k))
+in-without (z ∷ xs) x y (inl e) d (inr k) = k
+in-without (z ∷ xs) x y (inr h) d (inl k) = inl k
+in-without (z ∷ xs) x y (inr h) d (inr k) = inr (in-without xs x y h d k)
+
+-- a list without repeats is no longer than one that has all that is in it
+pub no_longer : {X : Type 0} (xs ys : List X) → AllDiffer xs → ((x : X) → IsIn xs x → IsIn ys x) → length xs ≤ length ys
+no_longer [] ys d h = omega arith
+no_longer {X} (x ∷ xs) ys d h =
+    let k = h x (inl refl) in
+    let e = length-without ys x k in
+    let ih = no_longer xs (without ys x k) d.1 (λ y m. in-without ys x y k (λ q. d.0 (subst (λ (z : X). IsIn xs z) (sym q) m)) (h y (inr m))) in
+    omega (arith, e, ih)

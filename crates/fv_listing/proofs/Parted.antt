@@ -6,7 +6,7 @@ use Rattle.fv_datum.specs.Name.{names}
 use Rattle.fv_extract.specs.Parts.{Locus, LocusPart, parts_at}
 use Rattle.fv_extract.specs.Places.{FieldPlace}
 use Rattle.fv_extract.specs.Views.{part_view}
-use Rattle.fv_extract.specs.declared.part.Part as code
+use Rattle.fv_extract.specs.declared.place.Part as code
 use Rattle.fv_graph.specs.Graph.{IsIn}
 use Rattle.fv_bundle.specs.Bundles.{Thing}
 use Rattle.fv_path.specs.Nodes.{PathNode, field}

@@ -5,7 +5,7 @@ use Rattle.std.proofs.lemmas.Option.{slice_get_read, slice_get-map}
 use Rattle.fv_declare_schema.specs.Declarations.{Declarations}
 use Rattle.fv_declare_schema.specs.Declarations as spec
 use Rattle.fv_declare_schema.specs.PlacedView.{placed_view}
-use Rattle.fv_declare_schema.specs.declared.placed.Placed.{Placed}
+use Rattle.fv_declare_schema.specs.declared.place.Placed.{Placed}
 use Rattle.fv_graph.specs.Graph.{mem, IsIn}
 use Rattle.fv_graph.proofs.Lists.{in_left, in_right, in_cases, eq_of, eq_same}
 use Rattle.fv_declare_schema.specs.Tables.{indices}

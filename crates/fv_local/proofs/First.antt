@@ -4,7 +4,7 @@ use Rattle.std.proofs.lemmas.List.Elements.{All-from_recursion, recursion_from_A
 use Rattle.std.specs.List.{All, AllByRecursion}
 use Rattle.fv_declare_schema.specs.Declarations.{Placed}
 use Rattle.fv_declare_schema.specs.PlacedView.{placed_view}
-use Rattle.fv_declare_schema.specs.declared.placed.Placed as code
+use Rattle.fv_declare_schema.specs.declared.place.Placed as code
 use Rattle.fv_graph.specs.Graph.{IsIn}
 use Rattle.fv_bundle.specs.Bundles.{Thing}
 use Rattle.fv_local.specs.TableView.{lists_view}

@@ -18,14 +18,7 @@ use Rattle.fv_local.specs.Sound.{IsSound}
 use Rattle.fv_local.specs.Requests.{object_at, object_name, object_number}
 use Rattle.fv_local.specs.Ways.{object_number_in}
 use Rattle.fv_datum.proofs.Lists.{all_get}
-
-pub found_all : {X : Type 0} (P : X → Type 0) (name : List ℕ) (es : List (List ℕ × X)) (x : X) → AllByRecursion (λ e. P e.1) es → at_name name es ≡ Some x → P x
-found_all P name [] x all e = cc
-found_all {X} P name (d ∷ es) x all e = go (bytes_eq name d.0) e (found_all P name es x all.1)
-  where
-    go : (b : Bool) → cond b (Some d.1) (at_name name es) ≡ Some x → (at_name name es ≡ Some x → P x) → P x
-    go true e ih = let same : d.1 ≡ x = cc in subst P same all.0
-    go false e ih = ih e
+use Rattle.fv_datum.proofs.Lookups.{found_all}
 
 -- so is an object whose data fit the fields of its type
 fits_sound : (ds : Declarations) (os : Things) (t : Thing) → AreOrdered ds → FitsType ds.types os t → IsSound t

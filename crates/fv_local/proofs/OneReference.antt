@@ -28,7 +28,7 @@ use Rattle.fv_local.specs.Requests.{object_at, datum_of_part}
 use Rattle.fv_local.specs.Sound.{IsSound}
 use Rattle.fv_local.specs.Ways.{way_place, target_of, way_at, ways_at, ways_of}
 use Rattle.fv_local.proofs.Numbers.{each_in, from_filter}
-use Rattle.fv_local.proofs.Objects.{found_all}
+use Rattle.fv_datum.proofs.Lookups.{found_all}
 use Rattle.fv_datum.proofs.Lists.{all_get}
 use Rattle.fv_local.proofs.LocatedParts.{part_there}
 use Rattle.fv_local.proofs.Segments.{named_locus_same}

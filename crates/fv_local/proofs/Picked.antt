@@ -5,7 +5,7 @@ use Rattle.std.proofs.lemmas.List.{take_more}
 use Rattle.std.specs.List.{All, AllByRecursion, cons_option}
 use Rattle.fv_declare_schema.specs.Declarations.{Placed}
 use Rattle.fv_declare_schema.specs.PlacedView.{placed_view}
-use Rattle.fv_declare_schema.specs.declared.placed.Placed as code
+use Rattle.fv_declare_schema.specs.declared.place.Placed as code
 use Rattle.fv_constraint_tree.specs.Says.{Subject}
 use Rattle.fv_registry.specs.Meanings.{Meanings}
 use Rattle.fv_constraint_tree.specs.Reports.{violated}

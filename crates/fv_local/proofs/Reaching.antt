@@ -7,7 +7,7 @@ use Rattle.fv_declare_schema.specs.Declarations.{Placed, Declarations, count_nod
 use Rattle.fv_declare_schema.specs.Fits.{fits}
 use Rattle.fv_declare_schema.specs.Ordered.{AreOrdered}
 use Rattle.fv_declare_schema.specs.PlacedView.{placed_view}
-use Rattle.fv_declare_schema.specs.declared.placed.Placed as code_placed
+use Rattle.fv_declare_schema.specs.declared.place.Placed as code_placed
 use Rattle.fv_graph.specs.Graph.{IsIn}
 use Rattle.fv_graph.proofs.Lists.{in_left, in_right, in_cases}
 use Rattle.fv_bundle.specs.Bundles.{Thing}

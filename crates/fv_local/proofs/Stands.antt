@@ -6,7 +6,7 @@ use Rattle.fv_path.proofs.Chains.{last_of, path_push, path_front}
 use Rattle.std.proofs.lemmas.Bool.{and_parts, and_from, false≢true}
 use Rattle.std.proofs.lemmas.List.{length-map}
 use Rattle.fv_extract.specs.Views.{part_view, step_view}
-use Rattle.fv_extract.specs.declared.part.Part.{Part as CodePart}
+use Rattle.fv_extract.specs.declared.place.Part.{Part as CodePart}
 use Rattle.fv_extract.specs.declared.place.Step.{Step as CodeStep}
 use Rattle.fv_extract.specs.declared.place.Step.TheVariants as step
 use Rattle.fv_extract.specs.Parts.{LocusPart, at_index, at_key, Locus}

@@ -26,15 +26,17 @@ is_same_step _ _ = false
 abbrev pub stands_at : FieldPlace → ValidPlace → Bool
 stands_at place p = nat_eq p.field place.field && pointwise is_same_step p.steps place.steps
 
--- the group that is made of a group by the one of these valid places that stands there; the group itself where none does
+-- the group that is made of a group by the one of these valid places that stands there: its field, and the same steps one after the other; the
+-- group itself where none does
 abbrev pub converted_among : List ValidPlace → FieldPlace → ℕ → ℕ
 converted_among [] place group = group
-converted_among (p ∷ ps) place group = cond (stands_at place p) (convert p.conversions group) (converted_among ps place group)
+converted_among (p ∷ ps) place group =
+    cond (nat_eq p.field place.field && pointwise is_same_step p.steps place.steps) (convert p.conversions group) (converted_among ps place group)
 
 -- the places of a type whose objects are validated
 abbrev pub valid_places_of : Declarations → ℕ → List ValidPlace
 valid_places_of ds type = filter (λ p. nat_eq p.type type) ds.valid_places
 
--- those of an object's type; none where its type isn't declared
+-- the places of an object's type whose objects are validated; none where its type isn't declared
 abbrev pub valid_places_at : Declarations → Thing → List ValidPlace
-valid_places_at ds object = option_map_or (valid_places_of ds) (number_of_type ds.types object.type_name) []
+valid_places_at ds object = option_map_or (λ type. filter (λ p. nat_eq p.type type) ds.valid_places) (number_of_type ds.types object.type_name) []

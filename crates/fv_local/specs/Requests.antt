@@ -17,8 +17,9 @@ use Rattle.fv_local.specs.Below.{below}
 use Rattle.fv_registry.specs.Meanings.{Meanings}
 use Rattle.fv_local.specs.Paths.{field_name, nodes_of}
 use Rattle.fv_local.specs.Conversions.{valid_places_at, converted_among}
-use Rattle.fv_local.specs.Ways.{object_number_in, ways_of}
+use Rattle.fv_local.specs.Ways.{object_number_in, ways_at}
 use Rattle.fv_walk_traces.specs.Requests.{Own, Plain, GraphRequest}
+use Rattle.std.specs.List.{flat_map}
 
 -- the object of a number: its place in the order of the objects' names. One without fields, of no type, where there is none
 abbrev pub object_at : Bundled → ℕ → Thing
@@ -55,20 +56,21 @@ asked_or_default (g ∷ gs) = g ∷ gs
 abbrev pub asked_groups : List ℕ → List ℕ
 asked_groups asked = once (asked_or_default asked)
 
--- the request for these groups that goes through a bundle by declarations, where this fails of an object's own constraints in a group
+-- the request for these groups that goes through a bundle by declarations, where this fails of an object's own constraints in a group. The ways of
+-- an object are the references at the valid places of its type; the datum is that of the part whose locus has the same parts, null where none has
 abbrev pub request_for : (ℕ → ℕ → Own) → Declarations → Bundled → List ℕ → GraphRequest
 request_for own ds b groups = record {
   asked = groups;
-  root = object_number b b.root;
+  root = unwrap_or (object_number_in b.objects b.root) 0;
   is_sequence = is_sequence ds.groups;
   ranks = ranks ds.groups;
-  ways = λ object. ways_of ds b.objects (object_at b object);
+  ways = λ object. flat_map (ways_at b.objects (object_at b object)) (valid_places_at ds (object_at b object));
   converted = λ object place group. converted_among (valid_places_at ds (object_at b object)) place group;
   below = below ds.groups;
   own = own;
-  nodes = λ object place locus. nodes_at (object_at b object) place locus;
-  datum = λ object place locus. datum_of_part (object_at b object) place locus;
-  name = object_name b;
+  nodes = λ object place locus. field (field_name (object_at b object) place.field) ∷ nodes_of place.steps locus;
+  datum = λ object place locus. unwrap_or (lookup (λ l. pointwise is_same_part l locus) (parts_at (object_at b object) place)) null;
+  name = λ i. option_map_or (λ o. o.0) (slice_get b.objects i) [];
 }
 
 -- the request that judges a bundle by declarations, for groups that are asked for, at a moment

@@ -1,5 +1,5 @@
 -- The references that are followed from an object ("Graph validation").
-use Rattle.std.specs.Prelude.{ℕ, List, [], Option, Some, None, option_map, option_and_then, position, filter_map}
+use Rattle.std.specs.Prelude.{ℕ, List, Option, Some, None, option_map, option_and_then, position, filter_map}
 use Rattle.std.specs.List.{flat_map}
 use Rattle.std.specs.Str.{bytes_eq}
 use Rattle.fv_datum.specs.Data.{Data, reference}
@@ -30,7 +30,8 @@ way_place p = record { field = p.field; steps = p.steps }
 
 -- the reference that stands at a place with this locus, if one does
 abbrev pub way_at : Things → FieldPlace → Locus × Data → Option Way
-way_at os place part = option_map (λ target. record { place = place; locus = part.0; target = target }) (target_of os part.1)
+way_at os place part =
+    option_map (λ target. record { place = place; locus = part.0; target = target }) (option_and_then (object_number_in os) (name_of part.1))
 
 -- the references that an object holds at a valid place
 abbrev pub ways_at : Things → Thing → ValidPlace → List Way

@@ -31,6 +31,6 @@ built_in_texts =
     ∷ (codes "Pattern", codes "must match \"{regexp}\"")
     ∷ []
 
--- the same, by their keys
+-- the texts by the keys of messages
 abbrev pub built_in_messages : List (List ℕ × List ℕ)
-built_in_messages = map (λ m. (built_in_key m.0, m.1)) built_in_texts
+built_in_messages = map (λ m. (codes "jakarta.validation.constraints." ++ (m.0 ++ codes ".message"), m.1)) built_in_texts

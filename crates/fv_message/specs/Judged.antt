@@ -44,7 +44,7 @@ IsCircular ms = (key : List ℕ) × (more : ℕ) × LeadsAmong ms more key key
 
 -- a limit is passed: there are more than 1024 messages, or a text is too long for a template, or becomes too long
 abbrev pub IsLarge : Messages → Type 0
-IsLarge user = (1024 < length user) ⊎ (has_long_text user ≡ true) ⊎ HasLongKey (all_messages user)
+IsLarge user = (1024 < length user) ⊎ (list_any (λ m. not (fits m.1)) user ≡ true) ⊎ HasLongKey (all_messages user)
 
 -- the user's messages within the limits, with texts that are templates, and no key whose text leads back to it
 pub record AreSound (user : Messages) : Type 0 where

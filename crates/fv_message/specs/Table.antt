@@ -13,4 +13,4 @@ with_message ms m = if is_some (at_name m.0 ms) then ms else ms ++ m ∷ []
 
 -- all messages: the user's, and the built-in ones whose keys the user gives no text
 abbrev pub all_messages : Messages → Messages
-all_messages user = fold with_message user built_in_messages
+all_messages user = fold (λ ms m. if is_some (at_name m.0 ms) then ms else ms ++ m ∷ []) user built_in_messages

@@ -28,7 +28,7 @@ begins test (b ∷ bs) = test b
 
 -- one or more bytes other than braces and backslashes
 abbrev pub is_parameter_name : List ℕ → Bool
-is_parameter_name name = not (length name == 0) && list_all in_name name
+is_parameter_name name = not (length name == 0) && list_all (λ b. not (is_brace b || (b == 92))) name
 
 -- a byte that is plain as it stands, in front of what follows: no brace, no `\` in front of a special byte, and no `$` in front of `{`
 abbrev pub stands_plain : ℕ → List ℕ → Bool

@@ -16,11 +16,14 @@ use Rattle.fv_bundle.specs.Flaws.{undeclared, misfits}
 use Rattle.fv_bundle.specs.Spelled.{datum_of}
 use Rattle.fv_bundle.specs.Types.{TypeUse, DeclaredFields, Declared, AreApart, FieldsApart}
 use Rattle.fv_bundle.proofs.Again.{some_read, written_again}
-use Rattle.fv_bundle.proofs.Apart.{apart-head, apart-tail, found_apart}
 use Rattle.fv_bundle.proofs.Back.{not_null, fits_writable}
 use Rattle.fv_datum.proofs.Bools.{or_left, or_right}
-use Rattle.fv_bundle.proofs.Members.{AreAscending, ascending_put, same_members, each_found, each_put}
-use Rattle.fv_bundle.proofs.PlainJson.{IsPlain, fits_flat}
+use Rattle.fv_datum.proofs.Members.{AreAscending, ascending_put, same_members, each_found, each_put}
+use Rattle.fv_datum.proofs.Apart.{apart-head, apart-tail}
+use Rattle.fv_datum.proofs.Lookups.{found_every}
+use Rattle.fv_datum.proofs.Outcomes.{head_false, unless_none}
+use Rattle.fv_datum.proofs.PlainJson.{IsPlain}
+use Rattle.fv_bundle.proofs.PlainJson.{fits_flat}
 use Rattle.fv_bundle.specs.Bundles.{IsAscending, Thing, Things, Bundled}
 use Rattle.fv_model.specs.Draft.{BundleDraft}
 use Rattle.fv_model.specs.Reading.{has_flaw, datum_at, given_field, fields_of, object_of, bundle_of, bundle_read}
@@ -33,7 +36,7 @@ use Rattle.fv_model.specs.declared.fault.BundleFault.TheVariants.{Memory}
 use Rattle.fv_model.proofs.Conditions.{unknown_type, unknown_field, wrong_kind, draft_fault, judged, added, objects_added, flaw_among}
 use Rattle.fv_model.proofs.Law.{put_if, added_other, part_for, draft_back, flaw_known}
 use Rattle.fv_bundle.proofs.Made.{AreWritten}
-use Rattle.fv_model.proofs.Typed.{some_of, chosen, none_at, head_false, faultless, unless_none, read_well_typed}
+use Rattle.fv_model.proofs.Typed.{some_of, chosen, none_at, faultless, read_well_typed}
 
 -- ---- the members that fields are written as
 
@@ -162,7 +165,7 @@ object_again old ts os o apart fits typed declared fit =
     let ds : DeclaredFields = found.0 in
     let g : json.Members = added json.no_members o.1.fields in
     let again : added json.no_members (map (given_field g) ds) ≡ g =
-    fields_again ds g (found_apart o.1.type_name ts ds apart found.1) (fields_given os fits.fields o.1.fields fits.fit) (sym (flaw_known undeclared ts (part_for o) ds found.1) ∙ declared) (sym (flaw_known misfits ts (part_for o) ds found.1) ∙ fit) in
+    fields_again ds g (found_every AreApart o.1.type_name ts ds apart found.1) (fields_given os fits.fields o.1.fields fits.fit) (sym (flaw_known undeclared ts (part_for o) ds found.1) ∙ declared) (sym (flaw_known misfits ts (part_for o) ds found.1) ∙ fit) in
     rw found.1 (ap (λ (ms : json.Members). (o.0, (o.1.type_name, ms))) again)
 
 objects_again : (old ts : Declared) (all os : Things) → FieldsApart ts → AllByRecursion (λ o. FitsType old all o.1) os → unknown_type ts (map part_for os) ≡ false → unknown_field ts (map part_for os) ≡ false → wrong_kind ts (map part_for os) ≡ false

@@ -9,10 +9,10 @@ use Rattle.fv_datum.specs.Name.{names}
 use Rattle.fv_datum.specs.Outcomes.{unless_fault}
 use Rattle.fv_bundle.specs.Flaws.{undeclared, misfits, dangles, strays, is_large}
 use Rattle.fv_bundle.specs.Names.{ObjectTypes}
-use Rattle.fv_bundle.specs.Types.{DeclaredFields, Declared, FieldsApart}
-use Rattle.fv_bundle.proofs.Apart.{found_apart}
+use Rattle.fv_bundle.specs.Types.{DeclaredFields, Declared, AreApart, FieldsApart}
 use Rattle.fv_datum.proofs.Bools.{or_false}
 use Rattle.fv_datum.proofs.Lists.{each_of, none_made}
+use Rattle.fv_datum.proofs.Lookups.{found_every}
 use Rattle.fv_bundle.specs.Bundles.{Thing, Things, Bundled}
 use Rattle.fv_model.specs.Draft.{ObjectDraft, BundleDraft}
 use Rattle.fv_model.specs.Extends.{Extends}
@@ -37,7 +37,7 @@ object_taken old ts os types o extends apart agree fits_type =
     let ds : DeclaredFields = fits_type.fields in
     let found = extends o.1.type_name ds fits_type.declared in
     let es : DeclaredFields = found.0 in
-    let known = each_of (λ e. at_name e.0 ds ≡ Some e.1) (λ e. at_name e.0 es ≡ Some e.1) ds (λ e is. found.2 e.0 e.1 is) (found_each ds (found_apart o.1.type_name old ds apart fits_type.declared)) in
+    let known = each_of (λ e. at_name e.0 ds ≡ Some e.1) (λ e. at_name e.0 es ≡ Some e.1) ds (λ e is. found.2 e.0 e.1 is) (found_each ds (found_every AreApart o.1.type_name old ds apart fits_type.declared)) in
     let all : Taken types es fs = taken os types es ds fs agree fits_type.fit known in
     let part : ObjectDraft = part_for o in
     record {

@@ -18,9 +18,9 @@ use Rattle.fv_model.specs.Ascents.{AscendsFor, Ascends}
 use Rattle.fv_bundle.specs.Flaws.{misfits}
 use Rattle.fv_model.specs.Reading.{has_flaw}
 use Rattle.fv_model.proofs.Conditions.{wrong_kind, flaw_among}
-use Rattle.fv_bundle.specs.Types.{TypeUse, DeclaredFields, Declared, FieldsApart}
-use Rattle.fv_bundle.proofs.Apart.{found_apart}
+use Rattle.fv_bundle.specs.Types.{TypeUse, DeclaredFields, Declared, AreApart, FieldsApart}
 use Rattle.fv_datum.proofs.Bools.{or_false, or_left, or_right, same_bool}
+use Rattle.fv_datum.proofs.Lookups.{found_every}
 use Rattle.fv_model.proofs.Law.{found_each}
 use Rattle.fv_model.proofs.Typed.{none_at, chosen}
 
@@ -77,7 +77,7 @@ part_same : (ts : Declared) (p : ObjectDraft) (o : Option DeclaredFields) → at
 unfolding has_flaw
 part_same ts p None is apart ascends = rw is refl
 part_same ts p (Some ds) is apart ascends =
-    let known = found_each ds (found_apart p.type_name ts ds apart is) in
+    let known = found_each ds (found_every AreApart p.type_name ts ds apart is) in
     rw is (same_bool (list_any (field_misfits p.given) ds) (flaw_among misfits ds (pairs p.given)) (λ none. given_fit ds p.given (pairs p.given) none (found_members p.given ascends)) (λ none. fields_fit ds ds p.given none known))
 
 pub wrong_same : (ts : Declared) (ps : List ObjectDraft) → FieldsApart ts → AllByRecursion (Ascends ts) ps → list_any (part_misfits ts) ps ≡ wrong_kind ts ps

@@ -31,10 +31,11 @@ use Rattle.fv_bundle.specs.WellTyped.{NamesObject, FitsUse, FieldsAre, FitsType,
 use Rattle.fv_model.specs.Writing.{datum_json, thing_json, bundle_json}
 use Rattle.fv_model.proofs.Conditions.{root_missing, large_datum, root_type, draft_fault, judged, added, objects_added, flaw_among}
 use Rattle.fv_bundle.specs.declared.types.TypeId.{TypeId}
-use Rattle.fv_bundle.proofs.Apart.{apart-head, apart-tail, found_apart}
 use Rattle.fv_datum.proofs.Lists.{each_of, none_made}
-use Rattle.fv_bundle.proofs.Orders.{below_middle}
 use Rattle.fv_datum.proofs.Bools.{or_false, or_left, or_right}
+use Rattle.fv_datum.proofs.Apart.{apart-head, apart-tail}
+use Rattle.fv_datum.proofs.Lookups.{found_every}
+use Rattle.fv_datum.proofs.Sorted.{below_middle}
 
 -- ---- the fields
 
@@ -203,7 +204,7 @@ object_back ts os types o ts_apart agree fits_type =
     let fs = o.1.fields in
     let ds : DeclaredFields = fits_type.fields in
     let is : at_name o.1.type_name ts ≡ Some ds = fits_type.declared in
-    let apart : AreApart ds = found_apart o.1.type_name ts ds ts_apart is in
+    let apart : AreApart ds = found_every AreApart o.1.type_name ts ds ts_apart is in
     let part : ObjectDraft = part_for o in
     let all = taken os types ds ds fs agree fits_type.fit (found_each ds apart) in
     let back : map (given_field (added json.no_members fs)) ds ≡ fs = fields_back os ds fs json.no_members apart fits_type.fit (none_there ds) in

@@ -1,40 +1,14 @@
--- Names in order: an entry with a new name goes last.
-use Rattle.std.proofs.Common.{◌≡◌, ℕ, List, [], ◌∷◌, ◌++◌, map, Bool, true, false, cond, Option, Some, None, Ordering, Less, Equal, nat_cmp, bytes_eq, refl, sym, ap, subst, ◌∙◌}
-use Rattle.std.specs.Cmp.Lexicographic.{slice_cmp}
+-- Objects whose names are in order.
+use Rattle.std.proofs.Common.{◌≡◌, ℕ, List, [], ◌∷◌, map, Bool, true, false, cond, Option, Some, None, refl, sym, ap, subst, ◌∙◌}
 use Rattle.std.specs.Map.{keys_of}
-use Rattle.std.proofs.lemmas.Cmp.{nat_list_cmp_total, tied_itself}
-use Rattle.std.proofs.lemmas.Map.Keys.{sorted_head, sorted_tail}
-use Rattle.std.proofs.lemmas.Slice.Eq.{bytes_eq-Decides}
-use Rattle.indexmap.specs.IndexMap.{insert_entry}
 use Rattle.serde_json.specs.Data as json
 use Rattle.fv_datum.specs.Ascending.{IsAscending}
 use Rattle.fv_datum.proofs.Lists.{both_some}
-use Rattle.fv_bundle.proofs.Orders.{below_middle}
 use Rattle.fv_datum.specs.Forms.{map2}
 use Rattle.fv_datum.specs.Members.{each_some}
 use Rattle.fv_model.specs.Draft.{ObjectDraft, object_draft}
 use Rattle.fv_model.specs.Reading.{object_types, object_of}
 use Rattle.fv_bundle.specs.Types.{Declared}
-
-less_differs : (o : Ordering) → o ≡ Less → o ≡ Equal → true ≡ false
-less_differs o less equal = cc
-
-other_name : (b : Bool) (k l : List ℕ) → bytes_eq k l ≡ b → slice_cmp nat_cmp l k ≡ Less → b ≡ false
-other_name true k l e less =
-    let same : k ≡ l = (bytes_eq-Decides k l).0 e in
-    let tied : slice_cmp nat_cmp l k ≡ Equal = rw same (tied_itself nat_list_cmp_total l) in
-    less_differs (slice_cmp nat_cmp l k) less tied
-other_name false k l e less = refl
-
--- in a map in the order of insertion, an entry whose name is above the others goes last
-pub insert_last : {K V X : Type 0} (name : K → List ℕ) (view : V → X) (es : List (K × V)) (k : K) (v : V) (more : List (List ℕ × X))
-    → IsAscending (keys_of (map (λ e. (name e.0, view e.1)) es ++ (name k, view v) ∷ more))
-    → map (λ e. (name e.0, view e.1)) (insert_entry (λ a b. bytes_eq (name a) (name b)) es k v) ++ more ≡ map (λ e. (name e.0, view e.1)) es ++ (name k, view v) ∷ more
-insert_last name view [] k v more h = refl
-insert_last name view (e ∷ es) k v more h =
-    let rest = map (λ f. (name f.0, view f.1)) es ++ (name k, view v) ∷ more in
-    let below = below_middle (name e.0) (name k) (view v) (map (λ f. (name f.0, view f.1)) es) more (sorted_head (slice_cmp nat_cmp) (name e.0) (keys_of rest) h) in
-    rw (other_name _ (name k) (name e.0) refl below) (ap (λ xs. (name e.0, view e.1) ∷ xs) (insert_last name view es k v more (sorted_tail (slice_cmp nat_cmp) (name e.0) (keys_of rest) h)))
 
 -- ---- the objects that are given
 

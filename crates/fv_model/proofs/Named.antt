@@ -10,7 +10,7 @@ use Rattle.std.proofs.lemmas.Map.Keys.{IsDistinct-head, IsDistinct-tail}
 use Rattle.std.proofs.lemmas.Slice.Eq.{bytes_eq-Decides}
 use Rattle.indexmap.specs.IndexMap.{insert_entry}
 use Rattle.fv_bundle.specs.Types.{AreApart}
-use Rattle.fv_bundle.proofs.Apart.{apart-head, apart-tail}
+use Rattle.fv_datum.proofs.Apart.{apart-head, apart-tail}
 use Rattle.fv_model.specs.Views.{named_view}
 use Rattle.fv_bundle.specs.declared.bundle.Object.{Object}
 use Rattle.fv_model.proofs.Conditions.{types_of}

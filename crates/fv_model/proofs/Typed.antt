@@ -12,7 +12,7 @@ use Rattle.std.proofs.lemmas.Map.Lookups.{exact_bytes}
 use Rattle.std.proofs.lemmas.Slice.Eq.{bytes_eq-Decides}
 use Rattle.serde_json.specs.Data as json
 use Rattle.serde_json.specs.Find.{get_member, as_str}
-use Rattle.fv_datum.specs.Outcomes.{Gives, first, unless_fault}
+use Rattle.fv_datum.specs.Outcomes.{Gives, first}
 use Rattle.fv_datum.specs.Lookup.{at_name}
 use Rattle.fv_datum.specs.Name.{names}
 use Rattle.fv_bundle.specs.Flaws.{misfits, referring, dangles, is_other, strays, is_large}
@@ -23,7 +23,7 @@ use Rattle.fv_bundle.specs.Bundles.{IsAscending, Bundled}
 use Rattle.fv_datum.specs.Members.{pairs}
 use Rattle.fv_model.specs.Draft.{ObjectDraft, BundleDraft, bundle_draft_of}
 use Rattle.fv_model.specs.Reading.{has_flaw, object_types, bundle_conditions, datum_at, given_field, object_of, bundle_of, bundle_read}
-use Rattle.fv_bundle.specs.Types.{TypeUse, DeclaredFields, Declared, FieldsApart, name_at}
+use Rattle.fv_bundle.specs.Types.{TypeUse, DeclaredFields, Declared, AreApart, FieldsApart, name_at}
 use Rattle.fv_model.specs.Views.{bundle_view}
 use Rattle.fv_bundle.specs.WellTyped.{NamesObject, FitsUse, FieldsAre, FitsType, IsWellTyped, HasRootType}
 use Rattle.fv_model.specs.Writing.{IsWritten}
@@ -33,8 +33,9 @@ use Rattle.fv_model.specs.declared.fault.BundleFault.{BundleFault}
 use Rattle.fv_model.specs.declared.fault.BundleFault.TheVariants.{Memory}
 use Rattle.fv_model.proofs.Conditions.{bad_name, root_missing, unknown_type, unknown_field, some_flawed, wrong_kind, dangling_ref, ref_type, large_datum, too_large, root_type, draft_fault, judged, flaw_among}
 use Rattle.fv_bundle.specs.declared.types.TypeId.{TypeId}
-use Rattle.fv_bundle.proofs.Apart.{found_apart}
 use Rattle.fv_datum.proofs.Bools.{not_false, or_left, or_right}
+use Rattle.fv_datum.proofs.Lookups.{found_every}
+use Rattle.fv_datum.proofs.Outcomes.{head_false, unless_none}
 use Rattle.fv_model.proofs.Law.{found_each, flaw_known}
 
 -- ---- references
@@ -142,7 +143,7 @@ record IsSoundPart (ts : Declared) (types : ObjectTypes) (p : ObjectDraft) : Typ
 
 fits_known : (ts : Declared) (ps : List ObjectDraft) (p : ObjectDraft) (ds : DeclaredFields) → FieldsApart ts → at_name p.type_name ts ≡ Some ds → AreSound (object_types ps) ds (pairs p.given) → AreWritten (object_of ts p) → FitsType ts (map (object_of ts) ps) (object_of ts p).1
 fits_known ts ps p ds apart is given can =
-    let fit = fields_fit ts ps ds ds p.given given (found_each ds (found_apart p.type_name ts ds apart is)) (rw is at can) in
+    let fit = fields_fit ts ps ds ds p.given given (found_each ds (found_every AreApart p.type_name ts ds apart is)) (rw is at can) in
     record { fields = ds; declared = is; fit = rw is fit }
 
 fits_type : (ts : Declared) (ps : List ObjectDraft) (p : ObjectDraft) → FieldsApart ts → IsSoundPart ts (object_types ps) p → AreWritten (object_of ts p) → FitsType ts (map (object_of ts) ps) (object_of ts p).1
@@ -169,10 +170,6 @@ pub record IsFaultless (ts : Declared) (asked : Option (List ℕ)) (root : List 
   pub small : too_large ts ps ≡ false
   pub type : root_type asked root ps ≡ false
 
-pub head_false : {E : Type 0} (c : Bool) (e : E) (rest : Option E) → cond c (Some e) rest ≡ None → (c ≡ false) × (rest ≡ None)
-head_false true e rest is = cc
-head_false false e rest is = (refl, is)
-
 -- where there is no first fault, no condition holds
 all_false : {E : Type 0} (cs : List (Bool × E)) → first cs ≡ None → AllByRecursion (λ c. c.0 ≡ false) cs
 all_false [] e = tt
@@ -182,10 +179,6 @@ pub faultless : (ts : Declared) (asked : Option (List ℕ)) (d : BundleDraft) �
 faultless ts asked d e =
     let all = all_false (bundle_conditions ts asked d) e in
     record { named = all.0; rooted = all.1.0; typed = all.1.1.0; declared = all.1.1.1.0; fits = all.1.1.1.1.0; there = all.1.1.1.1.1.0; own = all.1.1.1.1.1.1.0; small = all.1.1.1.1.1.1.1.0; type = all.1.1.1.1.1.1.1.1.0 }
-
-pub unless_none : {E Y : Type 0} (o : Option E) (y b : Y) → unless_fault o y ≡ Ok b → (o ≡ None) × (y ≡ b)
-unless_none None y b e = (refl, cc)
-unless_none (Some f) y b e = cc
 
 judged_ok : (ts : Declared) (asked : Option (List ℕ)) (o : Option BundleDraft) (b : Bundled) → judged ts asked o ≡ Ok b → (d : BundleDraft) × IsFaultless ts asked d.root d.objects × (bundle_of ts d ≡ b)
 judged_ok ts asked None b e = cc

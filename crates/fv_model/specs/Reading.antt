@@ -59,9 +59,10 @@ datum_at type_use given = unwrap_or (option_and_then (datum_of type_use) given) 
 abbrev pub given_field : json.Members → List ℕ × TypeUse → List ℕ × Data
 given_field given f = (f.0, datum_at f.1 (get_member f.0 given))
 
--- an object with its name: each field of its type, in the type's order
+-- an object with its name: each field of its type, in the type's order, with its datum among those that are given
 abbrev pub object_of : Declared → ObjectDraft → List ℕ × Thing
-object_of ts p = (p.name, record { type_name = p.type_name; fields = map (given_field p.given) (fields_of ts p.type_name) })
+object_of ts p =
+    (p.name, record { type_name = p.type_name; fields = map (λ f. (f.0, datum_at f.1 (get_member f.0 p.given))) (fields_of ts p.type_name) })
 
 -- the bundle that a draft is
 abbrev pub bundle_of : Declared → BundleDraft → Bundled

@@ -1,20 +1,50 @@
-//! What can be wrong with a draft, and which fault is the first: before its data are decoded
-//! (`name_fault`), and after (`late_fault`).
+//! What can be wrong with a draft: what is wrong with the data of its objects, in one pass, and which
+//! fault is the first: before its data are decoded (`name_fault`), and after (`late_fault`).
+ghost use Rattle.std.specs.List.{list_any, AllByRecursion};
+ghost use Rattle.fv_bundle.specs.Tells.{Tells};
+ghost use Rattle.fv_model.specs.Ascents.{Ascends};
+ghost use Rattle.fv_model.specs.Reading.{has_flaw, object_types, bundle_conditions};
+ghost use Rattle.fv_model.specs.Views.{types_view, part_view, draft_view};
 ghost use Rattle.std.specs.Prelude.{◌≡◌, map, take, drop, not, is_some, option_map, None};
-ghost use Rattle.std.specs.List.{list_any};
 ghost use Rattle.fv_datum.specs.Outcomes.{first};
 ghost use Rattle.fv_datum.specs.Lookup.{at_name};
 ghost use Rattle.fv_datum.specs.Name.{names};
 ghost use Rattle.fv_bundle.specs.Flaws.{is_other};
 ghost use Rattle.fv_bundle.specs.Types.{name_at};
-ghost use Rattle.fv_model.specs.Views.{types_view, part_view, draft_view};
-ghost use Rattle.fv_bundle.specs.Tells.{Tells};
-ghost use Rattle.fv_model.specs.Reading.{has_flaw, object_types, bundle_conditions};
 
 use crate::fault::BundleFault;
 use crate::parts::{Draft, Part};
-use fv_bundle::{Flaws, TypeId, Types, is_other};
+use fv_bundle::{Flaws, TypeId, Types, flaws_among, is_other};
 use fv_datum::is_name;
+
+/// What is wrong with an object's data.
+#[tactic(auto, unfolding(crate::specs::Reading::has_flaw))]
+fn part_flaws(types: &Types, draft: &Draft, part: &Part) -> Flaws
+    ensures told { Tells result (object_types (draft_view draft.now).objects)
+        (λ flaw. has_flaw flaw (types_view types.now) (part_view part.now)) }
+    ensures ascending { Ascends (types_view types.now) (part_view part.now) }
+{
+    match types.fields(part.type_name) {
+        None => Flaws::none(),
+        Some(fields) => match part.given {
+            None => Flaws::none(),
+            Some(given) => flaws_among(&draft.type_names, fields, given),
+        },
+    }
+}
+
+/// What is wrong with the data of a draft's objects.
+pub(crate) fn draft_flaws(types: &Types, draft: &Draft) -> Flaws
+    ensures told { Tells result (object_types (draft_view draft.now).objects)
+        (λ flaw. list_any (has_flaw flaw (types_view types.now)) (draft_view draft.now).objects) }
+    ensures ascending { AllByRecursion (Ascends (types_view types.now)) (draft_view draft.now).objects }
+{
+    let mut flaws = Flaws::none();
+    for part in &draft.objects {
+        flaws = flaws.and(part_flaws(types, draft, part));
+    }
+    flaws
+}
 
 /// The most objects.
 const MOST_OBJECTS: usize = 256;

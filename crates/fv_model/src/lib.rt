@@ -3,13 +3,10 @@
 #![tactic(auto)]
 
 mod build;
-mod data;
 mod draft;
 mod fault;
 mod faults;
-mod flaws;
 mod given_datum;
-mod halt;
 mod naming;
 mod objects;
 mod parts;
@@ -30,6 +27,6 @@ pub use parts::Part;
 pub use reading::read_bundle;
 pub use setting::set_field;
 pub use singles::single;
-pub use text::{fields_text, quoted, write_text};
+pub use text::{fields_text, quoted};
 pub use tree::{write_bundle, write_fields};
 pub use value::read_value;

@@ -19,4 +19,4 @@ nodes_text = flat_map node_text
 
 -- the text of a path: that of its nodes, without the dot of the first, which is a field
 abbrev pub path_text_of : List PathNode → List ℕ
-path_text_of ns = drop 1 (nodes_text ns)
+path_text_of ns = drop 1 (flat_map node_text ns)

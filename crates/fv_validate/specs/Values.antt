@@ -1,13 +1,13 @@
 -- A datum in a field of a type.
-use Rattle.std.specs.Prelude.{◌≡◌, ℕ, List, map, Option, Some, option_and_then}
-use Rattle.fv_datum.specs.Data.{Data}
+use Rattle.std.specs.Prelude.{◌≡◌, ℕ, List, map, Option, Some, option_and_then, cond}
+use Rattle.fv_datum.specs.Data.{Data, null}
 use Rattle.fv_datum.specs.Lookup.{at_name}
 use Rattle.fv_bundle.specs.Bundles.{Thing}
 use Rattle.fv_model.specs.Reading.{fields_of}
-use Rattle.fv_model.specs.Single.{single_field}
 use Rattle.fv_bundle.specs.WellTyped.{AnyName}
 use Rattle.fv_bundle.specs.Fits.{Fits}
 use Rattle.fv_bundle.specs.Types.{TypeUse, Declared}
+use Rattle.std.specs.Str.{bytes_eq}
 
 -- what the field of a name holds in the type of a name; none where the type isn't declared, or has no such field
 abbrev pub field_use : Declared → List ℕ → List ℕ → Option TypeUse
@@ -19,4 +19,4 @@ FitsField ts type name d = (u : TypeUse) → field_use ts type name ≡ Some u �
 
 -- the object of the type of a name with a datum in the field of a name, and null in the others
 abbrev pub valued : Declared → List ℕ → List ℕ → Data → Thing
-valued ts type name d = record { type_name = type; fields = map (single_field name d) (fields_of ts type) }
+valued ts type name d = record { type_name = type; fields = map (λ f. (f.0, cond (bytes_eq name f.0) d null)) (fields_of ts type) }

@@ -55,14 +55,15 @@ IsReportOf us ms IsOne r = (v : Violation) × IsOne v × IsReport us ms v r
 abbrev pub Precedes : Reported → Reported → Type 0
 Precedes v w = (is_lt (slice_cmp nat_cmp v.path w.path) ≡ true) ⊎ ((v.path ≡ w.path) × (v.occurrence < w.occurrence))
 
--- each violation precedes those after it
+-- each violation precedes those after it, by the bytes of the path, then by the number of the constraint
 abbrev pub AreInOrder : List Reported → Type 0
 AreInOrder [] = Unit {0}
-AreInOrder (v ∷ vs) = AllByRecursion (Precedes v) vs × AreInOrder vs
+AreInOrder (v ∷ vs) =
+    AllByRecursion (λ w. (is_lt (slice_cmp nat_cmp v.path w.path) ≡ true) ⊎ ((v.path ≡ w.path) × (v.occurrence < w.occurrence))) vs × AreInOrder vs
 
 -- all of some violations, each once, in order
 pub record AreListed (us : List Placed) (ms : Messages) (IsOne : Violation → Type 0) (vs : List Reported) : Type 0 where
-  pub sound : AllByRecursion (IsReportOf us ms IsOne) vs
+  pub sound : AllByRecursion (λ r. (v : Violation) × IsOne v × IsReport us ms v r) vs
   pub complete : (v : Violation) → IsOne v → (r : Reported) × IsIn vs r × IsReport us ms v r
   pub ascending : AreInOrder vs
 

@@ -7,8 +7,6 @@ pub mod by_id;
 mod by_name;
 mod fault;
 mod fields;
-mod listing;
-mod node;
 mod validating;
 mod violation;
 

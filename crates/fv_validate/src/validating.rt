@@ -1,27 +1,25 @@
-//! The violations of a bundle.
-ghost use Rattle.std.specs.Prelude.{◌≡◌, ◌≢◌, ◌<◌, All, [], map, option_map, length, string_bytes, IfOk, IfErr, OnOk};
+//! The violations of a bundle: the constraint of each number, the messages, and the order of a listing.
+ghost use Rattle.std.specs.Prelude.{◌≡◌, map, option_map, slice_get, ◌↔◌, ◌≢◌, ◌<◌, All, [], length, string_bytes, IfOk, IfErr, OnOk};
+ghost use Rattle.fv_declare_schema.specs.Declarations.{AreNumbered};
+ghost use Rattle.fv_declare_schema.specs.PlacedView.{placed_view};
+ghost use Rattle.fv_constraint_tree.specs.Views.{node_view};
+ghost use Rattle.fv_validate.specs.Violations.{nodes_in, Reported, AreInOrder, AreListed, IsListing, IsMessageOf};
+ghost use Rattle.fv_graph.specs.Graph.{IsIn};
+ghost use Rattle.fv_validate.specs.Listing.{order, AreToldApart, made_by, IsMade};
+ghost use Rattle.fv_validate.specs.ViolationView.{violation_view};
 ghost use Rattle.std.specs.List.{AllByRecursion};
 ghost use Rattle.std.specs.Option.{option_map_or};
 ghost use Rattle.fv_datum.specs.Moments.{IsMoment};
-ghost use Rattle.fv_declare_schema.specs.Declarations.{AreNumbered};
-ghost use Rattle.fv_declare_schema.specs.PlacedView.{placed_view};
-ghost use Rattle.fv_graph.specs.Graph.{IsIn};
 ghost use Rattle.fv_declare_schema.specs.Tables.{indices};
 ghost use Rattle.fv_message.specs.Evaluated.{full_text};
 ghost use Rattle.fv_bundle.specs.Views.{bundle_view};
 ghost use Rattle.fv_bundle.specs.WellTyped.{IsWellTyped};
-ghost use Rattle.fv_constraint_tree.specs.Views.{node_view};
 ghost use Rattle.fv_path.specs.Paths.{IsPath};
-ghost use Rattle.fv_validate.specs.ViolationView.{violation_view};
-ghost use Rattle.fv_validate.specs.Listing.{made_by, IsMade};
-ghost use Rattle.fv_validate.specs.Violations.{AreListed, IsListing, IsMessageOf};
 ghost use Rattle.fv_walk.specs.Apart.{AreApart};
 ghost use Rattle.fv_walk.specs.FailureView.{failure_view};
 ghost use Rattle.fv_walk.specs.Visits.{HasTooManyVisits, HasFewVisits};
 
 use crate::fault::ValidateFault;
-use crate::listing::arrange;
-use crate::node::node_of;
 use crate::violation::Violation;
 use fv_bundle::Bundle;
 use fv_constraint_tree::Node;
@@ -32,6 +30,35 @@ use fv_registry::RuleSet;
 use fv_walk::Failure;
 use fv_walk::by_id::walk_typed;
 use std::alloc::{AllocError, Global};
+use std::cmp::Ordering;
+
+/// The constraint of a number, in the trees of these uses.
+pub(crate) fn node_of(occurrences: &[Placed], number: usize) -> Option<&Node>
+    requires { AreNumbered 0 (map placed_view occurrences.now) }
+    ensures { option_map (λ n. node_view n.now) result ≡ slice_get (nodes_in (map placed_view occurrences.now)) number }
+{
+    let behind = occurrences.partition_point(|it| it.number() <= number);
+    let placed = occurrences.get(behind.checked_sub(1)?)?;
+    placed.occurrence().node(number - placed.number())
+}
+
+/// By the bytes of the path, then by the number of the constraint.
+fn compare(a: &Violation, b: &Violation) -> Ordering
+    ensures { result ≡ order (violation_view a.now) (violation_view b.now) }
+{
+    a.path.cmp(&b.path).then(a.occurrence.cmp(&b.occurrence))
+}
+
+/// Arranges violations as a listing has them: ascending, each once.
+pub(crate) fn arrange(violations: &mut Vec<Violation>)
+    requires { AreToldApart (map violation_view violations.old.items) }
+    ensures same { (r : Reported) → IsIn (map violation_view violations.new.items) r
+        ↔ IsIn (map violation_view violations.old.items) r }
+    ensures ascending { AreInOrder (map violation_view violations.new.items) }
+{
+    violations.sort_unstable_by(|a, b| compare(a, b));
+    violations.dedup_by(|a, b| compare(a, b).is_eq());
+}
 
 /// What the message of a constraint becomes; empty where there is no constraint.
 fn message_of(alloc: Global, messages: &Messages, node: Option<&Node>) -> Result<String, AllocError>

@@ -10,7 +10,7 @@ use Rattle.fv_declare_schema.specs.Declarations.{Declarations}
 use Rattle.fv_extract.specs.Parts.{Locus, parts_at}
 use Rattle.fv_extract.specs.Places.{FieldPlace}
 use Rattle.fv_extract.specs.Views.{part_view, place_view}
-use Rattle.fv_extract.specs.declared.part.Part.{Part}
+use Rattle.fv_extract.specs.declared.place.Part.{Part}
 use Rattle.fv_extract.specs.declared.place.Place as code
 use Rattle.fv_graph.specs.Graph.{IsIn}
 use Rattle.fv_local.specs.FailureView.{IsFoundIn, failure_view}
@@ -38,7 +38,7 @@ use Rattle.fv_walk.proofs.Frames.{path_push}
 use Rattle.fv_walk.proofs.Paths.{field_alone, last_dropped}
 use Rattle.fv_walk.specs.Courses.{visiting, bundle_in}
 use Rattle.fv_walk.specs.declared.course.Course.{Course}
-use Rattle.fv_walk.specs.declared.frame.Frame.{Frame}
+use Rattle.fv_walk.specs.declared.course.Frame.{Frame}
 use Rattle.fv_walk.specs.Paths.{TakesField}
 use Rattle.fv_walk.specs.Stacks.{way_before, nodes_above, path_on}
 use Rattle.fv_walk.specs.Walks.{told_at}

@@ -11,7 +11,7 @@ use Rattle.fv_bundle.specs.Types.{TypeUse, texts, integers, decimals, booleans, 
 use Rattle.fv_bundle.proofs.Back.{fits_writable}
 use Rattle.fv_declare_schema.specs.Declarations.{Declarations}
 use Rattle.fv_declare_schema.specs.Ordered.{AreOrdered}
-use Rattle.fv_local.proofs.Objects.{found_all}
+use Rattle.fv_datum.proofs.Lookups.{found_all}
 use Rattle.fv_local.specs.Sound.{IsSound}
 use Rattle.fv_local.proofs.Fitted.{fits_indexed}
 

@@ -14,8 +14,8 @@ use Rattle.fv_walk.specs.Courses as course
 use Rattle.fv_walk.specs.Stacks.{IsGood, SkipsWays, on_way, path_on, what_owes, what_weighs, what_visits, fresh_frame}
 use Rattle.fv_walk.specs.Walks as walk
 use Rattle.fv_walk.specs.declared.course.Course.{Course}
-use Rattle.fv_walk.specs.declared.frame.Frame.{Frame}
-use Rattle.fv_walk.specs.declared.frame.GroupVisit.{GroupVisit}
+use Rattle.fv_walk.specs.declared.course.Frame.{Frame}
+use Rattle.fv_walk.specs.declared.course.GroupVisit.{GroupVisit}
 use Rattle.fv_walk.specs.declared.walking.Judge.{Judge}
 use Rattle.fv_walk.specs.declared.walking.Walked.{Walked}
 

@@ -11,7 +11,6 @@ mod course;
 mod failure;
 mod fault;
 mod field_telling;
-mod frame;
 mod laws;
 mod property;
 mod property_fault;

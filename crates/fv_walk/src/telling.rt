@@ -19,9 +19,8 @@ ghost use Rattle.fv_walk.specs.Paths.{TakesField};
 ghost use Rattle.fv_walk.specs.Stacks.{nodes_above, path_on, way_before};
 ghost use Rattle.fv_walk.specs.Walks.{told_at};
 
-use crate::course::Course;
+use crate::course::{Course, Frame};
 use crate::failure::Failure;
-use crate::frame::Frame;
 use fv_bundle::Object;
 use fv_datum::{Datum, Name};
 use fv_extract::{Part, Step};

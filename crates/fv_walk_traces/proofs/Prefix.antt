@@ -1,5 +1,5 @@
--- What a prefix decides; and the number of things in a list without repeats.
-use Rattle.std.proofs.Common.{◌≡◌, ℕ, suc, ◌≤◌, List, [], ◌∷◌, ◌++◌, map, length, ◌⊎◌, inl, inr, refl, sym, ap, ◌∙◌, subst, arith}
+-- What a prefix decides.
+use Rattle.std.proofs.Common.{◌≡◌, ℕ, suc, List, [], ◌∷◌, ◌++◌, map, ◌⊎◌, inl, inr, refl, sym, ap, ◌∙◌, subst, arith}
 use Rattle.fv_graph.specs.Graph.{IsIn, AllDiffer}
 use Rattle.fv_walk_traces.proofs.Exact.{some_failure, kept}
 use Rattle.fv_graph.proofs.Images.{in_map}
@@ -68,31 +68,3 @@ hides_below (x ∷ p) q (y ∷ r) (inr h) =
       | inl k ↦ inl (inr (h.0, k))
       | inr k ↦ inr (k.0, cc (h.0, k.1), k.2)
     ]
-
--- two lists without repeats that have the same things have the same length
-without : {X : Type 0} (xs : List X) (x : X) → IsIn xs x → List X
-without [] x h = []
-without (y ∷ xs) x (inl e) = xs
-without (y ∷ xs) x (inr h) = y ∷ without xs x h
-
-length-without : {X : Type 0} (xs : List X) (x : X) (h : IsIn xs x) → length xs ≡ suc (length (without xs x h))
-unfolding without
-length-without [] x h = absurd h
-length-without (y ∷ xs) x (inl e) = refl
-length-without (y ∷ xs) x (inr h) = let e = length-without xs x h in omega (arith, e)
-
-in-without : {X : Type 0} (xs : List X) (x y : X) (h : IsIn xs x) → (x ≡ y → ⊥) → IsIn xs y → IsIn (without xs x h) y
-unfolding without
-in-without [] x y h d k = absurd h
-in-without (z ∷ xs) x y (inl e) d (inl k) = absurd (d (sym e ∙ k))
-in-without (z ∷ xs) x y (inl e) d (inr k) = k
-in-without (z ∷ xs) x y (inr h) d (inl k) = inl k
-in-without (z ∷ xs) x y (inr h) d (inr k) = inr (in-without xs x y h d k)
-
-pub no_longer : {X : Type 0} (xs ys : List X) → AllDiffer xs → ((x : X) → IsIn xs x → IsIn ys x) → length xs ≤ length ys
-no_longer [] ys d h = omega arith
-no_longer {X} (x ∷ xs) ys d h =
-    let k = h x (inl refl) in
-    let e = length-without ys x k in
-    let ih = no_longer xs (without ys x k) d.1 (λ y m. in-without ys x y k (λ q. d.0 (subst (λ (z : X). IsIn xs z) (sym q) m)) (h y (inr m))) in
-    omega (arith, e, ih)

@@ -9,6 +9,7 @@ use Rattle.fv_walk_traces.specs.Unfold.{TraceFrom}
 use Rattle.fv_walk_traces.specs.Points.{Point, Start, next}
 use Rattle.fv_walk_traces.specs.Finite.{IsTidy, IsListOf, AreSoMany, size, tree, tree_of_all, told_traces, entered_visits, all_visits, told_violations}
 use Rattle.fv_graph.proofs.Images.{in_map, from_map}
+use Rattle.fv_graph.proofs.Lists.{no_longer}
 use Rattle.fv_walk_traces.proofs.Exact.{some_failure, kept, all_kept}
 use Rattle.fv_walk_traces.proofs.Arrivals.{was_entered, all_entered, visit_listed, listed_visit}
 use Rattle.fv_walk_traces.proofs.Once.{failures_differ, entered_differ, visits_differ}
@@ -19,7 +20,7 @@ use Rattle.fv_walk_traces.proofs.Unfolds.{visit_down, visit_up}
 use Rattle.fv_walk_traces.proofs.Parts.{parts_walk, walk_parts}
 use Rattle.fv_walk_traces.proofs.Visiting.{visit_parts_walk, visit_walk_parts}
 use Rattle.fv_walk_traces.proofs.Tidy.{IsReached, falls, proper, no_turn_twice, stays_reached}
-use Rattle.fv_walk_traces.proofs.Prefix.{Path', split_at, join_at, one_way, no_longer}
+use Rattle.fv_walk_traces.proofs.Prefix.{Path', split_at, join_at, one_way}
 
 -- exactly the traces that none shadows
 pub stops : (request : GraphRequest) (n : ℕ) → IsTidy request n → (r : Turns) → IsIn (told_traces request n) r ↔ (IsTrace request r × IsSpared request r)

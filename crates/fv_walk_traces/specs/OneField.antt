@@ -33,7 +33,8 @@ IsEnteredOfField request field turns = IsVisitOfField request turns × IsSparedO
 -- a violation of the field: that of a trace of the field which no trace of the field shadows
 abbrev pub IsViolationOfField : GraphRequest → ℕ → Violation → Type 0
 IsViolationOfField request field v =
-    (r : Turns) × IsTraceOfField request field r × IsSparedOfField request field r × (v ≡ violation_of request r)
+    (r : Turns) × IsTraceOfField request field r × ((other : Turns) → IsTraceOfField request field other → Shadows other r → ⊥)
+    × (v ≡ violation_of request r)
 
 -- the failure's place begins with the field
 abbrev pub is_in_field : ℕ → LocalFailure → Bool

@@ -2,9 +2,9 @@
 use Rattle.std.specs.Prelude.{◌≡◌, ℕ, List, [], ◌∷◌, ◌++◌, cond, fold}
 use Rattle.fv_datum.specs.Data.{Data, null, reference}
 use Rattle.fv_path.specs.Nodes.{PathNode, is_part}
-use Rattle.fv_walk_traces.specs.Turns.{Spot, of_object, at, FreeTurn, Ask, Step, Group, Fail, Turn, Free, Rank, Turns}
+use Rattle.fv_walk_traces.specs.Turns.{Spot, of_object, at, FreeTurn, Ask, Step, Group, Fail, Turn, Free, Rank, Turns, Shadows}
 use Rattle.fv_walk_traces.specs.Requests.{GraphRequest}
-use Rattle.fv_walk_traces.specs.Traces.{IsTrace, IsSpared}
+use Rattle.fv_walk_traces.specs.Traces.{IsTrace}
 
 -- a violation: where it stands, the node that is reported, and the value
 pub record Violation : Type 0 where
@@ -53,4 +53,5 @@ violation_of request turns =
 
 -- a violation of the request: that of a trace which no trace shadows
 abbrev pub IsViolation : GraphRequest → Violation → Type 0
-IsViolation request v = (r : Turns) × IsTrace request r × IsSpared request r × (v ≡ violation_of request r)
+IsViolation request v = (r : Turns) × IsTrace request r × ((other : Turns) → IsTrace request other → Shadows other r → ⊥)
+    × (v ≡ violation_of request r)

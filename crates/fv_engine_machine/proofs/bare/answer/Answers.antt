@@ -1,4 +1,4 @@
-use Rattle.std.proofs.Common.{◌≡◌, Option, None, Some, option_map, refl, subst}
+use Rattle.std.proofs.Common.{◌≡◌, Option, None, option_map, refl, subst}
 use Rattle.std.proofs.lemmas.Int.{to_z-of_z}
 use mir.Syntax.{w64}
 use Rattle.std.specs.Option.{unwrap_or}
@@ -39,7 +39,7 @@ returns-in-Ok-Some-Check g c = bare_asked g.R.RuleSet.meaning c.args.book.now c.
 
 pub returns-in-Ok-Some-CheckField : goal.returns-in-Ok-Some-CheckField
 returns-in-Ok-Some-CheckField g c = bare_asked g.R.RuleSet.meaning c.args.book.now c.args.now _ _ _ (rw (c.in-Ok-Some-CheckField.field-0-is, c.in-Ok-Some-CheckField.field-0-0-is) at c.in-Ok-Some-CheckField.ensures)
-    (bare_check_field g.R.RuleSet.meaning c.args.book.now c.args.now c.in-Ok-Some-CheckField.field-0-0-0.now _ _ _)
+    (bare_check_field g.R.RuleSet.meaning c.args.book.now c.args.now c.in-Ok-Some-CheckField.field-0-0-0.id.now _ _ _)
 
 pub returns-in-Ok-Some-CheckValue : goal.returns-in-Ok-Some-CheckValue
 returns-in-Ok-Some-CheckValue g c =

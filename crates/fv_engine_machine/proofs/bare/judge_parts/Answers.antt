@@ -1,4 +1,4 @@
-use Rattle.std.proofs.Common.{◌≡◌, List, [], map, Ok, Err, inl, inr, sym, ap, subst, ◌∙◌}
+use Rattle.std.proofs.Common.{◌≡◌, [], map, Ok, Err, inl, inr, sym, ap, subst, ◌∙◌}
 use Rattle.std.proofs.lemmas.Int.{to_z-of_z}
 use mir.Syntax.{w64}
 use Rattle.fv_declare_schema.specs.Declarations.{Declarations}
@@ -6,10 +6,9 @@ use Rattle.fv_engine_command.specs.CommandView.{part_view}
 use Rattle.fv_engine_machine.specs.Judges.{ChangesBare}
 use Rattle.fv_engine_machine.proofs.Recordless.{bare_judged, bare_memory, bare_misshapen, bare_unmade}
 use Rattle.fv_engine_machine.proofs.Changes.{is_part_memory}
-use Rattle.fv_engine_pending.specs.Fits.{AreTyped, Keeps}
+use Rattle.fv_engine_pending.specs.Fits.{Keeps}
 use Rattle.fv_engine_pending.specs.Steps.{staged, step_view, steps_made}
-use Rattle.fv_engine_pending.specs.Ways.{Way, pending_view}
-use Rattle.fv_engine_reply.specs.Answers.{Answer}
+use Rattle.fv_engine_pending.specs.Ways.{pending_view}
 use Rattle.fv_bundle.specs.TypesView.{types_view}
 use Rattle.fv_engine_machine.proofs.bare.judge_parts.Goals as goal
 

@@ -1,14 +1,16 @@
 use Rattle.std.proofs.Common.{◌+◌, ◌≤◌, length, option_map, sym, subst}
+use Rattle.std.proofs.lemmas.Result.{err_from_is_err_and}
 use Rattle.fv_engine_pending.specs.Fits.{Agrees, AreTyped}
 use Rattle.fv_engine_pending.specs.Ways.{Way, IsOn, pending_view}
 use Rattle.fv_engine_pending.proofs.Found.{agrees_left, there, stays_there, only_there, typed_left, few_left, typed_kept}
-use Rattle.fv_store.proofs.Refusals.{handed_on}
 use Rattle.fv_store.specs.Stored.{stored_view}
 use Rattle.fv_bundle.specs.TypesView.{types_view}
 use Rattle.fv_engine_pending.proofs.finding.find_record.Goals as goal
 
 pub returns-in_err-stored-clause-cause : goal.returns-in_err-stored-clause-cause
-returns-in_err-stored-clause-cause g c clean = handed_on _ c.from_residual.result c.in_err-stored.field-0.0 c.from_residual.ensures.1 (c.in_err-stored.ensures.cause clean)
+returns-in_err-stored-clause-cause g c clean =
+    let handed = err_from_is_err_and c.from_residual.result c.from_residual.ensures.1 in
+    rw (handed.1, handed.2) (c.in_err-stored.ensures.cause clean)
 
 pub returns-in-Ok-clause-found : goal.returns-in-Ok-clause-found
 returns-in-Ok-clause-found g c clean k types holds agrees =

@@ -1,12 +1,12 @@
 use Rattle.std.proofs.Common.{◌≡◌, ◌+◌, ◌≤◌, ◌∷◌, [], ◌++◌, IsTrue, map, length, take, sym, ap, subst, ◌∙◌}
 use Rattle.std.specs.List.{AllByRecursion, list_any}
 use Rattle.std.proofs.lemmas.List.{take_more, map-append}
+use Rattle.std.proofs.lemmas.Result.{err_from_is_err_and}
 use Rattle.fv_engine_command.specs.CommandView.{part_view}
 use Rattle.fv_engine_pending.specs.Fits.{AreNeeded, Covers}
 use Rattle.fv_engine_pending.specs.Touched.{needs_record, count_needed}
 use Rattle.fv_engine_pending.specs.Ways.{pending_view}
 use Rattle.fv_engine_pending.proofs.Found.{covers_more, needed_more, live_more, count_more, any_item, stays_then}
-use Rattle.fv_store.proofs.Refusals.{handed_on}
 use Rattle.fv_store.proofs.Steps.{frame_then, failed_then}
 use Rattle.fv_store.specs.Stands.{IsLive}
 use Rattle.fv_store.specs.Stock.{stock_state as state}
@@ -46,13 +46,15 @@ pub returns-in_err-find_for-clause-cause : goal.returns-in_err-find_for-clause-c
 returns-in_err-find_for-clause-cause g c clean =
     let was = c.loop-part.invariant in
     let asked = c.in_err-find_for.ensures in
-    handed_on _ c.from_residual.result c.in_err-find_for.field-0.0 c.from_residual.ensures.1
+    let handed = err_from_is_err_and c.from_residual.result c.from_residual.ensures.1 in
+    rw (handed.1, handed.2)
     (λ is k types holds. failed_then (state g.S.Store c.args.store.now) (state g.S.Store c.loop-part.store) (state g.S.Store c.find_for.new.store) (asked.frame.clean clean) was.frame asked.frame.counts
     (asked.cause clean is k types (was.stays k holds)))
 
 pub returns-in_err-find_for-clause-asked : goal.returns-in_err-find_for-clause-asked
 returns-in_err-find_for-clause-asked g c =
-    handed_on _ c.from_residual.result c.in_err-find_for.field-0.0 c.from_residual.ensures.1
+    let handed = err_from_is_err_and c.from_residual.result c.from_residual.ensures.1 in
+    rw (handed.1, handed.2)
     (λ is. any_item needs_record part_view c.args.parts.now c.loop-part.part-index c.part-item.result c.loop-part-test.true
     (ap (λ p. needs_record (part_view p)) (sym c.part-item.is) ∙ c.in_err-find_for.ensures.asked))
 

@@ -1,14 +1,11 @@
-use Rattle.std.proofs.Common.{arith, Result, Ok, Err, OnOk}
+use Rattle.std.proofs.Common.{arith}
+use Rattle.std.proofs.lemmas.Result.{on_ok_weaker}
 use Rattle.fv_graph.proofs.Moves.{move_on, move_past, move_round, move_off}
 use Rattle.fv_graph.proofs.search.advance.Goals as goal
 
-on_ok : {X E P Q : Type 0} (r : Result X E) → (P → Q) → OnOk r P → OnOk r Q
-on_ok (Ok x) f h = f h
-on_ok (Err e) f h = tt
-
 pub returns-then-frame-len-clause-step : goal.returns-then-frame-len-clause-step
 returns-then-frame-len-clause-step c =
-    on_ok c.leave.result
+    on_ok_weaker c.leave.result
     (move_off c.args.edges.now c.args.marks.now.items c.leave.new.marks.items c.args.order.now.items c.leave.new.order.items c.args.stack.now.items c.args.frame c.index-edges-frame.result
     c.requires.searches c.index-edges-frame.is (omega arith) c.leave.ensures.marks)
     c.leave.ensures.order

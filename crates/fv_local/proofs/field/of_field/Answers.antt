@@ -1,7 +1,7 @@
 use Rattle.std.proofs.Common.{◌≡◌, ◌<◌, ◌++◌, ◌∷◌, [], ℕ, map, filter, Bool, true, false, cond, length, get_or, append-nil, Vec, Global, refl, sym, ap, ◌∙◌}
 use Rattle.std.specs.Option.{option_map_or}
 use Rattle.fv_declare_schema.specs.PlacedView.{placed_view}
-use Rattle.fv_declare_schema.specs.declared.placed.Placed.{Placed}
+use Rattle.fv_declare_schema.specs.declared.place.Placed.{Placed}
 use Rattle.fv_local.specs.Fields.{is_at, stands_in, is_of_field}
 use Rattle.fv_local.proofs.Fields.{one_kept}
 use Rattle.fv_local.proofs.Picked.{asked_at}

@@ -4,7 +4,7 @@ use Rattle.std.proofs.lemmas.List.Sorted.{IsPartitionPoint-from_clause, IsPartit
 use Rattle.fv_declare_schema.specs.Declarations as spec
 use Rattle.fv_declare_schema.specs.Ordered.{IsRising}
 use Rattle.fv_declare_schema.specs.PlacedView.{placed_view}
-use Rattle.fv_declare_schema.specs.declared.placed.Placed.{Placed}
+use Rattle.fv_declare_schema.specs.declared.place.Placed.{Placed}
 use Rattle.fv_local.proofs.Spans.{types_rise, between}
 use Rattle.fv_local.proofs.type_uses.uses_of.Goals as goal
 

@@ -1,6 +1,6 @@
 use Rattle.std.proofs.Common.{ap, ◌∙◌, arith}
 use Rattle.fv_declare_schema.specs.PlacedView.{placed_view}
-use Rattle.fv_declare_schema.specs.declared.placed.Placed.{Placed}
+use Rattle.fv_declare_schema.specs.declared.place.Placed.{Placed}
 use Rattle.fv_declare_schema.specs.PlaceViews.{place_view}
 use Rattle.fv_local.proofs.First.{run_longer, is_run}
 use Rattle.fv_local.proofs.uses.run_length.Goals as goal

@@ -3,7 +3,7 @@ use Rattle.std.proofs.lemmas.Int.{to_z-of_z}
 use Rattle.std.proofs.lemmas.List.{take-append-drop}
 use mir.Syntax.{w64}
 use Rattle.fv_declare_schema.specs.PlacedView.{placed_view}
-use Rattle.fv_declare_schema.specs.declared.placed.Placed.{Placed}
+use Rattle.fv_declare_schema.specs.declared.place.Placed.{Placed}
 use Rattle.fv_local.specs.Told.{told_view, AreRun}
 use Rattle.fv_bundle.specs.Views.{object_view}
 use Rattle.fv_declare_schema.specs.PlaceViews.{place_view}

@@ -8,7 +8,8 @@ use Rattle.fv_model.specs.Reading.{object_of}
 use Rattle.fv_model.specs.Views.{types_view, object_view, objects_view, part_view}
 use Rattle.fv_model.proofs.Anys.{part_turn}
 use Rattle.fv_datum.proofs.Bools.{or_right}
-use Rattle.fv_model.proofs.Listed.{insert_last, objects_named}
+use Rattle.fv_datum.proofs.Inserted.{seen_last}
+use Rattle.fv_model.proofs.Listed.{objects_named}
 use Rattle.fv_model.proofs.Wrong.{at_exit, right, or_here}
 use Rattle.fv_model.proofs.build.objects_for.Goals as goal
 
@@ -42,5 +43,5 @@ loop-part-preserved c =
     record {
       declared = or_right _ _ (sym (part_turn (λ q. not (is_some (at_name q.type_name ts))) ps i p c.loop-part-test.true c.part-item.is) ∙ c.loop-part.invariant.declared);
       fit = sym (turn ∙ ap (λ b. b || list_any (part_misfits ts) (map part_view (drop (i + 1) ps))) found.0) ∙ c.loop-part.invariant.fit;
-      made = rw c.in_ok-insert.ensures.entries (insert_last string_bytes object_view c.loop-part.out.entries name object more left ∙ whole);
+      made = rw c.in_ok-insert.ensures.entries (seen_last string_bytes object_view c.loop-part.out.entries name object more left ∙ whole);
     }

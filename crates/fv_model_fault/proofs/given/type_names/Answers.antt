@@ -4,7 +4,7 @@ use Rattle.serde_json.specs.Data as json
 use Rattle.serde_json.specs.View.{members_view}
 use Rattle.fv_datum.specs.Ascending.{IsAscending}
 use Rattle.fv_datum.specs.Members.{pairs}
-use Rattle.fv_model.proofs.Listed.{insert_last}
+use Rattle.fv_datum.proofs.Inserted.{seen_last}
 use Rattle.fv_bundle.specs.Names.{object_types_view}
 use Rattle.fv_model_fault.specs.Given.{type_in}
 use Rattle.fv_datum.proofs.Values.{members_ascend}
@@ -22,4 +22,4 @@ loop-name-preserved c =
     let whole : object_types_view l.names ++ (name.now, type.now) ∷ more ≡ map named (pairs (members_view c.args.objects.now.entries)) = rw (← rest) l.invariant in
     let ascending : IsAscending (keys_of (object_types_view l.names ++ (name.now, type.now) ∷ more)) =
     subst (λ (xs : List (List ℕ × List ℕ)). IsAscending (keys_of xs)) (sym whole) (types_ascend (pairs (members_view c.args.objects.now.entries)) (members_ascend c.args.objects.now.entries c.iter-name-items.ensures.ordered)) in
-    rw c.in_ok-insert.ensures.entries (insert_last (λ k. k.now) (λ k. k.now) l.names.entries name type more ascending ∙ whole)
+    rw c.in_ok-insert.ensures.entries (seen_last (λ k. k.now) (λ k. k.now) l.names.entries name type more ascending ∙ whole)

@@ -1,7 +1,7 @@
 use Rattle.std.proofs.Common.{List, ◌++◌, map, sym, ap, subst, ◌∙◌}
 use Rattle.fv_datum.specs.View.{view}
 use Rattle.fv_extract.specs.Views.{part_view, place_view}
-use Rattle.fv_extract.specs.declared.part.Part.{Part}
+use Rattle.fv_extract.specs.declared.place.Part.{Part}
 use Rattle.fv_local.specs.FailureView.{IsFoundIn}
 use Rattle.fv_bundle.specs.Bundles.{Thing}
 use Rattle.fv_bundle.specs.Views.{object_view}

@@ -4,7 +4,7 @@ use Rattle.std.specs.List.{filter}
 use Rattle.std.specs.List.Sorted.{IsNonDecreasingBy}
 use Rattle.fv_declare_schema.specs.ValidPlaces as spec
 use Rattle.fv_declare_schema.specs.NumberViews.{valid_place_view}
-use Rattle.fv_declare_schema.specs.declared.valid_place.ValidPlace.{ValidPlace}
+use Rattle.fv_declare_schema.specs.declared.place.ValidPlace.{ValidPlace}
 use Rattle.fv_declare_schema.specs.Declarations.{Declarations}
 use Rattle.fv_declare_schema.specs.Ordered.{ArePlacesRising}
 use Rattle.fv_declare_schema.proofs.OfType.{Parts, found, filter-map, types_rise}
