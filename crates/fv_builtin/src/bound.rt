@@ -1,15 +1,20 @@
 //! Min, Max, DecimalMin, DecimalMax, Positive, PositiveOrZero, Negative and NegativeOrZero: a
-//! number stands to a bound. Numbers are in units of 10^-9.
-ghost use Rattle.std.specs.Prelude.{◌≡◌, ◌^◌, ◌*ℤ◌, pos, int_le, int_lt, if◌then◌else◌};
+//! number stands to a bound. Digits: a number has at most so many digits before the point, and at
+//! most so many behind it. Numbers are in units of 10^-9.
+ghost use Rattle.std.specs.Prelude.{◌≡◌, ◌^◌, ◌*ℤ◌, pos, int_le, int_lt, if◌then◌else◌, ◌&&◌, codes};
 ghost use Rattle.fv_datum.specs.View.{view};
-ghost use Rattle.fv_builtin.specs.Given.{whole_bound, decimal_bound};
-ghost use Rattle.fv_builtin.specs.declared.name.BuiltinName.TheVariants.{Min, DecimalMin};
-ghost use Rattle.fv_builtin.specs.Numbers.{number_of};
+ghost use Rattle.fv_builtin.specs.Given.{whole_bound, decimal_bound, count_at};
+ghost use Rattle.fv_builtin.specs.declared.name.BuiltinName.TheVariants.{Min, DecimalMin, Digits};
+ghost use Rattle.fv_builtin.specs.Numbers.{number_of, has_integral, has_fraction};
 ghost use Rattle.fv_builtin.specs.Passing.{passes};
+ghost use Rattle.std.specs.Option.{option_zip};
 
-use crate::given::{boolean_or, integer_or, text_of};
+use crate::given::{boolean_or, count_in, integer_or, text_of};
 use crate::table::INCLUSIVE;
 use fv_datum::{Attrs, Datum, decimal_units};
+
+/// 10^9, the units of 1.
+const ONE: u128 = 1_000_000_000;
 
 /// The `value` of Min or Max, in units of 10^-9.
 pub(crate) fn whole_bound(attrs: &Attrs) -> Option<i128>
@@ -104,4 +109,47 @@ pub(crate) fn is_up_to(bound: i128, inclusive: bool, datum: &Datum) -> bool
     } else {
         is_below(bound, datum)
     }
+}
+
+/// The counts `integer` and `fraction`.
+pub(crate) fn digit_counts(attrs: &Attrs) -> Option<(u32, u32)>
+    ensures { result ≡ option_zip (count_at Digits attrs.now (codes "integer"))
+        (count_at Digits attrs.now (codes "fraction")) }
+{
+    let integer = count_in(integer_or(attrs.find("integer"), None)?)?;
+    let fraction = count_in(integer_or(attrs.find("fraction"), None)?)?;
+    Some((integer, fraction))
+}
+
+/// Zeros at the end of the fraction don't count, and neither does a whole part of 0.
+pub(crate) fn has_digits(integer: u32, fraction: u32, datum: &Datum) -> bool
+    ensures { result ≡ passes (λ n. has_integral integer n && has_fraction fraction n)
+        (number_of (view datum.now)) }
+{
+    match number_of(datum) {
+        None => true,
+        Some(number) => has_integral(integer, number) && has_fraction(fraction, number),
+    }
+}
+
+/// Any number of 128 bits has at most 30 digits before the point.
+fn has_integral(count: u32, number: i128) -> bool
+    ensures { result ≡ has_integral count number }
+{
+    let whole = number.unsigned_abs() / ONE;
+    if count >= 30 {
+        return true;
+    }
+    whole < 10u128.pow(count)
+}
+
+/// It has at most 9 behind it.
+fn has_fraction(count: u32, number: i128) -> bool
+    ensures { result ≡ has_fraction count number }
+{
+    if count >= 9 {
+        return true;
+    }
+    let part = number.unsigned_abs() % ONE;
+    part * 10u128.pow(count) % ONE == 0
 }

@@ -11,9 +11,8 @@ ghost use Rattle.fv_builtin.specs.Views.{builtin_view, answer_view, draft_view};
 ghost use Rattle.fv_builtin.specs.declared.name.BuiltinName.{BuiltinName};
 
 use crate::blank::is_not_blank;
-use crate::bound::{is_above, is_at_least, is_at_most, is_below, is_from, is_up_to};
+use crate::bound::{has_digits, is_above, is_at_least, is_at_most, is_below, is_from, is_up_to};
 use crate::compiled::Compiled;
-use crate::digits::has_digits;
 use crate::draft::{Draft, drafted};
 use crate::fault::BuiltinFault;
 use crate::name::{BuiltinName, builtin_named};

@@ -3,9 +3,8 @@ ghost use Rattle.std.specs.Prelude.{◌≡◌, is_some, option_map};
 ghost use Rattle.fv_builtin.specs.Given.{accepted, drafted};
 ghost use Rattle.fv_builtin.specs.Views.{draft_view};
 
-use crate::bound::{decimal_bound, whole_bound};
+use crate::bound::{decimal_bound, digit_counts, whole_bound};
 use crate::builtin::Builtin;
-use crate::digits::digit_counts;
 use crate::given::has_foreign;
 use crate::name::BuiltinName;
 use crate::pattern::regexp_of;

@@ -41,7 +41,7 @@ anywhere test (maps held) j = test (maps held) j || list_any (λ m. anywhere tes
 anywhere test (optionals held) j = test (optionals held) j || list_any (anywhere test held) (items_in j)
 anywhere test type_use j = test type_use j
 
--- the same of a given datum, none where the object's type has no such field
+-- the same of a given datum; false where the object's type has no such field
 abbrev pub somewhere : (TypeUse → json.Data → Bool) → Flaw
 somewhere test type_use j = option_map_or (λ u. anywhere test u j) type_use false
 

@@ -1,5 +1,5 @@
 -- What is refused of definitions.
-use Rattle.std.specs.Prelude.{List, [], ◌∷◌, ◌||◌, ◌&&◌, Bool, true, false, not, Option, Some, None, is_some}
+use Rattle.std.specs.Prelude.{◌||◌, ◌&&◌, Bool, false, length, nat_eq, not, Option, Some, None, is_some}
 use Rattle.std.specs.List.{list_any}
 use Rattle.fv_builtin.specs.Given.{is_same}
 use Rattle.fv_datum.specs.AttributeKinds.{attribute_kind}
@@ -11,14 +11,9 @@ use Rattle.fv_declare_definition.specs.Definitions.{Rule, of_data, of_objects, D
 
 -- ---- one definition
 
--- there are none
-abbrev pub is_none_of : {X : Type 0} → List X → Bool
-is_none_of [] = true
-is_none_of (x ∷ xs) = false
-
 -- a definition has neither a rule nor a composing constraint
 abbrev pub is_empty : Definition → Bool
-is_empty d = not (is_some d.rule) && is_none_of d.composing
+is_empty d = not (is_some d.rule) && nat_eq (length d.composing) 0
 
 -- a rule isn't there for its sort
 abbrev pub is_unknown_rule : Known → Option Rule → Bool
@@ -37,7 +32,7 @@ bad_default d = list_any (λ a. is_other_kind a.1.kind a.1.default) d.attributes
 
 -- ---- definitions
 
--- a definition has neither a rule nor a composing constraint
+-- one of the definitions has neither a rule nor a composing constraint
 abbrev pub is_empty_in : Definitions → Bool
 is_empty_in ds = list_any (λ d. is_empty d.1) ds
 

@@ -52,7 +52,7 @@ unsigned_units s = if is_whole_part (before_point s) && is_fraction (behind_poin
     then Some (digits_value 10 (before_point s) * 10 ^ 9 + fraction_units (behind_point s))
     else None
 
--- a decimal, a minus first where it is below 0: its number in units of 10^-9
+-- a decimal, perhaps a minus first: its number in units of 10^-9
 abbrev pub decimal_units : List ℕ → Option ℤ
 decimal_units s = if nat_lt 0 (length s) && (slice_index s 0 == 45)
     then option_map (λ n. neg_ℤ (pos n)) (unsigned_units (drop 1 s))

@@ -1,5 +1,5 @@
 -- A place is found exactly where a fault's condition holds.
-use Rattle.std.proofs.Common.{◌≡◌, ℕ, List, [], ◌∷◌, Bool, true, false, not, ◌||◌, ◌&&◌, if◌then◌else◌, Option, Some, None, option_map, is_some, refl, ap, ap₂, ◌∙◌}
+use Rattle.std.proofs.Common.{◌≡◌, ℕ, List, [], ◌∷◌, length, nat_eq, Bool, true, false, not, ◌||◌, ◌&&◌, if◌then◌else◌, Option, Some, None, option_map, is_some, refl, ap, ap₂, ◌∙◌}
 use Rattle.std.specs.List.{list_any}
 use Rattle.std.specs.Option.{option_map_or}
 use Rattle.fv_declare_draft.specs.AllCascades.{Cascade}
@@ -11,7 +11,7 @@ use Rattle.fv_declare_schema.specs.Judged as judged
 use Rattle.fv_declare_schema.specs.Judged.{sequence_in}
 use Rattle.fv_declare_groups.specs.First.{HasSome}
 use Rattle.fv_first.specs.First.{first_where, IsFirstIn}
-use Rattle.fv_declare_groups.specs.Grouping.{named_unknown, member_unknown, members_unknown, conversion_unknown, conversions_unknown, sequence_members, lacks_type, MemberMeets, MembersMeet, is_reference, is_none, is_misplaced}
+use Rattle.fv_declare_groups.specs.Grouping.{named_unknown, member_unknown, members_unknown, conversion_unknown, conversions_unknown, sequence_members, lacks_type, MemberMeets, MembersMeet, is_reference, is_misplaced}
 use Rattle.fv_declare_groups.specs.Whereabouts.{unknown_use, unknown_member, unknown_conversion, unknown_form, unknown_in, misused_in, lacking_in, IsMetAt, IsMetIn, misplaced_at, misplaced_in}
 use Rattle.fv_declare_groups.specs.declared.at.CascadeAt.TheVariants.{Valid, Convert, Conversion}
 use Rattle.fv_declare_groups.specs.declared.at.GroupingAt.{GroupingAt}
@@ -57,7 +57,7 @@ misplaced_told gs cs = first_told _ (is_misplaced gs) (λ n c. map_told (at.Casc
     each c =
         let cascade = c.placed.cascade in
         let a = cascade.valid && not (is_reference c.placed.kind) in
-        let b = not cascade.valid && not (is_none cascade.conversions) in
+        let b = not cascade.valid && not (nat_eq (length cascade.conversions) 0) in
         let test : drafts.Conversion → Bool = λ r. sequence_in gs (r.from ∷ []) in
         one_of a b Valid Convert (option_map Conversion (first_where test cascade.conversions))
         ∙ ap (λ s. a || b || s) (map_told Conversion (first_where test cascade.conversions) ∙ where_told test cascade.conversions)

@@ -1,5 +1,5 @@
 -- Where the groups of declarations have a fault.
-use Rattle.std.specs.Prelude.{◌≡◌, ℕ, ◌&&◌, List, [], ◌∷◌, IsTrue, not, if◌then◌else◌, Option, Some, None, option_map, is_some, MatchOption}
+use Rattle.std.specs.Prelude.{◌≡◌, ℕ, ◌&&◌, List, [], ◌∷◌, IsTrue, length, nat_eq, not, if◌then◌else◌, Option, Some, None, option_map, is_some, MatchOption}
 use Rattle.std.specs.Option.{option_or}
 use Rattle.fv_declare_draft.specs.AllCascades.{Cascade, cascades_in}
 use Rattle.fv_declare_draft.specs.AllUses.{DraftUse, uses_in}
@@ -9,7 +9,7 @@ use Rattle.fv_declare_schema.specs.Judged.{sequence_in}
 use Rattle.fv_first.specs.First.{first_in, first_where, first_of, IsFirstIn}
 use Rattle.fv_declare_schema.specs.Whereabouts.{first_unknown, first_sequence, unknown_name, inherited_sequence}
 use Rattle.fv_declare_schema.specs.declared.fault.NameAt.{NameAt}
-use Rattle.fv_declare_groups.specs.Grouping.{groups_in, sequence_members, member_unknown, conversion_unknown, lacks_type, MemberMeets, is_reference, is_none}
+use Rattle.fv_declare_groups.specs.Grouping.{groups_in, sequence_members, member_unknown, conversion_unknown, lacks_type, MemberMeets, is_reference}
 use Rattle.fv_declare_groups.specs.declared.at.CascadeAt.{CascadeAt}
 use Rattle.fv_declare_groups.specs.declared.at.CascadeAt.TheVariants.{Valid, Convert, Conversion}
 use Rattle.fv_declare_groups.specs.declared.at.GroupingAt.{GroupingAt}
@@ -76,7 +76,7 @@ abbrev pub misplaced_at : Groups → Cascade → Option CascadeAt
 misplaced_at gs c =
     let cascade = c.placed.cascade in
     if cascade.valid && not (is_reference c.placed.kind) then Some Valid
-    else if not cascade.valid && not (is_none cascade.conversions) then Some Convert
+    else if not cascade.valid && not (nat_eq (length cascade.conversions) 0) then Some Convert
     else option_map Conversion (first_where (λ r. sequence_in gs (r.from ∷ [])) cascade.conversions)
 
 -- the first cascade where something is

@@ -49,7 +49,8 @@ flawed_template flaw us ds = option_or (flawed_use flaw us) (first_in (flawed_de
 abbrev pub IsFlawedAt : Drafted → TemplateFlaw → MessageFault → Option WordingAt → Type 0
 IsFlawedAt d flaw fault found =
     let told = flawed_template flaw (uses_in d.types) d.definitions in
-    ((found ≡ told) × IsTrue (is_some told)) ⊎ ((told ≡ None) × ((m : Option MessagesAt) × message.IsAt d.messages fault m × (found ≡ option_map at.Messages m)))
+    ((found ≡ told) × IsTrue (is_some told))
+    ⊎ ((told ≡ None) × ((m : Option MessagesAt) × message.IsAt d.messages fault m × (found ≡ option_map at.Messages m)))
 
 -- where the wording has a fault; a cycle of keys is told by itself
 abbrev pub IsWordedAt : Drafted → MessageFault → Option WordingAt → Type 0

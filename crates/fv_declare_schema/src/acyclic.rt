@@ -6,8 +6,8 @@ ghost use Rattle.fv_declare_schema.specs.Groups.{ranked};
 ghost use Rattle.fv_declare_schema.specs.Marked.{flag_of, AreReaching};
 
 use crate::declared::GroupId;
+use crate::groups::Ranking;
 use crate::marking::{Marking, only};
-use crate::ranking::Ranking;
 use fv_graph::{order, table};
 use std::alloc::{AllocError, Global};
 use std::marker::Model;

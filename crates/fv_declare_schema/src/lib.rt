@@ -13,7 +13,6 @@ mod groups;
 mod laws;
 mod marking;
 mod place;
-mod ranking;
 mod rings;
 mod schema;
 
@@ -21,9 +20,8 @@ pub use declared::GroupId;
 pub use draft::GroupDraft;
 pub use fault::{GroupFault, GroupLimit, NameAt, PlacedGroupFault};
 pub use graph::GroupGraph;
-pub use groups::Groups;
+pub use groups::{Groups, add_new};
 pub use laws::{ranks_are_plain, ranks_unfold};
 pub use place::{GroupConversion, Place, Placed, ValidPlace};
-pub use ranking::add_new;
 pub use rings::{inheritance_ring, sequence_ring};
 pub use schema::{Form, NumberedParts, Schema};

@@ -13,7 +13,7 @@ use Rattle.sqlite.specs.State.{State, HasCleanDisk}
 use Rattle.sqlite_rules.specs.Lists.{Has}
 use Rattle.fv_datum.specs.Ascending.{IsAscending}
 use Rattle.fv_engine.specs.Exports.{put_json, record_line, record_lines, declarations_line, export_text, AreAllOf, AreFirstOf, Exports, ExportsFront}
-use Rattle.fv_engine.specs.ExportSteps.{all_kept, faultless, of_store, WritesLine, OneDone, OneFails, FirstDone, FirstFails, PageDone, PageFails, NextDone, NextFails, AllDone, AllFails, StoreDone, StoreFails}
+use Rattle.fv_engine.specs.ExportSteps.{all_kept, faultless, of_store, TellsWrite, WritesLine, OneDone, OneFails, FirstDone, FirstFails, PageDone, PageFails, NextDone, NextFails, AllDone, AllFails, StoreDone, StoreFails}
 use Rattle.fv_engine.specs.declared.exporting.ExportFault.{ExportFault}
 use Rattle.fv_engine.specs.declared.exporting.ExportFault.TheVariants.{Store, Write, Memory}
 pub use Rattle.fv_engine_pending.proofs.Pages.{Below, IsAbove, Pages, all_append, all_done, all_has, has_right, keys_append, last_end, length_keys, page_known, reach_none, reach_only, reach_page, split_at, taken_one}
@@ -21,7 +21,7 @@ pub use Rattle.fv_engine_pending.proofs.Passes.{pages_of, reads_none, reads_then
 use Rattle.fv_engine_pending.specs.Passes.{AreAll, AreKnown, GoesOn, IsFull, OnlyReads, Reaches, Sure, last_of}
 use Rattle.fv_engine_pending.specs.Rejudging.{HasFewIds}
 use Rattle.fv_bundle.specs.Bundles.{Bundled}
-pub use Rattle.fv_engine_lines.proofs.Writes.{appends_kept, appends_none, appends_then, wrote_front, wrote_on, wrote_some}
+pub use Rattle.fv_engine_lines.proofs.Writes.{appends_kept, appends_none, appends_then}
 use Rattle.fv_engine_lines.specs.Lines.{ended}
 use Rattle.fv_engine_lines.specs.Writes.{AppendsFront}
 use Rattle.fv_model.specs.Writing.{bundle_json}
@@ -172,6 +172,11 @@ found_kept (Some k) w found = (k, refl)
 none_kept : (o : Option Kept) (k : Kept) → None ≡ option_map untyped o → o ≡ Some k → ⊥
 none_kept None k none is = cc
 none_kept (Some j) k none is = cc
+
+-- a fault of the store is none of the output
+pub store_tells : {O : Type 0} (fails : O → O → Type 0) (new : O) (e : StoreFault) → TellsWrite fails new (of_store e)
+store_tells fails new store.Store is = cc
+store_tells fails new store.Memory is = cc
 
 -- what the store tells of its fault
 abbrev pub IsCaused : State → State → StoreFault → Type 0

@@ -3,7 +3,7 @@ use Rattle.std.proofs.Common.{◌≡◌, ◌≤◌, ◌<◌, ℤ, length, ℕ, L
 use Rattle.sqlite.specs.State.{State}
 use Rattle.fv_datum.specs.Parsing.{json_of}
 use Rattle.fv_engine_command.specs.Commands.{Asked, redeclare, of_records, asks, asks_json}
-use Rattle.fv_engine_lines.specs.Runs.{Ticks, Session, Run, Served, Stopped}
+use Rattle.fv_engine_lines.specs.Runs.{Ticks, Writing, Session, Run, Served, Stopped}
 use Rattle.fv_engine_machine.specs.Services.{Attends, GoesOn, Replies, Responds, Service, Turned, LineTurns, reign_of}
 use Rattle.fv_registry.specs.Meanings.{Meanings}
 use Rattle.fv_registry.specs.Rules.{Known}
@@ -40,16 +40,16 @@ pub turned_of : (means : Meanings) (x : Service Records) (line : List ℕ) (mome
     → Turned x.known means (reign_of x) line moment text (reign_of y)
 turned_of means x line moment text y told = (told.0, told.1, attends_turns means moment x y told.0 (asks line) told.2)
 
-module _ {C : Type 0} (means : Meanings) (ticks : Ticks C) where
+module _ {C O : Type 0} (means : Meanings) (ticks : Ticks C) (sends : Writing O) where
   -- the rules stay, and so the run is one by the rules that are there first
-  run_turned : (old : Session (Service Records) C) (lines : List (List ℕ)) (new : Session (Service Records) C) → Run (Responds means) ticks old lines new
-      → (new.0.known ≡ old.0.known) × Run (Turned old.0.known means) ticks (reign_of old.0, old.1, old.2) lines (reign_of new.0, new.1, new.2)
+  run_turned : (old : Session (Service Records) C O) (lines : List (List ℕ)) (new : Session (Service Records) C O) → Run (Responds means) ticks sends old lines new
+      → (new.0.known ≡ old.0.known) × Run (Turned old.0.known means) ticks sends (reign_of old.0, old.1, old.2) lines (reign_of new.0, new.1, new.2)
   run_turned old [] new is = (
-    ap (λ (s : Session (Service Records) C). s.0.known) is,
-    ap (λ (s : Session (Service Records) C). (reign_of s.0, s.1, s.2)) is,
+    ap (λ (s : Session (Service Records) C O). s.0.known) is,
+    ap (λ (s : Session (Service Records) C O). (reign_of s.0, s.1, s.2)) is,
   )
   run_turned old (line ∷ lines) new ran =
-      let mid : Session (Service Records) C = ran.0 in
+      let mid : Session (Service Records) C O = ran.0 in
       let a = ran.1 in
       let rest = run_turned mid lines new ran.2 in
       let same : mid.0.known ≡ old.0.known = attends_known means a.1 old.0 mid.0 a.3.0 (asks line) a.3.2 in (
@@ -57,17 +57,17 @@ module _ {C : Type 0} (means : Meanings) (ticks : Ticks C) where
         (
           (reign_of mid.0, mid.1, mid.2),
           (a.0, a.1, a.2, turned_of means old.0 line a.1 a.0 mid.0 a.3, a.4),
-          subst (λ (k : Known). Run (Turned k means) ticks (reign_of mid.0, mid.1, mid.2) lines (reign_of new.0, new.1, new.2)) same rest.1,
+          subst (λ (k : Known). Run (Turned k means) ticks sends (reign_of mid.0, mid.1, mid.2) lines (reign_of new.0, new.1, new.2)) same rest.1,
         ),
       )
 
-  module _ (x y : Service Records) (c d : C) (w v : Option (List ℕ)) where
-    pub served_turned : (Are : List (List ℕ) → Type 0) → Served (Responds means) ticks Are (x, c, w) (y, d, v) → Served (Turned x.known means) ticks Are (reign_of x, c, w) (reign_of y, d, v)
+  module _ (x y : Service Records) (c d : C) (w v : O) where
+    pub served_turned : (Are : List (List ℕ) → Type 0) → Served (Responds means) ticks sends Are (x, c, w) (y, d, v) → Served (Turned x.known means) ticks sends Are (reign_of x, c, w) (reign_of y, d, v)
     served_turned Are s = (s.0, s.1, (run_turned (x, c, w) s.0 (y, d, v) s.2).1)
 
-    pub stopped_turned : (r q : Option (List ℕ)) → Stopped (Responds means) ticks r q (x, c, w) (y, d, v) → Stopped (Turned x.known means) ticks r q (reign_of x, c, w) (reign_of y, d, v)
-    stopped_turned r q s =
-        let mid : Session (Service Records) C = s.mid in
+    pub stopped_turned : (breaks : Writing O) (r q : Option (List ℕ)) → Stopped (Responds means) ticks sends breaks r q (x, c, w) (y, d, v) → Stopped (Turned x.known means) ticks sends breaks r q (reign_of x, c, w) (reign_of y, d, v)
+    stopped_turned breaks r q s =
+        let mid : Session (Service Records) C O = s.mid in
         let a = s.last in
         let run = run_turned (x, c, w) s.lines mid s.ran in
         record {
@@ -82,27 +82,27 @@ module _ {C : Type 0} (means : Meanings) (ticks : Ticks C) where
 
 -- ---- a run of an engine
 
-module _ {H C : Type 0} (means : Meanings) (held : H → State) (ticks : Ticks C) where
+module _ {H C O : Type 0} (means : Meanings) (held : H → State) (ticks : Ticks C) (sends : Writing O) where
   -- what one line does
   abbrev line_does : Service H → List ℕ → ℤ → List ℕ → Service H → Type 0
   line_does old line moment text new = GoesOn held old new (λ x y. Responds means x line moment text y)
 
-  run_lifted : (old : Session (Service H) C) (lines : List (List ℕ)) (new : Session (Service H) C) → Run line_does ticks old lines new
-      → GoesOn held old.0 new.0 (λ x y. Run (Responds means) ticks (x, old.1, old.2) lines (y, new.1, new.2))
-  run_lifted old [] new is = subst (λ (s : Session (Service H) C). GoesOn held old.0 s.0 (λ x y. Run (Responds means) ticks (x, old.1, old.2) [] (y, s.1, s.2)))
+  run_lifted : (old : Session (Service H) C O) (lines : List (List ℕ)) (new : Session (Service H) C O) → Run line_does ticks sends old lines new
+      → GoesOn held old.0 new.0 (λ x y. Run (Responds means) ticks sends (x, old.1, old.2) lines (y, new.1, new.2))
+  run_lifted old [] new is = subst (λ (s : Session (Service H) C O). GoesOn held old.0 s.0 (λ x y. Run (Responds means) ticks sends (x, old.1, old.2) [] (y, s.1, s.2)))
       (sym is) (rests held old.0 _ (λ x. refl))
   run_lifted old (line ∷ lines) new ran =
-      let mid : Session (Service H) C = ran.0 in
+      let mid : Session (Service H) C O = ran.0 in
       let a = ran.1 in
       weaker held old.0 new.0 _ _ (λ x y t. ((t.0, mid.1, mid.2), (a.0, a.1, a.2, t.1, a.4), t.2)) (onwards held old.0 mid.0 new.0 _ _ a.3 (run_lifted mid lines new ran.2))
 
-  module _ (e f : Service H) (c d : C) (w v : Option (List ℕ)) where
-    pub served_lifted : (Are : List (List ℕ) → Type 0) → Served line_does ticks Are (e, c, w) (f, d, v) → GoesOn held e f (λ x y. Served (Responds means) ticks Are (x, c, w) (y, d, v))
+  module _ (e f : Service H) (c d : C) (w v : O) where
+    pub served_lifted : (Are : List (List ℕ) → Type 0) → Served line_does ticks sends Are (e, c, w) (f, d, v) → GoesOn held e f (λ x y. Served (Responds means) ticks sends Are (x, c, w) (y, d, v))
     served_lifted Are s = weaker held e f _ _ (λ x y run. (s.0, s.1, run)) (run_lifted (e, c, w) s.0 (f, d, v) s.2)
 
-    pub stopped_lifted : (r q : Option (List ℕ)) → Stopped line_does ticks r q (e, c, w) (f, d, v) → GoesOn held e f (λ x y. Stopped (Responds means) ticks r q (x, c, w) (y, d, v))
-    stopped_lifted r q s =
-        let mid : Session (Service H) C = s.mid in
+    pub stopped_lifted : (breaks : Writing O) (r q : Option (List ℕ)) → Stopped line_does ticks sends breaks r q (e, c, w) (f, d, v) → GoesOn held e f (λ x y. Stopped (Responds means) ticks sends breaks r q (x, c, w) (y, d, v))
+    stopped_lifted breaks r q s =
+        let mid : Session (Service H) C O = s.mid in
         let a = s.last in
         weaker held e f _ _ (λ x y t. record {
           lines = s.lines;

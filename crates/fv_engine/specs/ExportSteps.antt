@@ -39,6 +39,10 @@ all_kept m id = option_map faultless (m id)
 abbrev pub WritesLine : {X : Type 0} → Option (List ℕ) → Option (List ℕ) → List ℕ → Result X ExportFault → Type 0
 WritesLine w v line r = MatchResult r (λ _. Appends w v line) (λ f. (f ≢ Store) × AppendsFront w v line)
 
+-- where this fault is that a write failed, a call of the output did, or a write took nothing
+abbrev pub TellsWrite : {O : Type 0} → (O → O → Type 0) → O → ExportFault → Type 0
+TellsWrite {O} fails new f = f ≡ Write → (mid : O) × fails mid new
+
 module _ (old new : State) (w v : Option (List ℕ)) where
   -- the id's record was written
   abbrev pub OneDone : List ℕ → Type 0

@@ -265,7 +265,8 @@ impl<R: RuleSet + Drop, S: Alter> Engine<R, S> {
         // A command that looks for the record of an id fails over a connection that is shut.
         ensures shut { GoesOn (stock_state S.Store) self.old self.new
             (λ x y. FailsWhereShut line.now result x.machine) }
-        // Over an open connection whose disk doesn't fail, as in memory, the store fails for want of room alone, and a redeclare also for more ids than it can count.
+        // Over an open connection whose disk doesn't fail, as in memory, the store fails for want of room
+        // alone, and a redeclare also for more ids than it can count.
         ensures room { GoesOn (stock_state S.Store) self.old self.new
             (λ x y. FailsForRoomAlone R.meaning line.now now result x.machine y.machine) }
         // Behind a taken redeclare each get shows what it showed.
@@ -317,7 +318,8 @@ impl<R: RuleSet + Drop, S: Alter> Engine<R, S> {
     /// The database, without the engine. It takes no memory.
     pub fn into_connection(self) -> Connection<S>
         ensures same { result ≡ self.machine.records.connection }
-        ensures holds { (c : _) → HoldsRecords (stock_state S.Store self.machine.records) c → HoldsRecords (state S.Store result) c }
+        ensures holds { (c : _) → HoldsRecords (stock_state S.Store self.machine.records) c
+            → HoldsRecords (state S.Store result) c }
     {
         let Engine {
             rules: _,

@@ -5,7 +5,7 @@ ghost use Rattle.serde_json.specs.View.{view as json_view};
 ghost use Rattle.serde_json.specs.Written.{compact_text, has_float};
 ghost use Rattle.sqlite.specs.State.{HasCleanDisk};
 ghost use Rattle.fv_engine.specs.Exports.{Exports, ExportsFront, IsSameService, declarations_line, put_json, record_line, redeclare_json};
-ghost use Rattle.fv_engine.specs.ExportSteps.{AllDone, AllFails, FirstDone, FirstFails, NextDone, NextFails, OneDone, OneFails, PageDone, PageFails, StoreDone, StoreFails, WritesLine, of_json, of_store};
+ghost use Rattle.fv_engine.specs.ExportSteps.{AllDone, AllFails, FirstDone, FirstFails, NextDone, NextFails, OneDone, OneFails, PageDone, PageFails, StoreDone, StoreFails, TellsWrite, WritesLine, of_json, of_store};
 ghost use Rattle.fv_engine.specs.declared.exporting.ExportFault.TheVariants.{Memory};
 ghost use Rattle.fv_engine_pending.specs.Passes.{OnlyReads, last_of};
 ghost use Rattle.fv_engine_pending.specs.Rejudging.{HasFewIds};
@@ -23,12 +23,12 @@ ghost use Rattle.fv_store.specs.Stored.{untyped, written_view};
 use crate::engine::Engine;
 use fv_bundle::Types;
 use fv_datum::{JsonFault, read_text};
+use fv_engine_lines::{Output, write_bytes};
 use fv_registry::RuleSet;
 use fv_store::{Store, StoreFault, Written};
 use serde_json::{Value, json};
 use sqlite::Alter;
 use std::alloc::{AllocError, Global};
-use std::io::Write;
 use std::str;
 use thiserror::Error;
 
@@ -82,20 +82,16 @@ impl From<AllocError> for ExportFault {
     }
 }
 
-/// Writes all of the bytes, by its own loop.
-fn write_bytes<W: Write>(out: &mut W, bytes: &[u8]) -> Result<(), ExportFault>
-    ensures { MatchResult result (λ _. Appends (W.contents out.old) (W.contents out.new) bytes.now)
-        (λ f. (f ≡ ExportFault.Write) × AppendsFront (W.contents out.old) (W.contents out.new) bytes.now) }
+/// Writes all of the bytes.
+fn write_all<O: Output>(out: &mut O, bytes: &[u8]) -> Result<(), ExportFault>
+    ensures wrote { MatchResult result (λ _. Appends (O.contents out.old) (O.contents out.new) bytes.now)
+        (λ f. (f ≡ ExportFault.Write) × AppendsFront (O.contents out.old) (O.contents out.new) bytes.now) }
+    ensures cause { IfErr result (TellsWrite O.fails out.new) }
 {
-    let mut at = 0;
-    while at < bytes.len() {
-        match out.write(&bytes[at..]) {
-            Ok(0) => return Err(ExportFault::Write),
-            Ok(n) => at += n,
-            Err(_) => return Err(ExportFault::Write),
-        }
+    match write_bytes(out, bytes) {
+        Ok(()) => Ok(()),
+        Err(_) => Err(ExportFault::Write),
     }
-    Ok(())
 }
 
 /// The compact text of JSON without floats, as a line.
@@ -122,8 +118,9 @@ fn redeclare_value(alloc: Global, text: &str) -> Result<Value, AllocError>
 
 /// The line that puts a record of which this is written. `Store` where that is no JSON.
 fn put_line(alloc: Global, id: &str, written: Written) -> Result<String, ExportFault>
-    ensures { (k : Kept) → written_view written ≡ untyped k → MatchResult result
+    ensures line { (k : Kept) → written_view written ≡ untyped k → MatchResult result
         (λ s. string_bytes s ≡ record_line id.now k) (λ f. f ≡ ExportFault.Memory) }
+    ensures unwritten { IfErr result (λ f. f ≢ ExportFault.Write) }
 {
     let bundle = read_text(alloc, written.bundle.as_str())?;
     let value = put_value(alloc, id, written.form.as_str(), bundle)?;
@@ -132,8 +129,9 @@ fn put_line(alloc: Global, id: &str, written: Written) -> Result<String, ExportF
 
 /// The line that asks for the declarations of a text. `Store` where it isn't UTF-8.
 fn redeclare_line(alloc: Global, text: &[u8]) -> Result<String, ExportFault>
-    ensures { MatchResult result (λ s. string_bytes s ≡ declarations_line text.now)
+    ensures line { MatchResult result (λ s. string_bytes s ≡ declarations_line text.now)
         (λ f. f ≡ ExportFault.Store → IsUtf8 text.now → ⊥) }
+    ensures unwritten { IfErr result (λ f. f ≢ ExportFault.Write) }
 {
     let Ok(text) = str::from_utf8(text) else {
         return Err(ExportFault::Store);
@@ -143,44 +141,47 @@ fn redeclare_line(alloc: Global, text: &[u8]) -> Result<String, ExportFault>
 }
 
 /// Writes the line that puts a record of which this is written.
-fn write_record<W: Write>(
+fn write_record<O: Output>(
     alloc: Global,
     id: &str,
     written: Written,
-    out: &mut W,
+    out: &mut O,
 ) -> Result<(), ExportFault>
-    ensures { (k : Kept) → written_view written ≡ untyped k
-        → WritesLine (W.contents out.old) (W.contents out.new) (record_line id.now k) result }
+    ensures wrote { (k : Kept) → written_view written ≡ untyped k
+        → WritesLine (O.contents out.old) (O.contents out.new) (record_line id.now k) result }
+    ensures cause { IfErr result (TellsWrite O.fails out.new) }
 {
     let line = put_line(alloc, id, written)?;
-    write_bytes(out, line.as_bytes())
+    write_all(out, line.as_bytes())
 }
 
 /// Writes the line that asks for the declarations of a text.
-fn write_declarations<W: Write>(alloc: Global, text: &[u8], out: &mut W) -> Result<(), ExportFault>
-    ensures { MatchResult result
-        (λ _. Appends (W.contents out.old) (W.contents out.new) (declarations_line text.now))
+fn write_declarations<O: Output>(alloc: Global, text: &[u8], out: &mut O) -> Result<(), ExportFault>
+    ensures wrote { MatchResult result
+        (λ _. Appends (O.contents out.old) (O.contents out.new) (declarations_line text.now))
         (λ f. (f ≡ ExportFault.Store → IsUtf8 text.now → ⊥)
-        × AppendsFront (W.contents out.old) (W.contents out.new) (declarations_line text.now)) }
+        × AppendsFront (O.contents out.old) (O.contents out.new) (declarations_line text.now)) }
+    ensures cause { IfErr result (TellsWrite O.fails out.new) }
 {
     let line = redeclare_line(alloc, text)?;
-    write_bytes(out, line.as_bytes())
+    write_all(out, line.as_bytes())
 }
 
 /// Writes the record of an id.
-fn export_one<S: Alter, W: Write>(
+fn export_one<S: Alter, O: Output>(
     store: &mut Store<S>,
     alloc: Global,
     id: &str,
-    out: &mut W,
+    out: &mut O,
 ) -> Result<(), ExportFault>
     ensures reads { OnlyReads (stock_state S.Store store.old) (stock_state S.Store store.new) }
     ensures text { store.new.text ≡ store.old.text }
     ensures wrote { MatchResult result
         (λ _. OneDone (stock_state S.Store store.old) (stock_state S.Store store.new)
-        (W.contents out.old) (W.contents out.new) id.now)
+        (O.contents out.old) (O.contents out.new) id.now)
         (λ f. OneFails (stock_state S.Store store.old) (stock_state S.Store store.new)
-        (W.contents out.old) (W.contents out.new) id.now f) }
+        (O.contents out.old) (O.contents out.new) id.now f) }
+    ensures cause { IfErr result (TellsWrite O.fails out.new) }
 {
     match store.written(alloc, id)? {
         Some(written) => write_record(alloc, id, written, out),
@@ -189,18 +190,19 @@ fn export_one<S: Alter, W: Write>(
 }
 
 /// Writes the record of the empty id, which no page lists, if there is one.
-fn export_first<S: Alter, W: Write>(
+fn export_first<S: Alter, O: Output>(
     store: &mut Store<S>,
     alloc: Global,
-    out: &mut W,
+    out: &mut O,
 ) -> Result<(), ExportFault>
     ensures reads { OnlyReads (stock_state S.Store store.old) (stock_state S.Store store.new) }
     ensures text { store.new.text ≡ store.old.text }
     ensures wrote { MatchResult result
         (λ _. FirstDone (stock_state S.Store store.old) (stock_state S.Store store.new)
-        (W.contents out.old) (W.contents out.new))
+        (O.contents out.old) (O.contents out.new))
         (λ f. FirstFails (stock_state S.Store store.old) (stock_state S.Store store.new)
-        (W.contents out.old) (W.contents out.new) f) }
+        (O.contents out.old) (O.contents out.new) f) }
+    ensures cause { IfErr result (TellsWrite O.fails out.new) }
 {
     match store.written(alloc, "")? {
         Some(written) => write_record(alloc, "", written, out),
@@ -209,19 +211,20 @@ fn export_first<S: Alter, W: Write>(
 }
 
 /// Writes the records of a page.
-fn export_page<S: Alter, W: Write>(
+fn export_page<S: Alter, O: Output>(
     store: &mut Store<S>,
     alloc: Global,
     ids: &[String],
-    out: &mut W,
+    out: &mut O,
 ) -> Result<(), ExportFault>
     ensures reads { OnlyReads (stock_state S.Store store.old) (stock_state S.Store store.new) }
     ensures text { store.new.text ≡ store.old.text }
     ensures wrote { MatchResult result
         (λ _. PageDone (stock_state S.Store store.old) (stock_state S.Store store.new)
-        (W.contents out.old) (W.contents out.new) (map string_bytes ids.now))
+        (O.contents out.old) (O.contents out.new) (map string_bytes ids.now))
         (λ f. PageFails (stock_state S.Store store.old) (stock_state S.Store store.new)
-        (W.contents out.old) (W.contents out.new) (map string_bytes ids.now) f) }
+        (O.contents out.old) (O.contents out.new) (map string_bytes ids.now) f) }
+    ensures cause { IfErr result (TellsWrite O.fails out.new) }
 {
     for id in ids {
         export_one(store, alloc, id.as_str(), out)?;
@@ -244,19 +247,20 @@ fn full_page(ids: Vec<String>) -> Option<String>
 
 /// Writes the records of the next page, whose ids are above one. The last id of the page where it is
 /// full.
-fn export_next_page<S: Alter, W: Write>(
+fn export_next_page<S: Alter, O: Output>(
     store: &mut Store<S>,
     alloc: Global,
     above: &str,
-    out: &mut W,
+    out: &mut O,
 ) -> Result<Option<String>, ExportFault>
     ensures reads { OnlyReads (stock_state S.Store store.old) (stock_state S.Store store.new) }
     ensures text { store.new.text ≡ store.old.text }
     ensures wrote { MatchResult result
         (λ o. NextDone (stock_state S.Store store.old) (stock_state S.Store store.new)
-        (W.contents out.old) (W.contents out.new) above.now (option_map string_bytes o))
+        (O.contents out.old) (O.contents out.new) above.now (option_map string_bytes o))
         (λ f. NextFails (stock_state S.Store store.old) (stock_state S.Store store.new)
-        (W.contents out.old) (W.contents out.new) above.now f) }
+        (O.contents out.old) (O.contents out.new) above.now f) }
+    ensures cause { IfErr result (TellsWrite O.fails out.new) }
 {
     let ids = store.ids(alloc, Some(above), PAGE)?;
     export_page(store, alloc, &ids, out)?;
@@ -264,18 +268,19 @@ fn export_next_page<S: Alter, W: Write>(
 }
 
 /// Writes all records, by id. One page of ids and one record are in memory at a time.
-fn export_records<S: Alter, W: Write>(
+fn export_records<S: Alter, O: Output>(
     store: &mut Store<S>,
     alloc: Global,
-    out: &mut W,
+    out: &mut O,
 ) -> Result<(), ExportFault>
     ensures reads { OnlyReads (stock_state S.Store store.old) (stock_state S.Store store.new) }
     ensures text { store.new.text ≡ store.old.text }
     ensures wrote { MatchResult result
         (λ _. AllDone (stock_state S.Store store.old) (stock_state S.Store store.new)
-        (W.contents out.old) (W.contents out.new))
+        (O.contents out.old) (O.contents out.new))
         (λ f. AllFails (stock_state S.Store store.old) (stock_state S.Store store.new)
-        (W.contents out.old) (W.contents out.new) f) }
+        (O.contents out.old) (O.contents out.new) f) }
+    ensures cause { IfErr result (TellsWrite O.fails out.new) }
 {
     export_first(store, alloc, out)?;
     let mut above = String::new(alloc);
@@ -289,22 +294,24 @@ fn export_records<S: Alter, W: Write>(
 }
 
 /// Writes the declarations in force and then all records, by id, and flushes.
-fn export_store<S: Alter, W: Write>(
+fn export_store<S: Alter, O: Output>(
     store: &mut Store<S>,
     alloc: Global,
-    out: &mut W,
+    out: &mut O,
 ) -> Result<(), ExportFault>
     ensures reads { OnlyReads (stock_state S.Store store.old) (stock_state S.Store store.new) }
     ensures text { store.new.text ≡ store.old.text }
     ensures wrote { MatchResult result
         (λ _. StoreDone (stock_state S.Store store.old) (stock_state S.Store store.new)
-        (W.contents out.old) (W.contents out.new) store.old.text)
+        (O.contents out.old) (O.contents out.new) store.old.text)
         (λ f. StoreFails (stock_state S.Store store.old) (stock_state S.Store store.new)
-        (W.contents out.old) (W.contents out.new) store.old.text f) }
+        (O.contents out.old) (O.contents out.new) store.old.text f) }
+    ensures cause { IfErr result (TellsWrite O.fails out.new) }
+    ensures flushed { OnOk result ((mid : O) × O.flushes mid out.new) }
 {
     write_declarations(alloc, store.declarations(), out)?;
     export_records(store, alloc, out)?;
-    match out.flush() {
+    match out.flush_all() {
         Ok(()) => Ok(()),
         Err(_) => Err(ExportFault::Write),
     }
@@ -324,7 +331,7 @@ impl<R: RuleSet + Drop, S: Alter> Engine<R, S> {
     /// `Write` where a write or the flush failed or a write took nothing; `Memory` at any place; `Store`
     /// only where the disk has failed during the call or the connection was shut before, or behind 2^32
     /// pages of ids, if the database keeps records. After a refusal a front of the same text was written.
-    pub fn export<W: Write>(&mut self, alloc: Global, out: &mut W) -> Result<(), ExportFault>
+    pub fn export<O: Output>(&mut self, alloc: Global, out: &mut O) -> Result<(), ExportFault>
         ensures same { IsSameService self.old self.new }
         ensures frame { Frame (stock_state S.Store self.old.machine.records)
             (stock_state S.Store self.new.machine.records) }
@@ -336,11 +343,13 @@ impl<R: RuleSet + Drop, S: Alter> Engine<R, S> {
         // The declarations and all records were written, each record once, by id.
         ensures exported { HasCleanDisk (stock_state S.Store self.new.machine.records) → OnOk result ((m : Records)
             → ServiceKeeps (stock_state S.Store) self.old m
-            → Exports self.old.text m (W.contents out.old) (W.contents out.new)) }
+            → Exports self.old.text m (O.contents out.old) (O.contents out.new)) }
         // A front of the same.
         ensures front { HasCleanDisk (stock_state S.Store self.new.machine.records) → OnErr result ((m : Records)
             → ServiceKeeps (stock_state S.Store) self.old m
-            → ExportsFront self.old.text m (W.contents out.old) (W.contents out.new)) }
+            → ExportsFront self.old.text m (O.contents out.old) (O.contents out.new)) }
+        ensures flushed { OnOk result ((mid : O) × O.flushes mid out.new) }
+        ensures write_cause { IfErr result (λ f. f ≡ ExportFault.Write → (mid : O) × O.fails mid out.new) }
         ensures cause { HasCleanDisk (stock_state S.Store self.new.machine.records)
             → IfErr result (λ f. f ≡ ExportFault.Store → (m : Records) → ServiceKeeps (stock_state S.Store) self.old m
             → HasFewIds m → IsUtf8 self.old.text

@@ -9,7 +9,7 @@ mod serving;
 
 pub use engine::{Engine, OpenFault};
 pub use exporting::ExportFault;
-pub use fv_engine_lines::{Clock, FixedClock, Input, ServeFault};
+pub use fv_engine_lines::{Clock, FixedClock, Input, Output, ServeFault};
 pub use fv_engine_reply::Reply;
 pub use judge::LineJudge;
 pub use serving::serve;

@@ -2,15 +2,15 @@ ghost use Rattle.std.specs.Prelude.{◌≡◌, OnOk, IsErrOf};
 ghost use Rattle.fv_engine_machine.specs.Services.{GoesOn, Responds, Turned, reign_of};
 ghost use Rattle.fv_store.specs.Stock.{stock_state};
 ghost use Rattle.fv_engine_lines.specs.Lines.{WholeLines, AllLines};
-ghost use Rattle.fv_engine_lines.specs.Reads.{ReadAtMost};
+ghost use Rattle.fv_engine_lines.specs.Reads.{ReadAtMost, ReadFails};
 ghost use Rattle.fv_engine_lines.specs.Runs.{Served, Stopped};
+ghost use Rattle.fv_engine_lines.specs.Writes.{Breaks, Sends};
 
 use crate::engine::Engine;
-use fv_engine_lines::{Clock, Input, ServeFault, answer_lines};
+use fv_engine_lines::{Clock, Input, Output, ServeFault, answer_lines};
 use fv_registry::RuleSet;
 use sqlite::Alter;
 use std::alloc::Global;
-use std::io::Write;
 
 /// Answers each line of the input by a line, until the input ends: lines are ended by byte 10, the
 /// last also without its end. The clock is asked once a line. Each reply is written whole, with its
@@ -22,42 +22,51 @@ use std::io::Write;
 ///
 /// `Memory` where the room for a line was refused; `Read` where a read failed or there were 2^32
 /// reads; `Write` where a write or a flush failed or a write took nothing.
-pub fn serve<R: RuleSet + Drop, S: Alter, I: Input, W: Write, C: Clock>(
+pub fn serve<R: RuleSet + Drop, S: Alter, I: Input, O: Output, C: Clock>(
     alloc: Global,
     engine: &mut Engine<R, S>,
     reader: &mut I,
-    writer: &mut W,
+    writer: &mut O,
     clock: &mut C,
 ) -> Result<(), ServeFault>
     // It read at most 2^32 times, however it ended.
     ensures reads { ReadAtMost I.reads 4294967296 reader.old reader.new }
-    // All lines of the input were answered, each reply written with its end.
+    // All lines of the input were answered, each reply written with its end and flushed.
     ensures ok { OnOk result (GoesOn (stock_state S.Store) engine.old engine.new
-        (λ x y. Served (Turned x.known R.meaning) C.ticks (AllLines (I.remaining reader.old) (I.remaining reader.new))
-        (reign_of x, clock.old, W.contents writer.old) (reign_of y, clock.new, W.contents writer.new))) }
+        (λ x y. Served (Turned x.known R.meaning) C.ticks (Sends O.contents O.flushes)
+        (AllLines (I.remaining reader.old) (I.remaining reader.new))
+        (reign_of x, clock.old, writer.old) (reign_of y, clock.new, writer.new))) }
     // The same for the whole lines that were read.
     ensures read { IsErrOf result ServeFault.Read
-        → GoesOn (stock_state S.Store) engine.old engine.new (λ x y. Served (Turned x.known R.meaning) C.ticks
-        (WholeLines (I.remaining reader.old) (I.remaining reader.new)) (reign_of x, clock.old, W.contents writer.old)
-        (reign_of y, clock.new, W.contents writer.new)) }
-    // The same for some lines of these, the last reply whole, in part or missing.
+        → GoesOn (stock_state S.Store) engine.old engine.new
+        (λ x y. Served (Turned x.known R.meaning) C.ticks (Sends O.contents O.flushes)
+        (WholeLines (I.remaining reader.old) (I.remaining reader.new))
+        (reign_of x, clock.old, writer.old) (reign_of y, clock.new, writer.new)) }
+    // A read failed, or there were 2^32.
+    ensures read_cause { IsErrOf result ServeFault.Read
+        → ReadFails I.reads I.fails 4294967296 reader.old reader.new }
+    // The same for some lines of these, the last reply whole, in part or missing, and then a call failed.
     ensures write { IsErrOf result ServeFault.Write
-        → GoesOn (stock_state S.Store) engine.old engine.new (λ x y. Stopped (Turned x.known R.meaning) C.ticks
-        (I.remaining reader.old) (I.remaining reader.new) (reign_of x, clock.old, W.contents writer.old)
-        (reign_of y, clock.new, W.contents writer.new)) }
+        → GoesOn (stock_state S.Store) engine.old engine.new
+        (λ x y. Stopped (Turned x.known R.meaning) C.ticks (Sends O.contents O.flushes) (Breaks O.contents O.fails)
+        (I.remaining reader.old) (I.remaining reader.new)
+        (reign_of x, clock.old, writer.old) (reign_of y, clock.new, writer.new)) }
     // The same runs, however they ended: each step with what the connection to the database has to
     // do with it.
     ensures causes { OnOk result (GoesOn (stock_state S.Store) engine.old engine.new
-        (λ x y. Served (Responds R.meaning) C.ticks (AllLines (I.remaining reader.old) (I.remaining reader.new))
-        (x, clock.old, W.contents writer.old) (y, clock.new, W.contents writer.new))) }
+        (λ x y. Served (Responds R.meaning) C.ticks (Sends O.contents O.flushes)
+        (AllLines (I.remaining reader.old) (I.remaining reader.new))
+        (x, clock.old, writer.old) (y, clock.new, writer.new))) }
     ensures read_causes { IsErrOf result ServeFault.Read
-        → GoesOn (stock_state S.Store) engine.old engine.new (λ x y. Served (Responds R.meaning) C.ticks
-        (WholeLines (I.remaining reader.old) (I.remaining reader.new)) (x, clock.old, W.contents writer.old)
-        (y, clock.new, W.contents writer.new)) }
+        → GoesOn (stock_state S.Store) engine.old engine.new
+        (λ x y. Served (Responds R.meaning) C.ticks (Sends O.contents O.flushes)
+        (WholeLines (I.remaining reader.old) (I.remaining reader.new))
+        (x, clock.old, writer.old) (y, clock.new, writer.new)) }
     ensures write_causes { IsErrOf result ServeFault.Write
-        → GoesOn (stock_state S.Store) engine.old engine.new (λ x y. Stopped (Responds R.meaning) C.ticks
-        (I.remaining reader.old) (I.remaining reader.new) (x, clock.old, W.contents writer.old)
-        (y, clock.new, W.contents writer.new)) }
+        → GoesOn (stock_state S.Store) engine.old engine.new
+        (λ x y. Stopped (Responds R.meaning) C.ticks (Sends O.contents O.flushes) (Breaks O.contents O.fails)
+        (I.remaining reader.old) (I.remaining reader.new)
+        (x, clock.old, writer.old) (y, clock.new, writer.new)) }
     // Nothing was read.
     ensures memory { IsErrOf result ServeFault.Memory → (reader.new ≡ reader.old) × (writer.new ≡ writer.old)
         × (engine.new ≡ engine.old) × (clock.new ≡ clock.old) }

@@ -4,10 +4,9 @@ ghost use Rattle.fv_datum.specs.Forms.{maybe, optional};
 ghost use Rattle.fv_datum.specs.Lookup.{at_name};
 ghost use Rattle.serde_json.specs.View.{view as json_view};
 ghost use Rattle.fv_engine_command.specs.CommandView.{command_view, part_view};
-ghost use Rattle.fv_engine_command.specs.Commands.{alone, batch_of, get_of, groups_at, check_of, check_field_of, check_value_of, id_in, limit_in, list_request, forms, command_of};
+ghost use Rattle.fv_engine_command.specs.Commands.{alone, batch_of, get_of, groups_at, check_of, check_field_of, check_value_of, id_in, limit_in, list_request, forms, command_of, redeclare_of};
 
-use crate::ids::{id_in, id_of};
-use crate::part::{Part, parts_in, put_of, remove_of, set_of};
+use crate::part::{Part, id_in, id_of, parts_in, put_of, remove_of, set_of};
 use fv_datum::{has_only, names_of, text_at};
 use serde_json::Value;
 use std::alloc::{AllocError, Global};
@@ -249,5 +248,19 @@ pub fn command_of(alloc: Global, value: &Value) -> Result<Option<Command<'_>>, A
     match text_at(value, "do") {
         None => Ok(None),
         Some(name) => done_by(alloc, name, value),
+    }
+}
+
+/// The text of the new declarations, where a JSON value is a redeclare: an object whose member `do` is
+/// `redeclare` and whose only other member, `text`, is any text. It takes no memory.
+pub fn redeclare_of(value: &Value) -> Option<&str>
+    ensures { option_map (λ s. s.now) result ≡ redeclare_of (json_view value.now) }
+{
+    if !has_only(value, &["do", "text"]) {
+        return None;
+    }
+    match text_at(value, "do")? {
+        "redeclare" => text_at(value, "text"),
+        _ => None,
     }
 }

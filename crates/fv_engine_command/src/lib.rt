@@ -2,11 +2,9 @@
 #![tactic(auto)]
 
 mod command;
-mod ids;
 mod part;
-mod redeclaring;
 
-pub use command::{Command, MOST_GROUPS, StoredField, TypeField, command_of, limit_in};
-pub use ids::id_in;
-pub use part::{MOST_PARTS, Part};
-pub use redeclaring::redeclare_of;
+pub use command::{
+    Command, MOST_GROUPS, StoredField, TypeField, command_of, limit_in, redeclare_of,
+};
+pub use part::{MOST_PARTS, Part, id_in};

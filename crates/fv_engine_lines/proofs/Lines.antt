@@ -4,12 +4,10 @@ use Rattle.std.proofs.lemmas.List.{append-nil, take_all, length-take, take-appen
 use Rattle.std.proofs.lemmas.List.Concat.{flat_map-append}
 use Rattle.std.proofs.lemmas.Bool.{cases_lt, cases_eq, eqb-true}
 use Rattle.std.specs.List.{flat_map, AllByRecursion}
-use Rattle.std.specs.Io.KnownBytes.{Appends, Consumes, IsAtEnd}
+use Rattle.std.specs.Io.KnownBytes.{Consumes, IsAtEnd}
 use Rattle.fv_engine_lines.specs.Buffering.{kept, Buffered, Broken, Taken}
 use Rattle.fv_engine_lines.specs.Lines.{IsOpen, ended, last_line, WholeLines, AllLines}
-use Rattle.fv_engine_lines.specs.Writes.{AppendsFront}
-use Rattle.fv_engine_lines.specs.Runs.{Steps, Ticks, Session, Run, Answered, Served, Stopped}
-use Rattle.fv_engine_lines.proofs.Writes.{appends_then, appends_none}
+use Rattle.fv_engine_lines.specs.Runs.{Steps, Ticks, Writing, Session, Run, Answered, Served, Stopped}
 
 -- ---- one line
 
@@ -19,10 +17,10 @@ is_long buffer whole k long = omega (arith, ap length k, length-take 1048577 who
 pub is_whole : (buffer whole : List ℕ) → buffer ≡ kept whole → length buffer ≤ 1048576 → buffer ≡ whole
 is_whole buffer whole k short = k ∙ take_all 1048577 whole (omega (arith, ap length k, length-take 1048577 whole))
 
-pub answered : {P C : Type 0} (grows : Option (List ℕ) → Option (List ℕ) → List ℕ → Type 0) (step : Steps P) (ticks : Ticks C) (old new : Session P C) (buffer : List ℕ) (moment told : ℤ) (reply line : List ℕ)
-    → told ≡ moment → ticks old.1 moment new.1 → ((whole : List ℕ) → buffer ≡ kept whole → step old.0 whole told reply new.0) → line ≡ ended reply → grows old.2 new.2 line
-    → (whole : List ℕ) → buffer ≡ kept whole → Answered grows step ticks old whole new
-answered grows step ticks old new buffer moment told reply line same_moment t s same g whole k = (reply, moment, t, rw (← same_moment) (s whole k), rw same at g)
+pub answered : {P C O : Type 0} (step : Steps P) (ticks : Ticks C) (writes : Writing O) (old new : Session P C O) (buffer : List ℕ) (moment told : ℤ) (reply line : List ℕ)
+    → told ≡ moment → ticks old.1 moment new.1 → ((whole : List ℕ) → buffer ≡ kept whole → step old.0 whole told reply new.0) → line ≡ ended reply → writes old.2 new.2 line
+    → (whole : List ℕ) → buffer ≡ kept whole → Answered step ticks writes old whole new
+answered step ticks writes old new buffer moment told reply line same_moment t s same g whole k = (reply, moment, t, rw (← same_moment) (s whole k), rw same at g)
 
 -- what is kept of a line grows by what is kept of the longer line
 kept_on : (rest more : List ℕ) → take 1048577 (take 1048577 rest ++ more) ≡ take 1048577 (rest ++ more)
@@ -146,14 +144,14 @@ consumes_none (Some x) = refl
 
 -- ---- what is served
 
-module _ {P C : Type 0} (step : Steps P) (ticks : Ticks C) where
-  run_push : (old : Session P C) (lines : List (List ℕ)) (mid : Session P C) (line : List ℕ) (new : Session P C)
-      → Run step ticks old lines mid → Answered Appends step ticks mid line new → Run step ticks old (lines ++ line ∷ []) new
-  run_push old [] mid line new is a = (new, subst (λ (s : Session P C). Answered Appends step ticks s line new) is a, refl)
+module _ {P C O : Type 0} (step : Steps P) (ticks : Ticks C) (sends : Writing O) where
+  run_push : (old : Session P C O) (lines : List (List ℕ)) (mid : Session P C O) (line : List ℕ) (new : Session P C O)
+      → Run step ticks sends old lines mid → Answered step ticks sends mid line new → Run step ticks sends old (lines ++ line ∷ []) new
+  run_push old [] mid line new is a = (new, subst (λ (s : Session P C O). Answered step ticks sends s line new) is a, refl)
   run_push old (l ∷ ls) mid line new ran a = (ran.0, ran.1, run_push ran.0 ls mid line new ran.2 a)
 
-  pub buffered_add : (old new : Session P C) (bytes buffer more buffer' : List ℕ)
-      → IsOpen more → buffer' ≡ take 1048577 (buffer ++ more) → Buffered step ticks old bytes buffer new → Buffered step ticks old (bytes ++ more) buffer' new
+  pub buffered_add : (old new : Session P C O) (bytes buffer more buffer' : List ℕ)
+      → IsOpen more → buffer' ≡ take 1048577 (buffer ++ more) → Buffered step ticks sends old bytes buffer new → Buffered step ticks sends old (bytes ++ more) buffer' new
   buffered_add old new bytes buffer more buffer' no_end is s = record {
     lines = s.lines;
     rest = s.rest ++ more;
@@ -169,8 +167,8 @@ module _ {P C : Type 0} (step : Steps P) (ticks : Ticks C) where
   end_added lines rest bytes is =
       ap (λ (l : List ℕ). l ++ 10 ∷ []) is ∙ append_assoc (flat_map ended lines) rest (10 ∷ []) ∙ sym (append-nil (flat_map ended (lines ++ rest ∷ [])) ∙ flat_push lines rest)
 
-  buffered_end : (old mid new : Session P C) (bytes buffer : List ℕ)
-      → (s : Buffered step ticks old bytes buffer mid) → Answered Appends step ticks mid s.rest new → Buffered step ticks old (bytes ++ 10 ∷ []) [] new
+  buffered_end : (old mid new : Session P C O) (bytes buffer : List ℕ)
+      → (s : Buffered step ticks sends old bytes buffer mid) → Answered step ticks sends mid s.rest new → Buffered step ticks sends old (bytes ++ 10 ∷ []) [] new
   buffered_end old mid new bytes buffer s a = record {
     lines = s.lines ++ s.rest ∷ [];
     rest = [];
@@ -181,9 +179,9 @@ module _ {P C : Type 0} (step : Steps P) (ticks : Ticks C) where
     ran = run_push old s.lines mid s.rest new s.ran a;
   }
 
-  broken_end : (old mid new : Session P C) (bytes buffer : List ℕ)
-      → (s : Buffered step ticks old bytes buffer mid) → Answered AppendsFront step ticks mid s.rest new → Broken step ticks old (bytes ++ 10 ∷ []) new
-  broken_end old mid new bytes buffer s a = record {
+  broken_end : (breaks : Writing O) (old mid new : Session P C O) (bytes buffer : List ℕ)
+      → (s : Buffered step ticks sends old bytes buffer mid) → Answered step ticks breaks mid s.rest new → Broken step ticks sends breaks old (bytes ++ 10 ∷ []) new
+  broken_end breaks old mid new bytes buffer s a = record {
     lines = s.lines;
     line = s.rest;
     behind = [];
@@ -195,22 +193,22 @@ module _ {P C : Type 0} (step : Steps P) (ticks : Ticks C) where
   }
 
   -- the last bytes of a line and its end
-  pub buffered_line : (old mid new : Session P C) (bytes buffer last line : List ℕ)
-      → IsOpen last → line ≡ take 1048577 (buffer ++ last) → ((whole : List ℕ) → line ≡ kept whole → Answered Appends step ticks mid whole new)
-      → Buffered step ticks old bytes buffer mid → Buffered step ticks old (bytes ++ ended last) [] new
+  pub buffered_line : (old mid new : Session P C O) (bytes buffer last line : List ℕ)
+      → IsOpen last → line ≡ take 1048577 (buffer ++ last) → ((whole : List ℕ) → line ≡ kept whole → Answered step ticks sends mid whole new)
+      → Buffered step ticks sends old bytes buffer mid → Buffered step ticks sends old (bytes ++ ended last) [] new
   buffered_line old mid new bytes buffer last line no_end is a s =
-      let t : Buffered step ticks old (bytes ++ last) line mid = buffered_add old mid bytes buffer last line no_end is s in
-      subst (λ (l : List ℕ). Buffered step ticks old l [] new) (append_assoc bytes last (10 ∷ [])) (buffered_end old mid new (bytes ++ last) line t (a t.rest t.keeps))
+      let t : Buffered step ticks sends old (bytes ++ last) line mid = buffered_add old mid bytes buffer last line no_end is s in
+      subst (λ (l : List ℕ). Buffered step ticks sends old l [] new) (append_assoc bytes last (10 ∷ [])) (buffered_end old mid new (bytes ++ last) line t (a t.rest t.keeps))
 
-  pub broken_line : (old mid new : Session P C) (bytes buffer last line : List ℕ)
-      → IsOpen last → line ≡ take 1048577 (buffer ++ last) → ((whole : List ℕ) → line ≡ kept whole → Answered AppendsFront step ticks mid whole new)
-      → Buffered step ticks old bytes buffer mid → Broken step ticks old (bytes ++ ended last) new
-  broken_line old mid new bytes buffer last line no_end is a s =
-      let t : Buffered step ticks old (bytes ++ last) line mid = buffered_add old mid bytes buffer last line no_end is s in
-      subst (λ (l : List ℕ). Broken step ticks old l new) (append_assoc bytes last (10 ∷ [])) (broken_end old mid new (bytes ++ last) line t (a t.rest t.keeps))
+  pub broken_line : (breaks : Writing O) (old mid new : Session P C O) (bytes buffer last line : List ℕ)
+      → IsOpen last → line ≡ take 1048577 (buffer ++ last) → ((whole : List ℕ) → line ≡ kept whole → Answered step ticks breaks mid whole new)
+      → Buffered step ticks sends old bytes buffer mid → Broken step ticks sends breaks old (bytes ++ ended last) new
+  broken_line breaks old mid new bytes buffer last line no_end is a s =
+      let t : Buffered step ticks sends old (bytes ++ last) line mid = buffered_add old mid bytes buffer last line no_end is s in
+      subst (λ (l : List ℕ). Broken step ticks sends breaks old l new) (append_assoc bytes last (10 ∷ [])) (broken_end breaks old mid new (bytes ++ last) line t (a t.rest t.keeps))
 
-  pub broken_more : (old new : Session P C) (bytes more : List ℕ) → Broken step ticks old bytes new → Broken step ticks old (bytes ++ more) new
-  broken_more old new bytes more s = record {
+  pub broken_more : (breaks : Writing O) (old new : Session P C O) (bytes more : List ℕ) → Broken step ticks sends breaks old bytes new → Broken step ticks sends breaks old (bytes ++ more) new
+  broken_more breaks old new bytes more s = record {
     lines = s.lines;
     line = s.line;
     behind = s.behind ++ more;
@@ -221,25 +219,25 @@ module _ {P C : Type 0} (step : Steps P) (ticks : Ticks C) where
     last = s.last;
   }
 
-  pub taken_none : (r : Option (List ℕ)) (old : Session P C) → Taken step ticks r r [] old old
+  pub taken_none : (r : Option (List ℕ)) (old : Session P C O) → Taken step ticks sends r r [] old old
   taken_none r old = record {
     input = [];
     consumed = consumes_none r;
     served = record { lines = []; rest = []; whole = refl; each = tt; open_rest = tt; keeps = refl; ran = refl };
   }
 
-  pub taken_more : (r q q' : Option (List ℕ)) (old mid new : Session P C) (bytes buffer buffer' : List ℕ)
+  pub taken_more : (r q q' : Option (List ℕ)) (old mid new : Session P C O) (bytes buffer buffer' : List ℕ)
       → Consumes q q' bytes
-      → ((start : Session P C) (before : List ℕ) → Buffered step ticks start before buffer mid → Buffered step ticks start (before ++ bytes) buffer' new)
-      → Taken step ticks r q buffer old mid → Taken step ticks r q' buffer' old new
+      → ((start : Session P C O) (before : List ℕ) → Buffered step ticks sends start before buffer mid → Buffered step ticks sends start (before ++ bytes) buffer' new)
+      → Taken step ticks sends r q buffer old mid → Taken step ticks sends r q' buffer' old new
   taken_more r q q' old mid new bytes buffer buffer' k f t = record { input = t.input ++ bytes; consumed = consumes_then r q q' t.input bytes t.consumed k; served = f old t.input t.served }
 
-  pub taken_broken : (r q q' : Option (List ℕ)) (old mid new : Session P C) (bytes buffer : List ℕ)
+  pub taken_broken : (breaks : Writing O) (r q q' : Option (List ℕ)) (old mid new : Session P C O) (bytes buffer : List ℕ)
       → Consumes q q' bytes
-      → ((start : Session P C) (before : List ℕ) → Buffered step ticks start before buffer mid → Broken step ticks start (before ++ bytes) new)
-      → Taken step ticks r q buffer old mid → Stopped step ticks r q' old new
-  taken_broken r q q' old mid new bytes buffer k f t =
-      let b : Broken step ticks old (t.input ++ bytes) new = f old t.input t.served in
+      → ((start : Session P C O) (before : List ℕ) → Buffered step ticks sends start before buffer mid → Broken step ticks sends breaks start (before ++ bytes) new)
+      → Taken step ticks sends r q buffer old mid → Stopped step ticks sends breaks r q' old new
+  taken_broken breaks r q q' old mid new bytes buffer k f t =
+      let b : Broken step ticks sends breaks old (t.input ++ bytes) new = f old t.input t.served in
       let p : Parts b.behind = parts b.behind in
       let these : List (List ℕ) = b.lines ++ b.line ∷ [] in
       let all : (these ++ p.lines) ≡ b.lines ++ b.line ∷ p.lines = push_join b.lines b.line p.lines in
@@ -253,7 +251,7 @@ module _ {P C : Type 0} (step : Steps P) (ticks : Ticks C) where
 
   -- ---- at the end of reading
 
-  abbrev whole_lines : (r q : Option (List ℕ)) (old new : Session P C) (buffer : List ℕ) → (t : Taken step ticks r q buffer old new) → WholeLines r q t.served.lines
+  abbrev whole_lines : (r q : Option (List ℕ)) (old new : Session P C O) (buffer : List ℕ) → (t : Taken step ticks sends r q buffer old new) → WholeLines r q t.served.lines
   whole_lines r q old new buffer t = record {
     rest = t.served.rest;
     read = subst (λ (l : List ℕ). Consumes r q l) t.served.whole t.consumed;
@@ -261,25 +259,25 @@ module _ {P C : Type 0} (step : Steps P) (ticks : Ticks C) where
     open_rest = t.served.open_rest;
   }
 
-  pub whole_served : (r q : Option (List ℕ)) (old new : Session P C) (buffer : List ℕ) → Taken step ticks r q buffer old new → Served step ticks (WholeLines r q) old new
+  pub whole_served : (r q : Option (List ℕ)) (old new : Session P C O) (buffer : List ℕ) → Taken step ticks sends r q buffer old new → Served step ticks sends (WholeLines r q) old new
   whole_served r q old new buffer t = (t.served.lines, whole_lines r q old new buffer t, t.served.ran)
 
-  pub all_served : (r q : Option (List ℕ)) (old new : Session P C) (buffer : List ℕ) → IsAtEnd q → buffer ≡ [] → Taken step ticks r q buffer old new → Served step ticks (AllLines r q) old new
+  pub all_served : (r q : Option (List ℕ)) (old new : Session P C O) (buffer : List ℕ) → IsAtEnd q → buffer ≡ [] → Taken step ticks sends r q buffer old new → Served step ticks sends (AllLines r q) old new
   all_served r q old new buffer end none t =
       let s = t.served in
       let is : s.rest ≡ [] = nothing_kept s.rest (sym none ∙ s.keeps) in
       (s.lines, (s.lines, whole_lines r q old new buffer t, nothing_last s.rest s.lines is, end), s.ran)
 
-  pub last_served : (r q : Option (List ℕ)) (old mid new : Session P C) (buffer : List ℕ) → IsAtEnd q → (buffer ≡ [] → ⊥)
-      → (t : Taken step ticks r q buffer old mid) → Answered Appends step ticks mid t.served.rest new → Served step ticks (AllLines r q) old new
+  pub last_served : (r q : Option (List ℕ)) (old mid new : Session P C O) (buffer : List ℕ) → IsAtEnd q → (buffer ≡ [] → ⊥)
+      → (t : Taken step ticks sends r q buffer old mid) → Answered step ticks sends mid t.served.rest new → Served step ticks sends (AllLines r q) old new
   last_served r q old mid new buffer end some t a =
       let s = t.served in
       let is : last_line s.rest ≡ s.rest ∷ [] = last_is buffer s.rest some s.keeps in
       (s.lines ++ s.rest ∷ [], (s.lines, whole_lines r q old mid buffer t, ap (λ (l : List (List ℕ)). s.lines ++ l) (sym is), end), run_push old s.lines mid s.rest new s.ran a)
 
-  pub last_stopped : (r q : Option (List ℕ)) (old mid new : Session P C) (buffer : List ℕ) → IsAtEnd q → (buffer ≡ [] → ⊥)
-      → (t : Taken step ticks r q buffer old mid) → Answered AppendsFront step ticks mid t.served.rest new → Stopped step ticks r q old new
-  last_stopped r q old mid new buffer end some t a =
+  pub last_stopped : (breaks : Writing O) (r q : Option (List ℕ)) (old mid new : Session P C O) (buffer : List ℕ) → IsAtEnd q → (buffer ≡ [] → ⊥)
+      → (t : Taken step ticks sends r q buffer old mid) → Answered step ticks breaks mid t.served.rest new → Stopped step ticks sends breaks r q old new
+  last_stopped breaks r q old mid new buffer end some t a =
       let s = t.served in
       let is : last_line s.rest ≡ s.rest ∷ [] = last_is buffer s.rest some s.keeps in
       record {
@@ -291,15 +289,3 @@ module _ {P C : Type 0} (step : Steps P) (ticks : Ticks C) where
         ran = s.ran;
         last = a;
       }
-
-  -- ---- what a run wrote
-
-  -- a reply a line, each with its end
-  pub run_wrote : (old : Session P C) (lines : List (List ℕ)) (new : Session P C) → Run step ticks old lines new
-      → (replies : List (List ℕ)) × (length replies ≡ length lines) × Appends old.2 new.2 (flat_map ended replies)
-  run_wrote old [] new is = ([], refl, subst (λ (s : Session P C). Appends old.2 s.2 []) (sym is) (appends_none old.2))
-  run_wrote old (line ∷ lines) new ran =
-      let mid : Session P C = ran.0 in
-      let a = ran.1 in
-      let others = run_wrote mid lines new ran.2 in
-      (a.0 ∷ others.0, ap (λ (n : ℕ). suc n) others.1, appends_then old.2 mid.2 new.2 (ended a.0) (flat_map ended others.0) a.4 others.2)

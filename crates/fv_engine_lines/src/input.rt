@@ -1,4 +1,4 @@
-ghost use Rattle.std.specs.Prelude.{ℕ, ◌≤◌, List, Option, length};
+ghost use Rattle.std.specs.Prelude.{ℕ, ◌≤◌, List, Option, OnErr, length};
 ghost use Rattle.std.specs.Io.{ReadsAtMost};
 ghost use Rattle.std.specs.Io.KnownBytes.{ReadConsumes};
 
@@ -13,21 +13,29 @@ pub trait Input {
     /// From the input before a read to the input after it.
     ghost reads: { Self → Self → Type 0 };
 
+    /// From the input before a read that failed to the input after it.
+    ghost fails: { Self → Self → Type 0 };
+
     /// Reads once, into the front of a chunk of at most 4,096 bytes: how many came. None came only at the
     /// end, or without room.
     fn fill(&mut self, chunk: &mut [u8]) -> io::Result<usize>
         requires { length chunk.old ≤ 4096 }
         ensures bound { ReadsAtMost result chunk.new }
         ensures bytes { ReadConsumes (remaining self.old) (remaining self.new) result chunk.new }
-        ensures read { reads self.old self.new };
+        ensures read { reads self.old self.new }
+        ensures failed { OnErr result (fails self.old self.new) };
 }
 
 impl<R: Read> Input for R {
+    ghost use Rattle.std.specs.Prelude.{⊤};
     ghost use Rattle.fv_engine_lines.specs.Reads.{GivesAtMost};
 
     ghost remaining = { R.remaining };
 
     ghost reads = { λ old new. GivesAtMost 4096 (R.remaining old) (R.remaining new) };
+
+    // A reader of std doesn't tell why a read failed.
+    ghost fails = { λ old new. ⊤ };
 
     fn fill(&mut self, chunk: &mut [u8]) -> io::Result<usize> {
         self.read(chunk)

@@ -1,21 +1,20 @@
 ghost use Rattle.std.specs.Prelude.{◌≡◌, ◌≢◌, ℕ, List, [], ◌++◌, Option, OnOk, OnErr, IsErrOf, ◌<◌, length};
-ghost use Rattle.std.specs.Io.KnownBytes.{Appends, Consumes, IsAtEnd};
+ghost use Rattle.std.specs.Io.KnownBytes.{Consumes, IsAtEnd};
 ghost use Rattle.fv_datum.specs.Moments.{IsMoment};
 ghost use Rattle.fv_engine_lines.specs.Buffering.{kept, Buffered, Broken, Taken};
 ghost use Rattle.fv_engine_lines.specs.FaultNames.{serve_fault_name};
 ghost use Rattle.fv_engine_lines.specs.Lines.{IsOpen, ended, WholeLines, AllLines};
-ghost use Rattle.fv_engine_lines.specs.Reads.{ReadAtMost};
+ghost use Rattle.fv_engine_lines.specs.Reads.{ReadAtMost, ReadFails};
 ghost use Rattle.fv_engine_lines.specs.Runs.{Session, Answered, Served, Stopped};
-ghost use Rattle.fv_engine_lines.specs.Writes.{AppendsFront};
+ghost use Rattle.fv_engine_lines.specs.Writes.{Breaks, Sends};
 
 use crate::clock::Clock;
 use crate::input::Input;
 use crate::line::Line;
-use crate::output::{WriteFailed, write_line};
+use crate::output::{Output, WriteFailed, write_line};
 use crate::responder::{LIMIT, Responder, Text};
 use memchr::memchr;
 use std::alloc::Global;
-use std::io::Write;
 use thiserror::Error;
 
 /// Why serving ended before the input did.
@@ -59,7 +58,7 @@ fn reply_to<P: Responder>(alloc: Global, responder: &mut P, line: &Line, now: i6
 }
 
 /// Answers one line.
-fn answer<P: Responder, W: Write, C: Clock>(
+fn answer<P: Responder, W: Output, C: Clock>(
     alloc: Global,
     responder: &mut P,
     writer: &mut W,
@@ -67,11 +66,11 @@ fn answer<P: Responder, W: Write, C: Clock>(
     line: &Line,
 ) -> Result<(), WriteFailed>
     ensures ok { OnOk result ((whole : List ℕ) → line.now ≡ kept whole
-        → Answered Appends P.step C.ticks (responder.old, clock.old, W.contents writer.old) whole
-        (responder.new, clock.new, W.contents writer.new)) }
+        → Answered P.step C.ticks (Sends W.contents W.flushes) (responder.old, clock.old, writer.old) whole
+        (responder.new, clock.new, writer.new)) }
     ensures err { OnErr result ((whole : List ℕ) → line.now ≡ kept whole
-        → Answered AppendsFront P.step C.ticks (responder.old, clock.old, W.contents writer.old) whole
-        (responder.new, clock.new, W.contents writer.new)) }
+        → Answered P.step C.ticks (Breaks W.contents W.fails) (responder.old, clock.old, writer.old) whole
+        (responder.new, clock.new, writer.new)) }
 {
     let now = clock.now();
     let reply = reply_to(alloc, responder, line, now);
@@ -79,7 +78,7 @@ fn answer<P: Responder, W: Write, C: Clock>(
 }
 
 /// Takes the last bytes of a line and its end, and answers it.
-fn end_line<P: Responder, W: Write, C: Clock>(
+fn end_line<P: Responder, W: Output, C: Clock>(
     alloc: Global,
     responder: &mut P,
     writer: &mut W,
@@ -88,12 +87,12 @@ fn end_line<P: Responder, W: Write, C: Clock>(
     last: &[u8],
 ) -> Result<(), WriteFailed>
     requires { IsOpen last.now }
-    ensures ok { OnOk result ((start : Session P C) (before : List ℕ) →
-        Buffered P.step C.ticks start before line.old (responder.old, clock.old, W.contents writer.old) →
-        Buffered P.step C.ticks start (before ++ ended last.now) line.new (responder.new, clock.new, W.contents writer.new)) }
-    ensures err { OnErr result ((start : Session P C) (before : List ℕ) →
-        Buffered P.step C.ticks start before line.old (responder.old, clock.old, W.contents writer.old) →
-        Broken P.step C.ticks start (before ++ ended last.now) (responder.new, clock.new, W.contents writer.new)) }
+    ensures ok { OnOk result ((start : Session P C W) (before : List ℕ) →
+        Buffered P.step C.ticks (Sends W.contents W.flushes) start before line.old (responder.old, clock.old, writer.old) →
+        Buffered P.step C.ticks (Sends W.contents W.flushes) start (before ++ ended last.now) line.new (responder.new, clock.new, writer.new)) }
+    ensures err { OnErr result ((start : Session P C W) (before : List ℕ) →
+        Buffered P.step C.ticks (Sends W.contents W.flushes) start before line.old (responder.old, clock.old, writer.old) →
+        Broken P.step C.ticks (Sends W.contents W.flushes) (Breaks W.contents W.fails) start (before ++ ended last.now) (responder.new, clock.new, writer.new)) }
 {
     line.add_all(last);
     answer(alloc, responder, writer, clock, line)?;
@@ -102,7 +101,7 @@ fn end_line<P: Responder, W: Write, C: Clock>(
 }
 
 /// Takes the next bytes of the input.
-fn take_bytes<P: Responder, W: Write, C: Clock>(
+fn take_bytes<P: Responder, W: Output, C: Clock>(
     alloc: Global,
     responder: &mut P,
     writer: &mut W,
@@ -110,12 +109,12 @@ fn take_bytes<P: Responder, W: Write, C: Clock>(
     line: &mut Line,
     bytes: &[u8],
 ) -> Result<(), WriteFailed>
-    ensures ok { OnOk result ((start : Session P C) (before : List ℕ) →
-        Buffered P.step C.ticks start before line.old (responder.old, clock.old, W.contents writer.old) →
-        Buffered P.step C.ticks start (before ++ bytes.now) line.new (responder.new, clock.new, W.contents writer.new)) }
-    ensures err { OnErr result ((start : Session P C) (before : List ℕ) →
-        Buffered P.step C.ticks start before line.old (responder.old, clock.old, W.contents writer.old) →
-        Broken P.step C.ticks start (before ++ bytes.now) (responder.new, clock.new, W.contents writer.new)) }
+    ensures ok { OnOk result ((start : Session P C W) (before : List ℕ) →
+        Buffered P.step C.ticks (Sends W.contents W.flushes) start before line.old (responder.old, clock.old, writer.old) →
+        Buffered P.step C.ticks (Sends W.contents W.flushes) start (before ++ bytes.now) line.new (responder.new, clock.new, writer.new)) }
+    ensures err { OnErr result ((start : Session P C W) (before : List ℕ) →
+        Buffered P.step C.ticks (Sends W.contents W.flushes) start before line.old (responder.old, clock.old, writer.old) →
+        Broken P.step C.ticks (Sends W.contents W.flushes) (Breaks W.contents W.fails) start (before ++ bytes.now) (responder.new, clock.new, writer.new)) }
 {
     let mut rest = bytes;
     'lines: while let Some(end) = memchr(b'\n', rest) {
@@ -127,19 +126,19 @@ fn take_bytes<P: Responder, W: Write, C: Clock>(
 }
 
 /// Answers the last line, where there is one without its end.
-fn finish<P: Responder, W: Write, C: Clock>(
+fn finish<P: Responder, W: Output, C: Clock>(
     alloc: Global,
     responder: &mut P,
     writer: &mut W,
     clock: &mut C,
     line: &Line,
 ) -> Result<(), WriteFailed>
-    ensures ok { OnOk result ((r q : Option (List ℕ)) (start : Session P C) → IsAtEnd q →
-        Taken P.step C.ticks r q line.now start (responder.old, clock.old, W.contents writer.old) →
-        Served P.step C.ticks (AllLines r q) start (responder.new, clock.new, W.contents writer.new)) }
-    ensures err { OnErr result ((r q : Option (List ℕ)) (start : Session P C) → IsAtEnd q →
-        Taken P.step C.ticks r q line.now start (responder.old, clock.old, W.contents writer.old) →
-        Stopped P.step C.ticks r q start (responder.new, clock.new, W.contents writer.new)) }
+    ensures ok { OnOk result ((r q : Option (List ℕ)) (start : Session P C W) → IsAtEnd q →
+        Taken P.step C.ticks (Sends W.contents W.flushes) r q line.now start (responder.old, clock.old, writer.old) →
+        Served P.step C.ticks (Sends W.contents W.flushes) (AllLines r q) start (responder.new, clock.new, writer.new)) }
+    ensures err { OnErr result ((r q : Option (List ℕ)) (start : Session P C W) → IsAtEnd q →
+        Taken P.step C.ticks (Sends W.contents W.flushes) r q line.now start (responder.old, clock.old, writer.old) →
+        Stopped P.step C.ticks (Sends W.contents W.flushes) (Breaks W.contents W.fails) r q start (responder.new, clock.new, writer.new)) }
 {
     if line.bytes().is_empty() {
         return Ok(());
@@ -159,7 +158,7 @@ enum Turn {
 }
 
 /// Reads once, and serves what came.
-fn read_once<P: Responder, R: Input, W: Write, C: Clock>(
+fn read_once<P: Responder, R: Input, W: Output, C: Clock>(
     alloc: Global,
     responder: &mut P,
     reader: &mut R,
@@ -168,15 +167,16 @@ fn read_once<P: Responder, R: Input, W: Write, C: Clock>(
     line: &mut Line,
 ) -> Turn
     ensures read { R.reads reader.old reader.new }
+    ensures failed { result ≡ Turn.ReadFailed → R.fails reader.old reader.new }
     ensures end { result ≡ Turn.End → IsAtEnd (R.remaining reader.new) }
     ensures more { result ≡ Turn.More → (bytes : List ℕ) × (0 < length bytes)
         × Consumes (R.remaining reader.old) (R.remaining reader.new) bytes }
-    ensures taken { result ≢ Turn.WriteFailed → (r : Option (List ℕ)) (start : Session P C) →
-        Taken P.step C.ticks r (R.remaining reader.old) line.old start (responder.old, clock.old, W.contents writer.old) →
-        Taken P.step C.ticks r (R.remaining reader.new) line.new start (responder.new, clock.new, W.contents writer.new) }
-    ensures stopped { result ≡ Turn.WriteFailed → (r : Option (List ℕ)) (start : Session P C) →
-        Taken P.step C.ticks r (R.remaining reader.old) line.old start (responder.old, clock.old, W.contents writer.old) →
-        Stopped P.step C.ticks r (R.remaining reader.new) start (responder.new, clock.new, W.contents writer.new) }
+    ensures taken { result ≢ Turn.WriteFailed → (r : Option (List ℕ)) (start : Session P C W) →
+        Taken P.step C.ticks (Sends W.contents W.flushes) r (R.remaining reader.old) line.old start (responder.old, clock.old, writer.old) →
+        Taken P.step C.ticks (Sends W.contents W.flushes) r (R.remaining reader.new) line.new start (responder.new, clock.new, writer.new) }
+    ensures stopped { result ≡ Turn.WriteFailed → (r : Option (List ℕ)) (start : Session P C W) →
+        Taken P.step C.ticks (Sends W.contents W.flushes) r (R.remaining reader.old) line.old start (responder.old, clock.old, writer.old) →
+        Stopped P.step C.ticks (Sends W.contents W.flushes) (Breaks W.contents W.fails) r (R.remaining reader.new) start (responder.new, clock.new, writer.new) }
 {
     let mut chunk = [0u8; 4096];
     match reader.fill(&mut chunk) {
@@ -193,7 +193,7 @@ fn read_once<P: Responder, R: Input, W: Write, C: Clock>(
 const READS: u64 = 4294967296;
 
 /// Serves until the input ends.
-fn serve_lines<P: Responder, R: Input, W: Write, C: Clock>(
+fn serve_lines<P: Responder, R: Input, W: Output, C: Clock>(
     alloc: Global,
     responder: &mut P,
     reader: &mut R,
@@ -203,14 +203,16 @@ fn serve_lines<P: Responder, R: Input, W: Write, C: Clock>(
 ) -> Result<(), ServeFault>
     requires { line.old ≡ [] }
     ensures reads { ReadAtMost R.reads 4294967296 reader.old reader.new }
-    ensures ok { OnOk result (Served P.step C.ticks (AllLines (R.remaining reader.old) (R.remaining reader.new))
-        (responder.old, clock.old, W.contents writer.old) (responder.new, clock.new, W.contents writer.new)) }
+    ensures ok { OnOk result (Served P.step C.ticks (Sends W.contents W.flushes) (AllLines (R.remaining reader.old) (R.remaining reader.new))
+        (responder.old, clock.old, writer.old) (responder.new, clock.new, writer.new)) }
     ensures read { IsErrOf result ServeFault.Read
-        → Taken P.step C.ticks (R.remaining reader.old) (R.remaining reader.new) line.new
-        (responder.old, clock.old, W.contents writer.old) (responder.new, clock.new, W.contents writer.new) }
+        → Taken P.step C.ticks (Sends W.contents W.flushes) (R.remaining reader.old) (R.remaining reader.new) line.new
+        (responder.old, clock.old, writer.old) (responder.new, clock.new, writer.new) }
+    ensures read_cause { IsErrOf result ServeFault.Read
+        → ReadFails R.reads R.fails 4294967296 reader.old reader.new }
     ensures write { IsErrOf result ServeFault.Write
-        → Stopped P.step C.ticks (R.remaining reader.old) (R.remaining reader.new)
-        (responder.old, clock.old, W.contents writer.old) (responder.new, clock.new, W.contents writer.new) }
+        → Stopped P.step C.ticks (Sends W.contents W.flushes) (Breaks W.contents W.fails) (R.remaining reader.old) (R.remaining reader.new)
+        (responder.old, clock.old, writer.old) (responder.new, clock.new, writer.new) }
     ensures memory { IsErrOf result ServeFault.Memory → ⊥ }
 {
     for _turn in 0..READS {
@@ -235,7 +237,7 @@ fn serve_lines<P: Responder, R: Input, W: Write, C: Clock>(
 ///
 /// `Memory` where the room for a line was refused; `Read` where a read failed or there were 2^32
 /// reads; `Write` where a write or a flush failed or a write took nothing.
-pub fn answer_lines<P: Responder, R: Input, W: Write, C: Clock>(
+pub fn answer_lines<P: Responder, R: Input, W: Output, C: Clock>(
     alloc: Global,
     responder: &mut P,
     reader: &mut R,
@@ -245,16 +247,19 @@ pub fn answer_lines<P: Responder, R: Input, W: Write, C: Clock>(
     // It read at most 2^32 times, however it ended.
     ensures reads { ReadAtMost R.reads 4294967296 reader.old reader.new }
     // All lines of the input were answered, each reply written with its end.
-    ensures ok { OnOk result (Served P.step C.ticks (AllLines (R.remaining reader.old) (R.remaining reader.new))
-        (responder.old, clock.old, W.contents writer.old) (responder.new, clock.new, W.contents writer.new)) }
+    ensures ok { OnOk result (Served P.step C.ticks (Sends W.contents W.flushes) (AllLines (R.remaining reader.old) (R.remaining reader.new))
+        (responder.old, clock.old, writer.old) (responder.new, clock.new, writer.new)) }
     // The same for the whole lines that were read.
     ensures read { IsErrOf result ServeFault.Read
-        → Served P.step C.ticks (WholeLines (R.remaining reader.old) (R.remaining reader.new))
-        (responder.old, clock.old, W.contents writer.old) (responder.new, clock.new, W.contents writer.new) }
-    // The same for some lines of these, the last reply whole, in part or missing.
+        → Served P.step C.ticks (Sends W.contents W.flushes) (WholeLines (R.remaining reader.old) (R.remaining reader.new))
+        (responder.old, clock.old, writer.old) (responder.new, clock.new, writer.new) }
+    // A read failed, or there were 2^32.
+    ensures read_cause { IsErrOf result ServeFault.Read
+        → ReadFails R.reads R.fails 4294967296 reader.old reader.new }
+    // The same for some lines of these, the last reply whole, in part or missing, and then a call failed.
     ensures write { IsErrOf result ServeFault.Write
-        → Stopped P.step C.ticks (R.remaining reader.old) (R.remaining reader.new)
-        (responder.old, clock.old, W.contents writer.old) (responder.new, clock.new, W.contents writer.new) }
+        → Stopped P.step C.ticks (Sends W.contents W.flushes) (Breaks W.contents W.fails) (R.remaining reader.old) (R.remaining reader.new)
+        (responder.old, clock.old, writer.old) (responder.new, clock.new, writer.new) }
     // Nothing was read.
     ensures memory { IsErrOf result ServeFault.Memory → (reader.new ≡ reader.old) × (writer.new ≡ writer.old)
         × (responder.new ≡ responder.old) × (clock.new ≡ clock.old) }

@@ -33,7 +33,7 @@ use Rattle.fv_store.specs.Causes.{LeavesRoom, rows_of_all}
 use Rattle.fv_store.specs.Changes.{after_all, changed, ChangesFit}
 use Rattle.fv_store.specs.Records.{Contents, Kept, Records, Roots}
 use Rattle.fv_store.specs.Stands.{Frame, HoldsRecords, Stays}
-use Rattle.fv_store.specs.declared.change.Change.{Change}
+use Rattle.fv_store.specs.declared.changes.Change.{Change}
 use Rattle.fv_bundle.specs.Types.{Declared}
 use Rattle.fv_validate.specs.declared.fault.ValidateFault.{ValidateFault}
 use Rattle.fv_validate.specs.declared.fault.ValidateFault.TheVariants as validate

@@ -20,8 +20,8 @@ use Rattle.fv_bundle.specs.WellTyped.{IsWellTyped}
 use Rattle.fv_store.specs.Causes.{AreShort as ChangesShort, WritesShort, IsShort, IsShortObject, rows_of, rows_of_all}
 use Rattle.fv_store.specs.Changes.{after, after_all, ChangeFits, ChangesFit}
 use Rattle.fv_store.specs.Records.{Kept, Records, Roots, RecordFits, with_object, with_thing}
-use Rattle.fv_store.specs.declared.change.Change.{Change}
-use Rattle.fv_store.specs.declared.change.Change.TheVariants.{Put, Object, Remove}
+use Rattle.fv_store.specs.declared.changes.Change.{Change}
+use Rattle.fv_store.specs.declared.changes.Change.TheVariants.{Put, Object, Remove}
 use Rattle.fv_store.specs.declared.stored.Stored.{Stored}
 use Rattle.fv_datum.specs.Ascending.{IsAscending}
 use Rattle.fv_bundle.specs.Types.{Declared}

@@ -28,7 +28,7 @@ use Rattle.fv_store.specs.Causes.{AreShort as ChangesShort, rows_of, rows_of_all
 use Rattle.fv_store.specs.Changes.{after_all, ChangesFit}
 use Rattle.fv_store.specs.Records.{Kept, Records, Roots, RecordFits, with_thing, with_object}
 use Rattle.fv_store.specs.Stored.{stored_view}
-use Rattle.fv_store.specs.declared.change.Change.{Change}
+use Rattle.fv_store.specs.declared.changes.Change.{Change}
 use Rattle.fv_store.specs.declared.stored.Stored.{Stored}
 
 -- ---- what is found of it

@@ -7,8 +7,8 @@ use Rattle.fv_bundle.specs.Views.{object_view}
 use Rattle.fv_engine_pending.specs.Ways.{Way}
 use Rattle.fv_store.specs.Records.{Kept, Records, with_thing}
 use Rattle.fv_store.specs.Stored.{stored_view}
-use Rattle.fv_store.specs.declared.change.Change.{Change}
-use Rattle.fv_store.specs.declared.change.Change.TheVariants.{Put, Object, Remove}
+use Rattle.fv_store.specs.declared.changes.Change.{Change}
+use Rattle.fv_store.specs.declared.changes.Change.TheVariants.{Put, Object, Remove}
 
 -- how many rowids the rows of a record take, at most: one for its own, and one for each of its objects
 abbrev pub most_rows : ℕ

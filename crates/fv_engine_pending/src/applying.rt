@@ -12,7 +12,7 @@ ghost use Rattle.std.specs.Result.{result_map_both};
 
 use crate::fault::PartFault;
 use crate::pending::Pending;
-use crate::step::{SetStep, Step};
+use crate::reading::{SetStep, Step};
 use fv_bundle::{Bundle, Types};
 use fv_model::{BundleFault, set_field};
 use fv_store::Stored;

@@ -12,13 +12,11 @@ mod judging;
 mod pending;
 mod reading;
 mod rejudging;
-mod step;
 
 pub use applying::apply_all;
 pub use fault::PartFault;
 pub use finding::find_records;
 pub use judging::{judge, judge_record};
 pub use pending::Pending;
-pub use reading::read_parts;
+pub use reading::{SetStep, Step, read_parts};
 pub use rejudging::{RejudgeFault, judge_all};
-pub use step::{SetStep, Step};

@@ -11,13 +11,37 @@ ghost use Rattle.serde_json.specs.View.{view as json_view};
 
 use crate::applying::part_fault;
 use crate::fault::PartFault;
-use crate::step::{SetStep, Step};
 use fv_bundle::{Bundle, TypeId};
 use fv_declare_schema::Schema;
 use fv_engine_command::Part;
 use fv_model::{BundleFault, read_bundle};
 use serde_json::Value;
 use std::alloc::{AllocError, Global};
+/// One datum of the record of an id is what a value spells.
+#[derive(Clone, Copy)]
+pub struct SetStep<'a> {
+    pub id: &'a str,
+    pub object: &'a str,
+    pub field: &'a str,
+    pub value: &'a Value,
+}
+
+/// A part of a command, its bundle read.
+#[derive(Drop)]
+pub enum Step<'a> {
+    /// The record of the id is this one; or why there is no bundle.
+    Put {
+        id: &'a str,
+        form: &'a str,
+        bundle: Result<Bundle, PartFault>,
+    },
+    /// One datum changes.
+    Set(SetStep<'a>),
+    /// The id's record goes.
+    Remove {
+        id: &'a str,
+    },
+}
 
 /// A put with its bundle, where its form is declared.
 fn put_as<'a>(

@@ -26,8 +26,8 @@ is_same_step _ _ = false
 abbrev pub stands_at : FieldPlace → ValidPlace → Bool
 stands_at place p = nat_eq p.field place.field && pointwise is_same_step p.steps place.steps
 
--- the group that is made of a group by the one of these valid places that stands there: its field, and the same steps one after the other; the
--- group itself where none does
+-- the group that a group becomes at a place: by the conversions of that one of these valid places which has its field and the same steps; the
+-- group itself where none of them has
 abbrev pub converted_among : List ValidPlace → FieldPlace → ℕ → ℕ
 converted_among [] place group = group
 converted_among (p ∷ ps) place group =

@@ -17,7 +17,6 @@ mod judge;
 mod laws;
 mod parts;
 mod path;
-mod ranks;
 mod reach;
 mod reached;
 mod request_laws;

@@ -16,9 +16,8 @@ ghost use Rattle.fv_walk_traces.specs.Turns as turn;
 
 use crate::failure::LocalFailure;
 use crate::field::{each_of_field, of_field};
-use crate::ranks::told_in_ranks;
 use crate::reach::Reach;
-use crate::uses::told_of;
+use crate::uses::{told_in_ranks, told_of};
 use fv_bundle::{Object, TypeId};
 use fv_declare_schema::{GroupId, Schema};
 use fv_registry::{RuleSet, Ruled};

@@ -31,7 +31,7 @@ object_types = map (λ p. (p.name, p.type_name))
 
 -- ---- what can be wrong
 
--- one of the data that are given for an object's fields has the flaw; none where its type isn't declared
+-- one of the data that are given for an object's fields has the flaw; false where its type isn't declared
 unfoldable pub has_flaw : Flaw → Declared → ObjectDraft → Bool
 has_flaw flaw ts p = option_map_or (λ fields. list_any (λ g. flaw (at_name g.0 fields) g.1) (pairs p.given)) (at_name p.type_name ts) false
 

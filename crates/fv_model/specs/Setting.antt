@@ -20,7 +20,7 @@ field_use_of ts field t = at_name field (fields_of ts t.type_name)
 
 -- ---- what can be wrong
 
--- the datum that is given for a field of an object has the flaw; none where there is no object
+-- the datum that is given for a field of an object has the flaw; false where there is no object
 abbrev pub is_flawed : Flaw → Declared → List ℕ → json.Data → Option Thing → Bool
 is_flawed flaw ts field j there = option_map_or (λ t. flaw (field_use_of ts field t) j) there false
 

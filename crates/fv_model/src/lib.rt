@@ -15,7 +15,6 @@ mod setting;
 mod singles;
 mod text;
 mod tree;
-mod value;
 mod writable;
 
 pub use fault::BundleFault;
@@ -24,9 +23,8 @@ pub use fv_bundle::{
 };
 pub use objects::read_objects;
 pub use parts::Part;
-pub use reading::read_bundle;
+pub use reading::{read_bundle, read_value};
 pub use setting::set_field;
 pub use singles::single;
 pub use text::{fields_text, quoted};
 pub use tree::{write_bundle, write_fields};
-pub use value::read_value;

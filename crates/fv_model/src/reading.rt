@@ -1,21 +1,28 @@
-ghost use Rattle.std.specs.Prelude.{◌≡◌, option_map, IfOk, Ok};
+ghost use Rattle.std.specs.Prelude.{◌≡◌, option_map, IfOk, Ok, ℕ, List, Some};
 ghost use Rattle.std.specs.Option.{ForSome};
 ghost use Rattle.serde_json.specs.View.{view as json_view};
 ghost use Rattle.fv_datum.specs.Outcomes.{Gives, first, unless_fault};
-ghost use Rattle.fv_bundle.specs.Types.{Declared, name_at};
+ghost use Rattle.fv_bundle.specs.Types.{Declared, name_at, type_use_view};
 ghost use Rattle.fv_model.specs.Views.{types_view, draft_view, bundle_view};
-ghost use Rattle.fv_model.specs.Reading.{bundle_conditions, bundle_of, bundle_read};
+ghost use Rattle.fv_model.specs.Reading.{bundle_conditions, bundle_of, bundle_read, datum_at, value_read};
 ghost use Rattle.std.specs.Map.{keys_of};
 ghost use Rattle.fv_bundle.specs.Bundles.{Bundled, IsAscending};
-ghost use Rattle.fv_bundle.specs.WellTyped.{IsWellTyped, HasRootType};
-ghost use Rattle.fv_model.specs.Writing.{bundle_json, bundle_written};
+ghost use Rattle.fv_bundle.specs.WellTyped.{IsWellTyped, HasRootType, AnyName};
+ghost use Rattle.fv_model.specs.Writing.{bundle_json, bundle_written, IsWritten, datum_json};
+ghost use Rattle.fv_datum.specs.Data.{Data};
+ghost use Rattle.fv_datum.specs.View.{view};
+ghost use Rattle.fv_bundle.specs.Fits.{Fits};
+ghost use Rattle.fv_bundle.specs.Flaws.{misfits};
+ghost use Rattle.fv_model.specs.Fitting.{unless_wrong};
 
 use crate::build::build;
 use crate::draft::draft_of;
 use crate::fault::BundleFault;
 use crate::faults::{draft_flaws, late_fault, name_fault};
 use crate::parts::Draft;
-use fv_bundle::{Bundle, TypeId, Types};
+use fv_bundle::{Bundle, TypeId, TypeNames, TypeUse, Types, flaws_of, read_use};
+use fv_datum::{Datum, DatumFault};
+use indexmap::IndexMap;
 use serde_json::Value;
 use std::alloc::Global;
 
@@ -89,5 +96,53 @@ pub(crate) fn judged(
     match late_fault(types, asked, draft, flaws) {
         Some(fault) => Err(fault),
         None => Ok(bundle),
+    }
+}
+
+/// The datum of a type use that a JSON value spells. A reference may be any name.
+///
+/// It is of the type use and within the limits. What was written of such a datum is read as it.
+/// Refused by `WrongKind`, else by `TooLarge`; `Memory` at any place.
+pub fn read_value(alloc: Global, type_use: &TypeUse, value: &Value) -> Result<Datum, BundleFault>
+    ensures exact { Gives BundleFault.Memory view result
+        (value_read (type_use_view type_use.now) (json_view value.now)) }
+    ensures fits { IfOk result (λ d. Fits AnyName (type_use_view type_use.now) (view d)) }
+    ensures read_back { (d : Data) → Fits AnyName (type_use_view type_use.now) d
+        → json_view value.now ≡ datum_json d → Gives BundleFault.Memory view result (Ok d) }
+{
+    small_datum(alloc, type_use, value)
+}
+
+/// The same, by the definition alone.
+fn small_datum(alloc: Global, type_use: &TypeUse, value: &Value) -> Result<Datum, BundleFault>
+    ensures exact { Gives BundleFault.Memory view result
+        (value_read (type_use_view type_use.now) (json_view value.now)) }
+    ensures written { IfOk result (λ d. IsWritten (view d)) }
+{
+    let datum = spelled_datum(alloc, type_use, value)?;
+    let nobody: TypeNames = IndexMap::new(alloc);
+    if flaws_of(&nobody, type_use, value).large {
+        return Err(BundleFault::TooLarge);
+    }
+    Ok(datum)
+}
+
+/// The datum of a type use that a JSON value spells, however large it is. References aren't looked up.
+///
+/// Refused by `WrongKind`; `Memory` at any place.
+pub(crate) fn spelled_datum(
+    alloc: Global,
+    type_use: &TypeUse,
+    value: &Value,
+) -> Result<Datum, BundleFault>
+    ensures exact { Gives BundleFault.Memory view result (unless_wrong
+        (misfits (Some (type_use_view type_use.now)) (json_view value.now))
+        (datum_at (type_use_view type_use.now) (Some (json_view value.now)))) }
+    ensures written { IfOk result (λ d. IsWritten (view d)) }
+{
+    match read_use(alloc, type_use, value) {
+        Ok(datum) => Ok(datum),
+        Err(DatumFault::WrongKind) => Err(BundleFault::WrongKind),
+        Err(DatumFault::Memory) => Err(BundleFault::Memory),
     }
 }

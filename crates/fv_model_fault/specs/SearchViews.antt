@@ -19,4 +19,6 @@ sought s = flaw_of s.fault (object_types_view s.type_names.now)
 
 -- the first value that has the flaw of those that stand one step inside another, with its type use
 abbrev pub IsNext : Flaw → TypeUse → json.Data → Inner × Bor code.TypeUse × Bor Value → Type 0
-IsNext flaw u j n = IsFirstInside flaw (inner_view n.0) u j (type_use_view n.1.now) (json_view n.2.now) × (flaw (Some (type_use_view n.1.now)) (json_view n.2.now) ≡ true)
+IsNext flaw u j n =
+    IsFirstInside flaw (inner_view n.0) u j (type_use_view n.1.now) (json_view n.2.now)
+    × (flaw (Some (type_use_view n.1.now)) (json_view n.2.now) ≡ true)

@@ -9,8 +9,8 @@ use Rattle.sqlite.specs.State.{State, HasCleanDisk}
 use Rattle.fv_datum.specs.Outcomes.{Gives}
 use Rattle.fv_bundle.specs.Types.{Declared, has_deep}
 use Rattle.fv_bundle.specs.WellTyped.{IsWellTyped}
-use Rattle.fv_store.specs.declared.change.Change.{Change}
-use Rattle.fv_store.specs.declared.change.Change.TheVariants.{Put, Object, Remove}
+use Rattle.fv_store.specs.declared.changes.Change.{Change}
+use Rattle.fv_store.specs.declared.changes.Change.TheVariants.{Put, Object, Remove}
 use Rattle.fv_store.specs.declared.fault.StoreFault.{StoreFault}
 use Rattle.fv_store.specs.declared.fault.StoreFault.TheVariants.{Store, Memory}
 use Rattle.fv_store_tables.specs.declared.entry.FoundRecord.{FoundRecord}

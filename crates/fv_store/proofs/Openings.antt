@@ -13,7 +13,6 @@ use Rattle.fv_store.specs.declared.fault.OpenStoreFault.TheVariants.{OtherVersio
 use Rattle.fv_store.specs.Faults.{about_fault, open_fault_of, IsAboutFault}
 use Rattle.fv_store.specs.Records.{Kept, Records, Contents, AllFit, no_records, with_records}
 use Rattle.fv_store_tables.specs.About.{HasTables, IsOfAbout, ShowsAbout, shown_about}
-use Rattle.fv_store_tables.specs.FirstTables.{old_schema}
 use Rattle.fv_store_tables.specs.Tables.{store_schema}
 use Rattle.fv_store.specs.declared.about.About.{About}
 use Rattle.fv_store.specs.Stands.{Frame, Stands, StandsFirst, HoldsRecords, HoldsFirst, Opens, HasAbout, IsBlank, KeepsAbout, MayBeFirst, Stays, TellsAbout, about_rows, first_version, olds, tables_version}

@@ -9,7 +9,7 @@ use Rattle.sqlite.specs.Order.{Row}
 use Rattle.sqlite.specs.declared.error.Error.{Error}
 use Rattle.sqlite.specs.State.{State, HasCleanDisk, Shows, KeepsCounts}
 use Rattle.fv_bundle.specs.Bundles.{Thing}
-use Rattle.fv_store.specs.declared.change.Change.{Change}
+use Rattle.fv_store.specs.declared.changes.Change.{Change}
 use Rattle.fv_store.specs.Causes.{AreShort, HasRooms, IsShort, IsShortAbout, IsShortObject, LeavesRoom, WritesShort, rows_of, rows_of_all}
 use Rattle.fv_store.specs.Changes.{after, after_all}
 use Rattle.fv_store.specs.Records.{Kept, Records, with_record, without_record, with_object}

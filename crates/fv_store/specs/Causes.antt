@@ -7,8 +7,8 @@ use Rattle.fv_store_tables.specs.Causes.{IsShortHead, IsShortPart}
 use Rattle.fv_bundle.specs.Bundles.{Thing}
 use Rattle.fv_bundle.specs.Views.{object_view, bundle_view}
 use Rattle.fv_model.specs.Writing.{named_written}
-use Rattle.fv_store.specs.declared.change.Change.{Change}
-use Rattle.fv_store.specs.declared.change.Change.TheVariants.{Put, Object, Remove}
+use Rattle.fv_store.specs.declared.changes.Change.{Change}
+use Rattle.fv_store.specs.declared.changes.Change.TheVariants.{Put, Object, Remove}
 use Rattle.fv_store.specs.Records.{Kept}
 use Rattle.fv_store.specs.Stored.{stored_view}
 use Rattle.fv_store.specs.Written.{object_kept}

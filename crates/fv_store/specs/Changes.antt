@@ -2,8 +2,8 @@
 use Rattle.std.specs.Prelude.{◌≡◌, List, [], ◌∷◌, Some, string_bytes}
 use Rattle.fv_bundle.specs.Types.{Declared}
 use Rattle.fv_bundle.specs.Views.{object_view}
-use Rattle.fv_store.specs.declared.change.Change.{Change}
-use Rattle.fv_store.specs.declared.change.Change.TheVariants.{Put, Object, Remove}
+use Rattle.fv_store.specs.declared.changes.Change.{Change}
+use Rattle.fv_store.specs.declared.changes.Change.TheVariants.{Put, Object, Remove}
 use Rattle.fv_store.specs.Stored.{stored_view}
 use Rattle.fv_store.specs.Records.{Kept, Records, Roots, RecordFits, Contents, with_record, without_record, with_thing, with_object, with_records}
 

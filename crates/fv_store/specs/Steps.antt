@@ -8,7 +8,7 @@ use Rattle.sqlite.specs.State.{State, HasCleanDisk}
 use Rattle.fv_store_tables.specs.Olds.{Olds}
 use Rattle.fv_store_tables.specs.Stands as tables
 use Rattle.fv_store_upgrade.specs.Upgraded.{AllUpgrade, upgraded}
-use Rattle.fv_store.specs.declared.change.Change.{Change}
+use Rattle.fv_store.specs.declared.changes.Change.{Change}
 use Rattle.fv_store.specs.Changes.{after_all}
 use Rattle.fv_store.specs.Causes.{HasFailed, LeavesRoom, rows_of_all}
 use Rattle.fv_store.specs.Faults.{about_fault, IsAboutFault}

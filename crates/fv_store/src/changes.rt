@@ -1,4 +1,4 @@
-//! Changes are made in one transaction, with what the rows of objects keep.
+//! Changes of the records. They are made in one transaction, with what the rows of objects keep.
 ghost use Rattle.std.specs.Prelude.{◌≡◌, ◌+◌, false, length, IfErr, None, OnOk, OnErr, IfOk, map, string_bytes};
 ghost use Rattle.sqlite.specs.State.{HasCleanDisk, KeepsCommit};
 ghost use Rattle.sqlite.specs.Held.{state};
@@ -12,11 +12,31 @@ ghost use Rattle.fv_store.specs.Written.{writings, fields_text, object_kept};
 ghost use Rattle.fv_model.specs.Writing.{fields_json, named_written};
 ghost use Rattle.fv_store_tables.specs.Changes.{AreApart, object_view as row_view, objects_view as rows_view};
 
-use crate::change::Change;
+use crate::stored::Stored;
 use fv_bundle::{Bundle, Object};
 use fv_store_tables::{ObjectText, put_record, remove_record, set_object};
 use sqlite::{Alter, Connection, Error, Transaction};
 use std::alloc::{AllocError, Global};
+/// A change of the records.
+#[derive(Drop)]
+pub enum Change {
+    /// The record of the id is this one from now on, whether or not there was one.
+    Put {
+        id: String,
+        stored: Stored,
+    },
+    /// The object of that name of the id's record is this one from now on, where there is one. Its row
+    /// alone is written.
+    Object {
+        id: String,
+        name: String,
+        object: Object,
+    },
+    /// The id has no record from now on, whether or not there was one.
+    Remove {
+        id: String,
+    },
+}
 
 /// The text that an object's fields are kept as.
 #[tactic(auto, unfolding(crate::specs::Written::fields_text))]

@@ -3,7 +3,6 @@
 #![tactic(auto)]
 
 mod about;
-mod change;
 mod changes;
 mod fault;
 mod joining;
@@ -13,7 +12,7 @@ mod store;
 mod stored;
 mod written;
 
-pub use change::Change;
+pub use changes::Change;
 pub use fault::{OpenStoreFault, StoreFault};
 pub use opening::kept_declarations;
 pub use store::Store;

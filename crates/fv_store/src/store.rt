@@ -20,7 +20,7 @@ ghost use Rattle.fv_store.specs.Stored.{stored_view, text_of, text_view, untyped
 ghost use Rattle.fv_store.specs.Written.{entry_of, writings, written_of};
 ghost use Rattle.fv_store_tables.specs.Stored.{LacksId, ShowsNone, ShowsRecord};
 
-use crate::change::Change;
+use crate::changes::Change;
 use crate::fault::{OpenStoreFault, StoreFault};
 use crate::opening::settle;
 use crate::stored::{Stored, stored_if};

@@ -83,7 +83,9 @@ UpdatesRow n at p count old new =
 
 -- these are the objects of the record
 abbrev pub ArePartsOf : List ℕ → AllTexts → Maps → Type 0
-ArePartsOf id os t = ((o : NamedTexts) → Has os o → t.parts (id, o.0) ≡ Some o.1) × ((name : List ℕ) (p : ObjectTexts) → t.parts (id, name) ≡ Some p → Has os (name, p))
+ArePartsOf id os t =
+    ((o : NamedTexts) → Has os o → t.parts (id, o.0) ≡ Some o.1)
+    × ((name : List ℕ) (p : ObjectTexts) → t.parts (id, name) ≡ Some p → Has os (name, p))
 
 -- each of these is a row of the record's objects
 abbrev pub AreRowsOf : List ℕ → List NumberedThing → Database → Type 0

@@ -1,8 +1,8 @@
 -- The report that a violation is, and a record with those that it has.
 use Rattle.std.specs.Prelude.{map, string_bytes}
 use Rattle.fv_datum.specs.View.{view}
-use Rattle.fv_validate.specs.declared.violation.Judged.{Judged}
-use Rattle.fv_validate.specs.declared.violation.Violation.{Violation}
+use Rattle.fv_validate.specs.declared.validating.Judged.{Judged}
+use Rattle.fv_validate.specs.declared.validating.Violation.{Violation}
 use Rattle.fv_validate.specs.Violations as spec
 use Rattle.fv_validate.specs.Violations.{Reported}
 

@@ -15,7 +15,7 @@ ghost use Rattle.fv_walk.specs.Properties.{field_number};
 ghost use Rattle.fv_walk.specs.Visits.{HasFewVisits, HasTooManyVisits};
 
 use crate::fault::ValidateFault;
-use crate::violation::Violation;
+use crate::validating::Violation;
 use crate::{fields, validating};
 use fv_bundle::{Bundle, Object};
 use fv_datum::Datum;

@@ -13,8 +13,7 @@ ghost use Rattle.fv_validate.specs.Violations.{IsListingOfField};
 ghost use Rattle.fv_validate.specs.declared.fault.ValidateFault.{ValidateFault};
 
 use crate::fault::ValidateFault;
-use crate::validating::listing_of;
-use crate::violation::Violation;
+use crate::validating::{Violation, listing_of};
 use fv_bundle::Object;
 use fv_datum::Datum;
 use fv_declare_schema::GroupId;

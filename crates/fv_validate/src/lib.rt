@@ -8,8 +8,7 @@ mod by_name;
 mod fault;
 mod fields;
 mod validating;
-mod violation;
 
 pub use by_name::{validate, validate_property, validate_value};
 pub use fault::ValidateFault;
-pub use violation::{Judged, Violation};
+pub use validating::{Judged, Violation};

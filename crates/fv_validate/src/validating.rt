@@ -20,9 +20,9 @@ ghost use Rattle.fv_walk.specs.FailureView.{failure_view};
 ghost use Rattle.fv_walk.specs.Visits.{HasTooManyVisits, HasFewVisits};
 
 use crate::fault::ValidateFault;
-use crate::violation::Violation;
 use fv_bundle::Bundle;
 use fv_constraint_tree::Node;
+use fv_datum::Datum;
 use fv_declare_schema::{GroupId, Placed};
 use fv_local::Rulebook;
 use fv_message::Messages;
@@ -31,6 +31,27 @@ use fv_walk::Failure;
 use fv_walk::by_id::walk_typed;
 use std::alloc::{AllocError, Global};
 use std::cmp::Ordering;
+/// A reported constraint (constraint violation).
+#[derive(Drop)]
+pub struct Violation {
+    /// The property path: of a field or of a part of it; for a constraint on an object the path to that
+    /// object, empty for the root.
+    pub path: String,
+    /// The constraint's name.
+    pub constraint: String,
+    /// The number of the constraint over the whole declarations.
+    pub occurrence: usize,
+    pub message: String,
+    /// The datum that was refused, or the name of the object that was.
+    pub value: Datum,
+}
+
+/// A record by its id, with its violations.
+#[derive(Drop)]
+pub struct Judged {
+    pub id: String,
+    pub violations: Vec<Violation>,
+}
 
 /// The constraint of a number, in the trees of these uses.
 pub(crate) fn node_of(occurrences: &[Placed], number: usize) -> Option<&Node>

@@ -43,7 +43,9 @@ named_narrowed new number t = type_narrowed number t.1 (at_name t.0 new)
 
 -- the same, of the type of a number; nothing where there is none
 abbrev pub numbered_narrowed : Declared → Declared → ℕ → List Narrowed
-numbered_narrowed old new number = option_map_or (λ fields. type_narrowed number fields (at_name (name_at old number) new)) (option_map (λ t. t.1) (slice_get old number)) []
+numbered_narrowed old new number =
+    option_map_or (λ fields. type_narrowed number fields (at_name (name_at old number) new))
+    (option_map (λ t. t.1) (slice_get old number)) []
 
 -- of the types
 abbrev pub types_narrowed : Declared → Declared → List Narrowed

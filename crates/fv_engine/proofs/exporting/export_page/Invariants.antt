@@ -5,6 +5,6 @@ use Rattle.fv_engine.proofs.exporting.export_page.Given as goal
 
 abbrev pub invariant-loop-id : goal.invariant-loop-id
 invariant-loop-id g l = record {
-  page : Page (stock_state g.S.Store l.fn.store) (stock_state g.S.Store l.store) (g.W.Write.contents l.fn.out) (g.W.Write.contents l.out) (map string_bytes (take l.id-index l.ids));
+  page : Page (stock_state g.S.Store l.fn.store) (stock_state g.S.Store l.store) (g.O.Output.contents l.fn.out) (g.O.Output.contents l.out) (map string_bytes (take l.id-index l.ids));
   text : l.store.text ≡ l.fn.store.text;
 }

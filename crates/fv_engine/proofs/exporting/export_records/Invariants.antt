@@ -5,6 +5,6 @@ use Rattle.fv_engine.proofs.exporting.export_records.Given as goal
 
 abbrev pub invariant-loop : goal.invariant-loop
 invariant-loop g l = record {
-  pass : Pass (stock_state g.S.Store l.fn.store) (stock_state g.S.Store l.store) (g.W.Write.contents l.fn.out) (g.W.Write.contents l.out) (string_bytes l.above) (l.counter * 1000);
+  pass : Pass (stock_state g.S.Store l.fn.store) (stock_state g.S.Store l.store) (g.O.Output.contents l.fn.out) (g.O.Output.contents l.out) (string_bytes l.above) (l.counter * 1000);
   text : l.store.text ≡ l.fn.store.text;
 }

@@ -4,8 +4,8 @@ use Rattle.serde_json.specs.View.{view as json_view}
 use Rattle.fv_engine.proofs.Exported.{put_text}
 use Rattle.fv_engine.proofs.exporting.put_line.Goals as goal
 
-pub returns : goal.returns
-returns c = λ k is.
+pub returns-clause-line : goal.returns-clause-line
+returns-clause-line c = λ k is.
     let written = c.args.written in
     let reads = rw c.as_str.ensures.value at c.in_ok-bundle.ensures.read in
     let value = rw c.as_str-2.ensures.value at c.in_ok-value.ensures in

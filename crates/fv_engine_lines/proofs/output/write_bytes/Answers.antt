@@ -5,11 +5,13 @@ use Rattle.fv_engine_lines.proofs.output.write_bytes.Goals as goal
 pub loop-at-preserved : goal.loop-at-preserved
 loop-at-preserved g c = record {
   within = omega (arith, length-drop c.loop-at.at c.args.bytes.now, c.in-Ok.ensures.bound);
-  written = wrote_on _ (g.W.Write.contents c.loop-at.writer) _ c.loop-at.at c.in-Ok.n c.args.bytes.now c.loop-at.invariant.within c.loop-at.invariant.written c.in-Ok.ensures.bytes;
+  written = wrote_on _ (g.W.Output.contents c.loop-at.writer) _ c.loop-at.at c.in-Ok.n c.args.bytes.now c.loop-at.invariant.within c.loop-at.invariant.written c.in-Ok.ensures.bytes;
 }
 
 pub returns-in-Ok-eq0-clause-err : goal.returns-in-Ok-eq0-clause-err
-returns-in-Ok-eq0-clause-err g c = wrote_some _ _ (c.loop-at.at + c.in-Ok-eq0.field-0) c.args.bytes.now (wrote_on _ (g.W.Write.contents c.loop-at.writer) _ c.loop-at.at c.in-Ok-eq0.field-0 c.args.bytes.now c.loop-at.invariant.within c.loop-at.invariant.written c.in-Ok-eq0.ensures.bytes)
+returns-in-Ok-eq0-clause-err g c =
+    (wrote_some _ _ (c.loop-at.at + c.in-Ok-eq0.field-0) c.args.bytes.now (wrote_on _ (g.W.Output.contents c.loop-at.writer) _ c.loop-at.at c.in-Ok-eq0.field-0 c.args.bytes.now c.loop-at.invariant.within c.loop-at.invariant.written c.in-Ok-eq0.ensures.bytes), _, c.in-Ok-eq0.ensures.failed c.in-Ok-eq0.field-0-test)
 
 pub returns-in-Err-clause-err : goal.returns-in-Err-clause-err
-returns-in-Err-clause-err g c = wrote_front _ (g.W.Write.contents c.loop-at.writer) _ c.loop-at.at c.args.bytes.now c.loop-at.invariant.written c.in-Err.ensures.bytes
+returns-in-Err-clause-err g c =
+    (wrote_front _ (g.W.Output.contents c.loop-at.writer) _ c.loop-at.at c.args.bytes.now c.loop-at.invariant.written c.in-Err.ensures.bytes, _, c.in-Err.ensures.failed)

@@ -1,10 +1,11 @@
-use Rattle.std.proofs.Common.{◌≢◌, refl}
+use Rattle.std.proofs.Common.{◌≢◌, arith, inr, refl}
+use Rattle.fv_engine_lines.specs.Writes.{Sends}
 use Rattle.fv_engine_lines.specs.declared.serving.Turn.TheVariants.{End, WriteFailed}
 use Rattle.fv_engine_lines.proofs.Lines.{taken_none}
 use Rattle.fv_engine_lines.proofs.serving.serve_lines.Goals as goal
 
 pub loop-turn-init : goal.loop-turn-init
-loop-turn-init g c = record { reads = refl; taken = rw c.requires (taken_none g.P.Responder.step g.C.Clock.ticks _ _) }
+loop-turn-init g c = record { reads = refl; taken = rw c.requires (taken_none g.P.Responder.step g.C.Clock.ticks (Sends g.W.Output.contents g.W.Output.flushes) _ _) }
 
 pub returns-in-Ok-clause-ok : goal.returns-in-Ok-clause-ok
 returns-in-Ok-clause-ok g c =
@@ -15,3 +16,6 @@ pub returns-in-Err-clause-write : goal.returns-in-Err-clause-write
 returns-in-Err-clause-write g c = λ is.
     let other : End ≢ WriteFailed = λ e. cc in
     c.in-Err.ensures.err _ _ _ (c.in-End.ensures.end refl) (c.in-End.ensures.taken other _ _ c.loop-turn.invariant.taken)
+
+pub returns-clause-read_cause : goal.returns-clause-read_cause
+returns-clause-read_cause g c = λ is. inr (c.loop-turn._turn, omega (arith, c.loop-turn.auto._turn-end, c.loop-turn-test.false), c.loop-turn.invariant.reads)

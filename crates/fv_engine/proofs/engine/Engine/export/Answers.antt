@@ -20,14 +20,14 @@ returns-clause-untouched g c = export_untouched (stock_state g.S.Store) (g.R.Rul
 pub returns-clause-exported : goal.returns-clause-exported
 returns-clause-exported g c =
     let shallow = subst (λ (ts : Declared). has_deep ts ≡ false) (c.types.ensures ∙ ap (λ (d : Declarations). d.types) c.schema.ensures) c.are_shallow.ensures in
-    λ clean. export_done (stock_state g.S.Store) (g.R.RuleSet.known c.self.inside.rules) c.self.inside.book c.self.inside.store c.export_store.new.store c.args.self.now c.self.view_is c.export_store.ensures.text c.export_store.ensures.reads (g.W.Write.contents c.args.out.now) (g.W.Write.contents c.export_store.new.out) c.export_store.result c.export_store.ensures.wrote shallow clean
+    λ clean. export_done (stock_state g.S.Store) (g.R.RuleSet.known c.self.inside.rules) c.self.inside.book c.self.inside.store c.export_store.new.store c.args.self.now c.self.view_is c.export_store.ensures.text c.export_store.ensures.reads (g.O.Output.contents c.args.out.now) (g.O.Output.contents c.export_store.new.out) c.export_store.result c.export_store.ensures.wrote shallow clean
 
 pub returns-clause-front : goal.returns-clause-front
 returns-clause-front g c =
     let shallow = subst (λ (ts : Declared). has_deep ts ≡ false) (c.types.ensures ∙ ap (λ (d : Declarations). d.types) c.schema.ensures) c.are_shallow.ensures in
-    λ clean. export_front (stock_state g.S.Store) (g.R.RuleSet.known c.self.inside.rules) c.self.inside.book c.self.inside.store c.export_store.new.store c.args.self.now c.self.view_is c.export_store.ensures.text c.export_store.ensures.reads (g.W.Write.contents c.args.out.now) (g.W.Write.contents c.export_store.new.out) c.export_store.result c.export_store.ensures.wrote shallow clean
+    λ clean. export_front (stock_state g.S.Store) (g.R.RuleSet.known c.self.inside.rules) c.self.inside.book c.self.inside.store c.export_store.new.store c.args.self.now c.self.view_is c.export_store.ensures.text c.export_store.ensures.reads (g.O.Output.contents c.args.out.now) (g.O.Output.contents c.export_store.new.out) c.export_store.result c.export_store.ensures.wrote shallow clean
 
 pub returns-clause-cause : goal.returns-clause-cause
 returns-clause-cause g c =
     let shallow = subst (λ (ts : Declared). has_deep ts ≡ false) (c.types.ensures ∙ ap (λ (d : Declarations). d.types) c.schema.ensures) c.are_shallow.ensures in
-    λ clean. export_cause (stock_state g.S.Store) (g.R.RuleSet.known c.self.inside.rules) c.self.inside.book c.self.inside.store c.export_store.new.store c.args.self.now c.self.view_is c.export_store.ensures.text c.export_store.ensures.reads (g.W.Write.contents c.args.out.now) (g.W.Write.contents c.export_store.new.out) c.export_store.result c.export_store.ensures.wrote shallow clean
+    λ clean. export_cause (stock_state g.S.Store) (g.R.RuleSet.known c.self.inside.rules) c.self.inside.book c.self.inside.store c.export_store.new.store c.args.self.now c.self.view_is c.export_store.ensures.text c.export_store.ensures.reads (g.O.Output.contents c.args.out.now) (g.O.Output.contents c.export_store.new.out) c.export_store.result c.export_store.ensures.wrote shallow clean

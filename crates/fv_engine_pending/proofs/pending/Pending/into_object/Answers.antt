@@ -2,7 +2,7 @@ use Rattle.std.proofs.Common.{◌≡◌, ◌++◌, List, [], ◌∷◌, sym, ap,
 use Rattle.fv_bundle.specs.Views.{object_view}
 use Rattle.fv_engine_pending.specs.Ways.{pending_view}
 use Rattle.fv_engine_pending.proofs.OneObject.{none_set, object_after, object_fits, object_short}
-use Rattle.fv_store.specs.declared.change.Change.{Change}
+use Rattle.fv_store.specs.declared.changes.Change.{Change}
 use Rattle.fv_engine_pending.proofs.pending.Pending.into_object.Goals as goal
 
 pub returns-in_default-clause-none : goal.returns-in_default-clause-none
