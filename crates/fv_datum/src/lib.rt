@@ -13,7 +13,7 @@ mod moment;
 mod name;
 mod name_lists;
 mod parsing;
-mod reading;
+mod plain_datum;
 mod writing;
 
 pub use attribute_kind::AttributeKind;
@@ -27,5 +27,5 @@ pub use moment::{LAST_MOMENT, moment_ok};
 pub use name::{Name, is_name};
 pub use name_lists::{names_in, names_of, told_names_of};
 pub use parsing::{JsonFault, has_only, object_at, read_json, read_text, text_at};
-pub use reading::{read_datum, spells_datum};
+pub use plain_datum::{read_datum, spells_datum};
 pub use writing::{is_null, key_of, keys_fit, write_datum};

@@ -2,8 +2,8 @@
 //! (`read_placed`). Drafts are judged in `fv_declare_judging`; what is declared stands in `fv_declare_schema`.
 #![tactic(auto)]
 
-mod reading;
+mod text;
 
 pub use fv_declare_judging::{At, DeclFault, LimitAt, NamesAt, PlacedFault, WordingAt};
 pub use fv_declare_schema::{Place, Placed, Schema};
-pub use reading::{read_placed, read_schema};
+pub use text::{read_placed, read_schema};

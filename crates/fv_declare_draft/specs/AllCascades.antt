@@ -22,6 +22,6 @@ field_cascades type f = map (cascade_in type f.0) f.1.cascades
 abbrev pub type_cascades : ℕ × TypeDraft → List Cascade
 type_cascades t = flat_map (field_cascades t.0) (enumerate_from 0 t.1.fields)
 
--- by types, in a type by fields, in a field from the outermost place inwards; types and fields ascend by the bytes of their names
+-- by types, in a type by fields, in a field from the outermost place inwards
 abbrev pub cascades_in : List TypeDraft → List Cascade
 cascades_in ts = flat_map type_cascades (enumerate_from 0 ts)

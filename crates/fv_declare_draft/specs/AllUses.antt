@@ -28,7 +28,6 @@ field_uses type f = map (use_in type f.0) f.1.uses
 abbrev pub type_uses : ℕ × TypeDraft → List DraftUse
 type_uses t = map (use_at t.0 whole) t.1.uses ++ flat_map (field_uses t.0) (enumerate_from 0 t.1.fields)
 
--- by types, in a type those at itself and then by fields, in a field as its place gives them; types and fields ascend by the bytes of their
--- names
+-- by types, in a type those at itself and then by fields, in a field as its place gives them
 abbrev pub uses_in : List TypeDraft → List DraftUse
 uses_in ts = flat_map type_uses (enumerate_from 0 ts)

@@ -20,7 +20,7 @@ mutual
   pub data PlaceDraft : Type 0 where
     place : List UseDraft → CascadeDraft → Holding → PlaceDraft
 
-  -- plain data or references, or a list, an optional or a map of what another place holds; the uses at a map are those at its keys
+  -- plain data or references, or a list, an optional or a map of what another place holds; the uses in `a_map` are those at its keys
   pub data Holding : Type 0 where
     plain : TypeUse → Holding
     list : PlaceDraft → Holding

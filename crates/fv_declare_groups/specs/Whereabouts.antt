@@ -85,7 +85,7 @@ misplaced_in gs cs = first_in (λ n c. option_map (at.Cascade n) (misplaced_at g
 
 -- ---- the places
 
--- where a draft has a fault of its groups: the first place in the words of that fault's condition. A cycle has no place here
+-- where a draft has a fault of its groups: the first place in the order of these definitions. A cycle has no place here
 abbrev pub IsAt : Drafted → GroupingFault → Option GroupingAt → Type 0
 IsAt d UnknownGroup found =
     (found ≡ unknown_at (groups_in d) (uses_in d.types) d.types (cascades_in d.types) d.forms) × IsTrue (is_some found)

@@ -61,7 +61,7 @@ Holds k bytes MessageSyntax = OfDraft bytes IsIllWritten  -- F19
 Holds k bytes MessageCycle = OfDraft bytes (λ d. IsCircular (all_messages d.messages))  -- F20
 Holds k bytes Memory = ⊥
 
--- a fault's condition doesn't hold; whether a pattern is built is as the regex crate answers, so of BadPattern this says that all were built
+-- a fault's condition doesn't hold; of a pattern of the right syntax the regex crate answers whether it is built, so both may be said of BadPattern
 abbrev pub Fails : Known → List ℕ → DeclFault → Type 0
 Fails k bytes BadPattern = OfTrees bytes AreBuilt
 Fails k bytes fault = Holds k bytes fault → ⊥

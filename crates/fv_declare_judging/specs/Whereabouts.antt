@@ -52,7 +52,8 @@ IsAtLimit d found =
     (ts : List (Tree Planned)) × AreTreesOfUses d.definitions (used_in d) ts
     × ((w : Option WordingAt) × IsWordyAt d w × (found ≡ option_map Limit (first_limit (types_limit (types_declared d)) d w ts)) × IsTrue (is_some found))
 
--- where a draft has a fault: the first place in the words of that fault's condition. The cycles are told by rings, apart
+-- where a draft has a fault: the first place in the order of these definitions; of keys whose text becomes too long, some. The cycles are told by
+-- rings, apart
 abbrev pub IsAt : Known → Drafted → DeclFault → Option At → Type 0
 IsAt k d BadName found = IsNameAt d BadName found  -- F3
 IsAt k d UnknownName found = IsNameAt d UnknownName found  -- F4

@@ -3,20 +3,20 @@
 #![tactic(auto)]
 
 mod build;
+mod declarations;
 mod fault;
 mod judging;
 mod names;
 mod naming;
 mod parts;
 mod placed;
-mod reading;
 mod templates;
 mod types;
 mod used;
 mod user;
 mod wording;
 
+pub use declarations::judge;
 pub use fault::DeclFault;
 pub use placed::{At, LimitAt, NamesAt, PlacedFault, WordingAt};
-pub use reading::judge;
 pub use user::user_messages;

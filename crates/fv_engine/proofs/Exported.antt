@@ -13,17 +13,17 @@ use Rattle.sqlite.specs.State.{State, HasCleanDisk}
 use Rattle.sqlite_rules.specs.Lists.{Has}
 use Rattle.fv_datum.specs.Ascending.{IsAscending}
 use Rattle.fv_engine.specs.Exports.{put_json, record_line, record_lines, declarations_line, export_text, AreAllOf, AreFirstOf, Exports, ExportsFront}
-use Rattle.fv_engine.specs.ExportSteps.{all_kept, faultless, of_store, TellsWrite, WritesLine, OneDone, OneFails, FirstDone, FirstFails, PageDone, PageFails, NextDone, NextFails, AllDone, AllFails, StoreDone, StoreFails}
+use Rattle.fv_engine.specs.ExportSteps.{all_kept, faultless, of_store, Grows, TellsWrite, WritesLine, OneDone, OneFails, FirstDone, FirstFails, PageDone, PageFails, NextDone, NextFails, AllDone, AllFails, StoreDone, StoreFails}
 use Rattle.fv_engine.specs.declared.exporting.ExportFault.{ExportFault}
 use Rattle.fv_engine.specs.declared.exporting.ExportFault.TheVariants.{Store, Write, Memory}
 pub use Rattle.fv_engine_pending.proofs.Pages.{Below, IsAbove, Pages, all_append, all_done, all_has, has_right, keys_append, last_end, length_keys, page_known, reach_none, reach_only, reach_page, split_at, taken_one}
 pub use Rattle.fv_engine_pending.proofs.Passes.{pages_of, reads_none, reads_then}
-use Rattle.fv_engine_pending.specs.Passes.{AreAll, AreKnown, GoesOn, IsFull, OnlyReads, Reaches, Sure, last_of}
+use Rattle.fv_engine_pending.specs.Passes.{AreAll, AreKnown, IsUpTo, IsFull, OnlyReads, Reaches, Sure, last_of}
 use Rattle.fv_engine_pending.specs.Rejudging.{HasFewIds}
 use Rattle.fv_bundle.specs.Bundles.{Bundled}
 pub use Rattle.fv_engine_lines.proofs.Writes.{appends_kept, appends_none, appends_then}
 use Rattle.fv_engine_lines.specs.Lines.{ended}
-use Rattle.fv_engine_lines.specs.Writes.{AppendsFront}
+use Rattle.fv_engine_lines.specs.Writes.{AppendsFront, Sends}
 use Rattle.fv_model.specs.Writing.{bundle_json}
 use Rattle.fv_model.proofs.NoFloats.{bundle_float}
 use Rattle.fv_bundle.specs.Types.{has_deep}
@@ -57,6 +57,10 @@ front_longer a b xs ys (front, back, is, done) = (front, back ++ ys, ap (λ (l :
 -- all, kept since
 pub whole_front : (a b c : Option (List ℕ)) (xs : List ℕ) → Appends a b xs → Keeps b c → AppendsFront a c xs
 whole_front a b c xs p q = (xs, [], sym (append-nil xs), appends_kept a b c xs p q)
+
+-- a front, kept since
+pub front_kept : (a b c : Option (List ℕ)) (xs : List ℕ) → AppendsFront a b xs → Keeps b c → AppendsFront a c xs
+front_kept a b c xs (front, back, is, done) keeps = (front, back, is, appends_kept a b c front done keeps)
 
 lines_append : (ks js : List (List ℕ × Kept)) → record_lines (ks ++ js) ≡ record_lines ks ++ record_lines js
 lines_append [] js = refl
@@ -173,10 +177,37 @@ none_kept : (o : Option Kept) (k : Kept) → None ≡ option_map untyped o → o
 none_kept None k none is = cc
 none_kept (Some j) k none is = cc
 
--- a fault of the store is none of the output
-pub store_tells : {O : Type 0} (fails : O → O → Type 0) (new : O) (e : StoreFault) → TellsWrite fails new (of_store e)
-store_tells fails new store.Store is = cc
-store_tells fails new store.Memory is = cc
+-- ---- what an output took, and why it failed
+
+module _ {O : Type 0} (contents : O → Option (List ℕ)) where
+  pub grows_none : (o : O) → Grows contents o o
+  grows_none o = ([], appends_none (contents o))
+
+  pub grows_then : (a b c : O) → Grows contents a b → Grows contents b c → Grows contents a c
+  grows_then a b c first more = (first.0 ++ more.0, appends_then (contents a) (contents b) (contents c) first.0 more.0 first.1 more.1)
+
+  pub wrote_grows : {X : Type 0} (a b : O) (bs : List ℕ) (P : ExportFault → Type 0) (r : Result X ExportFault) → MatchResult r (λ _. Appends (contents a) (contents b) bs) P → OnOk r (Grows contents a b)
+  wrote_grows a b bs P (Ok x) wrote = (bs, wrote)
+  wrote_grows a b bs P (Err f) told = tt
+
+  pub flush_sends : {X : Type 0} (flushes : O → O → Type 0) (a b c : O) (r : Result X ExportFault) → Grows contents a b → Keeps (contents b) (contents c) → OnOk r (flushes b c) → OnOk r ((bs : List ℕ) × Sends contents flushes a c bs)
+  flush_sends flushes a b c (Ok x) grown keeps flushed = (grown.0, b, grown.1, keeps, flushed)
+  flush_sends flushes a b c (Err f) grown keeps told = tt
+
+  module _ (fails : O → O → Type 0) where
+    -- a fault of the store is none of the output
+    pub store_tells : (old new : O) (e : StoreFault) → TellsWrite contents fails old new (of_store e)
+    store_tells old new store.Store is = cc
+    store_tells old new store.Memory is = cc
+
+    pub tells_then : (a b c : O) (f : ExportFault) → Grows contents a b → TellsWrite contents fails b c f → TellsWrite contents fails a c f
+    tells_then a b c f grown tells is =
+        let told = tells is in
+        (grown.0 ++ told.0, told.1, then_front (contents a) (contents b) (contents told.1) grown.0 told.0 grown.1 told.2, told.3, told.4)
+
+    pub flush_tells : {X : Type 0} (a b c : O) (r : Result X ExportFault) → Grows contents a b → Keeps (contents b) (contents c) → IfErr r (λ f. (f ≡ Write) × fails b c) → IfErr r (TellsWrite contents fails a c)
+    flush_tells a b c (Ok x) grown keeps told = tt
+    flush_tells a b c (Err f) grown keeps told = λ is. (grown.0, b, (grown.0, [], sym (append-nil grown.0), grown.1), keeps, told.1)
 
 -- what the store tells of its fault
 abbrev pub IsCaused : State → State → StoreFault → Type 0
@@ -412,15 +443,20 @@ undeclared s w v text f none front = λ clean c shallow holds.
     ((λ of few is_text. absurd (none of is_text)), ([], first_none c.records, front_longer w v (declarations_line text) [] front))
 
 -- all is written, and the flush takes nothing away
-pub flushed : (old new : State) (w v u : Option (List ℕ)) (text : List ℕ) → StoreDone old new w v text → Keeps v u → StoreDone old new w u text
+flushed : (old new : State) (w v u : Option (List ℕ)) (text : List ℕ) → StoreDone old new w v text → Keeps v u → StoreDone old new w u text
 flushed old new w v u text done keeps = λ clean c shallow holds.
     let told = done clean c shallow holds in
     (told.0, told.1, appends_kept w v u (export_text text told.0) told.2 keeps)
 
-pub unflushed : (old new : State) (w v u : Option (List ℕ)) (text : List ℕ) → StoreDone old new w v text → Keeps v u → StoreFails old new w u text Write
+unflushed : (old new : State) (w v u : Option (List ℕ)) (text : List ℕ) → StoreDone old new w v text → Keeps v u → StoreFails old new w u text Write
 unflushed old new w v u text done keeps = λ clean c shallow holds.
     let told = done clean c shallow holds in
     ((λ of few is_text. cc), (told.0, as_first c.records told.0 told.1, whole_front w v u (export_text text told.0) told.2 keeps))
+
+pub flush_wrote : {X F : Type 0} (old new : State) (w v u : Option (List ℕ)) (text : List ℕ) (r : Result X ExportFault) → StoreDone old new w v text → Keeps v u → IfErr r (λ f. (f ≡ Write) × F)
+    → MatchResult r (λ _. StoreDone old new w u text) (λ f. StoreFails old new w u text f)
+flush_wrote old new w v u text (Ok x) done keeps told = flushed old new w v u text done keeps
+flush_wrote old new w v u text (Err f) done keeps told = subst (StoreFails old new w u text) (sym told.0) (unflushed old new w v u text done keeps)
 
 -- ---- told of an engine's records
 

@@ -56,7 +56,7 @@ module _ {C O : Type 0} (means : Meanings) (ticks : Ticks C) (sends : Writing O)
         rest.0 ∙ same,
         (
           (reign_of mid.0, mid.1, mid.2),
-          (a.0, a.1, a.2, turned_of means old.0 line a.1 a.0 mid.0 a.3, a.4),
+          (a.0, a.1, a.2, turned_of means old.0 line a.1 a.0 mid.0 a.3, a.4, a.5),
           subst (λ (k : Known). Run (Turned k means) ticks sends (reign_of mid.0, mid.1, mid.2) lines (reign_of new.0, new.1, new.2)) same rest.1,
         ),
       )
@@ -77,7 +77,7 @@ module _ {C O : Type 0} (means : Meanings) (ticks : Ticks C) (sends : Writing O)
           read = s.read;
           mid = (reign_of mid.0, mid.1, mid.2);
           ran = run.1;
-          last = (a.0, a.1, a.2, subst (λ (k : Known). Turned k means (reign_of mid.0) s.line a.1 a.0 (reign_of y)) run.0 (turned_of means mid.0 s.line a.1 a.0 y a.3), a.4);
+          last = (a.0, a.1, a.2, subst (λ (k : Known). Turned k means (reign_of mid.0) s.line a.1 a.0 (reign_of y)) run.0 (turned_of means mid.0 s.line a.1 a.0 y a.3), a.4, a.5);
         }
 
 -- ---- a run of an engine
@@ -94,7 +94,7 @@ module _ {H C O : Type 0} (means : Meanings) (held : H → State) (ticks : Ticks
   run_lifted old (line ∷ lines) new ran =
       let mid : Session (Service H) C O = ran.0 in
       let a = ran.1 in
-      weaker held old.0 new.0 _ _ (λ x y t. ((t.0, mid.1, mid.2), (a.0, a.1, a.2, t.1, a.4), t.2)) (onwards held old.0 mid.0 new.0 _ _ a.3 (run_lifted mid lines new ran.2))
+      weaker held old.0 new.0 _ _ (λ x y t. ((t.0, mid.1, mid.2), (a.0, a.1, a.2, t.1, a.4, a.5), t.2)) (onwards held old.0 mid.0 new.0 _ _ a.3 (run_lifted mid lines new ran.2))
 
   module _ (e f : Service H) (c d : C) (w v : O) where
     pub served_lifted : (Are : List (List ℕ) → Type 0) → Served line_does ticks sends Are (e, c, w) (f, d, v) → GoesOn held e f (λ x y. Served (Responds means) ticks sends Are (x, c, w) (y, d, v))
@@ -111,5 +111,5 @@ module _ {H C O : Type 0} (means : Meanings) (held : H → State) (ticks : Ticks
           read = s.read;
           mid = (t.0, mid.1, mid.2);
           ran = t.1;
-          last = (a.0, a.1, a.2, t.2, a.4);
+          last = (a.0, a.1, a.2, t.2, a.4, a.5);
         }) (onwards held e mid.0 f _ _ (run_lifted (e, c, w) s.lines mid s.ran) a.3)

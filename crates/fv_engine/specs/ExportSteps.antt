@@ -9,9 +9,9 @@ use Rattle.fv_datum.specs.declared.parsing.JsonFault.TheVariants as json_fault
 use Rattle.fv_engine.specs.Exports.{record_line, record_lines, declarations_line, AreAllOf, AreFirstOf, Exports, ExportsFront}
 use Rattle.fv_engine.specs.declared.exporting.ExportFault.{ExportFault}
 use Rattle.fv_engine.specs.declared.exporting.ExportFault.TheVariants.{Store, Write, Memory}
-use Rattle.fv_engine_pending.specs.Passes.{AreKnown, GoesOn, IsFull, Reaches, Sure}
+use Rattle.fv_engine_pending.specs.Passes.{AreKnown, IsUpTo, IsFull, Reaches, Sure}
 use Rattle.fv_engine_pending.specs.Rejudging.{HasFewIds}
-use Rattle.fv_engine_lines.specs.Writes.{AppendsFront}
+use Rattle.fv_engine_lines.specs.Writes.{AppendsFront, Breaks}
 use Rattle.fv_store.specs.Causes.{HasFailed}
 use Rattle.fv_store.specs.Records.{Kept, Records}
 use Rattle.fv_store.specs.declared.fault.StoreFault.{StoreFault}
@@ -39,9 +39,13 @@ all_kept m id = option_map faultless (m id)
 abbrev pub WritesLine : {X : Type 0} → Option (List ℕ) → Option (List ℕ) → List ℕ → Result X ExportFault → Type 0
 WritesLine w v line r = MatchResult r (λ _. Appends w v line) (λ f. (f ≢ Store) × AppendsFront w v line)
 
--- where this fault is that a write failed, a call of the output did, or a write took nothing
-abbrev pub TellsWrite : {O : Type 0} → (O → O → Type 0) → O → ExportFault → Type 0
-TellsWrite {O} fails new f = f ≡ Write → (mid : O) × fails mid new
+-- the output took bytes
+abbrev pub Grows : {O : Type 0} → (O → Option (List ℕ)) → O → O → Type 0
+Grows contents old new = (bs : List ℕ) × Appends (contents old) (contents new) bs
+
+-- where this fault is that a write failed, bytes were written, and then a call of the output failed or a write took nothing
+abbrev pub TellsWrite : {O : Type 0} → (O → Option (List ℕ)) → (O → O → Type 0) → O → O → ExportFault → Type 0
+TellsWrite contents fails old new f = f ≡ Write → (bs : List ℕ) × Breaks contents fails old new bs
 
 module _ (old new : State) (w v : Option (List ℕ)) where
   -- the id's record was written
@@ -72,7 +76,7 @@ module _ (old new : State) (w v : Option (List ℕ)) where
   -- the records of the next page above an id were written, to its last id or to the end
   abbrev pub NextDone : List ℕ → Option (List ℕ) → Type 0
   NextDone above last = Sure old new (λ m. (read : List (List ℕ × Kept)) × IsFull last read
-      × ((done : List (List ℕ × Kept)) → Reaches (all_kept m) above done → GoesOn (all_kept m) last (done ++ read))
+      × ((done : List (List ℕ × Kept)) → Reaches (all_kept m) above done → IsUpTo (all_kept m) last (done ++ read))
       × Appends w v (record_lines read))
 
   abbrev pub NextFails : List ℕ → ExportFault → Type 0

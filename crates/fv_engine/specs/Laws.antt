@@ -49,8 +49,7 @@ ShowsWhatWasPut means ds line reply new = (id form : List ℕ) (bundle : json.Da
     × ((next : List ℕ) (later : ℤ) (shows : List ℕ) (last : Records) → asked next ≡ get id → Told means ds new next later shows last
     → (shows ≡ answer_text (shown id form b)) ⊎ IsFailure shows)
 
--- A refusal changes no get, as it changes neither a record nor the declarations. Only a reply that tells that a command was taken may change
--- one.
+-- A refusal changes no get, as it changes neither a record nor the declarations; only a reply that tells of a taken command may.
 abbrev pub ChangesNoGet : List ℕ → Reign → Reign → Type 0
 ChangesNoGet reply old new = ((what : Done) → IsDone what reply → ⊥) → (IsRedeclared reply → ⊥) → new ≡ old
 
@@ -78,8 +77,7 @@ LooksFor (check i names) id = i ≡ id
 LooksFor (check_field i object field names) id = i ≡ id
 LooksFor _ id = ⊥
 
--- A get, a check, a checkfield, a set and a remove fail over a connection that is shut: they neither show what is there nor say that there is
--- nothing.
+-- A get, a check, a checkfield, a set and a remove fail over a connection that is shut: they tell neither what is there nor that nothing is.
 abbrev pub FailsWhereShut : List ℕ → List ℕ → Machine Records → Type 0
 FailsWhereShut line reply old = (id : List ℕ) → LooksFor (asked line) id → old.is_open ≡ false → IsFailure reply
 

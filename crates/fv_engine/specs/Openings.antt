@@ -49,7 +49,7 @@ pub record IsKept (old new : State) : Type 0 where
   pub upgraded : IsUpgraded old new
 
 -- a database over which Store is told for its disk alone: tables that tell another version than the first (of these every one but 2 is refused as
--- OtherVersion); those of version 1, whose rows all are records and fit; or an empty one
+-- OtherVersion); those of version 1, whose rows all are records, short and few; or an empty one, for declarations that are short
 abbrev pub FailsByDisk : State → List ℕ → Type 0
 FailsByDisk old given =
     ((version : ℕ) × (kept : List ℕ) × TellsAbout version kept old.now × (version ≢ first_version))

@@ -177,8 +177,8 @@ impl<R: RuleSet + Drop, S: Alter + Drop> Engine<R, S> {
         ensures opened { IfOk result (λ e. (known : _) (ds : _) (m : _) → Declares known e.text (Ok ds)
             → Opens (state S.Store connection) declarations.now (contents e.text ds m)
             → ServiceKeeps (stock_state S.Store) e m) }
-        // Whatever is not of version 1 is left as it was; one of version 1 is opened only where the text of each row
-        // is a bundle by its form, whatever texts they are.
+        // What is neither empty nor of version 1 is left as it was; one of version 1 is opened only where the text of
+        // each row is a bundle by its form, whatever texts they are.
         ensures kept { IfOk result (λ e. IsKept (state S.Store connection) (stock_state S.Store e.machine.records)) }
         // Declarations are told by their first fault; those handed in come first, and nothing is migrated then.
         ensures refused { IfErr result (λ r. (fault : _) → r.0 ≡ OpenFault.Declarations fault
@@ -262,14 +262,14 @@ impl<R: RuleSet + Drop, S: Alter> Engine<R, S> {
         // A taken command leaves nothing to list, of what it put or set.
         ensures nothing { GoesOn (stock_state S.Store) self.old self.new
             (λ x y. LeavesNothingToList R.meaning x.machine.declared line.now now result y.machine.records) }
-        // A command that looks for the record of an id fails over a connection that is shut.
+        // A command but a batch that looks for the record of an id fails over a connection that is shut.
         ensures shut { GoesOn (stock_state S.Store) self.old self.new
             (λ x y. FailsWhereShut line.now result x.machine) }
         // Over an open connection whose disk doesn't fail, as in memory, the store fails for want of room
         // alone, and a redeclare also for more ids than it can count.
         ensures room { GoesOn (stock_state S.Store) self.old self.new
             (λ x y. FailsForRoomAlone R.meaning line.now now result x.machine y.machine) }
-        // Behind a taken redeclare each get shows what it showed.
+        // Behind a taken redeclare each get that doesn't fail shows what it showed.
         ensures same { GoesOn (stock_state S.Store) self.old self.new
             (λ x y. ShowsTheSame R.meaning result (reign_of x) (reign_of y)) }
         // A taken redeclare leaves nothing to list, of any record.

@@ -1,16 +1,16 @@
 //! Exporting: the declarations in force and all records, as command lines.
 ghost use Rattle.std.specs.Prelude.{◌≡◌, ◌≢◌, ◌<◌, ◌≤◌, ℕ, List, IfErr, IfOk, IfSome, IsUtf8, MatchResult, None, OnErr, OnOk, false, length, map, option_map, string_bytes};
-ghost use Rattle.std.specs.Io.KnownBytes.{Appends};
+ghost use Rattle.std.specs.Io.KnownBytes.{Appends, Keeps};
 ghost use Rattle.serde_json.specs.View.{view as json_view};
 ghost use Rattle.serde_json.specs.Written.{compact_text, has_float};
 ghost use Rattle.sqlite.specs.State.{HasCleanDisk};
 ghost use Rattle.fv_engine.specs.Exports.{Exports, ExportsFront, IsSameService, declarations_line, put_json, record_line, redeclare_json};
-ghost use Rattle.fv_engine.specs.ExportSteps.{AllDone, AllFails, FirstDone, FirstFails, NextDone, NextFails, OneDone, OneFails, PageDone, PageFails, StoreDone, StoreFails, TellsWrite, WritesLine, of_json, of_store};
+ghost use Rattle.fv_engine.specs.ExportSteps.{AllDone, AllFails, FirstDone, FirstFails, Grows, NextDone, NextFails, OneDone, OneFails, PageDone, PageFails, StoreDone, StoreFails, TellsWrite, WritesLine, of_json, of_store};
 ghost use Rattle.fv_engine.specs.declared.exporting.ExportFault.TheVariants.{Memory};
 ghost use Rattle.fv_engine_pending.specs.Passes.{OnlyReads, last_of};
 ghost use Rattle.fv_engine_pending.specs.Rejudging.{HasFewIds};
 ghost use Rattle.fv_engine_lines.specs.Lines.{ended};
-ghost use Rattle.fv_engine_lines.specs.Writes.{AppendsFront};
+ghost use Rattle.fv_engine_lines.specs.Writes.{AppendsFront, Breaks, Sends};
 ghost use Rattle.fv_engine_machine.specs.Services.{ServiceKeeps};
 ghost use Rattle.fv_bundle.specs.Types.{has_deep};
 ghost use Rattle.fv_bundle.specs.TypesView.{types_view};
@@ -41,7 +41,7 @@ const MOST_PAGES: u64 = 1 << 32;
 /// Why not all is exported.
 #[derive(Clone, Copy, Debug, PartialEq, Eq, Error)]
 pub enum ExportFault {
-    /// The store couldn't do it.
+    /// The store couldn't do it, or the text of the declarations isn't UTF-8.
     #[error("the store failed")]
     Store,
     /// A write or a flush failed, or a write took nothing.
@@ -86,9 +86,21 @@ impl From<AllocError> for ExportFault {
 fn write_all<O: Output>(out: &mut O, bytes: &[u8]) -> Result<(), ExportFault>
     ensures wrote { MatchResult result (λ _. Appends (O.contents out.old) (O.contents out.new) bytes.now)
         (λ f. (f ≡ ExportFault.Write) × AppendsFront (O.contents out.old) (O.contents out.new) bytes.now) }
-    ensures cause { IfErr result (TellsWrite O.fails out.new) }
+    ensures cause { IfErr result (TellsWrite O.contents O.fails out.old out.new) }
 {
     match write_bytes(out, bytes) {
+        Ok(()) => Ok(()),
+        Err(_) => Err(ExportFault::Write),
+    }
+}
+
+/// Flushes what was written.
+fn flush<O: Output>(out: &mut O) -> Result<(), ExportFault>
+    ensures kept { Keeps (O.contents out.old) (O.contents out.new) }
+    ensures flushed { OnOk result (O.flushes out.old out.new) }
+    ensures cause { IfErr result (λ f. (f ≡ ExportFault.Write) × O.fails out.old out.new) }
+{
+    match out.flush_all() {
         Ok(()) => Ok(()),
         Err(_) => Err(ExportFault::Write),
     }
@@ -149,7 +161,8 @@ fn write_record<O: Output>(
 ) -> Result<(), ExportFault>
     ensures wrote { (k : Kept) → written_view written ≡ untyped k
         → WritesLine (O.contents out.old) (O.contents out.new) (record_line id.now k) result }
-    ensures cause { IfErr result (TellsWrite O.fails out.new) }
+    ensures grew { OnOk result (Grows O.contents out.old out.new) }
+    ensures cause { IfErr result (TellsWrite O.contents O.fails out.old out.new) }
 {
     let line = put_line(alloc, id, written)?;
     write_all(out, line.as_bytes())
@@ -161,7 +174,7 @@ fn write_declarations<O: Output>(alloc: Global, text: &[u8], out: &mut O) -> Res
         (λ _. Appends (O.contents out.old) (O.contents out.new) (declarations_line text.now))
         (λ f. (f ≡ ExportFault.Store → IsUtf8 text.now → ⊥)
         × AppendsFront (O.contents out.old) (O.contents out.new) (declarations_line text.now)) }
-    ensures cause { IfErr result (TellsWrite O.fails out.new) }
+    ensures cause { IfErr result (TellsWrite O.contents O.fails out.old out.new) }
 {
     let line = redeclare_line(alloc, text)?;
     write_all(out, line.as_bytes())
@@ -181,7 +194,8 @@ fn export_one<S: Alter, O: Output>(
         (O.contents out.old) (O.contents out.new) id.now)
         (λ f. OneFails (stock_state S.Store store.old) (stock_state S.Store store.new)
         (O.contents out.old) (O.contents out.new) id.now f) }
-    ensures cause { IfErr result (TellsWrite O.fails out.new) }
+    ensures grew { OnOk result (Grows O.contents out.old out.new) }
+    ensures cause { IfErr result (TellsWrite O.contents O.fails out.old out.new) }
 {
     match store.written(alloc, id)? {
         Some(written) => write_record(alloc, id, written, out),
@@ -202,7 +216,8 @@ fn export_first<S: Alter, O: Output>(
         (O.contents out.old) (O.contents out.new))
         (λ f. FirstFails (stock_state S.Store store.old) (stock_state S.Store store.new)
         (O.contents out.old) (O.contents out.new) f) }
-    ensures cause { IfErr result (TellsWrite O.fails out.new) }
+    ensures grew { OnOk result (Grows O.contents out.old out.new) }
+    ensures cause { IfErr result (TellsWrite O.contents O.fails out.old out.new) }
 {
     match store.written(alloc, "")? {
         Some(written) => write_record(alloc, "", written, out),
@@ -224,7 +239,8 @@ fn export_page<S: Alter, O: Output>(
         (O.contents out.old) (O.contents out.new) (map string_bytes ids.now))
         (λ f. PageFails (stock_state S.Store store.old) (stock_state S.Store store.new)
         (O.contents out.old) (O.contents out.new) (map string_bytes ids.now) f) }
-    ensures cause { IfErr result (TellsWrite O.fails out.new) }
+    ensures grew { OnOk result (Grows O.contents out.old out.new) }
+    ensures cause { IfErr result (TellsWrite O.contents O.fails out.old out.new) }
 {
     for id in ids {
         export_one(store, alloc, id.as_str(), out)?;
@@ -260,7 +276,8 @@ fn export_next_page<S: Alter, O: Output>(
         (O.contents out.old) (O.contents out.new) above.now (option_map string_bytes o))
         (λ f. NextFails (stock_state S.Store store.old) (stock_state S.Store store.new)
         (O.contents out.old) (O.contents out.new) above.now f) }
-    ensures cause { IfErr result (TellsWrite O.fails out.new) }
+    ensures grew { OnOk result (Grows O.contents out.old out.new) }
+    ensures cause { IfErr result (TellsWrite O.contents O.fails out.old out.new) }
 {
     let ids = store.ids(alloc, Some(above), PAGE)?;
     export_page(store, alloc, &ids, out)?;
@@ -280,7 +297,8 @@ fn export_records<S: Alter, O: Output>(
         (O.contents out.old) (O.contents out.new))
         (λ f. AllFails (stock_state S.Store store.old) (stock_state S.Store store.new)
         (O.contents out.old) (O.contents out.new) f) }
-    ensures cause { IfErr result (TellsWrite O.fails out.new) }
+    ensures grew { OnOk result (Grows O.contents out.old out.new) }
+    ensures cause { IfErr result (TellsWrite O.contents O.fails out.old out.new) }
 {
     export_first(store, alloc, out)?;
     let mut above = String::new(alloc);
@@ -306,15 +324,12 @@ fn export_store<S: Alter, O: Output>(
         (O.contents out.old) (O.contents out.new) store.old.text)
         (λ f. StoreFails (stock_state S.Store store.old) (stock_state S.Store store.new)
         (O.contents out.old) (O.contents out.new) store.old.text f) }
-    ensures cause { IfErr result (TellsWrite O.fails out.new) }
-    ensures flushed { OnOk result ((mid : O) × O.flushes mid out.new) }
+    ensures cause { IfErr result (TellsWrite O.contents O.fails out.old out.new) }
+    ensures flushed { OnOk result ((bs : List ℕ) × Sends O.contents O.flushes out.old out.new bs) }
 {
     write_declarations(alloc, store.declarations(), out)?;
     export_records(store, alloc, out)?;
-    match out.flush_all() {
-        Ok(()) => Ok(()),
-        Err(_) => Err(ExportFault::Write),
-    }
+    flush(out)
 }
 
 /// No type has another in it deeper than is written back.
@@ -329,8 +344,8 @@ impl<R: RuleSet + Drop, S: Alter> Engine<R, S> {
     /// record are in memory at a time. It changes neither records nor declarations.
     ///
     /// `Write` where a write or the flush failed or a write took nothing; `Memory` at any place; `Store`
-    /// only where the disk has failed during the call or the connection was shut before, or behind 2^32
-    /// pages of ids, if the database keeps records. After a refusal a front of the same text was written.
+    /// only where the disk has failed during the call or the connection was shut before, behind 2^32
+    /// pages of ids, or where the text of the declarations isn't UTF-8, if the database keeps records. After a refusal a front of the same text was written.
     pub fn export<O: Output>(&mut self, alloc: Global, out: &mut O) -> Result<(), ExportFault>
         ensures same { IsSameService self.old self.new }
         ensures frame { Frame (stock_state S.Store self.old.machine.records)
@@ -348,8 +363,11 @@ impl<R: RuleSet + Drop, S: Alter> Engine<R, S> {
         ensures front { HasCleanDisk (stock_state S.Store self.new.machine.records) → OnErr result ((m : Records)
             → ServiceKeeps (stock_state S.Store) self.old m
             → ExportsFront self.old.text m (O.contents out.old) (O.contents out.new)) }
-        ensures flushed { OnOk result ((mid : O) × O.flushes mid out.new) }
-        ensures write_cause { IfErr result (λ f. f ≡ ExportFault.Write → (mid : O) × O.fails mid out.new) }
+        // What was written was flushed.
+        ensures flushed { OnOk result ((bs : List ℕ) × Sends O.contents O.flushes out.old out.new bs) }
+        // A call of the output failed, behind a front of the bytes.
+        ensures write_cause { IfErr result (λ f. f ≡ ExportFault.Write
+            → (bs : List ℕ) × Breaks O.contents O.fails out.old out.new bs) }
         ensures cause { HasCleanDisk (stock_state S.Store self.new.machine.records)
             → IfErr result (λ f. f ≡ ExportFault.Store → (m : Records) → ServiceKeeps (stock_state S.Store) self.old m
             → HasFewIds m → IsUtf8 self.old.text

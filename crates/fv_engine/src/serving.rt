@@ -2,7 +2,7 @@ ghost use Rattle.std.specs.Prelude.{◌≡◌, OnOk, IsErrOf};
 ghost use Rattle.fv_engine_machine.specs.Services.{GoesOn, Responds, Turned, reign_of};
 ghost use Rattle.fv_store.specs.Stock.{stock_state};
 ghost use Rattle.fv_engine_lines.specs.Lines.{WholeLines, AllLines};
-ghost use Rattle.fv_engine_lines.specs.Reads.{ReadAtMost, ReadFails};
+ghost use Rattle.fv_engine_lines.specs.Reads.{ReadAtMost, ReadFails, ReadsThen};
 ghost use Rattle.fv_engine_lines.specs.Runs.{Served, Stopped};
 ghost use Rattle.fv_engine_lines.specs.Writes.{Breaks, Sends};
 
@@ -17,8 +17,8 @@ use std::alloc::Global;
 /// end, and flushed.
 ///
 /// The declarations in force and the records are those of a map beside declarations, which each line
-/// turns by one step. From the line on at which the disk fails and shuts the database, both stay and no
-/// command that changes records or declarations is told as taken.
+/// turns by one step. From the line on at which the disk fails and shuts the database no command that
+/// changes records or declarations is told as taken.
 ///
 /// `Memory` where the room for a line was refused; `Read` where a read failed or there were 2^32
 /// reads; `Write` where a write or a flush failed or a write took nothing.
@@ -36,6 +36,8 @@ pub fn serve<R: RuleSet + Drop, S: Alter, I: Input, O: Output, C: Clock>(
         (λ x y. Served (Turned x.known R.meaning) C.ticks (Sends O.contents O.flushes)
         (AllLines (I.remaining reader.old) (I.remaining reader.new))
         (reign_of x, clock.old, writer.old) (reign_of y, clock.new, writer.new))) }
+    // The last read gave nothing.
+    ensures ended { OnOk result (ReadsThen I.reads I.ends 4294967296 reader.old reader.new) }
     // The same for the whole lines that were read.
     ensures read { IsErrOf result ServeFault.Read
         → GoesOn (stock_state S.Store) engine.old engine.new

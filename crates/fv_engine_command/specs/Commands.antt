@@ -142,7 +142,7 @@ abbrev pub of_json : Option json.Data → Request
 of_json None = not_json
 of_json (Some j) = unwrap_or (command_of j) shape
 
--- what a line asks for: one of more than 1,048,576 bytes nothing
+-- what a line asks for by its JSON value, other declarations left out; one of more than 1,048,576 bytes asks for nothing
 unfoldable pub asked : List ℕ → Request
 asked line = if nat_lt 1048576 (length line) then too_long else of_json (json_of line)
 

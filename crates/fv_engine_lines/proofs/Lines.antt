@@ -5,6 +5,7 @@ use Rattle.std.proofs.lemmas.List.Concat.{flat_map-append}
 use Rattle.std.proofs.lemmas.Bool.{cases_lt, cases_eq, eqb-true}
 use Rattle.std.specs.List.{flat_map, AllByRecursion}
 use Rattle.std.specs.Io.KnownBytes.{Consumes, IsAtEnd}
+use Rattle.fv_datum.specs.Moments.{IsMoment}
 use Rattle.fv_engine_lines.specs.Buffering.{kept, Buffered, Broken, Taken}
 use Rattle.fv_engine_lines.specs.Lines.{IsOpen, ended, last_line, WholeLines, AllLines}
 use Rattle.fv_engine_lines.specs.Runs.{Steps, Ticks, Writing, Session, Run, Answered, Served, Stopped}
@@ -18,9 +19,9 @@ pub is_whole : (buffer whole : List ℕ) → buffer ≡ kept whole → length bu
 is_whole buffer whole k short = k ∙ take_all 1048577 whole (omega (arith, ap length k, length-take 1048577 whole))
 
 pub answered : {P C O : Type 0} (step : Steps P) (ticks : Ticks C) (writes : Writing O) (old new : Session P C O) (buffer : List ℕ) (moment told : ℤ) (reply line : List ℕ)
-    → told ≡ moment → ticks old.1 moment new.1 → ((whole : List ℕ) → buffer ≡ kept whole → step old.0 whole told reply new.0) → line ≡ ended reply → writes old.2 new.2 line
+    → told ≡ moment → IsMoment moment → ticks old.1 moment new.1 → ((whole : List ℕ) → buffer ≡ kept whole → step old.0 whole told reply new.0) → line ≡ ended reply → writes old.2 new.2 line
     → (whole : List ℕ) → buffer ≡ kept whole → Answered step ticks writes old whole new
-answered step ticks writes old new buffer moment told reply line same_moment t s same g whole k = (reply, moment, t, rw (← same_moment) (s whole k), rw same at g)
+answered step ticks writes old new buffer moment told reply line same_moment in_range t s same g whole k = (reply, moment, t, rw (← same_moment) (s whole k), rw same at g, in_range)
 
 -- what is kept of a line grows by what is kept of the longer line
 kept_on : (rest more : List ℕ) → take 1048577 (take 1048577 rest ++ more) ≡ take 1048577 (rest ++ more)

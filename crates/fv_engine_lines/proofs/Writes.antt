@@ -1,5 +1,5 @@
 -- One write after another.
-use Rattle.std.proofs.Common.{◌≡◌, ℕ, ◌+◌, ◌≤◌, List, [], ◌++◌, length, take, drop, Option, Some, None, refl, sym, ap, ◌∙◌, append_assoc, arith, inl, inr, ◌-◌, min, length-drop}
+use Rattle.std.proofs.Common.{◌≡◌, ℕ, ◌+◌, ◌≤◌, List, [], ◌++◌, length, take, drop, Option, Some, None, subst, sym, ap, ◌∙◌, append_assoc, arith, inl, inr, ◌-◌, min, length-drop}
 use Rattle.std.proofs.Math.Seq.{take-append-add}
 use Rattle.std.proofs.lemmas.List.{append-nil, take-append-drop, length-take-le, take_all}
 use Rattle.std.proofs.lemmas.Bool.{cases_lt}
@@ -22,9 +22,6 @@ appends_kept (Some x) None c xs p q = absurd p
 appends_kept (Some x) (Some y) None xs p q = absurd q
 appends_kept (Some x) (Some y) (Some z) xs p q = q ∙ p
 
-pub front_all : (a b : Option (List ℕ)) (xs ys : List ℕ) → Appends a b xs → AppendsFront a b (xs ++ ys)
-front_all a b xs ys p = (xs, ys, refl, p)
-
 -- some more of a slice
 pub take_on : (at n : ℕ) (bs : List ℕ) → at ≤ length bs → take at bs ++ take n (drop at bs) ≡ take (at + n) bs
 take_on at n bs le =
@@ -38,8 +35,14 @@ from_on at bs = take_all (length bs - at) (drop at bs) (omega (arith, length-dro
 pub wrote_on : (a b c : Option (List ℕ)) (at n : ℕ) (bs : List ℕ) → at ≤ length bs → Appends a b (take at bs) → Appends b c (take n (take (length bs - at) (drop at bs))) → Appends a c (take (at + n) bs)
 wrote_on a b c at n bs le p q = rw (← take_on at n bs le) (appends_then a b c _ _ p (rw from_on at q))
 
-pub wrote_front : (a b c : Option (List ℕ)) (at : ℕ) (bs : List ℕ) → Appends a b (take at bs) → Keeps b c → AppendsFront a c bs
-wrote_front a b c at bs p q = (take at bs, drop at bs, sym (take-append-drop at bs), appends_kept a b c _ p q)
+-- a write that took nothing
+appends_nil : (a b : Option (List ℕ)) → Appends a b [] → Keeps a b
+appends_nil None b p = tt
+appends_nil (Some x) None p = absurd p
+appends_nil (Some x) (Some y) p = p ∙ append-nil x
+
+pub took_none : (a b : Option (List ℕ)) (n : ℕ) (bs : List ℕ) → n ≡ 0 → Appends a b (take n bs) → Keeps a b
+took_none a b n bs none p = appends_nil a b (subst (λ (k : ℕ). Appends a b (take k bs)) none p)
 
 pub wrote_some : (a c : Option (List ℕ)) (n : ℕ) (bs : List ℕ) → Appends a c (take n bs) → AppendsFront a c bs
 wrote_some a c n bs p = (take n bs, drop n bs, sym (take-append-drop n bs), p)

@@ -1,5 +1,5 @@
 -- How often an input was read.
-use Rattle.std.specs.Prelude.{◌≡◌, ◌⊎◌, ℕ, zero, suc, ◌≤◌, List, length, Option}
+use Rattle.std.specs.Prelude.{◌≡◌, ◌⊎◌, ℕ, zero, suc, ◌<◌, ◌≤◌, List, length, Option}
 use Rattle.std.specs.Io.KnownBytes.{Consumes}
 
 -- the input lost at most so many known bytes, and only from its front
@@ -15,6 +15,10 @@ ReadTimes {I} reads (suc n) old new = (mid : I) × ReadTimes reads n old mid × 
 abbrev pub ReadAtMost : {I : Type 0} → (I → I → Type 0) → ℕ → I → I → Type 0
 ReadAtMost reads most old new = (times : ℕ) × (times ≤ most) × ReadTimes reads times old new
 
+-- fewer reads than so many, and then one that did this
+abbrev pub ReadsThen : {I : Type 0} → (I → I → Type 0) → (I → I → Type 0) → ℕ → I → I → Type 0
+ReadsThen {I} reads does most old new = (times : ℕ) × (times < most) × (mid : I) × ReadTimes reads times old mid × does mid new
+
 -- a read failed, or there were so many
 abbrev pub ReadFails : {I : Type 0} → (I → I → Type 0) → (I → I → Type 0) → ℕ → I → I → Type 0
-ReadFails {I} reads fails most old new = ((mid : I) × fails mid new) ⊎ ((times : ℕ) × (times ≡ most) × ReadTimes reads times old new)
+ReadFails reads fails most old new = ReadsThen reads fails most old new ⊎ ((times : ℕ) × (times ≡ most) × ReadTimes reads times old new)

@@ -1,5 +1,6 @@
 -- Lines answered one after another.
 use Rattle.std.specs.Prelude.{◌≡◌, ◌⊎◌, ℕ, ℤ, List, [], ◌∷◌, ◌++◌, Option}
+use Rattle.fv_datum.specs.Moments.{IsMoment}
 use Rattle.fv_engine_lines.specs.Lines.{ended, WholeLines, AllLines}
 
 -- what one line does: from what answers it, by the line, the moment and the reply, to what answers the next line
@@ -18,10 +19,10 @@ Writing O = O → O → List ℕ → Type 0
 abbrev pub Session : Type 0 → Type 0 → Type 0 → Type 0
 Session P C O = P × C × O
 
--- one line was answered at the clock's next moment, and the reply and its end were written
+-- one line was answered at the clock's next moment, and with the reply and its end was done what `writes` says
 abbrev pub Answered : {P C O : Type 0} → Steps P → Ticks C → Writing O → Session P C O → List ℕ → Session P C O → Type 0
 Answered step ticks writes (p, c, w) line (q, d, v) =
-    (reply : List ℕ) × (moment : ℤ) × ticks c moment d × step p line moment reply q × writes w v (ended reply)
+    (reply : List ℕ) × (moment : ℤ) × ticks c moment d × step p line moment reply q × writes w v (ended reply) × IsMoment moment
 
 -- these lines were answered, one after another
 abbrev pub Run : {P C O : Type 0} → Steps P → Ticks C → Writing O → Session P C O → List (List ℕ) → Session P C O → Type 0
@@ -33,7 +34,7 @@ Run {P} {C} {O} step ticks sends old (line ∷ lines) new =
 abbrev pub Served : {P C O : Type 0} → Steps P → Ticks C → Writing O → (List (List ℕ) → Type 0) → Session P C O → Session P C O → Type 0
 Served step ticks sends Are old new = (lines : List (List ℕ)) × Are lines × Run step ticks sends old lines new
 
--- some lines were answered, then one whose write or flush failed: its reply was written whole, in part or not at all
+-- some lines were answered, then one of which a write or the flush failed or a write took nothing: its reply was written whole, in part or not at all
 pub record Stopped {P C O : Type 0} (step : Steps P) (ticks : Ticks C) (sends breaks : Writing O) (r q : Option (List ℕ))
     (old new : Session P C O) : Type 0 where
   pub lines : List (List ℕ)

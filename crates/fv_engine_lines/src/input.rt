@@ -1,4 +1,4 @@
-ghost use Rattle.std.specs.Prelude.{ℕ, ◌≤◌, List, Option, OnErr, length};
+ghost use Rattle.std.specs.Prelude.{◌≡◌, ◌<◌, ℕ, ◌≤◌, List, Option, IfOk, OnErr, length};
 ghost use Rattle.std.specs.Io.{ReadsAtMost};
 ghost use Rattle.std.specs.Io.KnownBytes.{ReadConsumes};
 
@@ -16,6 +16,9 @@ pub trait Input {
     /// From the input before a read that failed to the input after it.
     ghost fails: { Self → Self → Type 0 };
 
+    /// From the input before a read that gave nothing into some room to the input after it.
+    ghost ends: { Self → Self → Type 0 };
+
     /// Reads once, into the front of a chunk of at most 4,096 bytes: how many came. None came only at the
     /// end, or without room.
     fn fill(&mut self, chunk: &mut [u8]) -> io::Result<usize>
@@ -23,11 +26,13 @@ pub trait Input {
         ensures bound { ReadsAtMost result chunk.new }
         ensures bytes { ReadConsumes (remaining self.old) (remaining self.new) result chunk.new }
         ensures read { reads self.old self.new }
-        ensures failed { OnErr result (fails self.old self.new) };
+        ensures failed { OnErr result (fails self.old self.new) }
+        ensures ended { IfOk result (λ n. n ≡ 0 → 0 < length chunk.new → ends self.old self.new) };
 }
 
 impl<R: Read> Input for R {
     ghost use Rattle.std.specs.Prelude.{⊤};
+    ghost use Rattle.std.specs.Io.KnownBytes.{IsAtEnd};
     ghost use Rattle.fv_engine_lines.specs.Reads.{GivesAtMost};
 
     ghost remaining = { R.remaining };
@@ -36,6 +41,8 @@ impl<R: Read> Input for R {
 
     // A reader of std doesn't tell why a read failed.
     ghost fails = { λ old new. ⊤ };
+
+    ghost ends = { λ old new. IsAtEnd (R.remaining new) };
 
     fn fill(&mut self, chunk: &mut [u8]) -> io::Result<usize> {
         self.read(chunk)

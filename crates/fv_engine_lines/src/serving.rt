@@ -4,7 +4,7 @@ ghost use Rattle.fv_datum.specs.Moments.{IsMoment};
 ghost use Rattle.fv_engine_lines.specs.Buffering.{kept, Buffered, Broken, Taken};
 ghost use Rattle.fv_engine_lines.specs.FaultNames.{serve_fault_name};
 ghost use Rattle.fv_engine_lines.specs.Lines.{IsOpen, ended, WholeLines, AllLines};
-ghost use Rattle.fv_engine_lines.specs.Reads.{ReadAtMost, ReadFails};
+ghost use Rattle.fv_engine_lines.specs.Reads.{ReadAtMost, ReadFails, ReadsThen};
 ghost use Rattle.fv_engine_lines.specs.Runs.{Session, Answered, Served, Stopped};
 ghost use Rattle.fv_engine_lines.specs.Writes.{Breaks, Sends};
 
@@ -169,6 +169,7 @@ fn read_once<P: Responder, R: Input, W: Output, C: Clock>(
     ensures read { R.reads reader.old reader.new }
     ensures failed { result ≡ Turn.ReadFailed → R.fails reader.old reader.new }
     ensures end { result ≡ Turn.End → IsAtEnd (R.remaining reader.new) }
+    ensures ended { result ≡ Turn.End → R.ends reader.old reader.new }
     ensures more { result ≡ Turn.More → (bytes : List ℕ) × (0 < length bytes)
         × Consumes (R.remaining reader.old) (R.remaining reader.new) bytes }
     ensures taken { result ≢ Turn.WriteFailed → (r : Option (List ℕ)) (start : Session P C W) →
@@ -203,6 +204,7 @@ fn serve_lines<P: Responder, R: Input, W: Output, C: Clock>(
 ) -> Result<(), ServeFault>
     requires { line.old ≡ [] }
     ensures reads { ReadAtMost R.reads 4294967296 reader.old reader.new }
+    ensures ended { OnOk result (ReadsThen R.reads R.ends 4294967296 reader.old reader.new) }
     ensures ok { OnOk result (Served P.step C.ticks (Sends W.contents W.flushes) (AllLines (R.remaining reader.old) (R.remaining reader.new))
         (responder.old, clock.old, writer.old) (responder.new, clock.new, writer.new)) }
     ensures read { IsErrOf result ServeFault.Read
@@ -246,9 +248,11 @@ pub fn answer_lines<P: Responder, R: Input, W: Output, C: Clock>(
 ) -> Result<(), ServeFault>
     // It read at most 2^32 times, however it ended.
     ensures reads { ReadAtMost R.reads 4294967296 reader.old reader.new }
-    // All lines of the input were answered, each reply written with its end.
+    // All lines of the input were answered, each reply written with its end and flushed.
     ensures ok { OnOk result (Served P.step C.ticks (Sends W.contents W.flushes) (AllLines (R.remaining reader.old) (R.remaining reader.new))
         (responder.old, clock.old, writer.old) (responder.new, clock.new, writer.new)) }
+    // The last read gave nothing.
+    ensures ended { OnOk result (ReadsThen R.reads R.ends 4294967296 reader.old reader.new) }
     // The same for the whole lines that were read.
     ensures read { IsErrOf result ServeFault.Read
         → Served P.step C.ticks (Sends W.contents W.flushes) (WholeLines (R.remaining reader.old) (R.remaining reader.new))

@@ -99,6 +99,6 @@ Step means ds old r moment answer new =
     ⊎ (((answer ≡ refused Memory) × (is_too_long r ≡ false) × (new ≡ old))
     ⊎ ((answer ≡ refused Store) × (LooksUp ds r ⊎ ((copy : Records) × IsTaken means ds moment r old copy)) × (new ≡ old)))
 
--- the step of what a line asks for, told by the text of its answer
+-- the step of what a line asks for of the records (`asked`), told by the text of its answer
 abbrev pub Told : Meanings → Declarations → Records → List ℕ → ℤ → List ℕ → Records → Type 0
 Told means ds old line moment text new = (answer : Answer) × (text ≡ answer_text answer) × Step means ds old (asked line) moment answer new

@@ -11,7 +11,7 @@ use Rattle.fv_engine_pending.specs.Parts.{bundle_under, is_misread, is_misshapen
 use Rattle.fv_engine_pending.specs.Steps.{StepFits, put_step, faulty, staged, step_view}
 use Rattle.fv_engine_pending.specs.declared.fault.PartFault.{PartFault}
 use Rattle.fv_engine_pending.specs.declared.fault.PartFault.TheVariants.{UnknownForm, Bundle}
-use Rattle.fv_engine_pending.specs.declared.reading.Step.{Step}
+use Rattle.fv_engine_pending.specs.declared.parts.Step.{Step}
 use Rattle.fv_store.specs.Records.{Roots}
 use Rattle.fv_bundle.specs.Types.{Declared}
 

@@ -6,7 +6,7 @@ use Rattle.fv_engine_pending.specs.Fits.{Keeps}
 use Rattle.fv_engine_pending.specs.Parts.{and_then}
 use Rattle.fv_engine_pending.specs.Steps.{Staged, step_view, step_made, steps_made, numbered}
 use Rattle.fv_engine_pending.specs.Ways.{Way}
-use Rattle.fv_engine_pending.specs.declared.reading.Step.{Step}
+use Rattle.fv_engine_pending.specs.declared.parts.Step.{Step}
 use Rattle.fv_engine_pending.proofs.Fitting.{keeps_more}
 use Rattle.fv_bundle.specs.Types.{Declared}
 

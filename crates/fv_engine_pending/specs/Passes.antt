@@ -72,9 +72,9 @@ pub record AreAll {K E : Type 0} (m : List ℕ → Option (Result K E)) (all : L
   pub complete : (id : List ℕ) (r : Result K E) → m id ≡ Some r → (k : K) × Has all (id, k)
 
 -- up to the last id of a page that is full, and else all
-abbrev pub GoesOn : {K E : Type 0} → (List ℕ → Option (Result K E)) → Option (List ℕ) → List (List ℕ × K) → Type 0
-GoesOn m (Some last) done = Reaches m last done
-GoesOn m None done = AreAll m done
+abbrev pub IsUpTo : {K E : Type 0} → (List ℕ → Option (Result K E)) → Option (List ℕ) → List (List ℕ × K) → Type 0
+IsUpTo m (Some last) done = Reaches m last done
+IsUpTo m None done = AreAll m done
 
 -- so many are on a page that is full
 abbrev pub IsFull : {X : Type 0} → Option (List ℕ) → List X → Type 0
@@ -151,4 +151,4 @@ module _ (ds : Declarations) (old new : State) where
 -- what judging the next page above an id gives, to its last id or to the end, behind what was judged before
 abbrev pub NextDone : (Verdicts → List (List ℕ × Kept) → Type 0) → Declarations → State → State → Verdicts → Verdicts → List ℕ → Option (List ℕ) → Type 0
 NextDone So ds old new v w above last = (read : List (List ℕ × Kept)) × IsFull last read × ((ks : List (List ℕ × Kept)) → So v ks → So w (ks ++ read))
-    × Sure old new (λ m. (done : List (List ℕ × Kept)) → Reaches (all_reread ds m) above done → GoesOn (all_reread ds m) last (done ++ read))
+    × Sure old new (λ m. (done : List (List ℕ × Kept)) → Reaches (all_reread ds m) above done → IsUpTo (all_reread ds m) last (done ++ read))

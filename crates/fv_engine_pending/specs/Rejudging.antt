@@ -33,8 +33,8 @@ IsOfRecord TooManyVisits = Unit {0}
 IsOfRecord Store = ⊥
 IsOfRecord Memory = ⊥
 
--- why the records aren't all judged: the first that can't be read, one that has too many visits where all can be, or the store, which has failed where
--- there are few ids
+-- why the records aren't all judged: the first that can't be read, one that has too many visits where all can be, the store, which has failed where
+-- there are few ids, or want of memory
 abbrev pub RejudgeFails : Declarations → Records → Type 0 → RejudgeFault → Type 0
 RejudgeFails ds m failed (Unfit i why) = IsFirstUnfit ds.types ds.forms m (string_bytes i) why
 RejudgeFails ds m failed TooManyVisits = AllReadAgain ds.types ds.forms m × OneIsOverAmong ds (λ id k. all_again ds.types ds.forms m id ≡ Some k)

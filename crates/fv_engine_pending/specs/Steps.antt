@@ -13,8 +13,8 @@ use Rattle.fv_engine_pending.specs.Parts.{bundle_under, and_then}
 use Rattle.fv_engine_pending.specs.Ways.{Way, standing_at, left_at, without_id}
 use Rattle.fv_engine_pending.specs.declared.fault.PartFault.{PartFault}
 use Rattle.fv_engine_pending.specs.declared.fault.PartFault.TheVariants.{UnknownForm, Bundle, NoRecord}
-use Rattle.fv_engine_pending.specs.declared.reading.Step.{Step}
-use Rattle.fv_engine_pending.specs.declared.reading.Step.TheVariants.{Put, Set, Remove}
+use Rattle.fv_engine_pending.specs.declared.parts.Step.{Step}
+use Rattle.fv_engine_pending.specs.declared.parts.Step.TheVariants.{Put, Set, Remove}
 use Rattle.fv_store.specs.Records.{Kept, Roots, RecordFits}
 use Rattle.fv_bundle.specs.Types.{Declared}
 

@@ -11,8 +11,8 @@ ghost use Rattle.serde_json.specs.View.{view as json_view};
 ghost use Rattle.std.specs.Result.{result_map_both};
 
 use crate::fault::PartFault;
+use crate::parts::{SetStep, Step};
 use crate::pending::Pending;
-use crate::reading::{SetStep, Step};
 use fv_bundle::{Bundle, Types};
 use fv_model::{BundleFault, set_field};
 use fv_store::Stored;

@@ -9,14 +9,14 @@ mod applying;
 mod fault;
 mod finding;
 mod judging;
+mod parts;
 mod pending;
-mod reading;
 mod rejudging;
 
 pub use applying::apply_all;
 pub use fault::PartFault;
 pub use finding::find_records;
 pub use judging::{judge, judge_record};
+pub use parts::{SetStep, Step, read_parts};
 pub use pending::Pending;
-pub use reading::{SetStep, Step, read_parts};
 pub use rejudging::{RejudgeFault, judge_all};

@@ -1,9 +1,9 @@
 //! The faults of declared constraints, and of attributes that constraints get, in words.
 use crate::drafts::{Refused, at, entry_at};
 use crate::say;
+use crate::shown::{Named, Who, attribute_word};
 use crate::told::{Found, Told, Untold, Written};
 use crate::trees::node_at;
-use crate::words::{Named, Who, attribute_word};
 use fv_builtin::{kind_of_attribute, required_attributes};
 use fv_constraint::{ConstraintAt, Meant, Planned, foreign_given, meant_by};
 use fv_datum::{Attribute, AttributeKind, Attrs};

@@ -2,8 +2,8 @@
 use crate::drafts::{Refused, at, to_field, to_steps};
 use crate::naming::undeclared;
 use crate::say;
+use crate::shown::kind_word;
 use crate::told::{Found, Written};
-use crate::words::kind_word;
 use fv_declare_draft::{Conversion, cascades_in};
 use fv_declare_groups::{CascadeAt, GroupingAt};
 use fv_declare_judging::DeclFault;

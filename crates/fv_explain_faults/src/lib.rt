@@ -12,12 +12,12 @@ mod locating;
 mod misfits;
 mod naming;
 mod rings;
+mod shown;
 mod told;
 mod trees;
-mod words;
 
 pub use drafts::to_use;
 pub use locating::locate;
 pub use misfits::command_shape;
+pub use shown::{Named, Quoted, Who, built_in_key, find_message, kind_word, reported};
 pub use told::{Found, Told, Untold, Written};
-pub use words::{Named, Quoted, Who, built_in_key, find_message, kind_word, reported};

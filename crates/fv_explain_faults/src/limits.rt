@@ -2,8 +2,8 @@
 //! name.
 use crate::drafts::{Refused, at, entry_at, to_field};
 use crate::say;
+use crate::shown::{Named, find_message};
 use crate::told::{Found, Told, Untold, Written};
-use crate::words::{Named, find_message};
 use fv_bundle::{TypeUse, TypesAt};
 use fv_declare_draft::Draft;
 use fv_declare_judging::{LimitAt, WordingAt, user_messages};

@@ -1,7 +1,7 @@
 //! Shape in words: where declarations, or a command, aren't of their form, and what is wrong there.
 use crate::say;
+use crate::shown::Named;
 use crate::told::{Found, Told, Untold, Written};
-use crate::words::Named;
 use fv_form::{Flaw, FormFault, FormName, Inward, ValueForm, ask, command_misfit, draft_misfit};
 use serde_json::Value;
 

@@ -2,8 +2,8 @@
 use crate::constraints::unknown_constraint;
 use crate::drafts::{Refused, at, entry_at, to_field};
 use crate::say;
+use crate::shown::Named;
 use crate::told::{Found, Told, Untold, Written};
-use crate::words::Named;
 use fv_bundle::{TypeUse, TypesAt};
 use fv_datum::is_name;
 use fv_declare_judging::NamesAt;

@@ -2,8 +2,8 @@
 //! constraints that are composed of themselves, and keys whose texts lead back to them.
 use crate::drafts::{Refused, at, entry_at};
 use crate::say;
+use crate::shown::{Named, find_message};
 use crate::told::{Found, Untold, Written};
-use crate::words::{Named, find_message};
 use fv_constraint::composition_ring;
 use fv_datum::is_name;
 use fv_declare_draft::Draft;

@@ -1,5 +1,5 @@
 //! A fault in words.
-use crate::words::Named;
+use crate::shown::Named;
 use fv_datum::is_name;
 use std::alloc::{AllocError, AllocFailed, Global};
 use std::fmt;

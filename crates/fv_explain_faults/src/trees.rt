@@ -2,8 +2,8 @@
 use crate::constraints::refused_at;
 use crate::drafts::{Refused, at};
 use crate::say;
+use crate::shown::{KINDS, Named, Who, kind_word};
 use crate::told::{Found, Told, Untold, Written};
-use crate::words::{KINDS, Named, Who, kind_word};
 use fv_builtin::takes_kind;
 use fv_constraint::{Composition, Meant, Planned, meant_by, unknown_composing};
 use fv_constraint_tree::Target;

@@ -5,8 +5,8 @@
 
 mod fault;
 mod flattening;
+mod nodes;
 mod placed;
-mod reading;
 mod refusals;
 mod uniqueness;
 mod used;

@@ -13,7 +13,7 @@ ghost use Rattle.fv_constraint_tree.specs.Preorder.{IsPreorder};
 ghost use Rattle.fv_registry.specs.Rules.{Known};
 
 use crate::fault::{FlattenFault, PlacedFlattenFault};
-use crate::reading::read;
+use crate::nodes::read;
 use crate::refusals::{refuses_given, refuses_place};
 use crate::used::Use;
 use fv_builtin::Patterns;

@@ -3,14 +3,14 @@
 #![tactic(auto)]
 
 mod check_digit;
+mod choices;
 mod house;
 mod named;
 mod objects;
 mod registry;
-mod words;
 
 pub use check_digit::luhn;
+pub use choices::one_of;
 pub use house::House;
 pub use objects::{not_after, sum_is};
 pub use registry::house_registry;
-pub use words::one_of;

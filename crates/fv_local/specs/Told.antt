@@ -103,7 +103,7 @@ pub record CanBeAsked (k : Known) (us : List Placed) : Type 0 where
   pub fit : AllByRecursion (λ u. placed_fits k u ≡ true) us
   pub few : AllByRecursion (λ u. u.number + size u.tree ≤ 1024) us
 
--- what stands at a place but for its kind
+-- two places are one but for the kinds of what stands there
 abbrev pub IsSamePlace : Place → Place → Type 0
 IsSamePlace whole whole = Unit {0}
 IsSamePlace (field n steps kind) (field o others other) = (n ≡ o) × (steps ≡ others)

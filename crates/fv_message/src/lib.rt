@@ -9,11 +9,11 @@ mod fault;
 mod laws;
 mod lengths;
 mod messages;
-mod reading;
 mod rings;
 mod showing;
 mod table;
 mod template;
+mod user_messages;
 
 pub use fault::{MessageFault, MessagesAt, PlacedMessageFault};
 pub use laws::{

@@ -16,7 +16,7 @@ ghost use Rattle.fv_model.specs.Writing.{IsWritten};
 
 use crate::fault::BundleFault;
 use crate::parts::{Draft, Part};
-use crate::reading::spelled_datum;
+use crate::spelled::spelled_datum;
 use fv_bundle::{Bundle, Fields, Object, Objects, TypeUse, Types};
 use fv_datum::Datum;
 use indexmap::IndexMap;

@@ -12,7 +12,7 @@ ghost use Rattle.fv_model.specs.Setting.{datum_given, datum_in_use};
 
 use crate::fault::BundleFault;
 use crate::naming::type_names;
-use crate::reading::spelled_datum;
+use crate::spelled::spelled_datum;
 use fv_bundle::{Bundle, Flaws, TypeUse, Types, flaws_of, use_in};
 use fv_datum::Datum;
 use serde_json::Value;

@@ -13,7 +13,7 @@ ghost use Rattle.fv_model.specs.Writing.{bundle_written};
 use crate::draft::object_types_of;
 use crate::fault::BundleFault;
 use crate::parts::{Draft, Part};
-use crate::reading::judged;
+use crate::spelled::judged;
 use fv_bundle::{Bundle, Types};
 use std::alloc::Global;
 

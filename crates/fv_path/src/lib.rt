@@ -6,9 +6,9 @@ mod key;
 mod laws;
 mod node;
 mod path;
-mod reading;
+mod text;
 
 pub use laws::text_is_injective;
 pub use node::Node;
 pub use path::Path;
-pub use reading::read;
+pub use text::read;

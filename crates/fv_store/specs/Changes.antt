@@ -7,7 +7,7 @@ use Rattle.fv_store.specs.declared.changes.Change.TheVariants.{Put, Object, Remo
 use Rattle.fv_store.specs.Stored.{stored_view}
 use Rattle.fv_store.specs.Records.{Kept, Records, Roots, RecordFits, Contents, with_record, without_record, with_thing, with_object, with_records}
 
--- after one change: what is put is the record of its id, an object is the one of its name in its record, and what is removed is gone
+-- after one change: what is put is the record of its id, an object stands in the place of that of its name in its record, and what is removed is gone
 abbrev pub after : Change → Records → Records
 after (Put id s) m = with_record (string_bytes id) (stored_view s) m
 after (Object id name object) m = with_object (string_bytes id) (string_bytes name) (object_view object) m

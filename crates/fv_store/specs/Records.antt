@@ -32,7 +32,7 @@ without_record id m other = if bytes_eq other id then None else m other
 abbrev pub with_thing : List ℕ → Thing → Kept → Kept
 with_thing name t k = record { form = k.form; bundle = record { root = k.bundle.root; objects = changed_at name (λ _. t) k.bundle.objects } }
 
--- the id's record, where there is one, has this object, and the others are as before
+-- the id's record, where there is one, has this object in the place of that of its name, and the others are as before
 abbrev pub with_object : List ℕ → List ℕ → Thing → Records → Records
 with_object id name t m other = if bytes_eq other id then option_map (with_thing name t) (m other) else m other
 

@@ -11,7 +11,7 @@ use fv_store_upgrade::UpgradeFault;
 use sqlite::{Error, ErrorCode};
 use std::alloc::AllocError;
 
-/// Why a call of the store was refused. Nothing has changed.
+/// Why a call of the store was refused. Nothing has changed, unless the disk failed and shut the database.
 #[derive(Clone, Copy, Debug, PartialEq, Eq, thiserror::Error)]
 pub enum StoreFault {
     /// The database refused, for another cause than want of memory, or a row spells no record.
@@ -75,7 +75,7 @@ impl From<BundleFault> for StoreFault {
     }
 }
 
-/// Why a store wasn't opened. The database is as it was.
+/// Why a store wasn't opened. The database is as it was, unless the disk failed and shut it.
 #[derive(Clone, Copy, Debug, PartialEq, Eq, thiserror::Error)]
 pub enum OpenStoreFault {
     /// The tables are of another version.

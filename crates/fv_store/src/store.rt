@@ -72,11 +72,11 @@ impl<S: Alter + Drop> Store<S> {
     /// Refused by `OtherVersion` for tables of a version other than 1 and 2; by `Memory` at any place; and
     /// by `Store` where the connection is inside a transaction or was shut before, where the disk has failed
     /// during the call, where the declarations that are written are too long, where the database has other
-    /// tables and no row of declarations, or one of another form, and, in version 1, where there is a table,
-    /// an index or a view beside its two tables, a row's text is no bundle by its form, a new row is too
-    /// long, or a table has fewer rowids than there are new rows.
-    /// Whether the tables of records are of their form isn't looked at. A refusal hands the connection back,
-    /// its database as it was.
+    /// tables and no row of declarations, or one of another form, and, in version 1, where its two tables have
+    /// other columns, there is a table, an index or a view beside them, a row's text is no bundle by its form,
+    /// a new row is too long, or a table has fewer rowids than there are new rows.
+    /// Else whether the tables of records are of their form isn't looked at. A refusal hands the connection
+    /// back, its database as it was, unless the disk failed and shut it.
     pub fn open(
         alloc: Global,
         mut connection: Connection<S>,
@@ -90,7 +90,7 @@ impl<S: Alter + Drop> Store<S> {
         ensures in_force { IfOk result (λ s. HasCleanDisk (stock_state S.Store s) → (c : _)
             → Opens (state S.Store connection) declarations.now c → s.text ≡ c.bytes) }
         ensures fresh { IfOk result (λ s. IsBlank (state S.Store connection).now → s.text ≡ declarations.now) }
-        // Whatever is not of version 1 is left as it was.
+        // What is neither empty nor of version 1 is left as it was.
         ensures still { IfOk result (λ s. (IsBlank (state S.Store connection).now → ⊥)
             → Stays (state S.Store connection) (stock_state S.Store s)
             ⊎ (HasCleanDisk (stock_state S.Store s) → MayBeFirst (state S.Store connection).now)) }
@@ -167,7 +167,8 @@ impl<S: Alter> Store<S> {
         ensures same { HasCleanDisk (stock_state S.Store self.new) → OnOk result ((c : _)
             → HoldsRecords (stock_state S.Store self.old) c
             → (stock_state S.Store self.new).now ≡ (stock_state S.Store self.old).now) }
-        ensures stays { (c : _) → HoldsRecords (stock_state S.Store self.old) c → HoldsRecords (stock_state S.Store self.new) c }
+        ensures stays { (c : _) → HoldsRecords (stock_state S.Store self.old) c
+            → HoldsRecords (stock_state S.Store self.new) c }
         ensures untouched { (c : _) → HoldsRecords (stock_state S.Store self.old) c
             → Stays (stock_state S.Store self.old) (stock_state S.Store self.new) }
     {
@@ -192,7 +193,8 @@ impl<S: Alter> Store<S> {
         ensures same { HasCleanDisk (stock_state S.Store self.new) → OnOk result ((c : _)
             → HoldsRecords (stock_state S.Store self.old) c
             → (stock_state S.Store self.new).now ≡ (stock_state S.Store self.old).now) }
-        ensures stays { (c : _) → HoldsRecords (stock_state S.Store self.old) c → HoldsRecords (stock_state S.Store self.new) c }
+        ensures stays { (c : _) → HoldsRecords (stock_state S.Store self.old) c
+            → HoldsRecords (stock_state S.Store self.new) c }
         ensures untouched { (c : _) → HoldsRecords (stock_state S.Store self.old) c
             → Stays (stock_state S.Store self.old) (stock_state S.Store self.new) }
     {
@@ -223,7 +225,8 @@ impl<S: Alter> Store<S> {
         ensures same { HasCleanDisk (stock_state S.Store self.new) → OnOk result ((c : _)
             → HoldsRecords (stock_state S.Store self.old) c
             → (stock_state S.Store self.new).now ≡ (stock_state S.Store self.old).now) }
-        ensures stays { (c : _) → HoldsRecords (stock_state S.Store self.old) c → HoldsRecords (stock_state S.Store self.new) c }
+        ensures stays { (c : _) → HoldsRecords (stock_state S.Store self.old) c
+            → HoldsRecords (stock_state S.Store self.new) c }
         ensures untouched { (c : _) → HoldsRecords (stock_state S.Store self.old) c
             → Stays (stock_state S.Store self.old) (stock_state S.Store self.new) }
     {
@@ -254,7 +257,8 @@ impl<S: Alter> Store<S> {
         ensures cause { HasCleanDisk (stock_state S.Store self.new) → IfErr result (λ e. e ≡ StoreFault.Store → (c : _)
             → HoldsRecords (stock_state S.Store self.old) c
             → HasFailed (stock_state S.Store self.old) (stock_state S.Store self.new)) }
-        ensures stays { (c : _) → HoldsRecords (stock_state S.Store self.old) c → HoldsRecords (stock_state S.Store self.new) c }
+        ensures stays { (c : _) → HoldsRecords (stock_state S.Store self.old) c
+            → HoldsRecords (stock_state S.Store self.new) c }
         ensures untouched { (c : _) → HoldsRecords (stock_state S.Store self.old) c
             → Stays (stock_state S.Store self.old) (stock_state S.Store self.new) }
     {
@@ -284,7 +288,8 @@ impl<S: Alter> Store<S> {
         ensures cause { HasCleanDisk (stock_state S.Store self.new) → IfErr result (λ e. e ≡ StoreFault.Store → (c : _)
             → HoldsRecords (stock_state S.Store self.old) c
             → HasFailed (stock_state S.Store self.old) (stock_state S.Store self.new)) }
-        ensures stays { (c : _) → HoldsRecords (stock_state S.Store self.old) c → HoldsRecords (stock_state S.Store self.new) c }
+        ensures stays { (c : _) → HoldsRecords (stock_state S.Store self.old) c
+            → HoldsRecords (stock_state S.Store self.new) c }
         ensures untouched { (c : _) → HoldsRecords (stock_state S.Store self.old) c
             → Stays (stock_state S.Store self.old) (stock_state S.Store self.new) }
     {
@@ -303,7 +308,8 @@ impl<S: Alter> Store<S> {
         ensures frame { Frame (stock_state S.Store self.old) (stock_state S.Store self.new) }
         ensures text { self.new.text ≡ self.old.text }
         ensures open { OnOk result (IsLive (stock_state S.Store self.new)) }
-        ensures made { OnOk result ((c : _) → AllFit (changed changes.now c) → HoldsRecords (stock_state S.Store self.old) c
+        ensures made { OnOk result ((c : _) → AllFit (changed changes.now c)
+            → HoldsRecords (stock_state S.Store self.old) c
             → HoldsRecords (stock_state S.Store self.new) (changed changes.now c)) }
         ensures done { OnOk result ((c : _) → ChangesFit c.types c.roots changes.now c.records
             → HoldsRecords (stock_state S.Store self.old) c
@@ -315,7 +321,8 @@ impl<S: Alter> Store<S> {
             → HoldsRecords (stock_state S.Store self.new) c) }
         ensures untouched { OnErr result (Stays (stock_state S.Store self.old) (stock_state S.Store self.new)) }
         ensures cause { HasCleanDisk (stock_state S.Store self.new) → IfErr result (λ e. e ≡ StoreFault.Store → (c : _)
-            → HoldsRecords (stock_state S.Store self.old) c → HasRooms (rows_of_all changes.now) (stock_state S.Store self.old).now
+            → HoldsRecords (stock_state S.Store self.old) c
+            → HasRooms (rows_of_all changes.now) (stock_state S.Store self.old).now
             → AreShort changes.now → HasFailed (stock_state S.Store self.old) (stock_state S.Store self.new)) }
     {
         prove!(self.connection.is_autocommit());

@@ -15,7 +15,7 @@ const READ_ABOUT: &str = "SELECT version, declarations FROM about";
 const WRITE_ABOUT: &str = "UPDATE about SET declarations = ?1";
 
 /// The rows that show the version and the declarations: one, whichever of the two versions the tables have.
-/// Refused by `OutOfMemory`, and else only where the disk failed or the connection was shut before, if there is such a row.
+/// Refused by `OutOfMemory`, and else only where the disk failed or the connection was shut before, if there is one.
 pub fn read_about<S: Alter>(conn: &mut Connection<S>) -> Result<Vec<Row>, Error>
     ensures mode { conn.old.in_transaction ≡ false → conn.new.in_transaction ≡ false }
     ensures frame { Frame (state S.Store conn.old) (state S.Store conn.new) }
@@ -23,9 +23,9 @@ pub fn read_about<S: Alter>(conn: &mut Connection<S>) -> Result<Vec<Row>, Error>
     ensures open { OnOk result (IsLive (state S.Store conn.new)) }
     ensures shown { HasCleanDisk (state S.Store conn.new)
         → IfOk result (λ rows. IsTrue (state S.Store conn.old).is_open
-        × ((version : _) (d : _) → TellsAbout version d (state S.Store conn.old).now → ShowsAbout rows.items version d)) }
-    ensures of_rows { HasCleanDisk (state S.Store conn.new) → IfOk result (λ rows. HasTables (state S.Store conn.old).now
-        → (row : _) → Has rows.items row → IsOfAbout (state S.Store conn.old).now row) }
+        × ((v : _) (d : _) → TellsAbout v d (state S.Store conn.old).now → ShowsAbout rows.items v d)) }
+    ensures of_rows { HasCleanDisk (state S.Store conn.new) → IfOk result (λ r. HasTables (state S.Store conn.old).now
+        → (row : _) → Has r.items row → IsOfAbout (state S.Store conn.old).now row) }
     ensures cause { HasCleanDisk (state S.Store conn.new) → conn.old.step_limit ≡ None
         → IfErr result (λ e. HasTables (state S.Store conn.old).now
         → IsExcused (state S.Store conn.old) (state S.Store conn.new) e) }
@@ -35,7 +35,7 @@ pub fn read_about<S: Alter>(conn: &mut Connection<S>) -> Result<Vec<Row>, Error>
 }
 
 /// Writes the declarations in place of those that tables of version 2 have. The version and the records stay.
-/// Refused by `OutOfMemory`, and else only where the disk failed, the connection was shut before or the declarations are too long, if the tables stand.
+/// Refused by `OutOfMemory`; else only by a failed disk, a shut connection or too long a text, if the tables stand.
 pub fn write_about<S: Alter>(tx: &mut Transaction<'_, S>, declarations: &[u8]) -> Result<(), Error>
     ensures same_reference { tx.new.conn.ghost_name ≡ tx.old.conn.ghost_name }
     ensures frame { Frame (state S.Store tx.old.conn.now) (state S.Store tx.new.conn.now) }

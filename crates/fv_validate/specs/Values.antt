@@ -13,7 +13,7 @@ use Rattle.std.specs.Str.{bytes_eq}
 abbrev pub field_use : Declared → List ℕ → List ℕ → Option TypeUse
 field_use ts type name = option_and_then (at_name name) (at_name type ts)
 
--- a datum is null or of what the field of a name holds in the type of a name, within the limits; a reference may be any name
+-- where the type of a name has the field of a name, a datum is null or of what that holds, within the limits; a reference may be any name
 abbrev pub FitsField : Declared → List ℕ → List ℕ → Data → Type 0
 FitsField ts type name d = (u : TypeUse) → field_use ts type name ≡ Some u → Fits AnyName u d
 

@@ -35,7 +35,7 @@ abbrev pub datum_in : Thing → Spot → Data
 datum_in object of_object = null
 datum_in object (at place locus) = datum_of_part object place locus
 
--- a failure in an object that is the root, as a violation
+-- a failure at a place in an object that is the root, as a violation
 abbrev pub violation_in : Thing → LocalFailure → Violation
 violation_in object f = record { path = nodes_in object f.spot; node = f.node; value = datum_in object f.spot }
 

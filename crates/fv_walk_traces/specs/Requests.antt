@@ -12,7 +12,7 @@ pub data Own : Type 0 where
   Plain : List LocalFailure → Own
   InRanks : List (List LocalFailure) → Own
 
--- Objects, groups and nodes are numbers.
+-- Objects, groups and a failure's node are numbers; the nodes of a path are not.
 pub record GraphRequest : Type 0 where
   -- the groups that are asked for, and the object that it begins at
   pub asked : List ℕ

@@ -1,5 +1,5 @@
-use Rattle.std.proofs.Common.{arith, length-drop, ◌+◌}
-use Rattle.fv_engine_lines.proofs.Writes.{wrote_on, wrote_front, wrote_some}
+use Rattle.std.proofs.Common.{arith, length-drop}
+use Rattle.fv_engine_lines.proofs.Writes.{took_none, wrote_on, wrote_some}
 use Rattle.fv_engine_lines.proofs.output.write_bytes.Goals as goal
 
 pub loop-at-preserved : goal.loop-at-preserved
@@ -9,9 +9,13 @@ loop-at-preserved g c = record {
 }
 
 pub returns-in-Ok-eq0-clause-err : goal.returns-in-Ok-eq0-clause-err
-returns-in-Ok-eq0-clause-err g c =
-    (wrote_some _ _ (c.loop-at.at + c.in-Ok-eq0.field-0) c.args.bytes.now (wrote_on _ (g.W.Output.contents c.loop-at.writer) _ c.loop-at.at c.in-Ok-eq0.field-0 c.args.bytes.now c.loop-at.invariant.within c.loop-at.invariant.written c.in-Ok-eq0.ensures.bytes), _, c.in-Ok-eq0.ensures.failed c.in-Ok-eq0.field-0-test)
+returns-in-Ok-eq0-clause-err g c = (
+  c.loop-at.writer,
+  wrote_some _ _ c.loop-at.at c.args.bytes.now c.loop-at.invariant.written,
+  took_none _ _ c.in-Ok-eq0.field-0 _ c.in-Ok-eq0.field-0-test c.in-Ok-eq0.ensures.bytes,
+  c.in-Ok-eq0.ensures.failed c.in-Ok-eq0.field-0-test,
+)
 
 pub returns-in-Err-clause-err : goal.returns-in-Err-clause-err
 returns-in-Err-clause-err g c =
-    (wrote_front _ (g.W.Output.contents c.loop-at.writer) _ c.loop-at.at c.args.bytes.now c.loop-at.invariant.written c.in-Err.ensures.bytes, _, c.in-Err.ensures.failed)
+    (c.loop-at.writer, wrote_some _ _ c.loop-at.at c.args.bytes.now c.loop-at.invariant.written, c.in-Err.ensures.bytes, c.in-Err.ensures.failed)

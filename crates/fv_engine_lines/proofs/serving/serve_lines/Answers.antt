@@ -1,4 +1,4 @@
-use Rattle.std.proofs.Common.{◌≢◌, arith, inr, refl}
+use Rattle.std.proofs.Common.{◌≢◌, arith, inl, inr, refl}
 use Rattle.fv_engine_lines.specs.Writes.{Sends}
 use Rattle.fv_engine_lines.specs.declared.serving.Turn.TheVariants.{End, WriteFailed}
 use Rattle.fv_engine_lines.proofs.Lines.{taken_none}
@@ -11,6 +11,12 @@ pub returns-in-Ok-clause-ok : goal.returns-in-Ok-clause-ok
 returns-in-Ok-clause-ok g c =
     let other : End ≢ WriteFailed = λ e. cc in
     c.in-Ok.ensures.ok _ _ _ (c.in-End.ensures.end refl) (c.in-End.ensures.taken other _ _ c.loop-turn.invariant.taken)
+
+pub returns-in-Ok-clause-ended : goal.returns-in-Ok-clause-ended
+returns-in-Ok-clause-ended g c = (c.loop-turn._turn, c.loop-turn-test.true, _, c.loop-turn.invariant.reads, c.in-End.ensures.ended refl)
+
+pub returns-in-ReadFailed-clause-read_cause : goal.returns-in-ReadFailed-clause-read_cause
+returns-in-ReadFailed-clause-read_cause g c = λ is. inl (c.loop-turn._turn, c.loop-turn-test.true, _, c.loop-turn.invariant.reads, c.in-ReadFailed.ensures.failed refl)
 
 pub returns-in-Err-clause-write : goal.returns-in-Err-clause-write
 returns-in-Err-clause-write g c = λ is.

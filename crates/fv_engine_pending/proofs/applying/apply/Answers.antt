@@ -5,7 +5,7 @@ use Rattle.fv_engine_pending.specs.Fits.{Keeps}
 use Rattle.fv_engine_pending.specs.Steps.{put_step, remove_step, left_as, removed_on, step_view}
 use Rattle.fv_engine_pending.specs.Ways.{pending_view, standing_at}
 use Rattle.fv_engine_pending.specs.declared.fault.PartFault.TheVariants.{Memory}
-use Rattle.fv_engine_pending.specs.declared.reading.Step.{Step}
+use Rattle.fv_engine_pending.specs.declared.parts.Step.{Step}
 use Rattle.fv_engine_pending.proofs.Fitting.{keeps_put, keeps_remove}
 use Rattle.fv_engine_pending.proofs.Stepping.{where_made}
 use Rattle.fv_bundle.specs.TypesView.{types_view}

@@ -2,7 +2,7 @@ use Rattle.std.proofs.Common.{◌≡◌, ◌∷◌, [], ◌++◌, map, length, a
 use Rattle.std.specs.Vec.Iter.{into_iter_items}
 use Rattle.fv_engine_pending.specs.Steps.{step_view, steps_made}
 use Rattle.fv_engine_pending.specs.Ways.{pending_view}
-use Rattle.fv_engine_pending.specs.declared.reading.Step.{Step}
+use Rattle.fv_engine_pending.specs.declared.parts.Step.{Step}
 use Rattle.fv_engine_pending.proofs.Stepping.{first_made, keeps_next, none_left, keeps_all}
 use Rattle.fv_bundle.specs.TypesView.{types_view}
 use Rattle.fv_engine_pending.proofs.applying.apply_all.Goals as goal
