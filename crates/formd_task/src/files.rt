@@ -56,7 +56,8 @@ pub trait Bytes {
 
     /// Reads to the end, or up to a limit, behind the bytes that are there.
     fn read_front(self, limit: u64, bytes: &mut Vec<u8>) -> io::Result<usize>
-        ensures bytes { OnOk result (IfSome (remaining self) (λ given. bytes.new.items ≡ bytes.old.items ++ take limit given)) }
+        ensures bytes { OnOk result (IfSome (remaining self)
+            (λ given. bytes.new.items ≡ bytes.old.items ++ take limit given)) }
         ensures failed { IfErr result (λ e. fails self (error_kind e)) };
 }
 
