@@ -1,5 +1,7 @@
 -- The names of faults.
-use Rattle.std.specs.Prelude.{ℕ, List, codes}
+use Rattle.std.specs.Prelude.{◌≡◌, ◌≢◌, ℕ, List, codes}
+use Rattle.std.specs.declared.io.ErrorKind.{ErrorKind}
+use Rattle.std.specs.declared.io.ErrorKind.TheVariants.{OutOfMemory}
 use Rattle.formd_task.specs.declared.files.FileFault.{FileFault}
 use Rattle.formd_task.specs.declared.files.FileFault.TheVariants as file
 
@@ -7,3 +9,7 @@ use Rattle.formd_task.specs.declared.files.FileFault.TheVariants as file
 abbrev pub file_fault_name : FileFault → List ℕ
 file_fault_name file.Unreadable = codes "Unreadable"
 file_fault_name file.Memory = codes "Memory"
+
+-- the fault that an error of a kind becomes
+abbrev pub FaultOf : ErrorKind → FileFault → Type 0
+FaultOf kind fault = (kind ≡ OutOfMemory → fault ≡ file.Memory) × (kind ≢ OutOfMemory → fault ≡ file.Unreadable)

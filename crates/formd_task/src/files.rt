@@ -1,11 +1,13 @@
 //! Files as bytes, up to a limit.
-ghost use Rattle.std.specs.Prelude.{◌≡◌, ◌≤◌, IfOk, IfSome, length};
-ghost use Rattle.formd_task.specs.FaultNames.{file_fault_name};
+ghost use Rattle.std.specs.Prelude.{◌≡◌, ◌≤◌, ◌<◌, ◌++◌, ◌⊎◌, ℕ, List, Option, IfErr, IfOk, IfSome, OnOk, length, take};
+ghost use Rattle.std.specs.IoError.{error_kind};
+ghost use Rattle.std.specs.declared.io.ErrorKind.{ErrorKind};
+ghost use Rattle.formd_task.specs.FaultNames.{FaultOf, file_fault_name};
 
 use std::alloc::Global;
-use std::fs;
 use std::fs::Files;
 use std::io::{Error, ErrorKind, Read};
+use std::{fs, io};
 
 /// The most bytes of a file that is read.
 const MOST_BYTES: usize = 16777216;
@@ -34,6 +36,8 @@ impl FileFault {
 }
 
 impl From<Error> for FileFault {
+    ghost from_gives = { λ error fault. FaultOf (error_kind error) fault };
+
     fn from(error: Error) -> FileFault {
         match error.kind() {
             ErrorKind::OutOfMemory => FileFault::Memory,
@@ -42,15 +46,46 @@ impl From<Error> for FileFault {
     }
 }
 
+/// What bytes are read from to the end. Each reader of std is one.
+pub trait Bytes {
+    /// The bytes that reading will give, where they are known.
+    ghost remaining: { Self → Option (List ℕ) };
+
+    /// Reading may fail with an error of a kind.
+    ghost fails: { Self → ErrorKind → Type 0 };
+
+    /// Reads to the end, or up to a limit, behind the bytes that are there.
+    fn read_front(self, limit: u64, bytes: &mut Vec<u8>) -> io::Result<usize>
+        ensures bytes { OnOk result (IfSome (remaining self)
+            (λ given. bytes.new.items ≡ bytes.old.items ++ take limit given)) }
+        ensures failed { IfErr result (λ e. fails self (error_kind e)) };
+}
+
+impl<R: Read + Drop> Bytes for R {
+    ghost use Rattle.std.specs.Prelude.{⊤};
+
+    ghost remaining = { R.remaining };
+
+    // A reader of std doesn't tell why a read failed.
+    ghost fails = { λ _ _. ⊤ };
+
+    fn read_front(self, limit: u64, bytes: &mut Vec<u8>) -> io::Result<usize> {
+        let mut front = self.take(limit);
+        front.read_to_end(bytes)
+    }
+}
+
 /// All that a reader gives, up to the limit: with more it isn't readable.
-pub fn read_whole<R: Read + Drop>(alloc: Global, reader: R) -> Result<Vec<u8>, FileFault>
+pub fn read_whole<R: Bytes>(alloc: Global, reader: R) -> Result<Vec<u8>, FileFault>
     ensures limit { IfOk result (λ bytes. length bytes.items ≤ 16777216) }
     ensures whole { IfOk result (λ bytes. IfSome (R.remaining reader) (λ given. bytes.items ≡ given)) }
+    ensures refused { IfErr result (λ fault. ((kind : ErrorKind) × R.fails reader kind × FaultOf kind fault)
+        ⊎ ((fault ≡ FileFault.Unreadable) × IfSome (R.remaining reader) (λ given. 16777216 < length given))) }
 {
     let mut bytes = Vec::new(alloc);
-    let mut front = reader.take(MOST_BYTES as u64 + 1);
-    front.read_to_end(&mut bytes)?;
-    if bytes.len() > MOST_BYTES {
+    reader.read_front(MOST_BYTES as u64 + 1, &mut bytes)?;
+    let too_long = bytes.len() > MOST_BYTES;
+    if too_long {
         return Err(FileFault::Unreadable);
     }
     Ok(bytes)

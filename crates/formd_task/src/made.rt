@@ -1,9 +1,16 @@
 //! The files that a start makes, which go again where it is refused.
+ghost use Rattle.std.specs.Prelude.{◌≡◌, ◌≢◌, ◌⊎◌, ℕ, List, IfNone, IfOk, IfSome, MatchResult, string_bytes};
+ghost use Rattle.std.specs.IoError.{error_kind};
+ghost use Rattle.std.specs.declared.io.ErrorKind.{ErrorKind};
+ghost use Rattle.std.specs.declared.io.ErrorKind.TheVariants.{NotFound};
+
 use sqlite::{Connection, Error, ErrorCode, File, FileStore, Files, Leftover, Unknown};
-use std::alloc::AllocError;
+use std::alloc::{AllocError, Global};
+use std::fs::Metadata;
 use std::io::ErrorKind;
+use std::path::PathBuf;
 use std::time::Duration;
-use std::{fs, thread};
+use std::{fs, io, thread};
 
 /// How many milliseconds the locks stay behind the names: whoever found a name just before finds it
 /// locked.
@@ -32,9 +39,46 @@ impl From<AllocError> for NotOpened {
     }
 }
 
+/// Where files lie. The files of std are such a place.
+trait Place {
+    /// What is asked about a path may be found there.
+    ghost finds: { Self → List ℕ → Type 0 };
+
+    /// What is asked about a path may end in an error of a kind.
+    ghost fails: { Self → List ℕ → ErrorKind → Type 0 };
+
+    /// What is at a path, where a link at its end isn't followed.
+    fn look(&self, path: &str) -> io::Result<Metadata>
+        ensures { MatchResult result (λ _. finds self.now path.now) (λ e. fails self.now path.now (error_kind e)) };
+
+    /// The path to which the links of a path lead.
+    fn lead(&self, alloc: Global, path: &str) -> io::Result<PathBuf>;
+}
+
+impl<F: fs::Files> Place for F {
+    ghost use Rattle.std.specs.Prelude.{⊤};
+
+    // The files of std don't tell what is there.
+    ghost finds = { λ _ _. ⊤ };
+
+    ghost fails = { λ _ _ _. ⊤ };
+
+    fn look(&self, path: &str) -> io::Result<Metadata> {
+        fs::symlink_metadata(self, path)
+    }
+
+    fn lead(&self, alloc: Global, path: &str) -> io::Result<PathBuf> {
+        self.canonicalize(alloc, path)
+    }
+}
+
 /// The path, where nothing is there.
-fn if_absent(rt: &HostRuntime, path: String) -> Option<String> {
-    match fs::symlink_metadata(rt, path.as_str()) {
+fn if_absent<P: Place>(place: &P, path: String) -> Option<String>
+    ensures absent { IfSome result (λ p. (p ≡ path) × P.fails place.now (string_bytes path) NotFound) }
+    ensures other { IfNone result (P.finds place.now (string_bytes path)
+        ⊎ (kind : ErrorKind) × (kind ≢ NotFound) × P.fails place.now (string_bytes path) kind) }
+{
+    match place.look(path.as_str()) {
         Err(error) if error.kind() == ErrorKind::NotFound => Some(path),
         _ => None,
     }
@@ -42,25 +86,33 @@ fn if_absent(rt: &HostRuntime, path: String) -> Option<String> {
 
 /// Which files of the database at a path aren't there. The log lies beside the file to which a link
 /// leads.
-pub fn absent_at(rt: &HostRuntime, path: &str) -> Result<Absent, NotOpened> {
-    let alloc = rt.alloc();
-    match fs::canonicalize(rt, path) {
+fn absent_in<P: Place>(place: &P, alloc: Global, path: &str) -> Result<Absent, NotOpened>
+    ensures database { IfOk result (λ absent. IfSome absent.database (λ p.
+        (string_bytes p ≡ path.now) × P.fails place.now path.now NotFound)) }
+    ensures log { IfOk result (λ absent. IfSome absent.log (λ p. P.fails place.now (string_bytes p) NotFound)) }
+{
+    match place.lead(alloc, path) {
         Ok(real) => {
             let log = format!(in alloc; "{}-wal", real.as_str())?;
             Ok(Absent {
                 database: None,
-                log: if_absent(rt, log),
+                log: if_absent(place, log),
             })
         }
         Err(_) => {
             let log = format!(in alloc; "{path}-wal")?;
             let database = String::from_str(alloc, path)?;
             Ok(Absent {
-                database: if_absent(rt, database),
-                log: if_absent(rt, log),
+                database: if_absent(place, database),
+                log: if_absent(place, log),
             })
         }
     }
+}
+
+/// Which files of the database at a path aren't there, as the files of the machine answer.
+pub fn absent_at(rt: &HostRuntime, path: &str) -> Result<Absent, NotOpened> {
+    absent_in(rt, rt.alloc(), path)
 }
 
 /// Removes the file at a path, if one is named.
