@@ -335,9 +335,8 @@ fn explain_of<'a>(given: &ArgMatches<'a>) -> Explain<'a> {
     }
 }
 
-/// What the words ask, without the program's name. Refused by their text for the user, also where
-/// they call for help or for the version, or for want of memory.
-pub fn task_of<'a>(alloc: Global, words: &'a [String]) -> Result<Task<'a>, Error> {
+/// What the words ask by a subcommand.
+fn asked_of<'a>(alloc: Global, words: &'a [String]) -> Result<Task<'a>, Error> {
     let matches = command(alloc)?.try_get_matches_from(words)?;
     match matches.subcommand() {
         Some(("serve", given)) => Ok(Task::Serve(service_of(
@@ -361,4 +360,16 @@ pub fn task_of<'a>(alloc: Global, words: &'a [String]) -> Result<Task<'a>, Error
         Some((_, given)) => Ok(Task::Declarations(given.get_str("file").unwrap_or(""))),
         None => Ok(Task::Demonstration),
     }
+}
+
+/// What the words ask, without the program's name. Refused by their text for the user, also where
+/// they call for help, or for want of memory.
+pub fn task_of<'a>(alloc: Global, words: &'a [String]) -> Result<Task<'a>, Error> {
+    let asked = asked_of(alloc, words);
+    if let Err(refused) = &asked {
+        if refused.kind() == ErrorKind::DisplayVersion {
+            return Ok(Task::Version);
+        }
+    }
+    asked
 }

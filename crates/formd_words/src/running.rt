@@ -60,12 +60,7 @@ pub fn run_words<R: RuleSet + Drop, I: Read, W: Write, E: Write, C: Clock>(
     let alloc = rt.alloc();
     let task = match task_of(alloc, words) {
         Ok(task) => task,
-        Err(refused) => {
-            if refused.kind() != ErrorKind::DisplayVersion {
-                return report_words(&refused, error);
-            }
-            Task::Version
-        }
+        Err(refused) => return report_words(&refused, error),
     };
     let done = match task {
         Task::Demonstration => serve_demonstration(alloc, registry, reader, output),
