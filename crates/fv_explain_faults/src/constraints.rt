@@ -1,8 +1,8 @@
 //! The faults of declared constraints, and of attributes that constraints get, in words.
 use crate::drafts::{Refused, at, entry_at};
 use crate::say;
-use crate::shown::{Named, Who, attribute_word};
-use crate::told::{Found, Told, Untold, Written};
+use crate::shown::{ATTRIBUTES, Named, Who, attribute_word};
+use crate::told::{Found, Told, Untold, Written, push_words};
 use crate::trees::node_at;
 use fv_builtin::{kind_of_attribute, required_attributes};
 use fv_constraint::{ConstraintAt, Meant, Planned, foreign_given, meant_by};
@@ -21,6 +21,27 @@ fn kind_in(meant: Meant, name: &str) -> Option<AttributeKind> {
     }
 }
 
+/// Adds that a constraint has no attribute of a name, and which it has.
+fn unknown_attribute(out: &mut Found, (who, meant): (Who, Meant), name: &str) -> Written {
+    let mut names = Vec::new(out.alloc);
+    match meant {
+        Meant::BuiltIn(which) => {
+            for name in ATTRIBUTES {
+                if kind_of_attribute(which, name).is_some() {
+                    names.push(name)?;
+                }
+            }
+        }
+        Meant::Declared(definition) => {
+            for (name, _) in definition.attributes.iter() {
+                names.push(name.as_str())?;
+            }
+        }
+    }
+    say!(out; "{who} has no attribute {}; it has ", Named(name))?;
+    push_words(out, &names, "none")
+}
+
 /// Adds what is wrong with an attribute of some kind that a constraint doesn't have, or has of another kind.
 fn foreign(
     out: &mut Found,
@@ -29,7 +50,7 @@ fn foreign(
     kind: AttributeKind,
 ) -> Written {
     let Some(wanted) = kind_in(meant, name) else {
-        return say!(out; "{who} has no attribute {}", Named(name));
+        return unknown_attribute(out, (who, meant), name);
     };
     let (wanted, kind) = (attribute_word(wanted), attribute_word(kind));
     say!(out; "attribute {} of {who} is of kind {wanted}, not {kind}", Named(name))
@@ -153,7 +174,13 @@ fn overridden_at(
     }
     match definition.attributes.get(outer.as_str()) {
         Some(attribute) => foreign(out, (who, meant), name, attribute.kind),
-        None => say!(out; "{owner} has no attribute {}", Named(outer.as_str())),
+        None => {
+            let owner = Who {
+                constraint: owner,
+                used: None,
+            };
+            unknown_attribute(out, (owner, Meant::Declared(definition)), outer.as_str())
+        }
     }
 }
 

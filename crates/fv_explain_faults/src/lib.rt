@@ -19,5 +19,5 @@ mod trees;
 pub use drafts::to_use;
 pub use locating::locate;
 pub use misfits::command_shape;
-pub use shown::{Named, Quoted, Who, built_in_key, find_message, kind_word, reported};
+pub use shown::{ATTRIBUTES, Named, Quoted, Who, built_in_key, find_message, kind_word, reported};
 pub use told::{Found, Told, Untold, Written};

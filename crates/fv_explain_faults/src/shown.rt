@@ -122,6 +122,17 @@ pub(crate) static KINDS: [(Kind, &'static str); 10] = [
     (Kind::Optional, "optional"),
 ];
 
+/// The names of all attributes of built-in constraints, which their messages have as parameters.
+pub static ATTRIBUTES: [&'static str; 7] = [
+    "value",
+    "inclusive",
+    "integer",
+    "fraction",
+    "min",
+    "max",
+    "regexp",
+];
+
 /// The word for a kind of data, as it is declared.
 pub fn kind_word(kind: Kind) -> &'static str {
     let found = KINDS.iter().find(|(other, _)| *other == kind);

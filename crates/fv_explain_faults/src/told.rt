@@ -98,3 +98,15 @@ impl<T: Drop> From<AllocFailed<T>> for Untold {
         Untold::Memory
     }
 }
+
+/// Adds words as "a, b and c"; others where there is none.
+pub(crate) fn push_words(out: &mut Found, words: &[&str], others: &str) -> Written {
+    match words.split_last() {
+        None => out.add(others),
+        Some((last, [])) => out.add(last),
+        Some((last, before)) => {
+            let before = before.join(out.alloc, ", ")?;
+            say!(out; "{before} and {last}")
+        }
+    }
+}

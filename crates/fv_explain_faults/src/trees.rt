@@ -3,7 +3,7 @@ use crate::constraints::refused_at;
 use crate::drafts::{Refused, at};
 use crate::say;
 use crate::shown::{KINDS, Named, Who, kind_word};
-use crate::told::{Found, Told, Untold, Written};
+use crate::told::{Found, Told, Untold, Written, push_words};
 use fv_builtin::takes_kind;
 use fv_constraint::{Composition, Meant, Planned, meant_by, unknown_composing};
 use fv_constraint_tree::Target;
@@ -51,14 +51,7 @@ fn push_taken<R: RuleSet>(out: &mut Found, rules: &R, meant: Meant) -> Written {
             words.push(word)?;
         }
     }
-    match words.split_last() {
-        None => say!(out; "no kind of data"),
-        Some((last, [])) => say!(out; "{last}"),
-        Some((last, others)) => {
-            let others = others.join(out.alloc, ", ")?;
-            say!(out; "{others} and {last}")
-        }
-    }
+    push_words(out, &words, "no kind of data")
 }
 
 /// Adds why a constraint's own test isn't on what stands at a place.

@@ -8,22 +8,11 @@ use fv_datum::{Attribute, Attrs, Kind};
 use fv_declare_draft::MessageDraft;
 use fv_declare_schema::{Placed, Schema};
 use fv_explain_faults::{
-    Named, Told, Who, Written, built_in_key, find_message, kind_word, reported, say,
+    ATTRIBUTES, Named, Told, Who, Written, built_in_key, find_message, kind_word, reported, say,
 };
 use fv_registry::RuleSet;
 use indexmap::IndexSet;
 use std::alloc::Global;
-
-/// The names of all attributes of built-in constraints, which their messages have as parameters.
-static ATTRIBUTES: [&'static str; 7] = [
-    "value",
-    "inclusive",
-    "integer",
-    "fraction",
-    "min",
-    "max",
-    "regexp",
-];
 
 /// What a template leads to, and the texts that it leads to.
 #[derive(Drop)]
