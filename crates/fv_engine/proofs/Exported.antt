@@ -191,7 +191,7 @@ module _ {O : Type 0} (contents : O → Option (List ℕ)) where
   wrote_grows a b bs P (Err f) told = tt
 
   pub flush_sends : {X : Type 0} (flushes : O → O → Type 0) (a b c : O) (r : Result X ExportFault) → Grows contents a b → Keeps (contents b) (contents c) → OnOk r (flushes b c) → OnOk r ((bs : List ℕ) × Sends contents flushes a c bs)
-  flush_sends flushes a b c (Ok x) grown keeps flushed = (grown.0, b, grown.1, keeps, flushed)
+  flush_sends flushes a b c (Ok x) grown keeps flushed = (grown.0, (b, grown.1, keeps, flushed))
   flush_sends flushes a b c (Err f) grown keeps told = tt
 
   module _ (fails : O → O → Type 0) where
@@ -203,11 +203,11 @@ module _ {O : Type 0} (contents : O → Option (List ℕ)) where
     pub tells_then : (a b c : O) (f : ExportFault) → Grows contents a b → TellsWrite contents fails b c f → TellsWrite contents fails a c f
     tells_then a b c f grown tells is =
         let told = tells is in
-        (grown.0 ++ told.0, told.1, then_front (contents a) (contents b) (contents told.1) grown.0 told.0 grown.1 told.2, told.3, told.4)
+        (grown.0 ++ told.0, (told.1.0, then_front (contents a) (contents b) (contents told.1.0) grown.0 told.0 grown.1 told.1.1, told.1.2, told.1.3))
 
     pub flush_tells : {X : Type 0} (a b c : O) (r : Result X ExportFault) → Grows contents a b → Keeps (contents b) (contents c) → IfErr r (λ f. (f ≡ Write) × fails b c) → IfErr r (TellsWrite contents fails a c)
     flush_tells a b c (Ok x) grown keeps told = tt
-    flush_tells a b c (Err f) grown keeps told = λ is. (grown.0, b, (grown.0, [], sym (append-nil grown.0), grown.1), keeps, told.1)
+    flush_tells a b c (Err f) grown keeps told = λ is. (grown.0, (b, (grown.0, [], sym (append-nil grown.0), grown.1), keeps, told.1))
 
 -- what the store tells of its fault
 abbrev pub IsCaused : State → State → StoreFault → Type 0
@@ -453,10 +453,10 @@ unflushed old new w v u text done keeps = λ clean c shallow holds.
     let told = done clean c shallow holds in
     ((λ of few is_text. cc), (told.0, as_first c.records told.0 told.1, whole_front w v u (export_text text told.0) told.2 keeps))
 
-pub flush_wrote : {X F : Type 0} (old new : State) (w v u : Option (List ℕ)) (text : List ℕ) (r : Result X ExportFault) → StoreDone old new w v text → Keeps v u → IfErr r (λ f. (f ≡ Write) × F)
+pub flush_wrote : {X : Type 0} (F : Type 0) (old new : State) (w v u : Option (List ℕ)) (text : List ℕ) (r : Result X ExportFault) → StoreDone old new w v text → Keeps v u → IfErr r (λ f. (f ≡ Write) × F)
     → MatchResult r (λ _. StoreDone old new w u text) (λ f. StoreFails old new w u text f)
-flush_wrote old new w v u text (Ok x) done keeps told = flushed old new w v u text done keeps
-flush_wrote old new w v u text (Err f) done keeps told = subst (StoreFails old new w u text) (sym told.0) (unflushed old new w v u text done keeps)
+flush_wrote F old new w v u text (Ok x) done keeps told = flushed old new w v u text done keeps
+flush_wrote F old new w v u text (Err f) done keeps told = subst (StoreFails old new w u text) (sym told.0) (unflushed old new w v u text done keeps)
 
 -- ---- told of an engine's records
 

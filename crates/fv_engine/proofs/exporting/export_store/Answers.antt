@@ -38,7 +38,7 @@ returns-clause-wrote g c =
     let u = g.O.Output.contents c.export_records.new.out in
     let text = c.args.store.now.text in
     let wrote : Appends w v (declarations_line text) = rw c.declarations.ensures at c.in_ok-write_declarations.ensures.wrote in
-    flush_wrote begin end w u (g.O.Output.contents c.flush.new.out) text c.flush.result (store_done begin end w v u text wrote c.in_ok-export_records.ensures.wrote) c.flush.ensures.kept c.flush.ensures.cause
+    flush_wrote _ begin end w u (g.O.Output.contents c.flush.new.out) text c.flush.result (store_done begin end w v u text wrote c.in_ok-export_records.ensures.wrote) c.flush.ensures.kept c.flush.ensures.cause
 
 pub returns-in_err-write_declarations-clause-cause : goal.returns-in_err-write_declarations-clause-cause
 returns-in_err-write_declarations-clause-cause g c =
