@@ -17,7 +17,7 @@ anchored regexp = codes "\\A(?:" ++ (regexp ++ codes ")\\z")
 abbrev pub IsPatternOf : List ℕ → Re → Type 0
 IsPatternOf source re = (hir : Hir) × (names : Names) × Reads default_config source hir names × (re ≡ meaning hir)
 
--- the regex crate refused the text, for another cause than memory
+-- the regex crate may refuse the text, for another cause than memory
 abbrev pub IsNoPattern : List ℕ → Type 0
 IsNoPattern source = (e : Error) × (e ≢ OutOfMemory) × IsDefaultFailure source e
 
