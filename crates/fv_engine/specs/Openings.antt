@@ -1,5 +1,5 @@
 -- Which declarations are in force in a database that is opened, and what a refusal leaves of it.
-use Rattle.std.specs.Prelude.{◌≡◌, ◌≢◌, ◌⊎◌, ℕ, List, None, Ok, Err}
+use Rattle.std.specs.Prelude.{◌≡◌, ◌≢◌, ◌⊎◌, ℕ, ℤ, pos, List, None, Ok, Err}
 use Rattle.sqlite.specs.State.{State, HasCleanDisk}
 use Rattle.fv_declare_judging.specs.Declares.{Declares}
 use Rattle.fv_declare_judging.specs.declared.fault.DeclFault.{DeclFault}
@@ -20,7 +20,7 @@ use Rattle.fv_engine.specs.declared.engine.OpenFault.TheVariants.{Store}
 -- where it is blank
 pub record IsInForce (old new : State) (given text : List ℕ) : Type 0 where
   pub opened : HasCleanDisk new → (c : Contents) → Opens old given c → text ≡ c.bytes
-  pub told : HasCleanDisk new → (version : ℕ) (kept : List ℕ) → TellsAbout version kept old.now → (about_fault version ≡ None) × (text ≡ kept)
+  pub told : HasCleanDisk new → (version : ℤ) (kept : List ℕ) → TellsAbout version kept old.now → (about_fault version ≡ None) × (text ≡ kept)
 
 -- a text declares something, where these rules are there
 abbrev pub DeclaresSome : Known → List ℕ → Type 0
@@ -52,6 +52,6 @@ pub record IsKept (old new : State) : Type 0 where
 -- OtherVersion); those of version 1, whose rows all are records, short and few; or an empty one, for declarations that are short
 abbrev pub FailsByDisk : State → List ℕ → Type 0
 FailsByDisk old given =
-    ((version : ℕ) × (kept : List ℕ) × TellsAbout version kept old.now × (version ≢ first_version))
+    ((version : ℤ) × (kept : List ℕ) × TellsAbout version kept old.now × (version ≢ pos first_version))
     ⊎ ((kept : List ℕ) × (m : Olds) × KeepsFirst old kept m × AllUpgrade m × IsShortAbout kept × AllShort (upgraded m) × HasFew m)
     ⊎ (IsBlank old.now × IsShortAbout given)

@@ -23,12 +23,9 @@ first_kept old mid stays d m keeps clean live =
     let was = keeps it.0 it.1 in
     (subst (λ db. first.SpellsFirst db (first_rows d) m) (sym it.2) was.0, subst (λ db. first.SpellsFirst db (first_rows d) m) (sym it.3) was.1)
 
-same_version : (a b : ℕ) → pos a ≡ pos b → a ≡ b
-same_version a b e = cc
-
 -- the version that was read is that of the row
-pub first_only : (s : State) (number : ℤ) (text : List ℕ) → IsTakenAs s number text → number ≡ pos first_version → (version : ℕ) (stored : List ℕ) → TellsAbout version stored s.now → version ≡ first_version
-first_only s number text taken first version stored tells = same_version version first_version (sym (taken version stored tells).1 ∙ first)
+pub first_only : (s : State) (number : ℤ) (text : List ℕ) → IsTakenAs s number text → number ≡ pos first_version → (version : ℤ) (stored : List ℕ) → TellsAbout version stored s.now → version ≡ pos first_version
+first_only s number text taken first version stored tells = sym (taken version stored tells).1 ∙ first
 
 -- and the tables that were counted are those that were there before the row was read
 pub first_tables : (old mid : State) (number : ℤ) (text : List ℕ) → HasCleanDisk mid → IsTrue mid.is_open → Stays old mid → HasFirstTables mid.now → IsTakenAs old number text → number ≡ pos first_version → MayBeFirst old.now
@@ -55,7 +52,7 @@ not_first old new number text frame live taken other d m keeps = (λ clean. absu
     never : HasCleanDisk new → ⊥
     never clean =
         let was = (keeps (frame.clean clean) (frame.was_open clean (live clean))).0 in
-        other ((taken clean) first_version d (inl was.schema, was.about)).1
+        other ((taken clean) (pos first_version) d (inl was.schema, was.about)).1
 
 pub then_upgraded : (old mid new : State) → Stays old mid → IsUpgraded mid new → IsUpgraded old new
 then_upgraded old mid new stays made d m keeps = made d m (first_kept old mid stays d m keeps)

@@ -1,5 +1,6 @@
 -- What an open finds and leaves.
-use Rattle.std.proofs.Common.{◌≡◌, ◌≢◌, ◌⊎◌, ◌==◌, ◌||◌, ℕ, pos, Bool, true, false, not, cond, length, List, [], ◌∷◌, slice_get, Option, Some, None, Result, Ok, Err, IfOk, IfErr, IsTrue, inl, inr, refl, sym, ap, subst, ◌∙◌}
+use Rattle.std.proofs.Common.{◌≡◌, ◌≢◌, ◌⊎◌, ◌||◌, ℕ, ℤ, pos, Bool, true, false, not, cond, length, List, [], ◌∷◌, slice_get, Option, Some, None, Result, Ok, Err, IfOk, IfErr, IsTrue, inl, inr, refl, sym, ap, subst, ◌∙◌}
+use Rattle.std.specs.Ordering.{int_eq}
 use Rattle.sqlite.specs.Schema.{Schema}
 use Rattle.sqlite.specs.declared.error.Error.{Error}
 use Rattle.sqlite.specs.Effect.{Database}
@@ -36,13 +37,13 @@ Judges view r o stored = Gives Memory view r (unless_fault o stored)
 
 -- what a row that tells its version and its declarations is judged as
 abbrev JudgesAll : {X : Type 0} → (X → Told) → State → Answer X → Type 0
-JudgesAll view s r = (version : ℕ) (d : List ℕ) → TellsAbout version d s.now → Judges view r (about_fault version) (told version d)
+JudgesAll view s r = (version : ℤ) (d : List ℕ) → TellsAbout version d s.now → Judges view r (about_fault version) (told version d)
 
-pub about_first : (rows : List Row) (version : ℕ) (d : List ℕ) (row : Row) → Some row ≡ slice_get rows 0 → ShowsAbout rows version d → row ≡ shown_about version d
+pub about_first : (rows : List Row) (version : ℤ) (d : List ℕ) (row : Row) → Some row ≡ slice_get rows 0 → ShowsAbout rows version d → row ≡ shown_about version d
 about_first [] version d row some h = absurd cc
 about_first (r ∷ rows) version d row some h = let same : row ≡ r = cc in same ∙ h
 
-pub about_never : (rows : List Row) (version : ℕ) (d : List ℕ) → None ≡ slice_get rows 0 → ShowsAbout rows version d → ⊥
+pub about_never : (rows : List Row) (version : ℤ) (d : List ℕ) → None ≡ slice_get rows 0 → ShowsAbout rows version d → ⊥
 about_never [] version d none h = h
 about_never (row ∷ rows) version d none h = absurd cc
 
@@ -81,8 +82,8 @@ pub caused_all : {X : Type 0} (view : X → Told) (s : State) (r : Answer X) →
 caused_all view s (Ok x) live filled h = tt
 caused_all view s (Err e) live filled h = λ fault. (live, filled, λ version d tells. is_fault e (about_fault version) (told version d) (h version d tells (is_not_memory e fault)))
 
-never_store : (version : ℕ) → about_fault version ≡ Some Store → ⊥
-never_store version = go (not (version == first_version || version == tables_version))
+never_store : (version : ℤ) → about_fault version ≡ Some Store → ⊥
+never_store version = go (not (int_eq version (pos first_version) || int_eq version (pos tables_version)))
   where
     go : (a : Bool) → ◌≡◌ {A = Option OpenStoreFault} (cond a (Some OtherVersion) None) (Some Store) → ⊥
     go true h = cc
@@ -90,7 +91,7 @@ never_store version = go (not (version == first_version || version == tables_ver
 
 -- the row of `about` is no cause for `Store`
 pub excused_all : {X : Type 0} (view : X → Told) (old new : State) (r : Answer X) → JudgesAll view old r
-    → IfErr r (λ e. (version : ℕ) (d : List ℕ) → TellsAbout version d old.now → IsOpenExcused old new e)
+    → IfErr r (λ e. (version : ℤ) (d : List ℕ) → TellsAbout version d old.now → IsOpenExcused old new e)
 excused_all view old new (Ok x) h = tt
 excused_all view old new (Err e) h = λ version d tells is.
     absurd (never_store version (is_fault e (about_fault version) (told version d) (h version d tells (λ memory. let wrong : Store ≡ Memory = sym is ∙ memory in cc)) ∙ ap Some is))
@@ -143,14 +144,14 @@ no_record : (o : Option Kept) → o ≡ None → (kept : Kept) → o ≡ Some ke
 no_record o none kept some = cc
 
 -- what stands tells its version and its declarations
-tells_second : {db : Database} (k : Contents) → Stands db k → TellsAbout tables_version k.bytes db
+tells_second : {db : Database} (k : Contents) → Stands db k → TellsAbout (pos tables_version) k.bytes db
 tells_second k stands = (inr stands.spells.schema, stands.spells.about)
 
 -- the same of version 1
-tells_first : {db : Database} (k : Contents) → StandsFirst db k → TellsAbout first_version k.bytes db
+tells_first : {db : Database} (k : Contents) → StandsFirst db k → TellsAbout (pos first_version) k.bytes db
 tells_first k stands = (inl stands.spells.schema, stands.spells.about)
 
-second_is_not_first : ◌≢◌ {A = ℕ} tables_version first_version
+second_is_not_first : ◌≢◌ {A = ℤ} (pos tables_version) (pos first_version)
 second_is_not_first e = cc
 
 module _ (old new : State) (frame : Frame old new) where
@@ -167,7 +168,7 @@ module _ (old new : State) (frame : Frame old new) where
       at was (inl stays) =
           let it = stays sure live in
           (subst (λ db. Stands db k) (sym it.2) was.0, subst (λ db. Stands db k) (sym it.3) was.1)
-      at was (inr first) = absurd (second_is_not_first ((first sure).1 tables_version k.bytes (tells_second k was.0)))
+      at was (inr first) = absurd (second_is_not_first ((first sure).1 (pos tables_version) k.bytes (tells_second k was.0)))
 
   -- and what stands by version 1 is migrated
   holds_first : IsUpgraded old new → (k : Contents) → has_deep k.types ≡ false → HoldsFirst old k → HoldsRecords new k
@@ -209,11 +210,11 @@ module _ (old new : State) (frame : Frame old new) where
 -- what is opened isn't of another version
 pub opens_version : (s : State) (given : List ℕ) (k : Contents) → HasCleanDisk s → IsCaused s OtherVersion → Opens s given k → ⊥
 opens_version s given k clean cause (inl blank) = let is = cause tt in is.1 (blank clean is.0).0
-opens_version s given k clean cause (inr (inl holds)) = let is = cause tt in no_version (is.2 tables_version k.bytes (tells_second k (holds clean is.0).0))
-opens_version s given k clean cause (inr (inr holds)) = let is = cause tt in no_version (is.2 first_version k.bytes (tells_first k (holds clean is.0).0))
+opens_version s given k clean cause (inr (inl holds)) = let is = cause tt in no_version (is.2 (pos tables_version) k.bytes (tells_second k (holds clean is.0).0))
+opens_version s given k clean cause (inr (inr holds)) = let is = cause tt in no_version (is.2 (pos first_version) k.bytes (tells_first k (holds clean is.0).0))
 
 -- and its declarations are in force, or those given for a blank one
 pub opens_text : (s : State) (given text : List ℕ) → HasCleanDisk s → IsTrue s.is_open → (IsBlank s.now → text ≡ given) → IsTaken s text → (k : Contents) → Opens s given k → text ≡ k.bytes
 opens_text s given text clean live fresh taken k (inl blank) = let was = blank clean live in fresh was.0 ∙ sym was.1
-opens_text s given text clean live fresh taken k (inr (inl holds)) = (taken tables_version k.bytes (tells_second k (holds clean live).0)).1
-opens_text s given text clean live fresh taken k (inr (inr holds)) = (taken first_version k.bytes (tells_first k (holds clean live).0)).1
+opens_text s given text clean live fresh taken k (inr (inl holds)) = (taken (pos tables_version) k.bytes (tells_second k (holds clean live).0)).1
+opens_text s given text clean live fresh taken k (inr (inr holds)) = (taken (pos first_version) k.bytes (tells_first k (holds clean live).0)).1

@@ -1,5 +1,6 @@
 -- Which fault a refusal is: want of memory, or another.
-use Rattle.std.specs.Prelude.{◌==◌, ◌||◌, ℕ, [], ◌∷◌, not, Option}
+use Rattle.std.specs.Prelude.{◌||◌, ℤ, pos, [], ◌∷◌, not, Option}
+use Rattle.std.specs.Ordering.{int_eq}
 use Rattle.sqlite.specs.declared.error.Error.{Error}
 use Rattle.sqlite.specs.declared.error.Error.TheVariants.{SqliteFailure}
 use Rattle.sqlite.specs.declared.error.ErrorCode.TheVariants.{OutOfMemory}
@@ -47,5 +48,5 @@ IsAboutFault refusal.OtherVersion = Unit {0}
 IsAboutFault _ = ⊥
 
 -- of the row of `about`: its version alone is judged
-abbrev pub about_fault : ℕ → Option OpenStoreFault
-about_fault version = first ((not (version == first_version || version == tables_version), refusal.OtherVersion) ∷ [])
+abbrev pub about_fault : ℤ → Option OpenStoreFault
+about_fault version = first ((not (int_eq version (pos first_version) || int_eq version (pos tables_version)), refusal.OtherVersion) ∷ [])

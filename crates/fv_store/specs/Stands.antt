@@ -2,7 +2,7 @@
 pub use Rattle.fv_store_tables.specs.Creating.{IsBlank}
 pub use Rattle.fv_store_tables.specs.Stands.{Frame, IsLive, Stays}
 pub use Rattle.fv_store_tables.specs.About.{KeepsAbout, TellsAbout}
-use Rattle.std.specs.Prelude.{◌≡◌, ◌⊎◌, ◌&&◌, ℕ, ℤ, Bool, false, IsTrue, List, [], ◌∷◌, codes, length, nat_eq, option_map}
+use Rattle.std.specs.Prelude.{◌≡◌, ◌⊎◌, ◌&&◌, ℕ, ℤ, pos, Bool, false, IsTrue, List, [], ◌∷◌, codes, length, nat_eq, option_map}
 use Rattle.sqlite.specs.Effect.{Database}
 use Rattle.sqlite.specs.Order.{Row}
 use Rattle.sqlite.specs.State.{State, HasCleanDisk}
@@ -88,7 +88,7 @@ HasFirstTables db = IsTrue (are_first db.schema.tables && (nat_eq (length db.sch
 
 -- it may be of version 1: so it says, if its tables are those of version 1
 abbrev pub MayBeFirst : Database → Type 0
-MayBeFirst db = HasFirstTables db × ((version : ℕ) (stored : List ℕ) → TellsAbout version stored db → version ≡ first_version)
+MayBeFirst db = HasFirstTables db × ((version : ℤ) (stored : List ℕ) → TellsAbout version stored db → version ≡ pos first_version)
 
 -- ---- opening
 

@@ -2,7 +2,7 @@
 pub use Rattle.fv_store_tables.specs.Causes.{IsRefusal, IsExcused}
 pub use Rattle.fv_store_tables.specs.Stands.{IsSettled}
 pub use Rattle.fv_store_tables.specs.Steps.{Advances, Inside}
-use Rattle.std.specs.Prelude.{◌≡◌, ℕ, ℤ, pos, IsTrue, List, Some, None}
+use Rattle.std.specs.Prelude.{◌≡◌, ℕ, ℤ, IsTrue, List, Some, None}
 use Rattle.sqlite.specs.Effect.{Database}
 use Rattle.sqlite.specs.State.{State, HasCleanDisk}
 use Rattle.fv_store_tables.specs.Olds.{Olds}
@@ -33,12 +33,12 @@ MakesAll cs = Makes (rows_of_all cs) (after_all cs)
 
 -- the row of `about`, where there is one, is taken, and these are its declarations
 abbrev pub IsTaken : State → List ℕ → Type 0
-IsTaken s text = (version : ℕ) (stored : List ℕ) → TellsAbout version stored s.now → (about_fault version ≡ None) × (text ≡ stored)
+IsTaken s text = (version : ℤ) (stored : List ℕ) → TellsAbout version stored s.now → (about_fault version ≡ None) × (text ≡ stored)
 
 -- the same, with its version
 abbrev pub IsTakenAs : State → ℤ → List ℕ → Type 0
 IsTakenAs s number text =
-    (version : ℕ) (stored : List ℕ) → TellsAbout version stored s.now → (about_fault version ≡ None) × (number ≡ pos version) × (text ≡ stored)
+    (version : ℤ) (stored : List ℕ) → TellsAbout version stored s.now → (about_fault version ≡ None) × (number ≡ version) × (text ≡ stored)
 
 -- Where it was of version 1, each row's text is a bundle by its form, and tables of version 2 keep the same declarations and what those rows
 -- are there.
@@ -48,7 +48,7 @@ IsUpgraded old new =
 
 -- a refusal for the row of `about` comes where that is its fault, and never for a blank database
 abbrev pub IsCaused : State → OpenStoreFault → Type 0
-IsCaused s e = IsAboutFault e → IsTrue s.is_open × (IsBlank s.now → ⊥) × ((version : ℕ) (stored : List ℕ)
+IsCaused s e = IsAboutFault e → IsTrue s.is_open × (IsBlank s.now → ⊥) × ((version : ℤ) (stored : List ℕ)
     → TellsAbout version stored s.now → about_fault version ≡ Some e)
 
 -- of a refusal to open a store only a failure of the disk or a shut connection is the cause

@@ -1,5 +1,5 @@
 -- What rows keep, as it is handed out.
-use Rattle.std.specs.Prelude.{ℕ, ℤ, pos, List, Option, Some, string_bytes}
+use Rattle.std.specs.Prelude.{ℕ, ℤ, List, Option, Some, string_bytes}
 use Rattle.serde_json.specs.Data as json
 use Rattle.serde_json.specs.Read.{read}
 use Rattle.fv_bundle.specs.Views.{bundle_view}
@@ -35,8 +35,8 @@ abbrev pub Told : Type 0
 Told = ℤ × List ℕ
 
 -- as the row of `about` tells them
-abbrev pub told : ℕ → List ℕ → Told
-told version declarations = (pos version, declarations)
+abbrev pub told : ℤ → List ℕ → Told
+told version declarations = (version, declarations)
 
 -- as the code has them
 abbrev pub about_view : About → Told

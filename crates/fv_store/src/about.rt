@@ -1,5 +1,5 @@
 //! The row of `about`: the tables' version is judged, and the declarations are read.
-ghost use Rattle.std.specs.Prelude.{◌≡◌, ◌↔◌, pos, IfOk, IsTrue, ℕ, List};
+ghost use Rattle.std.specs.Prelude.{◌≡◌, ◌↔◌, pos, IfOk, IsTrue, ℤ, List};
 ghost use Rattle.sqlite.specs.Order.{column};
 ghost use Rattle.sqlite.specs.declared.types.Value.TheVariants.{Int, Blob as Raw};
 ghost use Rattle.fv_datum.specs.Outcomes.{Gives, unless_fault};
@@ -38,7 +38,7 @@ impl About {
 /// `OtherVersion`; `Store` for a row of another form; `Memory` at any place. The version is asked
 /// first, so that tables of another version may keep their declarations in another way.
 pub(crate) fn about_in(row: &Row) -> Result<About, OpenStoreFault>
-    ensures told { (version : ℕ) (stored : List ℕ) → row.now ≡ shown_about version stored
+    ensures told { (version : ℤ) (stored : List ℕ) → row.now ≡ shown_about version stored
         → Gives OpenStoreFault.Memory about_view result (unless_fault (about_fault version) (told version stored)) }
     ensures kept { IfOk result (λ a. (column row.now 0 ≡ Int a.version) × (column row.now 1 ≡ Raw a.declarations.items)) }
 {

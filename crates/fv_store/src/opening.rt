@@ -1,5 +1,5 @@
 //! A database is made ready or migrated, and the declarations in force are read.
-ghost use Rattle.std.specs.Prelude.{◌≡◌, ◌⊎◌, ◌↔◌, false, IsTrue, IfErr, IfOk, List, None, OnOk, OnErr, ℕ};
+ghost use Rattle.std.specs.Prelude.{◌≡◌, ◌⊎◌, ◌↔◌, false, IsTrue, IfErr, IfOk, List, None, OnOk, OnErr, pos, ℕ};
 ghost use Rattle.sqlite.specs.State.{HasCleanDisk};
 ghost use Rattle.sqlite.specs.Held.{state};
 ghost use Rattle.fv_store.specs.Causes.{IsShortAbout};
@@ -159,7 +159,7 @@ fn kept<S: Alter>(conn: &mut Connection<S>, alloc: Global) -> Result<Vec<u8>, Op
         → IfErr result (IsCaused (state S.Store conn.old)) }
     ensures store_known { HasCleanDisk (state S.Store conn.new) → conn.old.step_limit ≡ None
         → IfErr result (λ e. (version : _) (d : _) → TellsAbout version d (state S.Store conn.old).now
-        → (version ≡ first_version → ⊥) → IsOpenExcused (state S.Store conn.old) (state S.Store conn.new) e) }
+        → (version ≡ pos first_version → ⊥) → IsOpenExcused (state S.Store conn.old) (state S.Store conn.new) e) }
     ensures store_first { HasCleanDisk (state S.Store conn.new) → conn.old.step_limit ≡ None
         → IfErr result (λ e. (d : List ℕ) (m : Olds) → KeepsFirst (state S.Store conn.old) d m → AllUpgrade m
         → IsShortAbout d → AllShort (upgraded m) → HasFew m
@@ -203,7 +203,7 @@ pub(crate) fn settle<S: Alter>(
         → IfErr result (IsCaused (state S.Store conn.old)) }
     ensures store_known { HasCleanDisk (state S.Store conn.new) → conn.old.in_transaction ≡ false
         → conn.old.step_limit ≡ None → IfErr result (λ e. (version : _) (d : _)
-        → TellsAbout version d (state S.Store conn.old).now → (version ≡ first_version → ⊥)
+        → TellsAbout version d (state S.Store conn.old).now → (version ≡ pos first_version → ⊥)
         → IsOpenExcused (state S.Store conn.old) (state S.Store conn.new) e) }
     ensures store_first { HasCleanDisk (state S.Store conn.new) → conn.old.in_transaction ≡ false
         → conn.old.step_limit ≡ None → IfErr result (λ e. (d : List ℕ) (m : Olds)

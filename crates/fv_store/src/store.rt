@@ -1,5 +1,5 @@
 //! The store.
-ghost use Rattle.std.specs.Prelude.{◌≡◌, ◌⊎◌, false, IfOk, IfErr, IfSome, List, OnOk, OnErr, MatchResult, map, option_map, string_bytes, Some, None, unwrap_or, [], ℕ};
+ghost use Rattle.std.specs.Prelude.{◌≡◌, ◌⊎◌, false, IfOk, IfErr, IfSome, List, OnOk, OnErr, MatchResult, map, option_map, string_bytes, Some, None, unwrap_or, [], pos, ℕ};
 ghost use Rattle.sqlite.specs.State.{HasCleanDisk};
 ghost use Rattle.sqlite.specs.Held.{state};
 ghost use Rattle.fv_bundle.specs.Types.{has_deep};
@@ -109,7 +109,7 @@ impl<S: Alter + Drop> Store<S> {
             → (c : _) → Opens (state S.Store connection) declarations.now c → ⊥) }
         ensures store_known { IfErr result (λ e. e.0 ≡ OpenStoreFault.Store → HasCleanDisk (state S.Store e.1)
             → connection.in_transaction ≡ false → (version : _) (d : _)
-            → TellsAbout version d (state S.Store connection).now → (version ≡ first_version → ⊥)
+            → TellsAbout version d (state S.Store connection).now → (version ≡ pos first_version → ⊥)
             → HasFailed (state S.Store connection) (state S.Store e.1)) }
         ensures store_first { IfErr result (λ e. e.0 ≡ OpenStoreFault.Store → HasCleanDisk (state S.Store e.1)
             → connection.in_transaction ≡ false → (d : List ℕ) (m : Olds) → KeepsFirst (state S.Store connection) d m

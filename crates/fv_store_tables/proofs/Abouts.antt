@@ -1,6 +1,6 @@
 -- What is read of the row of `about`, under either version's tables.
-use Rattle.std.proofs.Common.{◌≡◌, inl, inr, ℕ, List, [], ◌∷◌, false, None, Ok, Err, Result, IfOk, IfErr, IsTrue, Vec, codes, refl, sym, ap, subst, ◌∙◌}
-use Rattle.sqlite.specs.declared.types.Value.TheVariants.{Null}
+use Rattle.std.proofs.Common.{◌≡◌, inl, inr, ℕ, List, [], ◌∷◌, false, None, Ok, Err, Result, IfOk, IfErr, IsTrue, Vec, ℤ, pos, codes, refl, sym, ap, subst, ◌∙◌}
+use Rattle.sqlite.specs.declared.types.Value.TheVariants.{Int, Null, Blob}
 use Rattle.sqlite.specs.declared.error.Error.{Error}
 use Rattle.std.specs.declared.alloc.Global.{Global}
 use Rattle.sqlite.specs.Order.{Row, column}
@@ -17,7 +17,6 @@ use Rattle.sqlite_rules.specs.Lists.{Has}
 use Rattle.sqlite_typing.specs.Types.{accepts_program}
 use Rattle.fv_store_tables.specs.Tables.{store_schema}
 use Rattle.fv_store_tables.specs.FirstTables.{old_schema}
-use Rattle.fv_store_tables.specs.Stands.{about_row}
 use Rattle.fv_store_tables.specs.About.{HasTables, IsOfAbout, TellsAbout, ShowsAbout, shown_about}
 use Rattle.fv_store_tables.specs.Causes.{IsExcused}
 use Rattle.fv_store_tables.proofs.FirstTexts.{read_text, read_query, ReadMeans, read_of_old, read_of_new}
@@ -25,7 +24,11 @@ use Rattle.fv_store_tables.proofs.OneTable.{shown_sound, shown_complete}
 use Rattle.fv_store_tables.proofs.Queries.{shown_open}
 use Rattle.fv_store_tables.proofs.Refusals.{no_sum, never_steps, query_cause}
 
-module _ (db : Trees) (version : ℕ) (d : List ℕ) (rows : List Row) (has : db 0 ≡ about_row version d ∷ []) (a : IsAnswer read_query (overlay db []) [] rows) where
+-- the row that tells them
+abbrev told_row : ℤ → List ℕ → Row
+told_row version d = Int (pos 1) ∷ Null ∷ Int version ∷ Blob d ∷ []
+
+module _ (db : Trees) (version : ℤ) (d : List ℕ) (rows : List Row) (has : db 0 ≡ told_row version d ∷ []) (a : IsAnswer read_query (overlay db []) [] rows) where
   about_sound : (x : Row) → Has rows x → x ≡ shown_about version d
   about_sound x h =
       let r = shown_sound 0 [] (col 1 2 ∷ col 1 3 ∷ []) [] (overlay db []) [] rows a x h in
@@ -33,13 +36,13 @@ module _ (db : Trees) (version : ℕ) (d : List ℕ) (rows : List Row) (has : db
 
   first_shows : (l : List Row) → rows ≡ l → ShowsAbout l version d
   first_shows [] same =
-      subst (λ l. Has l (shown_about version d)) same (shown_complete 0 [] (col 1 2 ∷ col 1 3 ∷ []) [] (overlay db []) [] rows a (about_row version d) (subst (λ l. Has l (about_row version d)) (sym has) (inl refl)) refl)
+      subst (λ l. Has l (shown_about version d)) same (shown_complete 0 [] (col 1 2 ∷ col 1 3 ∷ []) [] (overlay db []) [] rows a (told_row version d) (subst (λ l. Has l (told_row version d)) (sym has) (inl refl)) refl)
   first_shows (x ∷ l) same = about_sound x (subst (λ k. Has k x) (sym same) (inl refl))
 
 -- ---- under one schema
 
 module _ (schema : Schema) (means : ReadMeans schema) (old new : State) (has : old.now.schema ≡ schema) where
-  about_under : (rows : List Row) (version : ℕ) (d : List ℕ) → old.now.trees 0 ≡ about_row version d ∷ [] → Shown read_text [] old new rows → ShowsAbout rows version d
+  about_under : (rows : List Row) (version : ℤ) (d : List ℕ) → old.now.trees 0 ≡ told_row version d ∷ [] → Shown read_text [] old new rows → ShowsAbout rows version d
   about_under rows version d is h =
       let read = reads_as read_text [] old new schema has (Select (record { lets = []; body = read_query }) (codes "version" ∷ codes "declarations" ∷ [])) means.is means.plain means.unlisted rows h in
       first_shows old.now.trees version d rows is (read.answer Null) rows refl
@@ -56,7 +59,7 @@ module _ (schema : Schema) (means : ReadMeans schema) (old new : State) (has : o
 -- ---- under either
 
 pub read_shown : (old new : State) (r : Result (Vec Row Global) Error) → IfOk r (λ rows. Shown read_text [] old new rows.items)
-    → IfOk r (λ rows. IsTrue old.is_open × ((version : ℕ) (d : List ℕ) → TellsAbout version d old.now → ShowsAbout rows.items version d))
+    → IfOk r (λ rows. IsTrue old.is_open × ((version : ℤ) (d : List ℕ) → TellsAbout version d old.now → ShowsAbout rows.items version d))
 read_shown old new (Err e) h = tt
 read_shown old new (Ok rows) h = (
   shown_open _ _ old new rows.items h,

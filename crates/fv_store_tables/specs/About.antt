@@ -1,6 +1,6 @@
 -- What the row of `about` tells of a database of either version.
 use Rattle.std.specs.Prelude.{◌≡◌, ◌⊎◌, pos, ℕ, ℤ, List, [], ◌∷◌}
-use Rattle.sqlite.specs.declared.types.Value.TheVariants.{Int, Blob as Raw}
+use Rattle.sqlite.specs.declared.types.Value.TheVariants.{Int, Null, Blob as Raw}
 use Rattle.sqlite.specs.Order.{Row, column}
 use Rattle.sqlite_rules.specs.Lists.{Has}
 use Rattle.sqlite.specs.Effect.{Database}
@@ -13,16 +13,16 @@ use Rattle.fv_store_tables.specs.Stands.{about_row, TableEntries, TablesStand}
 abbrev pub HasTables : Database → Type 0
 HasTables db = (db.schema ≡ old_schema) ⊎ (db.schema ≡ store_schema)
 
--- the tables are those of version 1 or those of version 2, and `about` has one row: this version and these declarations
-abbrev pub TellsAbout : ℕ → List ℕ → Database → Type 0
-TellsAbout version declarations db = ((db.schema ≡ old_schema) ⊎ (db.schema ≡ store_schema)) × (db.trees 0 ≡ about_row version declarations ∷ [])
+-- the tables are those of version 1 or those of version 2, and `about` has one row: this version and this text of declarations
+abbrev pub TellsAbout : ℤ → List ℕ → Database → Type 0
+TellsAbout version text db = ((db.schema ≡ old_schema) ⊎ (db.schema ≡ store_schema)) × (db.trees 0 ≡ (Int (pos 1) ∷ Null ∷ Int version ∷ Raw text ∷ []) ∷ [])
 
 -- what a query shows of the version and the declarations
-abbrev pub shown_about : ℕ → List ℕ → Row
-shown_about version declarations = Int (pos version) ∷ Raw declarations ∷ []
+abbrev pub shown_about : ℤ → List ℕ → Row
+shown_about version declarations = Int version ∷ Raw declarations ∷ []
 
 -- the first row shows them
-abbrev pub ShowsAbout : List Row → ℕ → List ℕ → Type 0
+abbrev pub ShowsAbout : List Row → ℤ → List ℕ → Type 0
 ShowsAbout [] version declarations = ⊥
 ShowsAbout (row ∷ rows) version declarations = row ≡ shown_about version declarations
 
