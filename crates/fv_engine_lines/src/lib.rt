@@ -13,6 +13,6 @@ mod serving;
 pub use clock::Clock;
 pub use fixed_clock::FixedClock;
 pub use input::Input;
-pub use output::{Output, WriteFailed, write_bytes};
+pub use output::{Output, WriteFailed, write_bytes, write_line};
 pub use responder::{LIMIT, Responder, Text};
 pub use serving::{ServeFault, answer_lines};

@@ -81,7 +81,7 @@ fn flush<W: Output>(writer: &mut W) -> Result<(), WriteFailed>
 }
 
 /// Writes a line, its end among its bytes, and flushes.
-pub(crate) fn write_line<W: Output>(writer: &mut W, line: &[u8]) -> Result<(), WriteFailed>
+pub fn write_line<W: Output>(writer: &mut W, line: &[u8]) -> Result<(), WriteFailed>
     ensures ok { OnOk result (Sends W.contents W.flushes writer.old writer.new line.now) }
     ensures err { OnErr result (Breaks W.contents W.fails writer.old writer.new line.now) }
 {
