@@ -1,5 +1,5 @@
 -- How far an export has come, and how it ends.
-use Rattle.std.proofs.Common.{◌≡◌, ◌≢◌, ◌⊎◌, ◌||◌, Bool, inl, inr, ℕ, ◌+◌, ◌-◌, ◌*◌, ◌^◌, ◌<◌, ◌≤◌, suc, List, [], ◌∷◌, ◌++◌, length, Option, Some, None, option_map, Result, Ok, Err, MatchResult, IfErr, IfSome, IsUtf8, OnErr, OnOk, String, Global, false, string_bytes, refl, sym, ap, subst, ◌∙◌, append_assoc, arith}
+use Rattle.std.proofs.Common.{◌≡◌, ◌≢◌, ◌⊎◌, ◌||◌, Bool, inl, inr, ℕ, ◌+◌, ◌-◌, ◌*◌, ◌^◌, ◌<◌, ◌≤◌, zero, suc, List, [], ◌∷◌, ◌++◌, length, Option, Some, None, option_map, Result, Ok, Err, MatchResult, IfErr, IfSome, IsUtf8, OnErr, OnOk, String, Global, false, string_bytes, refl, sym, ap, subst, ◌∙◌, append_assoc, arith}
 use Rattle.std.specs.Cmp.Lexicographic.{slice_cmp}
 use Rattle.std.specs.Io.KnownBytes.{Appends, Keeps}
 use Rattle.std.specs.List.{AllByRecursion}
@@ -23,6 +23,7 @@ use Rattle.fv_engine_pending.specs.Rejudging.{HasFewIds}
 use Rattle.fv_bundle.specs.Bundles.{Bundled}
 pub use Rattle.fv_engine_lines.proofs.Writes.{appends_kept, appends_none, appends_then}
 use Rattle.fv_engine_lines.specs.Lines.{ended}
+use Rattle.fv_engine_lines.specs.Reads.{Times}
 use Rattle.fv_engine_lines.specs.Writes.{AppendsFront, Sends}
 use Rattle.fv_model.specs.Writing.{bundle_json}
 use Rattle.fv_model.proofs.NoFloats.{bundle_float}
@@ -179,35 +180,50 @@ none_kept (Some j) k none is = cc
 
 -- ---- what an output took, and why it failed
 
-module _ {O : Type 0} (contents : O → Option (List ℕ)) where
-  pub grows_none : (o : O) → Grows contents o o
-  grows_none o = ([], appends_none (contents o))
+-- some calls, and then some more
+times_then : {O : Type 0} (calls : O → O → Type 0) (n m : ℕ) (a b c : O) → Times calls n a b → Times calls m b c → (k : ℕ) × Times calls k a c
+times_then calls n zero a b c first more = (n, subst (Times calls n a) (sym more) first)
+times_then calls n (suc m) a b c first more = let it = times_then calls n m a b more.0 first more.1 in (suc it.0, (more.0, it.1, more.2))
 
-  pub grows_then : (a b c : O) → Grows contents a b → Grows contents b c → Grows contents a c
-  grows_then a b c first more = (first.0 ++ more.0, appends_then (contents a) (contents b) (contents c) first.0 more.0 first.1 more.1)
+module _ {O : Type 0} (contents : O → Option (List ℕ)) (takes : O → O → Type 0) where
+  pub grows_none : (o : O) → Grows contents takes o o
+  grows_none o = ([], appends_none (contents o), (0, refl))
 
-  pub wrote_grows : {X : Type 0} (a b : O) (bs : List ℕ) (P : ExportFault → Type 0) (r : Result X ExportFault) → MatchResult r (λ _. Appends (contents a) (contents b) bs) P → OnOk r (Grows contents a b)
-  wrote_grows a b bs P (Ok x) wrote = (bs, wrote)
-  wrote_grows a b bs P (Err f) told = tt
+  pub grows_then : (a b c : O) → Grows contents takes a b → Grows contents takes b c → Grows contents takes a c
+  grows_then a b c first more = (
+    first.0 ++ more.0,
+    appends_then (contents a) (contents b) (contents c) first.0 more.0 first.1 more.1,
+    times_then takes first.2.0 more.2.0 a b c first.2.1 more.2.1,
+  )
 
-  pub flush_sends : {X : Type 0} (flushes : O → O → Type 0) (a b c : O) (r : Result X ExportFault) → Grows contents a b → Keeps (contents b) (contents c) → OnOk r (flushes b c) → OnOk r ((bs : List ℕ) × Sends contents flushes a c bs)
-  flush_sends flushes a b c (Ok x) grown keeps flushed = (grown.0, (b, grown.1, keeps, flushed))
+  pub flush_sends : {X : Type 0} (flushes : O → O → Type 0) (a b c : O) (r : Result X ExportFault) → Grows contents takes a b → Keeps (contents b) (contents c) → OnOk r (flushes b c)
+      → OnOk r ((bs : List ℕ) × Sends contents takes flushes a c bs)
+  flush_sends flushes a b c (Ok x) grown keeps flushed = (grown.0, (b, grown.1, grown.2, keeps, flushed))
   flush_sends flushes a b c (Err f) grown keeps told = tt
 
   module _ (fails : O → O → Type 0) where
     -- a fault of the store is none of the output
-    pub store_tells : (old new : O) (e : StoreFault) → TellsWrite contents fails old new (of_store e)
+    pub store_tells : (old new : O) (e : StoreFault) → TellsWrite contents takes fails old new (of_store e)
     store_tells old new store.Store is = cc
     store_tells old new store.Memory is = cc
 
-    pub tells_then : (a b c : O) (f : ExportFault) → Grows contents a b → TellsWrite contents fails b c f → TellsWrite contents fails a c f
+    pub tells_then : (a b c : O) (f : ExportFault) → Grows contents takes a b → TellsWrite contents takes fails b c f → TellsWrite contents takes fails a c f
     tells_then a b c f grown tells is =
-        let told = tells is in
-        (grown.0 ++ told.0, (told.1.0, then_front (contents a) (contents b) (contents told.1.0) grown.0 told.0 grown.1 told.1.1, told.1.2, told.1.3))
+        let told = tells is in (
+          grown.0 ++ told.0,
+          (
+            told.1.0,
+            then_front (contents a) (contents b) (contents told.1.0) grown.0 told.0 grown.1 told.1.1,
+            times_then takes grown.2.0 told.1.2.0 a b told.1.0 grown.2.1 told.1.2.1,
+            told.1.3,
+            told.1.4,
+          ),
+        )
 
-    pub flush_tells : {X : Type 0} (a b c : O) (r : Result X ExportFault) → Grows contents a b → Keeps (contents b) (contents c) → IfErr r (λ f. (f ≡ Write) × fails b c) → IfErr r (TellsWrite contents fails a c)
+    pub flush_tells : {X : Type 0} (a b c : O) (r : Result X ExportFault) → Grows contents takes a b → Keeps (contents b) (contents c) → IfErr r (λ f. (f ≡ Write) × fails b c)
+        → IfErr r (TellsWrite contents takes fails a c)
     flush_tells a b c (Ok x) grown keeps told = tt
-    flush_tells a b c (Err f) grown keeps told = λ is. (grown.0, (b, (grown.0, [], sym (append-nil grown.0), grown.1), keeps, told.1))
+    flush_tells a b c (Err f) grown keeps told = λ is. (grown.0, (b, (grown.0, [], sym (append-nil grown.0), grown.1), grown.2, keeps, told.1))
 
 -- what the store tells of its fault
 abbrev pub IsCaused : State → State → StoreFault → Type 0

@@ -11,6 +11,7 @@ use Rattle.fv_engine.specs.declared.exporting.ExportFault.{ExportFault}
 use Rattle.fv_engine.specs.declared.exporting.ExportFault.TheVariants.{Store, Write, Memory}
 use Rattle.fv_engine_pending.specs.Passes.{AreKnown, IsUpTo, IsFull, Reaches, Sure}
 use Rattle.fv_engine_pending.specs.Rejudging.{HasFewIds}
+use Rattle.fv_engine_lines.specs.Reads.{Times}
 use Rattle.fv_engine_lines.specs.Writes.{AppendsFront, Breaks}
 use Rattle.fv_store.specs.Causes.{HasFailed}
 use Rattle.fv_store.specs.Records.{Kept, Records}
@@ -39,13 +40,13 @@ all_kept m id = option_map faultless (m id)
 abbrev pub WritesLine : {X : Type 0} → Option (List ℕ) → Option (List ℕ) → List ℕ → Result X ExportFault → Type 0
 WritesLine w v line r = MatchResult r (λ _. Appends w v line) (λ f. (f ≢ Store) × AppendsFront w v line)
 
--- the output took bytes
-abbrev pub Grows : {O : Type 0} → (O → Option (List ℕ)) → O → O → Type 0
-Grows contents old new = (bs : List ℕ) × Appends (contents old) (contents new) bs
+-- the output took bytes, each call some
+abbrev pub Grows : {O : Type 0} → (O → Option (List ℕ)) → (O → O → Type 0) → O → O → Type 0
+Grows contents takes old new = (bs : List ℕ) × Appends (contents old) (contents new) bs × ((n : ℕ) × Times takes n old new)
 
 -- where this fault is that a write failed, bytes were written, and then a call of the output failed or a write took nothing
-abbrev pub TellsWrite : {O : Type 0} → (O → Option (List ℕ)) → (O → O → Type 0) → O → O → ExportFault → Type 0
-TellsWrite contents fails old new f = f ≡ Write → (bs : List ℕ) × Breaks contents fails old new bs
+abbrev pub TellsWrite : {O : Type 0} → (O → Option (List ℕ)) → (O → O → Type 0) → (O → O → Type 0) → O → O → ExportFault → Type 0
+TellsWrite contents takes fails old new f = f ≡ Write → (bs : List ℕ) × Breaks contents takes fails old new bs
 
 module _ (old new : State) (w v : Option (List ℕ)) where
   -- the id's record was written

@@ -16,8 +16,7 @@ use Rattle.fv_store_upgrade.specs.Upgraded.{AllShort, AllUpgrade, HasFew, upgrad
 use Rattle.fv_engine.specs.declared.engine.OpenFault.{OpenFault}
 use Rattle.fv_engine.specs.declared.engine.OpenFault.TheVariants.{Store}
 
--- this is the text of the declarations in force in a database: of those that it keeps, in tables of either version, or of those handed in
--- where it is blank
+-- this text of declarations is in force in a database: its own, in tables of either version, or the one handed in where it is blank
 pub record IsInForce (old new : State) (given text : List ℕ) : Type 0 where
   pub opened : HasCleanDisk new → (c : Contents) → Opens old given c → text ≡ c.bytes
   pub told : HasCleanDisk new → (version : ℤ) (kept : List ℕ) → TellsAbout version kept old.now → (about_fault version ≡ None) × (text ≡ kept)
@@ -38,8 +37,7 @@ pub record IsMigrated (old new : State) : Type 0 where
   pub first : HasCleanDisk new → MayBeFirst old.now
   pub upgraded : IsUpgraded old new
 
--- A refusal leaves the database as it was. Only where the declarations handed in declare something and the store was opened can it have been
--- migrated.
+-- A refusal leaves the database as it was; it can have been migrated only where those handed in declare something and the store was opened.
 abbrev pub IsLeft : Known → List ℕ → State → State → OpenFault → Type 0
 IsLeft known given old new fault = Stays old new ⊎ (DeclaresSome known given × ((f : OpenStoreFault) → fault ≢ Store f) × IsMigrated old new)
 

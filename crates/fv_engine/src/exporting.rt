@@ -86,7 +86,8 @@ impl From<AllocError> for ExportFault {
 fn write_all<O: Output>(out: &mut O, bytes: &[u8]) -> Result<(), ExportFault>
     ensures wrote { MatchResult result (λ _. Appends (O.contents out.old) (O.contents out.new) bytes.now)
         (λ f. (f ≡ ExportFault.Write) × AppendsFront (O.contents out.old) (O.contents out.new) bytes.now) }
-    ensures cause { IfErr result (TellsWrite O.contents O.fails out.old out.new) }
+    ensures grew { OnOk result (Grows O.contents O.takes out.old out.new) }
+    ensures cause { IfErr result (TellsWrite O.contents O.takes O.fails out.old out.new) }
 {
     match write_bytes(out, bytes) {
         Ok(()) => Ok(()),
@@ -161,8 +162,8 @@ fn write_record<O: Output>(
 ) -> Result<(), ExportFault>
     ensures wrote { (k : Kept) → written_view written ≡ untyped k
         → WritesLine (O.contents out.old) (O.contents out.new) (record_line id.now k) result }
-    ensures grew { OnOk result (Grows O.contents out.old out.new) }
-    ensures cause { IfErr result (TellsWrite O.contents O.fails out.old out.new) }
+    ensures grew { OnOk result (Grows O.contents O.takes out.old out.new) }
+    ensures cause { IfErr result (TellsWrite O.contents O.takes O.fails out.old out.new) }
 {
     let line = put_line(alloc, id, written)?;
     write_all(out, line.as_bytes())
@@ -174,7 +175,8 @@ fn write_declarations<O: Output>(alloc: Global, text: &[u8], out: &mut O) -> Res
         (λ _. Appends (O.contents out.old) (O.contents out.new) (declarations_line text.now))
         (λ f. (f ≡ ExportFault.Store → IsUtf8 text.now → ⊥)
         × AppendsFront (O.contents out.old) (O.contents out.new) (declarations_line text.now)) }
-    ensures cause { IfErr result (TellsWrite O.contents O.fails out.old out.new) }
+    ensures grew { OnOk result (Grows O.contents O.takes out.old out.new) }
+    ensures cause { IfErr result (TellsWrite O.contents O.takes O.fails out.old out.new) }
 {
     let line = redeclare_line(alloc, text)?;
     write_all(out, line.as_bytes())
@@ -194,8 +196,8 @@ fn export_one<S: Alter, O: Output>(
         (O.contents out.old) (O.contents out.new) id.now)
         (λ f. OneFails (stock_state S.Store store.old) (stock_state S.Store store.new)
         (O.contents out.old) (O.contents out.new) id.now f) }
-    ensures grew { OnOk result (Grows O.contents out.old out.new) }
-    ensures cause { IfErr result (TellsWrite O.contents O.fails out.old out.new) }
+    ensures grew { OnOk result (Grows O.contents O.takes out.old out.new) }
+    ensures cause { IfErr result (TellsWrite O.contents O.takes O.fails out.old out.new) }
 {
     match store.written(alloc, id)? {
         Some(written) => write_record(alloc, id, written, out),
@@ -216,8 +218,8 @@ fn export_first<S: Alter, O: Output>(
         (O.contents out.old) (O.contents out.new))
         (λ f. FirstFails (stock_state S.Store store.old) (stock_state S.Store store.new)
         (O.contents out.old) (O.contents out.new) f) }
-    ensures grew { OnOk result (Grows O.contents out.old out.new) }
-    ensures cause { IfErr result (TellsWrite O.contents O.fails out.old out.new) }
+    ensures grew { OnOk result (Grows O.contents O.takes out.old out.new) }
+    ensures cause { IfErr result (TellsWrite O.contents O.takes O.fails out.old out.new) }
 {
     match store.written(alloc, "")? {
         Some(written) => write_record(alloc, "", written, out),
@@ -239,8 +241,8 @@ fn export_page<S: Alter, O: Output>(
         (O.contents out.old) (O.contents out.new) (map string_bytes ids.now))
         (λ f. PageFails (stock_state S.Store store.old) (stock_state S.Store store.new)
         (O.contents out.old) (O.contents out.new) (map string_bytes ids.now) f) }
-    ensures grew { OnOk result (Grows O.contents out.old out.new) }
-    ensures cause { IfErr result (TellsWrite O.contents O.fails out.old out.new) }
+    ensures grew { OnOk result (Grows O.contents O.takes out.old out.new) }
+    ensures cause { IfErr result (TellsWrite O.contents O.takes O.fails out.old out.new) }
 {
     for id in ids {
         export_one(store, alloc, id.as_str(), out)?;
@@ -276,8 +278,8 @@ fn export_next_page<S: Alter, O: Output>(
         (O.contents out.old) (O.contents out.new) above.now (option_map string_bytes o))
         (λ f. NextFails (stock_state S.Store store.old) (stock_state S.Store store.new)
         (O.contents out.old) (O.contents out.new) above.now f) }
-    ensures grew { OnOk result (Grows O.contents out.old out.new) }
-    ensures cause { IfErr result (TellsWrite O.contents O.fails out.old out.new) }
+    ensures grew { OnOk result (Grows O.contents O.takes out.old out.new) }
+    ensures cause { IfErr result (TellsWrite O.contents O.takes O.fails out.old out.new) }
 {
     let ids = store.ids(alloc, Some(above), PAGE)?;
     export_page(store, alloc, &ids, out)?;
@@ -297,8 +299,8 @@ fn export_records<S: Alter, O: Output>(
         (O.contents out.old) (O.contents out.new))
         (λ f. AllFails (stock_state S.Store store.old) (stock_state S.Store store.new)
         (O.contents out.old) (O.contents out.new) f) }
-    ensures grew { OnOk result (Grows O.contents out.old out.new) }
-    ensures cause { IfErr result (TellsWrite O.contents O.fails out.old out.new) }
+    ensures grew { OnOk result (Grows O.contents O.takes out.old out.new) }
+    ensures cause { IfErr result (TellsWrite O.contents O.takes O.fails out.old out.new) }
 {
     export_first(store, alloc, out)?;
     let mut above = String::new(alloc);
@@ -324,8 +326,8 @@ fn export_store<S: Alter, O: Output>(
         (O.contents out.old) (O.contents out.new) store.old.text)
         (λ f. StoreFails (stock_state S.Store store.old) (stock_state S.Store store.new)
         (O.contents out.old) (O.contents out.new) store.old.text f) }
-    ensures cause { IfErr result (TellsWrite O.contents O.fails out.old out.new) }
-    ensures flushed { OnOk result ((bs : List ℕ) × Sends O.contents O.flushes out.old out.new bs) }
+    ensures cause { IfErr result (TellsWrite O.contents O.takes O.fails out.old out.new) }
+    ensures flushed { OnOk result ((bs : List ℕ) × Sends O.contents O.takes O.flushes out.old out.new bs) }
 {
     write_declarations(alloc, store.declarations(), out)?;
     export_records(store, alloc, out)?;
@@ -364,10 +366,10 @@ impl<R: RuleSet + Drop, S: Alter> Engine<R, S> {
             → ServiceKeeps (stock_state S.Store) self.old m
             → ExportsFront self.old.text m (O.contents out.old) (O.contents out.new)) }
         // What was written was flushed.
-        ensures flushed { OnOk result ((bs : List ℕ) × Sends O.contents O.flushes out.old out.new bs) }
+        ensures flushed { OnOk result ((bs : List ℕ) × Sends O.contents O.takes O.flushes out.old out.new bs) }
         // A call of the output failed, behind a front of the bytes.
         ensures write_cause { IfErr result (λ f. f ≡ ExportFault.Write
-            → (bs : List ℕ) × Breaks O.contents O.fails out.old out.new bs) }
+            → (bs : List ℕ) × Breaks O.contents O.takes O.fails out.old out.new bs) }
         ensures cause { HasCleanDisk (stock_state S.Store self.new.machine.records)
             → IfErr result (λ f. f ≡ ExportFault.Store → (m : Records) → ServiceKeeps (stock_state S.Store) self.old m
             → HasFewIds m → IsUtf8 self.old.text

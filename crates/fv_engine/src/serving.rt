@@ -1,4 +1,4 @@
-ghost use Rattle.std.specs.Prelude.{◌≡◌, OnOk, IsErrOf};
+ghost use Rattle.std.specs.Prelude.{◌≡◌, ℕ, List, OnOk, IsErrOf};
 ghost use Rattle.fv_engine_machine.specs.Services.{GoesOn, Responds, Turned, reign_of};
 ghost use Rattle.fv_store.specs.Stock.{stock_state};
 ghost use Rattle.fv_engine_lines.specs.Lines.{WholeLines, AllLines};
@@ -33,40 +33,43 @@ pub fn serve<R: RuleSet + Drop, S: Alter, I: Input, O: Output, C: Clock>(
     ensures reads { ReadAtMost I.reads 4294967296 reader.old reader.new }
     // All lines of the input were answered, each reply written with its end and flushed.
     ensures ok { OnOk result (GoesOn (stock_state S.Store) engine.old engine.new
-        (λ x y. Served (Turned x.known R.meaning) C.ticks (Sends O.contents O.flushes)
+        (λ x y. Served (Turned x.known R.meaning) C.ticks (Sends O.contents O.takes O.flushes)
         (AllLines (I.remaining reader.old) (I.remaining reader.new))
         (reign_of x, clock.old, writer.old) (reign_of y, clock.new, writer.new))) }
-    // The last read gave nothing.
-    ensures ended { OnOk result (ReadsThen I.reads I.ends 4294967296 reader.old reader.new) }
+    // Each read gave bytes, but the last, which gave nothing.
+    ensures ended { OnOk result (ReadsThen I.gives I.ends 4294967296 reader.old reader.new) }
     // The same for the whole lines that were read.
     ensures read { IsErrOf result ServeFault.Read
         → GoesOn (stock_state S.Store) engine.old engine.new
-        (λ x y. Served (Turned x.known R.meaning) C.ticks (Sends O.contents O.flushes)
+        (λ x y. Served (Turned x.known R.meaning) C.ticks (Sends O.contents O.takes O.flushes)
         (WholeLines (I.remaining reader.old) (I.remaining reader.new))
         (reign_of x, clock.old, writer.old) (reign_of y, clock.new, writer.new)) }
-    // A read failed, or there were 2^32.
+    // A read failed behind those that gave bytes, or there were 2^32 of these.
     ensures read_cause { IsErrOf result ServeFault.Read
-        → ReadFails I.reads I.fails 4294967296 reader.old reader.new }
+        → ReadFails I.gives I.fails 4294967296 reader.old reader.new }
     // The same for some lines of these, the last reply whole, in part or missing, and then a call failed.
     ensures write { IsErrOf result ServeFault.Write
         → GoesOn (stock_state S.Store) engine.old engine.new
-        (λ x y. Stopped (Turned x.known R.meaning) C.ticks (Sends O.contents O.flushes) (Breaks O.contents O.fails)
+        (λ x y. Stopped (Turned x.known R.meaning) C.ticks (Sends O.contents O.takes O.flushes) (Breaks O.contents O.takes O.fails)
         (I.remaining reader.old) (I.remaining reader.new)
         (reign_of x, clock.old, writer.old) (reign_of y, clock.new, writer.new)) }
+    // A call of the output failed, or a write took nothing, whatever the database holds.
+    ensures write_cause { IsErrOf result ServeFault.Write
+        → (mid : O) × (bs : List ℕ) × Breaks O.contents O.takes O.fails mid writer.new bs }
     // The same runs, however they ended: each step with what the connection to the database has to
     // do with it.
     ensures causes { OnOk result (GoesOn (stock_state S.Store) engine.old engine.new
-        (λ x y. Served (Responds R.meaning) C.ticks (Sends O.contents O.flushes)
+        (λ x y. Served (Responds R.meaning) C.ticks (Sends O.contents O.takes O.flushes)
         (AllLines (I.remaining reader.old) (I.remaining reader.new))
         (x, clock.old, writer.old) (y, clock.new, writer.new))) }
     ensures read_causes { IsErrOf result ServeFault.Read
         → GoesOn (stock_state S.Store) engine.old engine.new
-        (λ x y. Served (Responds R.meaning) C.ticks (Sends O.contents O.flushes)
+        (λ x y. Served (Responds R.meaning) C.ticks (Sends O.contents O.takes O.flushes)
         (WholeLines (I.remaining reader.old) (I.remaining reader.new))
         (x, clock.old, writer.old) (y, clock.new, writer.new)) }
     ensures write_causes { IsErrOf result ServeFault.Write
         → GoesOn (stock_state S.Store) engine.old engine.new
-        (λ x y. Stopped (Responds R.meaning) C.ticks (Sends O.contents O.flushes) (Breaks O.contents O.fails)
+        (λ x y. Stopped (Responds R.meaning) C.ticks (Sends O.contents O.takes O.flushes) (Breaks O.contents O.takes O.fails)
         (I.remaining reader.old) (I.remaining reader.new)
         (x, clock.old, writer.old) (y, clock.new, writer.new)) }
     // Nothing was read.

@@ -1,5 +1,5 @@
 -- One write after another.
-use Rattle.std.proofs.Common.{◌≡◌, ℕ, ◌+◌, ◌≤◌, List, [], ◌++◌, length, take, drop, Option, Some, None, subst, sym, ap, ◌∙◌, append_assoc, arith, inl, inr, ◌-◌, min, length-drop}
+use Rattle.std.proofs.Common.{◌≡◌, ℕ, zero, suc, ◌+◌, ◌<◌, ◌≤◌, List, [], ◌++◌, length, take, drop, Option, Some, None, refl, subst, sym, ap, ◌∙◌, append_assoc, arith, inl, inr, ◌-◌, min, length-drop}
 use Rattle.std.proofs.Math.Seq.{take-append-add}
 use Rattle.std.proofs.lemmas.List.{append-nil, take-append-drop, length-take-le, take_all}
 use Rattle.std.proofs.lemmas.Bool.{cases_lt}
@@ -61,3 +61,8 @@ kept_fitting limit n xs ys le is =
       | inr fits ↦ take_all n ys (omega arith) ∙ sym (take_all free ys fits)
     ] in
     ap (λ (l : List ℕ). xs ++ l) same ∙ sym (take-append-add xs ys free) ∙ ap (λ (k : ℕ). take k (xs ++ ys)) all
+
+-- what isn't nothing is something
+pub some_taken : (n : ℕ) → (n ≡ 0 → ⊥) → 0 < n
+some_taken zero some = absurd (some refl)
+some_taken (suc n) some = omega arith

@@ -10,8 +10,11 @@ pub trait Input {
     /// The bytes that reads will give from here on, where they are known.
     ghost remaining: { Self → Option (List ℕ) };
 
-    /// From the input before a read to the input after it.
+    /// From the input before a read, however it went, to the input after it.
     ghost reads: { Self → Self → Type 0 };
+
+    /// From the input before a read that gave bytes to the input after it.
+    ghost gives: { Self → Self → Type 0 };
 
     /// From the input before a read that failed to the input after it.
     ghost fails: { Self → Self → Type 0 };
@@ -26,6 +29,7 @@ pub trait Input {
         ensures bound { ReadsAtMost result chunk.new }
         ensures bytes { ReadConsumes (remaining self.old) (remaining self.new) result chunk.new }
         ensures read { reads self.old self.new }
+        ensures gave { IfOk result (λ n. 0 < n → gives self.old self.new) }
         ensures failed { OnErr result (fails self.old self.new) }
         ensures ended { IfOk result (λ n. n ≡ 0 → 0 < length chunk.new → ends self.old self.new) };
 }
@@ -38,6 +42,8 @@ impl<R: Read> Input for R {
     ghost remaining = { R.remaining };
 
     ghost reads = { λ old new. GivesAtMost 4096 (R.remaining old) (R.remaining new) };
+
+    ghost gives = { λ old new. GivesAtMost 4096 (R.remaining old) (R.remaining new) };
 
     // A reader of std doesn't tell why a read failed.
     ghost fails = { λ old new. ⊤ };

@@ -1,6 +1,7 @@
-ghost use Rattle.std.specs.Prelude.{◌≡◌, ℕ, List, MatchResult, OnOk, OnErr, Option};
+ghost use Rattle.std.specs.Prelude.{◌≡◌, ◌<◌, ℕ, IfOk, List, MatchResult, OnOk, OnErr, Option};
 ghost use Rattle.std.specs.Io.{WritesAtMost};
 ghost use Rattle.std.specs.Io.KnownBytes.{Appends, Keeps, WriteAppends};
+ghost use Rattle.fv_engine_lines.specs.Reads.{Times};
 ghost use Rattle.fv_engine_lines.specs.Writes.{AppendsFront, Breaks, Sends};
 
 use std::io;
@@ -10,6 +11,9 @@ use std::io::Write;
 pub trait Output {
     /// The bytes that were written, where they are known.
     ghost contents: { Self → Option (List ℕ) };
+
+    /// From the output before a write that took bytes to the output after it.
+    ghost takes: { Self → Self → Type 0 };
 
     /// From the output before a flush to the output after it.
     ghost flushes: { Self → Self → Type 0 };
@@ -21,6 +25,7 @@ pub trait Output {
     fn write_some(&mut self, bytes: &[u8]) -> io::Result<usize>
         ensures bound { WritesAtMost result bytes.now }
         ensures bytes { WriteAppends (contents self.old) (contents self.new) result bytes.now }
+        ensures took { IfOk result (λ n. 0 < n → takes self.old self.new) }
         ensures failed { MatchResult result (λ n. n ≡ 0 → fails self.old self.new) (λ _. fails self.old self.new) };
 
     /// Flushes what was written.
@@ -34,7 +39,9 @@ impl<W: Write> Output for W {
 
     ghost contents = { W.contents };
 
-    // A writer of std doesn't tell what a flush is, nor why a call failed.
+    // A writer of std doesn't tell what a write or a flush is, nor why a call failed.
+    ghost takes = { λ old new. ⊤ };
+
     ghost flushes = { λ old new. ⊤ };
 
     ghost fails = { λ old new. ⊤ };
@@ -55,7 +62,8 @@ pub struct WriteFailed;
 /// Writes all of the bytes, by its own loop. Nothing is flushed.
 pub fn write_bytes<W: Output>(writer: &mut W, bytes: &[u8]) -> Result<(), WriteFailed>
     ensures ok { OnOk result (Appends (W.contents writer.old) (W.contents writer.new) bytes.now) }
-    ensures err { OnErr result (Breaks W.contents W.fails writer.old writer.new bytes.now) }
+    ensures took { OnOk result ((n : ℕ) × Times W.takes n writer.old writer.new) }
+    ensures err { OnErr result (Breaks W.contents W.takes W.fails writer.old writer.new bytes.now) }
 {
     let mut at = 0;
     while at < bytes.len() {
@@ -82,8 +90,8 @@ fn flush<W: Output>(writer: &mut W) -> Result<(), WriteFailed>
 
 /// Writes a line, its end among its bytes, and flushes.
 pub fn write_line<W: Output>(writer: &mut W, line: &[u8]) -> Result<(), WriteFailed>
-    ensures ok { OnOk result (Sends W.contents W.flushes writer.old writer.new line.now) }
-    ensures err { OnErr result (Breaks W.contents W.fails writer.old writer.new line.now) }
+    ensures ok { OnOk result (Sends W.contents W.takes W.flushes writer.old writer.new line.now) }
+    ensures err { OnErr result (Breaks W.contents W.takes W.fails writer.old writer.new line.now) }
 {
     write_bytes(writer, line)?;
     flush(writer)

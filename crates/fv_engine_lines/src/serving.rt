@@ -66,10 +66,10 @@ fn answer<P: Responder, W: Output, C: Clock>(
     line: &Line,
 ) -> Result<(), WriteFailed>
     ensures ok { OnOk result ((whole : List ℕ) → line.now ≡ kept whole
-        → Answered P.step C.ticks (Sends W.contents W.flushes) (responder.old, clock.old, writer.old) whole
+        → Answered P.step C.ticks (Sends W.contents W.takes W.flushes) (responder.old, clock.old, writer.old) whole
         (responder.new, clock.new, writer.new)) }
     ensures err { OnErr result ((whole : List ℕ) → line.now ≡ kept whole
-        → Answered P.step C.ticks (Breaks W.contents W.fails) (responder.old, clock.old, writer.old) whole
+        → Answered P.step C.ticks (Breaks W.contents W.takes W.fails) (responder.old, clock.old, writer.old) whole
         (responder.new, clock.new, writer.new)) }
 {
     let now = clock.now();
@@ -88,11 +88,11 @@ fn end_line<P: Responder, W: Output, C: Clock>(
 ) -> Result<(), WriteFailed>
     requires { IsOpen last.now }
     ensures ok { OnOk result ((start : Session P C W) (before : List ℕ) →
-        Buffered P.step C.ticks (Sends W.contents W.flushes) start before line.old (responder.old, clock.old, writer.old) →
-        Buffered P.step C.ticks (Sends W.contents W.flushes) start (before ++ ended last.now) line.new (responder.new, clock.new, writer.new)) }
+        Buffered P.step C.ticks (Sends W.contents W.takes W.flushes) start before line.old (responder.old, clock.old, writer.old) →
+        Buffered P.step C.ticks (Sends W.contents W.takes W.flushes) start (before ++ ended last.now) line.new (responder.new, clock.new, writer.new)) }
     ensures err { OnErr result ((start : Session P C W) (before : List ℕ) →
-        Buffered P.step C.ticks (Sends W.contents W.flushes) start before line.old (responder.old, clock.old, writer.old) →
-        Broken P.step C.ticks (Sends W.contents W.flushes) (Breaks W.contents W.fails) start (before ++ ended last.now) (responder.new, clock.new, writer.new)) }
+        Buffered P.step C.ticks (Sends W.contents W.takes W.flushes) start before line.old (responder.old, clock.old, writer.old) →
+        Broken P.step C.ticks (Sends W.contents W.takes W.flushes) (Breaks W.contents W.takes W.fails) start (before ++ ended last.now) (responder.new, clock.new, writer.new)) }
 {
     line.add_all(last);
     answer(alloc, responder, writer, clock, line)?;
@@ -110,11 +110,11 @@ fn take_bytes<P: Responder, W: Output, C: Clock>(
     bytes: &[u8],
 ) -> Result<(), WriteFailed>
     ensures ok { OnOk result ((start : Session P C W) (before : List ℕ) →
-        Buffered P.step C.ticks (Sends W.contents W.flushes) start before line.old (responder.old, clock.old, writer.old) →
-        Buffered P.step C.ticks (Sends W.contents W.flushes) start (before ++ bytes.now) line.new (responder.new, clock.new, writer.new)) }
+        Buffered P.step C.ticks (Sends W.contents W.takes W.flushes) start before line.old (responder.old, clock.old, writer.old) →
+        Buffered P.step C.ticks (Sends W.contents W.takes W.flushes) start (before ++ bytes.now) line.new (responder.new, clock.new, writer.new)) }
     ensures err { OnErr result ((start : Session P C W) (before : List ℕ) →
-        Buffered P.step C.ticks (Sends W.contents W.flushes) start before line.old (responder.old, clock.old, writer.old) →
-        Broken P.step C.ticks (Sends W.contents W.flushes) (Breaks W.contents W.fails) start (before ++ bytes.now) (responder.new, clock.new, writer.new)) }
+        Buffered P.step C.ticks (Sends W.contents W.takes W.flushes) start before line.old (responder.old, clock.old, writer.old) →
+        Broken P.step C.ticks (Sends W.contents W.takes W.flushes) (Breaks W.contents W.takes W.fails) start (before ++ bytes.now) (responder.new, clock.new, writer.new)) }
 {
     let mut rest = bytes;
     'lines: while let Some(end) = memchr(b'\n', rest) {
@@ -134,11 +134,11 @@ fn finish<P: Responder, W: Output, C: Clock>(
     line: &Line,
 ) -> Result<(), WriteFailed>
     ensures ok { OnOk result ((r q : Option (List ℕ)) (start : Session P C W) → IsAtEnd q →
-        Taken P.step C.ticks (Sends W.contents W.flushes) r q line.now start (responder.old, clock.old, writer.old) →
-        Served P.step C.ticks (Sends W.contents W.flushes) (AllLines r q) start (responder.new, clock.new, writer.new)) }
+        Taken P.step C.ticks (Sends W.contents W.takes W.flushes) r q line.now start (responder.old, clock.old, writer.old) →
+        Served P.step C.ticks (Sends W.contents W.takes W.flushes) (AllLines r q) start (responder.new, clock.new, writer.new)) }
     ensures err { OnErr result ((r q : Option (List ℕ)) (start : Session P C W) → IsAtEnd q →
-        Taken P.step C.ticks (Sends W.contents W.flushes) r q line.now start (responder.old, clock.old, writer.old) →
-        Stopped P.step C.ticks (Sends W.contents W.flushes) (Breaks W.contents W.fails) r q start (responder.new, clock.new, writer.new)) }
+        Taken P.step C.ticks (Sends W.contents W.takes W.flushes) r q line.now start (responder.old, clock.old, writer.old) →
+        Stopped P.step C.ticks (Sends W.contents W.takes W.flushes) (Breaks W.contents W.takes W.fails) r q start (responder.new, clock.new, writer.new)) }
 {
     if line.bytes().is_empty() {
         return Ok(());
@@ -167,17 +167,18 @@ fn read_once<P: Responder, R: Input, W: Output, C: Clock>(
     line: &mut Line,
 ) -> Turn
     ensures read { R.reads reader.old reader.new }
+    ensures gave { result ≡ Turn.More → R.gives reader.old reader.new }
     ensures failed { result ≡ Turn.ReadFailed → R.fails reader.old reader.new }
     ensures end { result ≡ Turn.End → IsAtEnd (R.remaining reader.new) }
     ensures ended { result ≡ Turn.End → R.ends reader.old reader.new }
     ensures more { result ≡ Turn.More → (bytes : List ℕ) × (0 < length bytes)
         × Consumes (R.remaining reader.old) (R.remaining reader.new) bytes }
     ensures taken { result ≢ Turn.WriteFailed → (r : Option (List ℕ)) (start : Session P C W) →
-        Taken P.step C.ticks (Sends W.contents W.flushes) r (R.remaining reader.old) line.old start (responder.old, clock.old, writer.old) →
-        Taken P.step C.ticks (Sends W.contents W.flushes) r (R.remaining reader.new) line.new start (responder.new, clock.new, writer.new) }
+        Taken P.step C.ticks (Sends W.contents W.takes W.flushes) r (R.remaining reader.old) line.old start (responder.old, clock.old, writer.old) →
+        Taken P.step C.ticks (Sends W.contents W.takes W.flushes) r (R.remaining reader.new) line.new start (responder.new, clock.new, writer.new) }
     ensures stopped { result ≡ Turn.WriteFailed → (r : Option (List ℕ)) (start : Session P C W) →
-        Taken P.step C.ticks (Sends W.contents W.flushes) r (R.remaining reader.old) line.old start (responder.old, clock.old, writer.old) →
-        Stopped P.step C.ticks (Sends W.contents W.flushes) (Breaks W.contents W.fails) r (R.remaining reader.new) start (responder.new, clock.new, writer.new) }
+        Taken P.step C.ticks (Sends W.contents W.takes W.flushes) r (R.remaining reader.old) line.old start (responder.old, clock.old, writer.old) →
+        Stopped P.step C.ticks (Sends W.contents W.takes W.flushes) (Breaks W.contents W.takes W.fails) r (R.remaining reader.new) start (responder.new, clock.new, writer.new) }
 {
     let mut chunk = [0u8; 4096];
     match reader.fill(&mut chunk) {
@@ -204,16 +205,16 @@ fn serve_lines<P: Responder, R: Input, W: Output, C: Clock>(
 ) -> Result<(), ServeFault>
     requires { line.old ≡ [] }
     ensures reads { ReadAtMost R.reads 4294967296 reader.old reader.new }
-    ensures ended { OnOk result (ReadsThen R.reads R.ends 4294967296 reader.old reader.new) }
-    ensures ok { OnOk result (Served P.step C.ticks (Sends W.contents W.flushes) (AllLines (R.remaining reader.old) (R.remaining reader.new))
+    ensures ended { OnOk result (ReadsThen R.gives R.ends 4294967296 reader.old reader.new) }
+    ensures ok { OnOk result (Served P.step C.ticks (Sends W.contents W.takes W.flushes) (AllLines (R.remaining reader.old) (R.remaining reader.new))
         (responder.old, clock.old, writer.old) (responder.new, clock.new, writer.new)) }
     ensures read { IsErrOf result ServeFault.Read
-        → Taken P.step C.ticks (Sends W.contents W.flushes) (R.remaining reader.old) (R.remaining reader.new) line.new
+        → Taken P.step C.ticks (Sends W.contents W.takes W.flushes) (R.remaining reader.old) (R.remaining reader.new) line.new
         (responder.old, clock.old, writer.old) (responder.new, clock.new, writer.new) }
     ensures read_cause { IsErrOf result ServeFault.Read
-        → ReadFails R.reads R.fails 4294967296 reader.old reader.new }
+        → ReadFails R.gives R.fails 4294967296 reader.old reader.new }
     ensures write { IsErrOf result ServeFault.Write
-        → Stopped P.step C.ticks (Sends W.contents W.flushes) (Breaks W.contents W.fails) (R.remaining reader.old) (R.remaining reader.new)
+        → Stopped P.step C.ticks (Sends W.contents W.takes W.flushes) (Breaks W.contents W.takes W.fails) (R.remaining reader.old) (R.remaining reader.new)
         (responder.old, clock.old, writer.old) (responder.new, clock.new, writer.new) }
     ensures memory { IsErrOf result ServeFault.Memory → ⊥ }
 {
@@ -249,20 +250,20 @@ pub fn answer_lines<P: Responder, R: Input, W: Output, C: Clock>(
     // It read at most 2^32 times, however it ended.
     ensures reads { ReadAtMost R.reads 4294967296 reader.old reader.new }
     // All lines of the input were answered, each reply written with its end and flushed.
-    ensures ok { OnOk result (Served P.step C.ticks (Sends W.contents W.flushes) (AllLines (R.remaining reader.old) (R.remaining reader.new))
+    ensures ok { OnOk result (Served P.step C.ticks (Sends W.contents W.takes W.flushes) (AllLines (R.remaining reader.old) (R.remaining reader.new))
         (responder.old, clock.old, writer.old) (responder.new, clock.new, writer.new)) }
-    // The last read gave nothing.
-    ensures ended { OnOk result (ReadsThen R.reads R.ends 4294967296 reader.old reader.new) }
+    // Each read gave bytes, but the last, which gave nothing.
+    ensures ended { OnOk result (ReadsThen R.gives R.ends 4294967296 reader.old reader.new) }
     // The same for the whole lines that were read.
     ensures read { IsErrOf result ServeFault.Read
-        → Served P.step C.ticks (Sends W.contents W.flushes) (WholeLines (R.remaining reader.old) (R.remaining reader.new))
+        → Served P.step C.ticks (Sends W.contents W.takes W.flushes) (WholeLines (R.remaining reader.old) (R.remaining reader.new))
         (responder.old, clock.old, writer.old) (responder.new, clock.new, writer.new) }
-    // A read failed, or there were 2^32.
+    // A read failed behind those that gave bytes, or there were 2^32 of these.
     ensures read_cause { IsErrOf result ServeFault.Read
-        → ReadFails R.reads R.fails 4294967296 reader.old reader.new }
+        → ReadFails R.gives R.fails 4294967296 reader.old reader.new }
     // The same for some lines of these, the last reply whole, in part or missing, and then a call failed.
     ensures write { IsErrOf result ServeFault.Write
-        → Stopped P.step C.ticks (Sends W.contents W.flushes) (Breaks W.contents W.fails) (R.remaining reader.old) (R.remaining reader.new)
+        → Stopped P.step C.ticks (Sends W.contents W.takes W.flushes) (Breaks W.contents W.takes W.fails) (R.remaining reader.old) (R.remaining reader.new)
         (responder.old, clock.old, writer.old) (responder.new, clock.new, writer.new) }
     // Nothing was read.
     ensures memory { IsErrOf result ServeFault.Memory → (reader.new ≡ reader.old) × (writer.new ≡ writer.old)

@@ -25,9 +25,9 @@ returns-in-Some-clause-wrote g c =
     (λ clean k shallow holds. ap (option_map written_view) (sym c.in-Some.is) ∙ c.in_ok-written.ensures.found clean k shallow holds) c.write_record.ensures.wrote
 
 pub returns-in-None-clause-grew : goal.returns-in-None-clause-grew
-returns-in-None-clause-grew g c = grows_none g.O.Output.contents _
+returns-in-None-clause-grew g c = grows_none g.O.Output.contents g.O.Output.takes _
 
 pub returns-in_err-written-clause-cause : goal.returns-in_err-written-clause-cause
 returns-in_err-written-clause-cause g c =
     let e = err_from_is_err_and c.from_residual.result c.from_residual.ensures.1 in
-    rw e.1 (subst (TellsWrite g.O.Output.contents g.O.Output.fails c.args.out.now c.args.out.now) (sym e.2) (store_tells g.O.Output.contents g.O.Output.fails c.args.out.now c.args.out.now c.in_err-written.field-0.0))
+    rw e.1 (subst (TellsWrite g.O.Output.contents g.O.Output.takes g.O.Output.fails c.args.out.now c.args.out.now) (sym e.2) (store_tells g.O.Output.contents g.O.Output.takes g.O.Output.fails c.args.out.now c.args.out.now c.in_err-written.field-0.0))

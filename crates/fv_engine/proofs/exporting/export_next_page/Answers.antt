@@ -63,9 +63,9 @@ returns-clause-wrote g c =
 pub returns-in_err-ids-clause-cause : goal.returns-in_err-ids-clause-cause
 returns-in_err-ids-clause-cause g c =
     let e = err_from_is_err_and c.from_residual.result c.from_residual.ensures.1 in
-    rw e.1 (subst (TellsWrite g.O.Output.contents g.O.Output.fails c.args.out.now c.args.out.now) (sym e.2) (store_tells g.O.Output.contents g.O.Output.fails c.args.out.now c.args.out.now c.in_err-ids.field-0.0))
+    rw e.1 (subst (TellsWrite g.O.Output.contents g.O.Output.takes g.O.Output.fails c.args.out.now c.args.out.now) (sym e.2) (store_tells g.O.Output.contents g.O.Output.takes g.O.Output.fails c.args.out.now c.args.out.now c.in_err-ids.field-0.0))
 
 pub returns-in_err-export_page-clause-cause : goal.returns-in_err-export_page-clause-cause
 returns-in_err-export_page-clause-cause g c =
     let e = err_from_is_err_and c.from_residual-in_err-export_page.result c.from_residual-in_err-export_page.ensures.1 in
-    rw e.1 (subst (TellsWrite g.O.Output.contents g.O.Output.fails c.args.out.now c.export_page.new.out) (sym e.2) c.in_err-export_page.ensures.cause)
+    rw e.1 (subst (TellsWrite g.O.Output.contents g.O.Output.takes g.O.Output.fails c.args.out.now c.export_page.new.out) (sym e.2) c.in_err-export_page.ensures.cause)

@@ -27,4 +27,4 @@ returns-in-Some-clause-wrote g c =
 pub returns-in_err-written-clause-cause : goal.returns-in_err-written-clause-cause
 returns-in_err-written-clause-cause g c =
     let e = err_from_is_err_and c.from_residual.result c.from_residual.ensures.1 in
-    rw e.1 (subst (TellsWrite g.O.Output.contents g.O.Output.fails c.args.out.now c.args.out.now) (sym e.2) (store_tells g.O.Output.contents g.O.Output.fails c.args.out.now c.args.out.now c.in_err-written.field-0.0))
+    rw e.1 (subst (TellsWrite g.O.Output.contents g.O.Output.takes g.O.Output.fails c.args.out.now c.args.out.now) (sym e.2) (store_tells g.O.Output.contents g.O.Output.takes g.O.Output.fails c.args.out.now c.args.out.now c.in_err-written.field-0.0))

@@ -6,7 +6,7 @@ use Rattle.fv_store.specs.Stock.{stock_state}
 use Rattle.fv_engine.proofs.exporting.export_page.Goals as goal
 
 pub loop-id-init : goal.loop-id-init
-loop-id-init g c = record { page = page_first (stock_state g.S.Store c.args.store.now) (g.O.Output.contents c.args.out.now); text = refl; grew = grows_none g.O.Output.contents _ }
+loop-id-init g c = record { page = page_first (stock_state g.S.Store c.args.store.now) (g.O.Output.contents c.args.out.now); text = refl; grew = grows_none g.O.Output.contents g.O.Output.takes _ }
 
 pub loop-id-preserved : goal.loop-id-preserved
 loop-id-preserved g c =
@@ -16,7 +16,7 @@ loop-id-preserved g c =
       page = page_more (stock_state g.S.Store c.args.store.now) (stock_state g.S.Store c.loop-id.store) (stock_state g.S.Store c.export_one.new.store) (g.O.Output.contents c.args.out.now) (g.O.Output.contents c.loop-id.out) (g.O.Output.contents c.export_one.new.out) front c.as_str.result.now was.page c.export_one.ensures.reads _
           (rw add-one (taken_one string_bytes c.args.ids.now c.loop-id.id-index c.id-item.result c.loop-id-test.true c.id-item.is ∙ ap (λ (x : List ℕ). front ++ x ∷ []) (sym c.as_str.ensures.value))) c.in_ok-export_one.ensures.wrote;
       text = c.export_one.ensures.text ∙ was.text;
-      grew = grows_then g.O.Output.contents _ _ _ was.grew c.in_ok-export_one.ensures.grew;
+      grew = grows_then g.O.Output.contents g.O.Output.takes _ _ _ was.grew c.in_ok-export_one.ensures.grew;
     }
 
 pub returns-in_err-export_one-clause-reads : goal.returns-in_err-export_one-clause-reads
@@ -43,4 +43,4 @@ returns-in_err-export_one-clause-wrote g c =
 pub returns-in_err-export_one-clause-cause : goal.returns-in_err-export_one-clause-cause
 returns-in_err-export_one-clause-cause g c =
     let e = err_from_is_err_and c.from_residual.result c.from_residual.ensures.1 in
-    rw e.1 (subst (TellsWrite g.O.Output.contents g.O.Output.fails c.args.out.now c.export_one.new.out) (sym e.2) (tells_then g.O.Output.contents g.O.Output.fails _ _ _ _ c.loop-id.invariant.grew c.in_err-export_one.ensures.cause))
+    rw e.1 (subst (TellsWrite g.O.Output.contents g.O.Output.takes g.O.Output.fails c.args.out.now c.export_one.new.out) (sym e.2) (tells_then g.O.Output.contents g.O.Output.takes g.O.Output.fails _ _ _ _ c.loop-id.invariant.grew c.in_err-export_one.ensures.cause))

@@ -8,5 +8,5 @@ abbrev pub invariant-loop-id : goal.invariant-loop-id
 invariant-loop-id g l = record {
   page : Page (stock_state g.S.Store l.fn.store) (stock_state g.S.Store l.store) (g.O.Output.contents l.fn.out) (g.O.Output.contents l.out) (map string_bytes (take l.id-index l.ids));
   text : l.store.text ≡ l.fn.store.text;
-  grew : Grows g.O.Output.contents l.fn.out l.out;
+  grew : Grows g.O.Output.contents g.O.Output.takes l.fn.out l.out;
 }

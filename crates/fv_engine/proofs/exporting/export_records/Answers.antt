@@ -19,7 +19,7 @@ loop-preserved g c =
       pass = pass_more (stock_state g.S.Store c.args.store.now) (stock_state g.S.Store c.loop.store) (stock_state g.S.Store c.export_next_page.new.store) (g.O.Output.contents c.args.out.now) (g.O.Output.contents c.loop.out) (g.O.Output.contents c.export_next_page.new.out) (string_bytes c.loop.above) (c.loop.counter * 1000) was.pass c.export_next_page.ensures.reads (string_bytes c.in-Some.last) _ ((c.loop.counter + 1) * 1000)
           (rw (c.as_str.ensures.value, c.in-Some.is) at c.in_ok-last.ensures.wrote) refl (omega arith);
       text = c.export_next_page.ensures.text ∙ was.text;
-      grew = grows_then g.O.Output.contents _ _ _ was.grew c.in_ok-last.ensures.grew;
+      grew = grows_then g.O.Output.contents g.O.Output.takes _ _ _ was.grew c.in_ok-last.ensures.grew;
     }
 
 pub returns-in_err-export_first-clause-wrote : goal.returns-in_err-export_first-clause-wrote
@@ -68,7 +68,7 @@ returns-in-None-clause-wrote g c =
     pass_end begin mid end w v u (string_bytes c.loop.above) (c.loop.counter * 1000) c.loop.invariant.pass c.export_next_page.ensures.reads told
 
 pub returns-in-None-clause-grew : goal.returns-in-None-clause-grew
-returns-in-None-clause-grew g c = grows_then g.O.Output.contents _ _ _ c.loop.invariant.grew c.in_ok-last.ensures.grew
+returns-in-None-clause-grew g c = grows_then g.O.Output.contents g.O.Output.takes _ _ _ c.loop.invariant.grew c.in_ok-last.ensures.grew
 
 pub returns-clause-reads : goal.returns-clause-reads
 returns-clause-reads g c = c.loop.invariant.pass.reads
@@ -80,9 +80,9 @@ returns-clause-wrote g c =
 pub returns-in_err-export_first-clause-cause : goal.returns-in_err-export_first-clause-cause
 returns-in_err-export_first-clause-cause g c =
     let e = err_from_is_err_and c.from_residual.result c.from_residual.ensures.1 in
-    rw e.1 (subst (TellsWrite g.O.Output.contents g.O.Output.fails c.args.out.now c.export_first.new.out) (sym e.2) c.in_err-export_first.ensures.cause)
+    rw e.1 (subst (TellsWrite g.O.Output.contents g.O.Output.takes g.O.Output.fails c.args.out.now c.export_first.new.out) (sym e.2) c.in_err-export_first.ensures.cause)
 
 pub returns-in_err-last-clause-cause : goal.returns-in_err-last-clause-cause
 returns-in_err-last-clause-cause g c =
     let e = err_from_is_err_and c.from_residual-in_err-last.result c.from_residual-in_err-last.ensures.1 in
-    rw e.1 (subst (TellsWrite g.O.Output.contents g.O.Output.fails c.args.out.now c.export_next_page.new.out) (sym e.2) (tells_then g.O.Output.contents g.O.Output.fails _ _ _ _ c.loop.invariant.grew c.in_err-last.ensures.cause))
+    rw e.1 (subst (TellsWrite g.O.Output.contents g.O.Output.takes g.O.Output.fails c.args.out.now c.export_next_page.new.out) (sym e.2) (tells_then g.O.Output.contents g.O.Output.takes g.O.Output.fails _ _ _ _ c.loop.invariant.grew c.in_err-last.ensures.cause))

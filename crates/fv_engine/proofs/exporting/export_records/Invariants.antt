@@ -8,5 +8,5 @@ abbrev pub invariant-loop : goal.invariant-loop
 invariant-loop g l = record {
   pass : Pass (stock_state g.S.Store l.fn.store) (stock_state g.S.Store l.store) (g.O.Output.contents l.fn.out) (g.O.Output.contents l.out) (string_bytes l.above) (l.counter * 1000);
   text : l.store.text ≡ l.fn.store.text;
-  grew : Grows g.O.Output.contents l.fn.out l.out;
+  grew : Grows g.O.Output.contents g.O.Output.takes l.fn.out l.out;
 }

@@ -43,19 +43,19 @@ returns-clause-wrote g c =
 pub returns-in_err-write_declarations-clause-cause : goal.returns-in_err-write_declarations-clause-cause
 returns-in_err-write_declarations-clause-cause g c =
     let e = err_from_is_err_and c.from_residual.result c.from_residual.ensures.1 in
-    rw e.1 (subst (TellsWrite g.O.Output.contents g.O.Output.fails c.args.out.now c.write_declarations.new.out) (sym e.2) c.in_err-write_declarations.ensures.cause)
+    rw e.1 (subst (TellsWrite g.O.Output.contents g.O.Output.takes g.O.Output.fails c.args.out.now c.write_declarations.new.out) (sym e.2) c.in_err-write_declarations.ensures.cause)
 
 pub returns-in_err-export_records-clause-cause : goal.returns-in_err-export_records-clause-cause
 returns-in_err-export_records-clause-cause g c =
     let e = err_from_is_err_and c.from_residual-in_err-export_records.result c.from_residual-in_err-export_records.ensures.1 in
-    rw e.1 (subst (TellsWrite g.O.Output.contents g.O.Output.fails c.args.out.now c.export_records.new.out) (sym e.2) (tells_then g.O.Output.contents g.O.Output.fails _ _ _ _ (_, c.in_ok-write_declarations.ensures.wrote) c.in_err-export_records.ensures.cause))
+    rw e.1 (subst (TellsWrite g.O.Output.contents g.O.Output.takes g.O.Output.fails c.args.out.now c.export_records.new.out) (sym e.2) (tells_then g.O.Output.contents g.O.Output.takes g.O.Output.fails _ _ _ _ c.in_ok-write_declarations.ensures.grew c.in_err-export_records.ensures.cause))
 
 pub returns-clause-cause : goal.returns-clause-cause
 returns-clause-cause g c =
-    let grown = grows_then g.O.Output.contents _ _ _ (_, c.in_ok-write_declarations.ensures.wrote) c.in_ok-export_records.ensures.grew in
-    flush_tells g.O.Output.contents g.O.Output.fails _ _ _ c.flush.result grown c.flush.ensures.kept c.flush.ensures.cause
+    let grown = grows_then g.O.Output.contents g.O.Output.takes _ _ _ c.in_ok-write_declarations.ensures.grew c.in_ok-export_records.ensures.grew in
+    flush_tells g.O.Output.contents g.O.Output.takes g.O.Output.fails _ _ _ c.flush.result grown c.flush.ensures.kept c.flush.ensures.cause
 
 pub returns-clause-flushed : goal.returns-clause-flushed
 returns-clause-flushed g c =
-    let grown = grows_then g.O.Output.contents _ _ _ (_, c.in_ok-write_declarations.ensures.wrote) c.in_ok-export_records.ensures.grew in
-    flush_sends g.O.Output.contents g.O.Output.flushes _ _ _ c.flush.result grown c.flush.ensures.kept c.flush.ensures.flushed
+    let grown = grows_then g.O.Output.contents g.O.Output.takes _ _ _ c.in_ok-write_declarations.ensures.grew c.in_ok-export_records.ensures.grew in
+    flush_sends g.O.Output.contents g.O.Output.takes g.O.Output.flushes _ _ _ c.flush.result grown c.flush.ensures.kept c.flush.ensures.flushed

@@ -12,4 +12,4 @@ returns-in_err-line-clause-wrote g c =
 pub returns-in_err-line-clause-cause : goal.returns-in_err-line-clause-cause
 returns-in_err-line-clause-cause g c =
     let e = err_from_is_err_and c.from_residual.result c.from_residual.ensures.1 in
-    rw e.1 (subst (TellsWrite g.O.Output.contents g.O.Output.fails c.args.out.now c.args.out.now) (sym e.2) (λ is. absurd (c.in_err-line.ensures.unwritten is)))
+    rw e.1 (subst (TellsWrite g.O.Output.contents g.O.Output.takes g.O.Output.fails c.args.out.now c.args.out.now) (sym e.2) (λ is. absurd (c.in_err-line.ensures.unwritten is)))

@@ -1,13 +1,9 @@
 use Rattle.std.proofs.Common.{subst, sym}
 use Rattle.std.proofs.lemmas.Result.{err_from_is_err_and}
 use Rattle.fv_engine.specs.ExportSteps.{TellsWrite}
-use Rattle.fv_engine.proofs.Exported.{wrote_grows}
 use Rattle.fv_engine.proofs.exporting.write_record.Goals as goal
-
-pub returns-clause-grew : goal.returns-clause-grew
-returns-clause-grew g c = wrote_grows g.O.Output.contents _ _ _ _ c.write_all.result c.write_all.ensures.wrote
 
 pub returns-in_err-line-clause-cause : goal.returns-in_err-line-clause-cause
 returns-in_err-line-clause-cause g c =
     let e = err_from_is_err_and c.from_residual.result c.from_residual.ensures.1 in
-    rw e.1 (subst (TellsWrite g.O.Output.contents g.O.Output.fails c.args.out.now c.args.out.now) (sym e.2) (λ is. absurd (c.in_err-line.ensures.unwritten is)))
+    rw e.1 (subst (TellsWrite g.O.Output.contents g.O.Output.takes g.O.Output.fails c.args.out.now c.args.out.now) (sym e.2) (λ is. absurd (c.in_err-line.ensures.unwritten is)))

@@ -8,7 +8,7 @@ returns-in_err-write_bytes-clause-err g c =
     rw p.1 c.in_err-write_bytes.ensures.err
 
 pub returns-clause-ok : goal.returns-clause-ok
-returns-clause-ok g c = on_ok_weaker c.flush.result (λ flushed. (_, c.in_ok-write_bytes.ensures.ok, c.flush.ensures.kept, flushed)) c.flush.ensures.ok
+returns-clause-ok g c = on_ok_weaker c.flush.result (λ flushed. (_, c.in_ok-write_bytes.ensures.ok, c.in_ok-write_bytes.ensures.took, c.flush.ensures.kept, flushed)) c.flush.ensures.ok
 
 pub returns-clause-err : goal.returns-clause-err
-returns-clause-err g c = on_err_weaker c.flush.result (λ failed. (_, front_whole _ _ _ c.in_ok-write_bytes.ensures.ok, c.flush.ensures.kept, failed)) c.flush.ensures.err
+returns-clause-err g c = on_err_weaker c.flush.result (λ failed. (_, front_whole _ _ _ c.in_ok-write_bytes.ensures.ok, c.in_ok-write_bytes.ensures.took, c.flush.ensures.kept, failed)) c.flush.ensures.err

@@ -10,8 +10,8 @@ invariant-lines g l = record {
   done : List ℕ;
   whole : l.bytes ≡ done ++ l.rest;
   served : (start : Session g.row.P.Denot g.row.C.Denot g.row.W.Denot) (before : List ℕ)
-      → Buffered g.P.Responder.step g.C.Clock.ticks (Sends g.W.Output.contents g.W.Output.flushes) start before l.initial.line (l.initial.responder, l.initial.clock, l.initial.writer)
-      → Buffered g.P.Responder.step g.C.Clock.ticks (Sends g.W.Output.contents g.W.Output.flushes) start (before ++ done) l.line (l.responder, l.clock, l.writer);
+      → Buffered g.P.Responder.step g.C.Clock.ticks (Sends g.W.Output.contents g.W.Output.takes g.W.Output.flushes) start before l.initial.line (l.initial.responder, l.initial.clock, l.initial.writer)
+      → Buffered g.P.Responder.step g.C.Clock.ticks (Sends g.W.Output.contents g.W.Output.takes g.W.Output.flushes) start (before ++ done) l.line (l.responder, l.clock, l.writer);
 }
 
 abbrev pub decreases-lines : goal.decreases-lines
