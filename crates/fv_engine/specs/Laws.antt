@@ -69,7 +69,7 @@ MayChangePlaces means ds line now reply old new = (id form : List ℕ) (bundle :
     → (last : Records) → Told means ds new next later reply last
     → (mid : Records) × Told means ds old next later reply mid × Told means ds mid line now reply last
 
--- a request that looks for the record of this id
+-- a request, other than a batch, that looks for the record of this id
 abbrev pub LooksFor : Request → List ℕ → Type 0
 LooksFor (alone p) id = needed_id p ≡ Some id
 LooksFor (get i) id = i ≡ id

@@ -347,7 +347,8 @@ impl<R: RuleSet + Drop, S: Alter> Engine<R, S> {
     ///
     /// `Write` where a write or the flush failed or a write took nothing; `Memory` at any place; `Store`
     /// only where the disk has failed during the call or the connection was shut before, behind 2^32
-    /// pages of ids, or where the text of the declarations isn't UTF-8, if the database keeps records. After a refusal a front of the same text was written.
+    /// pages of ids, or where the text of the declarations isn't UTF-8, if the database keeps records. After
+    /// a refusal a front of the same text was written.
     pub fn export<O: Output>(&mut self, alloc: Global, out: &mut O) -> Result<(), ExportFault>
         ensures same { IsSameService self.old self.new }
         ensures frame { Frame (stock_state S.Store self.old.machine.records)

@@ -28,7 +28,7 @@ rows_taken parts = (1 + most_objects) * count_left parts
 abbrev pub HasRoomFor : List Part → Records → Machine Records → Type 0
 HasRoomFor parts m old = (rows_taken parts < old.room) × ((id : List ℕ) (k : Kept) → IsTouched parts m id k → IsShort id k)
 
--- why the store refuses a request: it has failed, or that is a command that would be taken, and so it has where the database has room
+-- why the store refuses a request: it has failed, or that is a command that would be taken, and it has failed or the database lacks room for it
 abbrev pub HasCause : Meanings → ℤ → Request → Machine Records → Machine Records → Type 0
 HasCause means now r old new = StoreHasFailed old new
     ⊎ ((m : Records) × IsTaken means old.declared now r old.records m × (HasRoomFor (batch_parts r) m old → StoreHasFailed old new))
@@ -58,6 +58,6 @@ Handles means now r old answer new = Step means old.declared old.records r now a
 abbrev pub IsReplied : Meanings → ℤ → Request → Machine Records → List ℕ → Machine Records → Type 0
 IsReplied means now r old text new = (answer : Answer) × (text ≡ answer_text answer) × Handles means now r old answer new
 
--- that of what a line asks for
+-- the same of what a line asks for
 abbrev pub Caused : Meanings → Machine Records → List ℕ → ℤ → List ℕ → Machine Records → Type 0
 Caused means old line moment text new = IsReplied means moment (asked line) old text new

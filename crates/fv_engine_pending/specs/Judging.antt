@@ -35,7 +35,7 @@ IsOverVisited ds k = HasTooManyVisits ds k.bundle (groups_of ds k.form)
 abbrev pub OneIsOverAmong : Declarations → (List ℕ → Kept → Type 0) → Type 0
 OneIsOverAmong ds Among = (id : List ℕ) × (k : Kept) × Among id k × HasTooManyVisits ds k.bundle (groups_of ds k.form)
 
--- none of these records has, and those that have violations are listed by their ids, each with all of its own, ascending by the bytes of the ids
+-- none of these records has too many visits; those with violations are listed by their ids, each with all of its own, ascending by their bytes
 pub record AreListingsOf (means : Meanings) (ds : Declarations) (now : ℤ) (Among : List ℕ → Kept → Type 0) (ls : List Judged) : Type 0 where
   pub ascending : IsAscending (keys_of ls)
   pub sound : (l : Judged) → Has ls l → (l.1 ≢ []) × (k : Kept) × Among l.0 k × IsListingOf means ds now k l.1

@@ -16,7 +16,7 @@ use Rattle.fv_engine_pending.specs.declared.fault.PartFault.TheVariants.{Unknown
 use Rattle.fv_store.specs.Records.{Records, Roots, with_record, without_record}
 use Rattle.fv_bundle.specs.Types.{Declared}
 
--- the bundle that JSON spells under a form, or its first fault
+-- the bundle that JSON spells under a form, or its first fault; where the form isn't declared, its root may be of any type
 abbrev pub bundle_under : Declared → Roots → List ℕ → json.Data → Result Bundled BundleFault
 bundle_under types forms form j = bundle_read types (at_name form forms) j
 

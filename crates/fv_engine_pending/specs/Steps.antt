@@ -1,4 +1,4 @@
--- For private clauses, but for `faulty`: parts whose bundles were read, and what they make of the records on the way.
+-- Parts whose bundles were read, and what they make of the records on the way: what `read_parts` and `apply_all` are stated by.
 use Rattle.std.specs.Prelude.{ℕ, ◌+◌, List, [], ◌∷◌, Option, Some, None, is_some, Result, Ok, Err, if◌then◌else◌}
 use Rattle.std.specs.Result.{result_map_both}
 use Rattle.serde_json.specs.Data as json

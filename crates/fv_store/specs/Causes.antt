@@ -43,6 +43,6 @@ abbrev pub rows_of_all : List Change → ℕ
 rows_of_all [] = 0
 rows_of_all (c ∷ cs) = rows_of c + rows_of_all cs
 
--- so many rowids were given out in each table, at most: as many more rows have room now as had it beside those before
+-- at most so many rowids were given out in each table: where n rows and so many more had room before, n have it now
 abbrev pub LeavesRoom : ℕ → Database → Database → Type 0
 LeavesRoom taken old new = (n : ℕ) → HasRooms (n + taken) old → HasRooms n new

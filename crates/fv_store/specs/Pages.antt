@@ -1,4 +1,4 @@
--- The ids of the records that pass a test, page by page.
+-- The first so many ids of the records that pass a test, in order.
 use Rattle.std.specs.Prelude.{◌≡◌, ℕ, List, Some}
 use Rattle.std.specs.Ordering.{nat_cmp}
 use Rattle.std.specs.declared.cmp.Ordering.TheVariants.{Less}

@@ -82,11 +82,11 @@ are_first (about ∷ record_table ∷ []) =
     && (same_name record_table.name (codes "record") && are_columns (codes "id") (codes "form") (codes "bundle") record_table.columns)
 are_first _ = false
 
--- these, one index, which is that of the ids in version 1, and no view
+-- these, exactly one index (version 1 has one, that of the ids) and no view
 abbrev pub HasFirstTables : Database → Type 0
 HasFirstTables db = IsTrue (are_first db.schema.tables && (nat_eq (length db.schema.indexes) 1 && nat_eq (length db.schema.views) 0))
 
--- it may be of version 1: so it says, if its tables are those of version 1
+-- it may be of version 1: tables and columns are named as there, and if they are those tables, `about` tells version 1
 abbrev pub MayBeFirst : Database → Type 0
 MayBeFirst db = HasFirstTables db × ((version : ℤ) (stored : List ℕ) → TellsAbout version stored db → version ≡ pos first_version)
 

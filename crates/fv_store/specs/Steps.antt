@@ -1,4 +1,4 @@
--- What changes do to a database, and a migration; all but `IsUpgraded` for private clauses.
+-- What changes do to a database, and a migration: for private clauses, but for `IsUpgraded` and what `kept_declarations` is stated by.
 pub use Rattle.fv_store_tables.specs.Causes.{IsRefusal, IsExcused}
 pub use Rattle.fv_store_tables.specs.Stands.{IsSettled}
 pub use Rattle.fv_store_tables.specs.Steps.{Advances, Inside}

@@ -1,5 +1,5 @@
 //! The row of `about`: the tables' version is judged, and the declarations are read.
-ghost use Rattle.std.specs.Prelude.{◌≡◌, ◌↔◌, pos, IfOk, IsTrue, ℤ, List};
+ghost use Rattle.std.specs.Prelude.{◌≡◌, ◌↔◌, pos, IfOk, IsTrue, ℕ, ℤ, List};
 ghost use Rattle.sqlite.specs.Order.{column};
 ghost use Rattle.sqlite.specs.declared.types.Value.TheVariants.{Int, Blob as Raw};
 ghost use Rattle.fv_datum.specs.Outcomes.{Gives, unless_fault};

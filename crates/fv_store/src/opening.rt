@@ -60,8 +60,8 @@ fn are_first(tables: &[Table]) -> bool
     }
 }
 
-/// Whether the database has the two tables of version 1, an index, which is that of the ids there, and
-/// no view.
+/// Whether the database has two tables named as those of version 1, with columns named as there, exactly
+/// one index (version 1 has that of the ids) and no view.
 fn has_first_tables<S: Alter>(conn: &Connection<S>) -> bool
     ensures { IsTrue result ↔ HasFirstTables (state S.Store conn.now).now }
 {
