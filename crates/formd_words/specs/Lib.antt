@@ -1,1 +1,4 @@
+pub mod Answering
 pub mod FaultNames
+pub mod Failures
+pub mod Rehearsals

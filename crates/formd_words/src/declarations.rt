@@ -1,36 +1,44 @@
-ghost use Rattle.std.specs.Prelude.{OnOk, codes};
-ghost use Rattle.std.specs.Io.KnownBytes.{Appends};
+//! Declarations of a file: whether they are taken.
+ghost use Rattle.std.specs.Prelude.{◌≡◌, ℕ, codes, Err, IfErr, List, Ok, OnOk};
+ghost use Rattle.fv_declare_judging.specs.Declares.{Declares};
+ghost use Rattle.fv_engine_lines.specs.Writes.{Breaks, Sends};
 
 use crate::failure::Failure;
 use formd_task::read_file;
 use fv_declare::read_schema;
+use fv_engine_lines::{Output, write_line};
 use fv_registry::RuleSet;
 use std::alloc::Global;
 use std::fs::Files;
-use std::io::Write;
 
-/// Writes `ok` and its end, and flushes.
-fn say_ok<W: Write>(output: &mut W) -> Result<(), Failure>
-    ensures { OnOk result (Appends (W.contents output.old) (W.contents output.new) (codes "ok\n")) }
+/// Says `ok`, flushed, where declarations are taken with some rules.
+///
+/// Refused by the fault of the declarations, then as not written; for want of memory at any place.
+fn check_declarations<R: RuleSet, W: Output>(
+    alloc: Global,
+    text: &[u8],
+    registry: &R,
+    output: &mut W,
+) -> Result<(), Failure>
+    ensures taken { OnOk result ((ds : _) × Declares (R.known registry.now) text.now (Ok ds)) }
+    ensures said { OnOk result (Sends W.contents W.takes W.flushes output.old output.new (codes "ok\n")) }
+    ensures refused { IfErr result (λ failure. (fault : _) → failure ≡ Failure.Declarations fault
+        → Declares (R.known registry.now) text.now (Err fault)) }
+    ensures unwritten { IfErr result (λ failure. failure ≡ Failure.Write
+        → Breaks W.contents W.takes W.fails output.old output.new (codes "ok\n")) }
 {
-    if output.write_all(b"ok\n").is_err() || output.flush().is_err() {
-        return Err(Failure::Write);
-    }
-    Ok(())
+    let _ = read_schema(alloc, registry, text)?;
+    Ok(write_line(output, b"ok\n")?)
 }
 
-/// Reads the declarations of the file at a path with some rules, and says `ok` where they are taken.
-///
-/// Refused as not readable, then by the fault of the declarations, then as not written; for want of
-/// memory at any place.
-pub(crate) fn check_declarations<F: Files, R: RuleSet, W: Write>(
+/// The same of the declarations of the file at a path, refused before as not readable.
+pub(crate) fn check_file<F: Files, R: RuleSet, W: Output>(
     alloc: Global,
     files: &F,
     path: &str,
     registry: &R,
     output: &mut W,
 ) -> Result<(), Failure> {
-    let bytes = read_file(alloc, files, path)?;
-    let _ = read_schema(alloc, registry, &bytes)?;
-    say_ok(output)
+    let text = read_file(alloc, files, path)?;
+    check_declarations(alloc, &text, registry, output)
 }

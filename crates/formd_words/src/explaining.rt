@@ -1,10 +1,14 @@
 //! Explaining: what declarations declare, of a file or in force in a database.
+ghost use Rattle.std.specs.Prelude.{◌≡◌, IfErr, OnOk};
+ghost use Rattle.fv_engine_lines.specs.Writes.{Breaks, Sends};
+
 use crate::comparing::compare;
 use crate::failure::Failure;
 use crate::in_force::declarations_in;
 use crate::schemas::write_schema;
 use crate::telling::tell;
 use formd_task::{Explain, Source, Telling, read_file};
+use fv_engine_lines::{Output, write_line};
 use fv_registry::RuleSet;
 use std::io::Write;
 
@@ -17,11 +21,12 @@ fn text_at(rt: &HostRuntime, source: Source<'_>) -> Result<Vec<u8>, Failure> {
 }
 
 /// Writes bytes as they are, and flushes.
-fn write_as_is<W: Write>(text: &[u8], output: &mut W) -> Result<(), Failure> {
-    if output.write_all(text).is_err() || output.flush().is_err() {
-        return Err(Failure::Write);
-    }
-    Ok(())
+fn write_as_is<W: Output>(text: &[u8], output: &mut W) -> Result<(), Failure>
+    ensures written { OnOk result (Sends W.contents W.takes W.flushes output.old output.new text.now) }
+    ensures unwritten { IfErr result (λ failure. (failure ≡ Failure.Write)
+        × Breaks W.contents W.takes W.fails output.old output.new text.now) }
+{
+    Ok(write_line(output, text)?)
 }
 
 /// Explains declarations with some rules, as is asked.

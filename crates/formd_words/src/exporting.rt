@@ -10,6 +10,11 @@ use std::io::Write;
 const NOTHING: &[u8] = br#"{"types":{},"forms":{}}"#;
 
 impl From<ExportFault> for Failure {
+    ghost use Rattle.std.specs.Prelude.{◌≡◌};
+    ghost use Rattle.formd_words.specs.Failures.{export_failure};
+
+    ghost from_gives = { λ fault told. told ≡ export_failure fault };
+
     fn from(fault: ExportFault) -> Failure {
         match fault {
             ExportFault::Store => Failure::Store(OpenStoreFault::Store),

@@ -1,12 +1,16 @@
-ghost use Rattle.std.specs.Prelude.{◌≡◌};
+ghost use Rattle.std.specs.Prelude.{◌≡◌, ◌⊎◌, ◌++◌, ℕ, codes, IfErr, OnErr, OnOk};
+ghost use Rattle.std.specs.Io.KnownBytes.{Appends};
+ghost use Rattle.fv_engine_lines.specs.Reads.{Times};
+ghost use Rattle.fv_engine_lines.specs.Writes.{Breaks};
 ghost use Rattle.formd_words.specs.FaultNames.{failure_name};
+ghost use Rattle.formd_words.specs.Failures.{failure_status, failure_text};
 
 use formd_task::FileFault;
 use fv_declare::DeclFault;
 use fv_engine::{OpenFault, ServeFault};
+use fv_engine_lines::{Output, WriteFailed, write_bytes};
 use fv_store::OpenStoreFault;
 use std::alloc::AllocFailed;
-use std::io::Write;
 use thiserror::Error;
 
 /// The text for words that aren't UTF-8, in the form of the other refusals of words.
@@ -50,12 +54,22 @@ pub enum Failure {
 }
 
 impl<T: Drop> From<AllocFailed<T>> for Failure {
+    ghost use Rattle.std.specs.Prelude.{◌≡◌};
+    ghost use Rattle.formd_words.specs.declared.failure.Failure.TheVariants.{Memory};
+
+    ghost from_gives = { λ _ told. told ≡ Memory };
+
     fn from(_e: AllocFailed<T>) -> Failure {
         Failure::Memory
     }
 }
 
 impl From<FileFault> for Failure {
+    ghost use Rattle.std.specs.Prelude.{◌≡◌};
+    ghost use Rattle.formd_words.specs.Failures.{file_failure};
+
+    ghost from_gives = { λ fault told. told ≡ file_failure fault };
+
     fn from(fault: FileFault) -> Failure {
         match fault {
             FileFault::Unreadable => Failure::Unreadable,
@@ -65,6 +79,10 @@ impl From<FileFault> for Failure {
 }
 
 impl From<DeclFault> for Failure {
+    ghost use Rattle.formd_words.specs.Failures.{IsOfDeclarations};
+
+    ghost from_gives = { IsOfDeclarations };
+
     fn from(fault: DeclFault) -> Failure {
         match fault {
             DeclFault::Memory => Failure::Memory,
@@ -74,6 +92,10 @@ impl From<DeclFault> for Failure {
 }
 
 impl From<OpenFault> for Failure {
+    ghost use Rattle.formd_words.specs.Failures.{IsOfOpening};
+
+    ghost from_gives = { IsOfOpening };
+
     fn from(fault: OpenFault) -> Failure {
         match fault {
             OpenFault::Declarations(fault) => Failure::from(fault),
@@ -84,6 +106,11 @@ impl From<OpenFault> for Failure {
 }
 
 impl From<ServeFault> for Failure {
+    ghost use Rattle.std.specs.Prelude.{◌≡◌};
+    ghost use Rattle.formd_words.specs.Failures.{serve_failure};
+
+    ghost from_gives = { λ fault told. told ≡ serve_failure fault };
+
     fn from(fault: ServeFault) -> Failure {
         match fault {
             ServeFault::Read => Failure::Read,
@@ -91,6 +118,38 @@ impl From<ServeFault> for Failure {
             ServeFault::Memory => Failure::Memory,
         }
     }
+}
+
+impl From<WriteFailed> for Failure {
+    ghost use Rattle.std.specs.Prelude.{◌≡◌};
+    ghost use Rattle.formd_words.specs.declared.failure.Failure.TheVariants.{Write};
+
+    ghost from_gives = { λ _ told. told ≡ Write };
+
+    fn from(_e: WriteFailed) -> Failure {
+        Failure::Write
+    }
+}
+
+/// Writes a text.
+fn write_text<E: Output>(error: &mut E, text: &str) -> Result<(), WriteFailed>
+    ensures told { OnOk result (Appends (E.contents error.old) (E.contents error.new) text.now) }
+    ensures took { OnOk result ((n : ℕ) × Times E.takes n error.old error.new) }
+    ensures failed { OnErr result (Breaks E.contents E.takes E.fails error.old error.new text.now) }
+{
+    write_bytes(error, text.as_bytes())
+}
+
+/// Writes a name behind a text, and ends the line.
+fn write_named<E: Output>(error: &mut E, text: &str, name: &str) -> Result<(), WriteFailed>
+    ensures told { OnOk result (Appends (E.contents error.old) (E.contents error.new)
+        (text.now ++ (name.now ++ codes "\n"))) }
+    ensures failed { OnErr result (Breaks E.contents E.takes E.fails error.old error.new
+        (text.now ++ (name.now ++ codes "\n"))) }
+{
+    write_text(error, text)?;
+    write_text(error, name)?;
+    write_text(error, "\n")
 }
 
 impl Failure {
@@ -112,7 +171,9 @@ impl Failure {
     }
 
     /// The exit status: 2 for words, 3 for declarations, else 4.
-    fn status(self) -> u8 {
+    fn status(self) -> u8
+        ensures { result ≡ failure_status self }
+    {
         match self {
             Failure::NotUtf8 => 2,
             Failure::Declarations(_) => 3,
@@ -120,26 +181,48 @@ impl Failure {
         }
     }
 
-    /// Writes the text and gives the exit status, also where the text isn't taken.
-    pub fn report<E: Write>(self, error: &mut E) -> u8 {
-        let _ = match self {
-            Failure::NotUtf8 => write!(error, "{NOT_UTF8}"),
-            Failure::Unreadable => writeln!(error, "formd: cannot read declarations"),
-            Failure::CannotOpen => writeln!(error, "formd: cannot open database"),
+    /// Writes the text.
+    fn write<E: Output>(self, error: &mut E) -> Result<(), WriteFailed>
+        ensures told { OnOk result (Appends (E.contents error.old) (E.contents error.new) (failure_text self)) }
+        ensures failed { OnErr result (Breaks E.contents E.takes E.fails error.old error.new (failure_text self)) }
+    {
+        match self {
+            Failure::NotUtf8 => write_text(error, NOT_UTF8),
+            Failure::Unreadable => write_text(error, "formd: cannot read declarations\n"),
+            Failure::CannotOpen => write_text(error, "formd: cannot open database\n"),
             Failure::Declarations(fault) => {
-                let code = fault.code();
-                let name = fault.name();
-                writeln!(error, "formd: declarations refused: {code} {name}")
+                write_text(error, "formd: declarations refused: ")?;
+                write_text(error, fault.code())?;
+                write_named(error, " ", fault.name())
             }
-            Failure::UnknownForm => writeln!(error, "formd: no such form"),
-            Failure::Store(fault) => {
-                let name = fault.name();
-                writeln!(error, "formd: store: {name}")
-            }
-            Failure::Read => writeln!(error, "formd: read"),
-            Failure::Write => writeln!(error, "formd: write"),
-            Failure::Memory => writeln!(error, "formd: memory"),
-        };
+            Failure::UnknownForm => write_text(error, "formd: no such form\n"),
+            Failure::Store(fault) => write_named(error, "formd: store: ", fault.name()),
+            Failure::Read => write_text(error, "formd: read\n"),
+            Failure::Write => write_text(error, "formd: write\n"),
+            Failure::Memory => write_text(error, "formd: memory\n"),
+        }
+    }
+
+    /// Writes the text and gives the exit status, also where the text isn't taken.
+    pub fn report<E: Output>(self, error: &mut E) -> u8
+        ensures status { result ≡ failure_status self }
+        ensures told { Appends (E.contents error.old) (E.contents error.new) (failure_text self)
+            ⊎ Breaks E.contents E.takes E.fails error.old error.new (failure_text self) }
+    {
+        let _ = self.write(error);
         self.status()
+    }
+}
+
+/// The exit status of what was done: 0, or that of the failure, whose text is written.
+pub(crate) fn finish<E: Output>(done: Result<(), Failure>, error: &mut E) -> u8
+    ensures done { OnOk done ((result ≡ 0) × (error.new ≡ error.old)) }
+    ensures status { IfErr done (λ failure. result ≡ failure_status failure) }
+    ensures told { IfErr done (λ failure. Appends (E.contents error.old) (E.contents error.new) (failure_text failure)
+        ⊎ Breaks E.contents E.takes E.fails error.old error.new (failure_text failure)) }
+{
+    match done {
+        Ok(()) => 0,
+        Err(failure) => failure.report(error),
     }
 }

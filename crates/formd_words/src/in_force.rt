@@ -4,6 +4,10 @@ use crate::standing::{close_standing, open_standing};
 use fv_store::{OpenStoreFault, kept_declarations};
 
 impl From<OpenStoreFault> for Failure {
+    ghost use Rattle.formd_words.specs.Failures.{IsOfStore};
+
+    ghost from_gives = { IsOfStore };
+
     fn from(fault: OpenStoreFault) -> Failure {
         match fault {
             OpenStoreFault::Memory => Failure::Memory,

@@ -1,8 +1,8 @@
 //! Judging: lines answered without records.
+use crate::answering::answer_at;
 use crate::failure::Failure;
 use formd_task::{Service, read_file};
 use fv_engine::{Clock, LineJudge};
-use fv_engine_lines::answer_lines;
 use fv_registry::RuleSet;
 use std::io::{Read, Write};
 
@@ -24,9 +24,5 @@ pub(crate) fn judge_file<R: RuleSet + Drop, I: Read, W: Write, C: Clock>(
     let alloc = rt.alloc();
     let declarations = read_file(alloc, rt, service.declarations)?;
     let mut judge = LineJudge::new(alloc, registry, &declarations)?;
-    let answered = match service.clock {
-        None => answer_lines(alloc, &mut judge, reader, output, clock),
-        Some(mut fixed) => answer_lines(alloc, &mut judge, reader, output, &mut fixed),
-    };
-    answered.map_err(Failure::from)
+    answer_at(alloc, &mut judge, service.clock, reader, output, clock).map_err(Failure::from)
 }

@@ -1,6 +1,7 @@
 //! The words of formd: what they do, statuses, the texts on standard error.
 #![tactic(auto)]
 
+mod answering;
 mod comparing;
 mod declarations;
 mod demonstration;

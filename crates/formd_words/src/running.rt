@@ -1,8 +1,8 @@
-use crate::declarations::check_declarations;
+use crate::declarations::check_file;
 use crate::demonstration::serve_demonstration;
 use crate::explaining::explain_as_asked;
 use crate::exporting::export_file;
-use crate::failure::Failure;
+use crate::failure::{Failure, finish};
 use crate::judging::judge_file;
 use crate::rehearsing::{Rehearsal, rehearse};
 use crate::serving::serve_files;
@@ -64,7 +64,7 @@ pub fn run_words<R: RuleSet + Drop, I: Read, W: Write, E: Write, C: Clock>(
     };
     let done = match task {
         Task::Demonstration => serve_demonstration(alloc, registry, reader, output),
-        Task::Declarations(path) => check_declarations(alloc, rt, path, &registry, output),
+        Task::Declarations(path) => check_file(alloc, rt, path, &registry, output),
         Task::Explain(asked) => explain_as_asked(rt, asked, &registry, output),
         Task::Export(path) => export_file(rt, path, registry, output),
         Task::Rehearse(service) => match Rehearsal::new(rt, service.declarations, registry, error) {
@@ -75,8 +75,5 @@ pub fn run_words<R: RuleSet + Drop, I: Read, W: Write, E: Write, C: Clock>(
         Task::Serve(service) => serve_files(rt, service, registry, reader, output, clock),
         Task::Version => say_version(output),
     };
-    match done {
-        Ok(()) => 0,
-        Err(failure) => failure.report(error),
-    }
+    finish(done, error)
 }

@@ -1,4 +1,7 @@
 //! Telling: what declarations declare, or where they are wrong.
+ghost use Rattle.std.specs.Prelude.{◌≡◌, Err, IfErr, IfOk, Ok, OnOk};
+ghost use Rattle.fv_declare_judging.specs.Declares.{Declares};
+
 use crate::failure::Failure;
 use fv_declare::{DeclFault, Schema, read_schema};
 use fv_explain::{ExplainFault, explain};
@@ -6,6 +9,11 @@ use fv_registry::RuleSet;
 use std::io::Write;
 
 impl From<ExplainFault> for Failure {
+    ghost use Rattle.std.specs.Prelude.{◌≡◌};
+    ghost use Rattle.formd_words.specs.Failures.{explain_failure};
+
+    ghost from_gives = { λ fault told. told ≡ explain_failure fault };
+
     fn from(fault: ExplainFault) -> Failure {
         match fault {
             ExplainFault::Write => Failure::Write,
@@ -23,7 +31,11 @@ pub(crate) fn tell<R: RuleSet, W: Write>(
     as_json: bool,
     registry: &R,
     output: &mut W,
-) -> Result<(), Failure> {
+) -> Result<(), Failure>
+    ensures taken { OnOk result ((ds : _) × Declares (R.known registry.now) text.now (Ok ds)) }
+    ensures refused { IfErr result (λ failure. (fault : _) → failure ≡ Failure.Declarations fault
+        → Declares (R.known registry.now) text.now (Err fault)) }
+{
     match explain(rt.alloc(), registry, text, as_json, output)? {
         None => Ok(()),
         Some(fault) => Err(Failure::from(fault)),
@@ -38,7 +50,11 @@ pub(crate) fn schema_of<R: RuleSet, W: Write>(
     as_json: bool,
     registry: &R,
     output: &mut W,
-) -> Result<Schema, Failure> {
+) -> Result<Schema, Failure>
+    ensures taken { IfOk result (λ schema. Declares (R.known registry.now) text.now (Ok schema)) }
+    ensures refused { IfErr result (λ failure. (fault : _) → failure ≡ Failure.Declarations fault
+        → Declares (R.known registry.now) text.now (Err fault)) }
+{
     match read_schema(rt.alloc(), registry, text) {
         Ok(schema) => Ok(schema),
         Err(DeclFault::Memory) => Err(Failure::Memory),

@@ -1,0 +1,2 @@
+pub mod Rehearsed
+pub mod Writes

@@ -1,0 +1,31 @@
+//! Answering: lines at the clock's moments, or all at one.
+ghost use Rattle.std.specs.Prelude.{◌≡◌, Some, None};
+ghost use Rattle.formd_words.specs.Answering.{Ends, Stands};
+
+use fv_engine_lines::{Clock, FixedClock, Input, Output, Responder, ServeFault, answer_lines};
+use std::alloc::Global;
+
+/// Answers lines until the reader's end, at the moment of a clock that is given, or at those of the other.
+///
+/// Refused as `answer_lines` refuses them.
+pub(crate) fn answer_at<P: Responder, I: Input, W: Output, C: Clock>(
+    alloc: Global,
+    responder: &mut P,
+    fixed: Option<FixedClock>,
+    reader: &mut I,
+    output: &mut W,
+    clock: &mut C,
+) -> Result<(), ServeFault>
+    ensures ticking { fixed ≡ None → Ends P.step C.ticks W.contents W.takes W.flushes W.fails
+        (I.remaining reader.old) (I.remaining reader.new) result
+        (responder.old, clock.old, output.old) (responder.new, clock.new, output.new) }
+    ensures standing { (given : FixedClock) → fixed ≡ Some given → (clock.new ≡ clock.old)
+        × ((last : FixedClock) × Ends P.step Stands W.contents W.takes W.flushes W.fails
+        (I.remaining reader.old) (I.remaining reader.new) result
+        (responder.old, given, output.old) (responder.new, last, output.new)) }
+{
+    match fixed {
+        None => answer_lines(alloc, responder, reader, output, clock),
+        Some(mut standing) => answer_lines(alloc, responder, reader, output, &mut standing),
+    }
+}
