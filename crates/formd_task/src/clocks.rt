@@ -45,7 +45,7 @@ pub struct MachineClock<'a, T: Seconds> {
 impl<'a, T: Seconds> MachineClock<'a, T> {
     /// The clock over a source of the time.
     pub fn new(source: &'a T) -> MachineClock<'a, T>
-        ensures { (result.source ≡ source) × (result.last ≡ pos 0) }
+        ensures { (result.source.now ≡ source.now) × (result.last ≡ pos 0) }
     {
         MachineClock { source, last: 0 }
     }
