@@ -1,5 +1,5 @@
 -- Records that a rehearsal asks for.
-use Rattle.std.proofs.Common.{◌≡◌, ◌++◌, ◌∙◌, ℕ, ℤ, List, [], ◌∷◌, refl, sym, subst}
+use Rattle.std.proofs.Common.{◌≡◌, ◌++◌, ◌∙◌, ℕ, ℤ, List, [], ◌∷◌, refl, subst}
 use Rattle.fv_engine_lines.specs.Runs.{Steps}
 use Rattle.formd_words.specs.Rehearsals.{Asks, get_line}
 

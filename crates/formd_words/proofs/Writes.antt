@@ -1,9 +1,9 @@
 -- One write after another.
-use Rattle.std.proofs.Common.{◌≡◌, ℕ, zero, suc, ◌++◌, List, Option, refl, sym, ap, subst, ◌∙◌, append_assoc}
+use Rattle.std.proofs.Common.{ℕ, zero, suc, ◌++◌, List, Option, sym, ap, subst, ◌∙◌, append_assoc}
 use Rattle.std.proofs.KnownBytes.{Appends-trans}
 use Rattle.std.specs.Io.KnownBytes.{Appends}
 use Rattle.fv_engine_lines.specs.Reads.{Times}
-use Rattle.fv_engine_lines.specs.Writes.{AppendsFront, Breaks}
+use Rattle.fv_engine_lines.specs.Writes.{Breaks}
 
 -- some calls, and then some more
 times_then : {O : Type 0} (calls : O → O → Type 0) (n m : ℕ) (a b c : O) → Times calls n a b → Times calls m b c → (k : ℕ) × Times calls k a c

@@ -1,7 +1,6 @@
-use Rattle.std.proofs.Common.{◌++◌, [], ◌∷◌, codes}
+use Rattle.std.proofs.Common.{codes}
 use Rattle.std.proofs.KnownBytes.{Appends-trans}
 use Rattle.std.proofs.lemmas.Result.{err_from_is_err_and, on_err_weaker, on_ok_weaker}
-use Rattle.formd_words.specs.FaultNames.{failure_text}
 use Rattle.formd_words.proofs.Writes.{breaks_before, breaks_then}
 use Rattle.formd_words.proofs.failure.Failure.write.Goals as goal
 
