@@ -1,3 +1,5 @@
+ghost use Rattle.std.specs.Prelude.{◌≡◌, IfOk};
+
 use clap::error::ErrorKind;
 use clap::{Arg, ArgAction, ArgGroup, ArgMatches, Command, Error, value_parser};
 use fv_datum::moment_ok;
@@ -265,7 +267,9 @@ fn command<'a>(alloc: Global) -> Result<Command<'a>, Error> {
 }
 
 /// The clock that stands at a moment; refused by a command where the seconds are none.
-fn clock_at(alloc: Global, seconds: i64, command: Command<'_>) -> Result<FixedClock, Error> {
+fn clock_at(alloc: Global, seconds: i64, command: Command<'_>) -> Result<FixedClock, Error>
+    ensures { IfOk result (λ clock. clock.moment ≡ seconds) }
+{
     if moment_ok(seconds) {
         return Ok(FixedClock::new(seconds));
     }

@@ -1,7 +1,8 @@
 //! What declarations change over others, in lines.
-ghost use Rattle.std.specs.Prelude.{IsTrue, IfOk};
+ghost use Rattle.std.specs.Prelude.{◌≡◌, ◌↔◌, [], IsTrue, IfOk};
 ghost use Rattle.fv_bundle.specs.Names.{object_types_view};
 ghost use Rattle.fv_bundle.specs.TypesView.{types_view};
+ghost use Rattle.fv_widening.specs.Narrowed.{narrowed};
 ghost use Rattle.fv_widening.specs.Widens.{Widens};
 
 use crate::differing::add_changes;
@@ -41,7 +42,10 @@ fn write_lines<W: Write>(output: &mut W, lines: &[String]) -> Result<(), OverFau
 
 /// Adds where records may not fit any more, and at the end whether they all do.
 fn add_records(lines: &mut OverLines, new: Declared, old: Declared) -> Result<bool, OverFault>
-    ensures { IfOk result (λ fit. IsTrue fit → Widens (types_view old.entry.types.now) (object_types_view old.entry.forms.now) (types_view new.entry.types.now) (object_types_view new.entry.forms.now)) }
+    ensures widens { IfOk result (λ fit. IsTrue fit → Widens (types_view old.entry.types.now)
+        (object_types_view old.entry.forms.now) (types_view new.entry.types.now) (object_types_view new.entry.forms.now)) }
+    ensures exact { IfOk result (λ fit. IsTrue fit ↔ (narrowed (types_view old.entry.types.now)
+        (object_types_view old.entry.forms.now) (types_view new.entry.types.now) (object_types_view new.entry.forms.now) ≡ [])) }
 {
     let found = narrowings(lines.alloc, old.types, old.forms, new.types, new.forms)?;
     for narrowed in &found {
@@ -55,7 +59,8 @@ fn add_records(lines: &mut OverLines, new: Declared, old: Declared) -> Result<bo
 
 /// Writes what declarations add, change and remove over others, a line each, plain or with `json` as a JSON object;
 /// then where a record of the others may not be read again under them, and by which fault; at the end whether each is.
-/// Answers that: where it says so, they have all types, fields and forms of the others, as these are.
+/// Answers that, exactly where nothing is narrowed: then they have all types, fields and forms of the others, as these
+/// are.
 ///
 /// `Write` where a write or the flush at the end fails; `Memory` at any place.
 pub fn tell_over<W: Write>(
@@ -65,7 +70,10 @@ pub fn tell_over<W: Write>(
     json: bool,
     output: &mut W,
 ) -> Result<bool, OverFault>
-    ensures { IfOk result (λ fit. IsTrue fit → Widens (types_view old.entry.types.now) (object_types_view old.entry.forms.now) (types_view new.entry.types.now) (object_types_view new.entry.forms.now)) }
+    ensures widens { IfOk result (λ fit. IsTrue fit → Widens (types_view old.entry.types.now)
+        (object_types_view old.entry.forms.now) (types_view new.entry.types.now) (object_types_view new.entry.forms.now)) }
+    ensures exact { IfOk result (λ fit. IsTrue fit ↔ (narrowed (types_view old.entry.types.now)
+        (object_types_view old.entry.forms.now) (types_view new.entry.types.now) (object_types_view new.entry.forms.now) ≡ [])) }
 {
     let texts = Vec::new(alloc);
     let mut lines = OverLines { alloc, json, texts };

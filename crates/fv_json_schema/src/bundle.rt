@@ -1,4 +1,7 @@
 //! Bundles of a form, as a schema.
+ghost use Rattle.std.specs.Prelude.{◌≡◌, ◌≢◌, ◌↔◌, IfErr, None, OnOk};
+ghost use Rattle.fv_datum.specs.Lookup.{at_name};
+
 use crate::effect::in_effect;
 use crate::held::{Made, NAME};
 use crate::object::object_schema;
@@ -20,12 +23,22 @@ pub enum SchemaFault {
 }
 
 impl From<AllocError> for SchemaFault {
+    ghost use Rattle.std.specs.Prelude.{◌≡◌};
+    ghost use Rattle.fv_json_schema.specs.declared.bundle.SchemaFault.TheVariants.{Memory};
+
+    ghost from_gives = { λ _ fault. fault ≡ Memory };
+
     fn from(_e: AllocError) -> SchemaFault {
         SchemaFault::Memory
     }
 }
 
 impl<T: Drop> From<AllocFailed<T>> for SchemaFault {
+    ghost use Rattle.std.specs.Prelude.{◌≡◌};
+    ghost use Rattle.fv_json_schema.specs.declared.bundle.SchemaFault.TheVariants.{Memory};
+
+    ghost from_gives = { λ _ fault. fault ≡ Memory };
+
     fn from(_e: AllocFailed<T>) -> SchemaFault {
         SchemaFault::Memory
     }
@@ -135,6 +148,13 @@ fn bundle_schema(alloc: Global, schema: &Schema, name: &str, form: &Form) -> Mad
     })
 }
 
+/// The form of a name, if one is declared.
+fn form_of<'a>(schema: &'a Schema, form: &str) -> Option<&'a Form>
+    ensures { (result ≡ None) ↔ (at_name form.now schema.now.forms ≡ None) }
+{
+    schema.forms().get(form)
+}
+
 /// A JSON Schema of the bundles that a put of a form may bring, as its member `bundle`, in one line: of draft 2020-12, in
 /// words that readers of draft-07 take too.
 ///
@@ -144,8 +164,11 @@ fn bundle_schema(alloc: Global, schema: &Schema, name: &str, form: &Form) -> Mad
 /// where the root is called so. For each type T there is `$defs/T.validated` too, for a form of an object that is judged.
 ///
 /// `UnknownForm` where no form of the name is declared; `Memory` at any place.
-pub fn schema_text(alloc: Global, schema: &Schema, form: &str) -> Result<String, SchemaFault> {
-    let Some(found) = schema.forms().get(form) else {
+pub fn schema_text(alloc: Global, schema: &Schema, form: &str) -> Result<String, SchemaFault>
+    ensures declared { OnOk result (at_name form.now schema.now.forms ≢ None) }
+    ensures unknown { IfErr result (λ fault. fault ≡ SchemaFault.UnknownForm → at_name form.now schema.now.forms ≡ None) }
+{
+    let Some(found) = form_of(schema, form) else {
         return Err(SchemaFault::UnknownForm);
     };
     let value = bundle_schema(alloc, schema, form, found)?;
