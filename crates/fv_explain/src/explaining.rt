@@ -1,4 +1,5 @@
-ghost use Rattle.std.specs.Prelude.{◌≡◌, None, Ok, Err, IfOk, IfSome};
+ghost use Rattle.std.specs.Prelude.{◌≡◌, ℕ, None, Ok, Err, IfOk, IfSome, List, OnOk};
+ghost use Rattle.std.specs.Io.KnownBytes.{Appends};
 ghost use Rattle.fv_declare_judging.specs.Declares.{Declares};
 ghost use Rattle.fv_declare_schema.specs.Declarations.{Declarations};
 
@@ -72,12 +73,27 @@ fn add_taken<R: RuleSet>(lines: &mut Lines, rules: &R, schema: &Schema, bytes: &
     add_draft(lines, rules, schema, &draft, bytes)
 }
 
-/// Writes lines, each with its end, and flushes.
-fn write_lines<W: Write>(output: &mut W, lines: &[String]) -> Result<(), ExplainFault> {
-    for line in lines {
-        writeln!(output, "{line}").map_err(|_| ExplainFault::Write)?;
+/// Writes a line with its end.
+fn write_one<W: Write>(output: &mut W, line: &str) -> Result<(), ExplainFault>
+    ensures { OnOk result ((bs : List ℕ) × Appends (W.contents output.old) (W.contents output.new) bs) }
+{
+    match writeln!(output, "{line}") {
+        Ok(()) => Ok(()),
+        Err(_) => Err(ExplainFault::Write),
     }
-    output.flush().map_err(|_| ExplainFault::Write)
+}
+
+/// Writes lines, each with its end, and flushes.
+fn write_lines<W: Write>(output: &mut W, lines: &[String]) -> Result<(), ExplainFault>
+    ensures { OnOk result ((bs : List ℕ) × Appends (W.contents output.old) (W.contents output.new) bs) }
+{
+    'lines: for line in lines {
+        write_one(output, line.as_str())?;
+    }
+    match output.flush() {
+        Ok(()) => Ok(()),
+        Err(_) => Err(ExplainFault::Write),
+    }
 }
 
 /// Writes what declarations declare with some rules, a line each, plain or with `json` as a JSON object, and warnings
@@ -92,6 +108,8 @@ pub fn explain<R: RuleSet, W: Write>(
     json: bool,
     output: &mut W,
 ) -> Result<Option<DeclFault>, ExplainFault>
+    // What a write fails to take is told.
+    ensures written { OnOk result ((bs : List ℕ) × Appends (W.contents output.old) (W.contents output.new) bs) }
     ensures taken { IfOk result (λ o. o ≡ None → ((s : Declarations) × Declares (R.known rules.now) bytes.now (Ok s))) }
     ensures refused { IfOk result (λ o. IfSome o (λ f. Declares (R.known rules.now) bytes.now (Err f))) }
 {

@@ -1,5 +1,6 @@
 //! What declarations change over others, in lines.
-ghost use Rattle.std.specs.Prelude.{◌≡◌, ◌↔◌, [], IsTrue, IfOk};
+ghost use Rattle.std.specs.Prelude.{◌≡◌, ◌↔◌, ℕ, [], IsTrue, IfOk, List, OnOk};
+ghost use Rattle.std.specs.Io.KnownBytes.{Appends};
 ghost use Rattle.fv_bundle.specs.Names.{object_types_view};
 ghost use Rattle.fv_bundle.specs.TypesView.{types_view};
 ghost use Rattle.fv_widening.specs.Narrowed.{narrowed};
@@ -32,12 +33,27 @@ const ALL_FIT: &str =
 const MAY_NOT_FIT: &str =
     "a record of the old declarations may not be well-typed under these: a redeclare may be C14 at the places above";
 
-/// Writes lines, each with its end, and flushes.
-fn write_lines<W: Write>(output: &mut W, lines: &[String]) -> Result<(), OverFault> {
-    for line in lines {
-        writeln!(output, "{line}").map_err(|_| OverFault::Write)?;
+/// Writes a line with its end.
+fn write_one<W: Write>(output: &mut W, line: &str) -> Result<(), OverFault>
+    ensures { OnOk result ((bs : List ℕ) × Appends (W.contents output.old) (W.contents output.new) bs) }
+{
+    match writeln!(output, "{line}") {
+        Ok(()) => Ok(()),
+        Err(_) => Err(OverFault::Write),
     }
-    output.flush().map_err(|_| OverFault::Write)
+}
+
+/// Writes lines, each with its end, and flushes.
+fn write_lines<W: Write>(output: &mut W, lines: &[String]) -> Result<(), OverFault>
+    ensures { OnOk result ((bs : List ℕ) × Appends (W.contents output.old) (W.contents output.new) bs) }
+{
+    'lines: for line in lines {
+        write_one(output, line.as_str())?;
+    }
+    match output.flush() {
+        Ok(()) => Ok(()),
+        Err(_) => Err(OverFault::Write),
+    }
 }
 
 /// Adds where records may not fit any more, and at the end whether they all do.
@@ -70,6 +86,8 @@ pub fn tell_over<W: Write>(
     json: bool,
     output: &mut W,
 ) -> Result<bool, OverFault>
+    // What a write fails to take is told.
+    ensures written { OnOk result ((bs : List ℕ) × Appends (W.contents output.old) (W.contents output.new) bs) }
     ensures widens { IfOk result (λ fit. IsTrue fit → Widens (types_view old.entry.types.now)
         (object_types_view old.entry.forms.now) (types_view new.entry.types.now) (object_types_view new.entry.forms.now)) }
     ensures exact { IfOk result (λ fit. IsTrue fit ↔ (narrowed (types_view old.entry.types.now)
