@@ -1,4 +1,7 @@
 //! Comparing: what declarations change over others.
+ghost use Rattle.std.specs.Prelude.{◌≡◌, ℕ, List, OnOk};
+ghost use Rattle.std.specs.Io.KnownBytes.{Appends};
+
 use crate::failure::Failure;
 use crate::telling::schema_of;
 use fv_bundle::TypeNames;
@@ -43,7 +46,9 @@ fn side_of<R: RuleSet, W: Write>(
     as_json: bool,
     registry: &R,
     output: &mut W,
-) -> Result<Side, Failure> {
+) -> Result<Side, Failure>
+    ensures { OnOk result (output.new ≡ output.old) }
+{
     let schema = schema_of(rt, text, as_json, registry, output)?;
     let value = json_of(rt.alloc(), text)?;
     Ok(Side { schema, value })
@@ -74,7 +79,9 @@ fn tell_sides<W: Write>(
     old: &Side,
     as_json: bool,
     output: &mut W,
-) -> Result<(), Failure> {
+) -> Result<(), Failure>
+    ensures { OnOk result ((bs : List ℕ) × Appends (W.contents output.old) (W.contents output.new) bs) }
+{
     let forms = forms_of(alloc, &new.schema)?;
     let old_forms = forms_of(alloc, &old.schema)?;
     tell_over(
@@ -99,7 +106,9 @@ pub(crate) fn compare<R: RuleSet, W: Write>(
     as_json: bool,
     registry: &R,
     output: &mut W,
-) -> Result<(), Failure> {
+) -> Result<(), Failure>
+    ensures { OnOk result ((bs : List ℕ) × Appends (W.contents output.old) (W.contents output.new) bs) }
+{
     let new = side_of(rt, text, as_json, registry, output)?;
     let old = side_of(rt, old_text, as_json, registry, output)?;
     tell_sides(rt.alloc(), &new, &old, as_json, output)

@@ -1,6 +1,11 @@
 //! Schemas: a form's bundles as JSON Schema.
+ghost use Rattle.std.specs.Prelude.{ℕ, List, Ok, OnOk};
+ghost use Rattle.std.specs.Io.KnownBytes.{Appends};
+ghost use Rattle.fv_declare_judging.specs.Declares.{Declares};
+
 use crate::failure::Failure;
 use crate::telling::schema_of;
+use fv_engine_lines::{write_bytes, write_line};
 use fv_json_schema::{SchemaFault, schema_text};
 use fv_registry::RuleSet;
 use std::io::Write;
@@ -24,11 +29,12 @@ pub(crate) fn write_schema<R: RuleSet, W: Write>(
     form: &str,
     registry: &R,
     output: &mut W,
-) -> Result<(), Failure> {
+) -> Result<(), Failure>
+    ensures taken { OnOk result ((ds : _) × Declares (R.known registry.now) text.now (Ok ds)) }
+    ensures written { OnOk result ((bs : List ℕ) × Appends (W.contents output.old) (W.contents output.new) bs) }
+{
     let schema = schema_of(rt, text, false, registry, output)?;
     let told = schema_text(rt.alloc(), &schema, form)?;
-    if writeln!(output, "{told}").is_err() || output.flush().is_err() {
-        return Err(Failure::Write);
-    }
-    Ok(())
+    write_bytes(output, told.as_bytes())?;
+    Ok(write_line(output, b"\n")?)
 }

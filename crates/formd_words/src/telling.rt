@@ -1,5 +1,6 @@
 //! Telling: what declarations declare, or where they are wrong.
-ghost use Rattle.std.specs.Prelude.{◌≡◌, Err, IfErr, IfOk, Ok, OnOk};
+ghost use Rattle.std.specs.Prelude.{◌≡◌, ℕ, Err, IfErr, IfOk, List, Ok, OnOk};
+ghost use Rattle.std.specs.Io.KnownBytes.{Appends};
 ghost use Rattle.fv_declare_judging.specs.Declares.{Declares};
 
 use crate::failure::Failure;
@@ -33,6 +34,7 @@ pub(crate) fn tell<R: RuleSet, W: Write>(
     output: &mut W,
 ) -> Result<(), Failure>
     ensures taken { OnOk result ((ds : _) × Declares (R.known registry.now) text.now (Ok ds)) }
+    ensures written { OnOk result ((bs : List ℕ) × Appends (W.contents output.old) (W.contents output.new) bs) }
     ensures refused { IfErr result (λ failure. (fault : _) → failure ≡ Failure.Declarations fault
         → Declares (R.known registry.now) text.now (Err fault)) }
 {
@@ -52,6 +54,7 @@ pub(crate) fn schema_of<R: RuleSet, W: Write>(
     output: &mut W,
 ) -> Result<Schema, Failure>
     ensures taken { IfOk result (λ schema. Declares (R.known registry.now) text.now (Ok schema)) }
+    ensures unwritten { OnOk result (output.new ≡ output.old) }
     ensures refused { IfErr result (λ failure. (fault : _) → failure ≡ Failure.Declarations fault
         → Declares (R.known registry.now) text.now (Err fault)) }
 {
