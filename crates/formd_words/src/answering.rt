@@ -1,5 +1,6 @@
 //! Answering: lines at the clock's moments, or all at one.
-ghost use Rattle.std.specs.Prelude.{◌≡◌, Some, None};
+ghost use Rattle.std.specs.Prelude.{◌≡◌, OnOk, Some, None};
+ghost use Rattle.fv_engine_lines.specs.Reads.{ReadsThen};
 ghost use Rattle.formd_words.specs.Answering.{Ends, Stands};
 
 use fv_engine_lines::{Clock, FixedClock, Input, Output, Responder, ServeFault, answer_lines};
@@ -16,6 +17,7 @@ pub(crate) fn answer_at<P: Responder, I: Input, W: Output, C: Clock>(
     output: &mut W,
     clock: &mut C,
 ) -> Result<(), ServeFault>
+    ensures ended { OnOk result (ReadsThen I.gives I.ends 4294967296 reader.old reader.new) }
     ensures ticking { fixed ≡ None → Ends P.step C.ticks W.contents W.takes W.flushes W.fails
         (I.remaining reader.old) (I.remaining reader.new) result
         (responder.old, clock.old, output.old) (responder.new, clock.new, output.new) }

@@ -1,10 +1,13 @@
 //! The demonstration: declarations of one form of one type, with three constraints.
+ghost use Rattle.std.specs.Prelude.{◌≡◌, OnOk};
+ghost use Rattle.fv_engine_lines.specs.Reads.{ReadsThen};
+
 use crate::failure::Failure;
 use fv_engine::{Engine, FixedClock, serve};
+use fv_engine_lines::{Input, Output};
 use fv_registry::RuleSet;
 use sqlite::{Connection, MemStore};
 use std::alloc::Global;
-use std::io::{Read, Write};
 
 pub(crate) const DECLARATIONS: &[u8] =
     br#"{"types":{"Item":{"fields":{"count":{"type":"integer","constraints":[{"constraint":"Min","with":{"value":1}}]},"name":{"type":"text","constraints":[{"constraint":"NotNull"},{"constraint":"Size","with":{"min":1,"max":3}}]}}}},"forms":{"item":{"root":"Item"}}}"#;
@@ -27,13 +30,14 @@ pub(crate) fn in_memory<R: RuleSet + Drop>(
 }
 
 /// Serves the demonstration's declarations over a database in memory at the moment 0.
-pub(crate) fn serve_demonstration<R: RuleSet + Drop, I: Read, W: Write>(
+pub(crate) fn serve_demonstration<R: RuleSet + Drop, I: Input, W: Output>(
     alloc: Global,
     registry: R,
     reader: &mut I,
     output: &mut W,
 ) -> Result<(), Failure>
     requires { R.means registry }
+    ensures ended { OnOk result (ReadsThen I.gives I.ends 4294967296 reader.old reader.new) }
 {
     let mut engine = in_memory(alloc, registry, DECLARATIONS)?;
     serve(alloc, &mut engine, reader, output, &mut FixedClock::new(0))?;

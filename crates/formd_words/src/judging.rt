@@ -1,17 +1,20 @@
 //! Judging: lines answered without records.
+ghost use Rattle.std.specs.Prelude.{◌≡◌, OnOk};
+ghost use Rattle.fv_engine_lines.specs.Reads.{ReadsThen};
+
 use crate::answering::answer_at;
 use crate::failure::Failure;
 use formd_task::{Service, read_file};
 use fv_engine::{Clock, LineJudge};
+use fv_engine_lines::{Input, Output};
 use fv_registry::RuleSet;
-use std::io::{Read, Write};
 
 /// Answers lines under the declarations of a file, until the reader's end, each as a service that has
 /// no record would. Nothing is kept.
 ///
 /// Refused as declarations not readable, then by their fault, then as not read or not written; for want
 /// of memory at any place.
-pub(crate) fn judge_file<R: RuleSet + Drop, I: Read, W: Write, C: Clock>(
+pub(crate) fn judge_file<R: RuleSet + Drop, I: Input, W: Output, C: Clock>(
     rt: &HostRuntime,
     service: Service<'_>,
     registry: R,
@@ -20,9 +23,10 @@ pub(crate) fn judge_file<R: RuleSet + Drop, I: Read, W: Write, C: Clock>(
     clock: &mut C,
 ) -> Result<(), Failure>
     requires { R.means registry }
+    ensures ended { OnOk result (ReadsThen I.gives I.ends 4294967296 reader.old reader.new) }
 {
     let alloc = rt.alloc();
     let declarations = read_file(alloc, rt, service.declarations)?;
     let mut judge = LineJudge::new(alloc, registry, &declarations)?;
-    answer_at(alloc, &mut judge, service.clock, reader, output, clock).map_err(Failure::from)
+    Ok(answer_at(alloc, &mut judge, service.clock, reader, output, clock)?)
 }

@@ -1,6 +1,7 @@
 //! Rehearsing: lines answered over a database in memory, and in words where they are refused.
-ghost use Rattle.std.specs.Prelude.{◌≡◌, ℕ, List};
+ghost use Rattle.std.specs.Prelude.{◌≡◌, ℕ, List, OnOk};
 ghost use Rattle.fv_datum.specs.Moments.{IsMoment};
+ghost use Rattle.fv_engine_lines.specs.Reads.{ReadsThen};
 ghost use Rattle.formd_words.specs.Rehearsals.{Asks};
 
 use crate::answering::answer_at;
@@ -8,12 +9,12 @@ use crate::demonstration::in_memory;
 use crate::failure::Failure;
 use formd_task::read_file;
 use fv_engine::{Clock, Engine, FixedClock};
-use fv_engine_lines::{Responder, Text};
+use fv_engine_lines::{Input, Output, Responder, Text};
 use fv_explain_line::{Untold, explain_refusal, records_asked};
 use fv_registry::RuleSet;
 use sqlite::MemStore;
 use std::alloc::Global;
-use std::io::{Read, Write};
+use std::io::Write;
 
 /// What tells in words why it refused a line.
 pub(crate) trait Explains: Responder {
@@ -158,13 +159,15 @@ impl<'e, P: Explains + Drop, E: Write> Responder for Rehearsal<'e, P, E> {
 /// each line with C2 to C9, C13 or C14 was refused. Nothing is kept.
 ///
 /// Refused as not read or not written, or for want of memory.
-pub(crate) fn rehearse<'e, P: Explains + Drop, I: Read, W: Write, E: Write, C: Clock>(
+pub(crate) fn rehearse<'e, P: Explains + Drop, I: Input, W: Output, E: Write, C: Clock>(
     alloc: Global,
     mut rehearsal: Rehearsal<'e, P, E>,
     fixed: Option<FixedClock>,
     reader: &mut I,
     output: &mut W,
     clock: &mut C,
-) -> Result<(), Failure> {
-    answer_at(alloc, &mut rehearsal, fixed, reader, output, clock).map_err(Failure::from)
+) -> Result<(), Failure>
+    ensures ended { OnOk result (ReadsThen I.gives I.ends 4294967296 reader.old reader.new) }
+{
+    Ok(answer_at(alloc, &mut rehearsal, fixed, reader, output, clock)?)
 }
