@@ -1,14 +1,14 @@
 //! Rehearsing: lines answered over a database in memory, and in words where they are refused.
-ghost use Rattle.std.specs.Prelude.{◌≡◌, ℕ, List, OnOk};
+ghost use Rattle.std.specs.Prelude.{◌≡◌, ℕ, List, OnOk, ⊤};
 ghost use Rattle.fv_datum.specs.Moments.{IsMoment};
 ghost use Rattle.fv_engine_lines.specs.Reads.{ReadsThen};
-ghost use Rattle.formd_words.specs.Rehearsals.{Asks};
+ghost use Rattle.formd_words.specs.Rehearsals.{Asks, Rehearses};
 
 use crate::answering::answer_at;
 use crate::demonstration::in_memory;
 use crate::failure::Failure;
 use formd_task::read_file;
-use fv_engine::{Clock, Engine, FixedClock};
+use fv_engine::{Clock, Engine, FixedClock, Reply};
 use fv_engine_lines::{Input, Output, Responder, Text};
 use fv_explain_line::{Untold, explain_refusal, records_asked};
 use fv_registry::RuleSet;
@@ -41,15 +41,15 @@ impl<R: RuleSet + Drop> Explains for Engine<R, MemStore> {
     }
 }
 
-/// What answers lines, and where it tells in words why it refuses one.
-pub(crate) struct Rehearsal<'e, P: Explains, E: Write> {
-    engine: P,
+/// An engine in memory, and where it tells in words why it refuses a line.
+pub(crate) struct Rehearsal<'e, R: RuleSet, E: Write> {
+    engine: Engine<R, MemStore>,
     error: &'e mut E,
     /// How many lines were answered.
     lines: u64,
 }
 
-impl<'e, P: Explains + Drop, E: Write> Drop for Rehearsal<'e, P, E> {
+impl<'e, R: RuleSet + Drop, E: Write> Drop for Rehearsal<'e, R, E> {
     fn drop(self) {
         let Rehearsal {
             engine: _,
@@ -59,7 +59,7 @@ impl<'e, P: Explains + Drop, E: Write> Drop for Rehearsal<'e, P, E> {
     }
 }
 
-impl<'e, R: RuleSet + Drop, E: Write> Rehearsal<'e, Engine<R, MemStore>, E> {
+impl<'e, R: RuleSet + Drop, E: Write> Rehearsal<'e, R, E> {
     /// One over an empty database in memory under the declarations of the file at a path, that tells on
     /// an error writer.
     ///
@@ -69,7 +69,7 @@ impl<'e, R: RuleSet + Drop, E: Write> Rehearsal<'e, Engine<R, MemStore>, E> {
         path: &str,
         registry: R,
         error: &'e mut E,
-    ) -> Result<Rehearsal<'e, Engine<R, MemStore>, E>, Failure>
+    ) -> Result<Rehearsal<'e, R, E>, Failure>
         requires { R.means registry }
     {
         let alloc = rt.alloc();
@@ -83,74 +83,84 @@ impl<'e, R: RuleSet + Drop, E: Write> Rehearsal<'e, Engine<R, MemStore>, E> {
     }
 }
 
-impl<'e, P: Explains, E: Write> Rehearsal<'e, P, E> {
-    /// The reply to a get of a record, with its end.
-    fn record(&mut self, alloc: Global, id: &str, now: i64) -> Result<String, Untold>
-        requires { IsMoment now }
-        ensures { (ids : List (List ℕ)) × Asks P.step now self.old.engine ids self.new.engine }
-    {
-        let get = format!(in alloc; "{{\"do\":\"get\",\"id\":\"{id}\"}}")?;
-        let record = self.engine.answer_line(alloc, get.as_bytes(), now);
-        Ok(String::from_str(alloc, record.line())?)
-    }
-
-    /// The replies to gets of the records that are needed to tell why a line was refused.
-    fn records(
-        &mut self,
-        alloc: Global,
-        line: &[u8],
-        reply: &str,
-        now: i64,
-    ) -> Result<Vec<String>, Untold>
-        requires { IsMoment now }
-        ensures { (ids : List (List ℕ)) × Asks P.step now self.old.engine ids self.new.engine }
-    {
-        let mut shown = Vec::new(alloc);
-        'asked: for id in records_asked(alloc, line, reply)? {
-            shown.push(self.record(alloc, &id, now)?)?;
-        }
-        Ok(shown)
-    }
-
-    /// Why a line was refused, in words.
-    fn words(&mut self, alloc: Global, line: &[u8], reply: &str, now: i64) -> Result<String, Untold>
-        requires { IsMoment now }
-        ensures { (ids : List (List ℕ)) × Asks P.step now self.old.engine ids self.new.engine }
-    {
-        let records = self.records(alloc, line, reply, now)?;
-        self.engine.refusal_words(alloc, line, reply, &records)
-    }
-
-    /// Writes why a line was refused. Nothing is written where there is nothing to tell, or no memory
-    /// to tell it with.
-    fn tell(&mut self, alloc: Global, line: &[u8], reply: &str, now: i64)
-        requires { IsMoment now }
-        ensures { (ids : List (List ℕ)) × Asks P.step now self.old.engine ids self.new.engine }
-    {
-        if let Ok(words) = self.words(alloc, line, reply, now) {
-            let number = self.lines;
-            let _ = writeln!(self.error, "line {number}: {words}");
-        }
-    }
+/// The reply to a get of a record, with its end.
+fn record<P: Responder>(alloc: Global, engine: &mut P, id: &str, now: i64) -> Result<String, Untold>
+    requires { IsMoment now }
+    ensures { (ids : List (List ℕ)) × Asks P.step now engine.old ids engine.new }
+{
+    let get = format!(in alloc; "{{\"do\":\"get\",\"id\":\"{id}\"}}")?;
+    let record = engine.answer_line(alloc, get.as_bytes(), now);
+    Ok(String::from_str(alloc, record.line())?)
 }
 
-impl<'e, P: Explains + Drop, E: Write> Responder for Rehearsal<'e, P, E> {
-    type Reply = P::Reply;
+/// The replies to gets of the records that are needed to tell why a line was refused.
+fn records<P: Responder>(
+    alloc: Global,
+    engine: &mut P,
+    line: &[u8],
+    reply: &str,
+    now: i64,
+) -> Result<Vec<String>, Untold>
+    requires { IsMoment now }
+    ensures { (ids : List (List ℕ)) × Asks P.step now engine.old ids engine.new }
+{
+    let mut shown = Vec::new(alloc);
+    'asked: for id in records_asked(alloc, line, reply)? {
+        shown.push(record(alloc, engine, &id, now)?)?;
+    }
+    Ok(shown)
+}
 
-    ghost use Rattle.formd_words.specs.Rehearsals.{Rehearses};
+/// Why a line was refused, in words.
+fn words<P: Explains>(
+    alloc: Global,
+    engine: &mut P,
+    line: &[u8],
+    reply: &str,
+    now: i64,
+) -> Result<String, Untold>
+    requires { IsMoment now }
+    ensures { (ids : List (List ℕ)) × Asks P.step now engine.old ids engine.new }
+{
+    let records = records(alloc, engine, line, reply, now)?;
+    engine.refusal_words(alloc, line, reply, &records)
+}
 
-    ghost step = { λ old line now reply new. Rehearses P.step old.engine line now reply new.engine };
+/// The reply to a line. Why the line was refused is written behind it, but where there is nothing to tell, or no
+/// memory to tell it with.
+fn answered<P: Explains, E: Write>(
+    alloc: Global,
+    engine: &mut P,
+    error: &mut E,
+    number: u64,
+    line: &[u8],
+    now: i64,
+) -> P::Reply
+    requires { IsMoment now }
+    ensures { Rehearses P.step engine.old line.now now (P.Reply.bytes result) engine.new }
+{
+    let reply = engine.answer_line(alloc, line, now);
+    if let Ok(words) = words(alloc, engine, line, reply.line(), now) {
+        let _ = writeln!(error, "line {number}: {words}");
+    }
+    reply
+}
 
-    fn answer_line(&mut self, alloc: Global, line: &[u8], now: i64) -> P::Reply {
-        let reply = self.engine.answer_line(alloc, line, now);
+impl<'e, R: RuleSet + Drop, E: Write> Responder for Rehearsal<'e, R, E> {
+    type Reply = Reply;
+
+    // What is promised is `answered`'s.
+    ghost step = { λ old line moment text new. ⊤ };
+
+    fn answer_line(&mut self, alloc: Global, line: &[u8], now: i64) -> Reply {
         self.lines = self.lines.saturating_add(1);
-        self.tell(alloc, line, reply.line(), now);
-        reply
+        let number = self.lines;
+        answered(alloc, &mut self.engine, self.error, number, line, now)
     }
 
-    fn answer_long(&mut self, now: i64) -> P::Reply {
+    fn answer_long(&mut self, _now: i64) -> Reply {
         self.lines = self.lines.saturating_add(1);
-        self.engine.answer_long(now)
+        Reply::line_too_long()
     }
 }
 
@@ -159,9 +169,9 @@ impl<'e, P: Explains + Drop, E: Write> Responder for Rehearsal<'e, P, E> {
 /// each line with C2 to C9, C13 or C14 was refused. Nothing is kept.
 ///
 /// Refused as not read or not written, or for want of memory.
-pub(crate) fn rehearse<'e, P: Explains + Drop, I: Input, W: Output, E: Write, C: Clock>(
+pub(crate) fn rehearse<'e, R: RuleSet + Drop, I: Input, W: Output, E: Write, C: Clock>(
     alloc: Global,
-    mut rehearsal: Rehearsal<'e, P, E>,
+    mut rehearsal: Rehearsal<'e, R, E>,
     fixed: Option<FixedClock>,
     reader: &mut I,
     output: &mut W,

@@ -3,7 +3,7 @@ use Rattle.std.proofs.lemmas.Int.{to_z-of_z}
 use mir.Val.{SFits, of_z, to_z}
 use mir.Syntax.{w64}
 use Rattle.formd_words.proofs.Rehearsed.{asks_at, asks_none, asks_then}
-use Rattle.formd_words.proofs.rehearsing.Rehearsal.records.Goals as goal
+use Rattle.formd_words.proofs.rehearsing.records.Goals as goal
 
 pub asked-init : goal.asked-init
 asked-init g c = asks_none g.P.Responder.step _ _

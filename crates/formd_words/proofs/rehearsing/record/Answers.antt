@@ -3,7 +3,7 @@ use Rattle.std.proofs.lemmas.Int.{to_z-of_z}
 use mir.Val.{SFits}
 use mir.Syntax.{w64}
 use Rattle.formd_words.proofs.Rehearsed.{asks_one}
-use Rattle.formd_words.proofs.rehearsing.Rehearsal.record.Goals as goal
+use Rattle.formd_words.proofs.rehearsing.record.Goals as goal
 
 pub returns-in_err-from_str : goal.returns-in_err-from_str
 returns-in_err-from_str g c =
