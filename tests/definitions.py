@@ -8,7 +8,7 @@ It begins at the names in the calls' clauses and in the views of the crate's typ
 definitions that it names, through names that are handed on by `pub use`; the libraries of the toolchain
 are the ground. It prints how many lines these definitions have, with the comments over them, and in how
 many files they stand; with --list first the names in each file, with --print the definitions
-themselves, file by file.
+themselves, file by file, behind what the file is about and its names of modules.
 """
 import os
 import re
@@ -143,6 +143,14 @@ def holder(definitions, name):
     return None
 
 
+def heading_of(path):
+    """What stands above a file's definitions: what it is about, and its names of modules."""
+    with open(path, encoding="utf-8") as file:
+        lines = file.read().split("\n")
+    about = lines[: next(at for at, line in enumerate(lines) if not line.startswith("-- "))]
+    return [*about, *(line for line in lines if re.fullmatch(r"use Rattle\S+ as \w+", line))]
+
+
 def main():
     crate, *functions = (word for word in sys.argv[1:] if not word.startswith("--"))
     seen, known = needed(crate, functions, [word.removeprefix("--given=") for word in sys.argv if word.startswith("--given=")])
@@ -156,6 +164,7 @@ def main():
     if "--print" in sys.argv:
         for place in sorted(names):
             print(f"\n{os.path.relpath(known[place][2], os.path.dirname(ROOT))}\n")
+            print("\n".join(heading_of(known[place][2])) + "\n")
             for name, text in known[place][1].items():
                 if name in names[place]:
                     print("\n".join(text) + "\n")
