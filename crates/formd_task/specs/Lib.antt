@@ -1,1 +1,3 @@
 pub mod FaultNames
+pub mod Reading
+pub mod Removing

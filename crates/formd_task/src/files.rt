@@ -1,13 +1,12 @@
 //! Files as bytes, up to a limit.
-ghost use Rattle.std.specs.Prelude.{◌≡◌, ◌≤◌, ◌<◌, ◌++◌, ◌⊎◌, ℕ, List, Option, IfErr, IfOk, IfSome, OnOk, length, take};
+ghost use Rattle.std.specs.Prelude.{◌≡◌, ◌⊎◌, IfErr, IfOk};
 ghost use Rattle.std.specs.IoError.{error_kind};
-ghost use Rattle.std.specs.declared.io.ErrorKind.{ErrorKind};
 ghost use Rattle.formd_task.specs.FaultNames.{FaultOf, file_fault_name};
+ghost use Rattle.formd_task.specs.Reading.{FailsAs, Unread, Whole};
 
+use crate::bytes::{Bytes, Opens};
 use std::alloc::Global;
-use std::fs::Files;
-use std::io::{Error, ErrorKind, Read};
-use std::{fs, io};
+use std::io::{Error, ErrorKind};
 
 /// The most bytes of a file that is read.
 const MOST_BYTES: usize = 16777216;
@@ -46,41 +45,10 @@ impl From<Error> for FileFault {
     }
 }
 
-/// What bytes are read from to the end. Each reader of std is one.
-pub trait Bytes {
-    /// The bytes that reading will give, where they are known.
-    ghost remaining: { Self → Option (List ℕ) };
-
-    /// Reading may fail with an error of a kind.
-    ghost fails: { Self → ErrorKind → Type 0 };
-
-    /// Reads to the end, or up to a limit, behind the bytes that are there.
-    fn read_front(self, limit: u64, bytes: &mut Vec<u8>) -> io::Result<usize>
-        ensures bytes { OnOk result (IfSome (remaining self)
-            (λ given. bytes.new.items ≡ bytes.old.items ++ take limit given)) }
-        ensures failed { IfErr result (λ e. fails self (error_kind e)) };
-}
-
-impl<R: Read + Drop> Bytes for R {
-    ghost use Rattle.std.specs.Prelude.{⊤};
-
-    ghost remaining = { R.remaining };
-
-    // A reader of std doesn't tell why a read failed.
-    ghost fails = { λ _ _. ⊤ };
-
-    fn read_front(self, limit: u64, bytes: &mut Vec<u8>) -> io::Result<usize> {
-        let mut front = self.take(limit);
-        front.read_to_end(bytes)
-    }
-}
-
 /// All that a reader gives, up to the limit: with more it isn't readable.
 pub fn read_whole<R: Bytes>(alloc: Global, reader: R) -> Result<Vec<u8>, FileFault>
-    ensures limit { IfOk result (λ bytes. length bytes.items ≤ 16777216) }
-    ensures whole { IfOk result (λ bytes. IfSome (R.remaining reader) (λ given. bytes.items ≡ given)) }
-    ensures refused { IfErr result (λ fault. ((kind : ErrorKind) × R.fails reader kind × FaultOf kind fault)
-        ⊎ ((fault ≡ FileFault.Unreadable) × IfSome (R.remaining reader) (λ given. 16777216 < length given))) }
+    ensures whole { IfOk result (λ bytes. Whole R.Bytes reader bytes.items) }
+    ensures refused { IfErr result (Unread R.Bytes reader) }
 {
     let mut bytes = Vec::new(alloc);
     reader.read_front(MOST_BYTES as u64 + 1, &mut bytes)?;
@@ -92,8 +60,11 @@ pub fn read_whole<R: Bytes>(alloc: Global, reader: R) -> Result<Vec<u8>, FileFau
 }
 
 /// The bytes of the file at a path, 16,777,216 at most. A folder isn't readable.
-pub fn read_file<F: Files>(alloc: Global, files: &F, path: &str) -> Result<Vec<u8>, FileFault>
-    ensures limit { IfOk result (λ bytes. length bytes.items ≤ 16777216) }
+pub fn read_file<F: Opens>(alloc: Global, files: &F, path: &str) -> Result<Vec<u8>, FileFault>
+    ensures whole { IfOk result (λ bytes. (reader : F.Reader)
+        × F.opens files.now path.now reader × Whole F.Reader.Bytes reader bytes.items) }
+    ensures refused { IfErr result (λ fault. FailsAs (F.fails files.now path.now) fault
+        ⊎ ((reader : F.Reader) × F.opens files.now path.now reader × Unread F.Reader.Bytes reader fault)) }
 {
-    read_whole(alloc, fs::open(files, path)?)
+    read_whole(alloc, files.open_file(path)?)
 }

@@ -1,8 +1,10 @@
 //! What the words of formd ask, and the files and the clock of the machine that it is done with.
 #![tactic(auto)]
 
+mod bytes;
 mod clocks;
 mod files;
+mod location;
 mod made;
 mod task;
 

@@ -1,4 +1,6 @@
-ghost use Rattle.std.specs.Prelude.{◌≡◌, IfOk};
+ghost use Rattle.std.specs.Prelude.{◌≡◌, ◌⊎◌, IfErr, IfOk};
+ghost use Rattle.clap.specs.Values.{kind_of};
+ghost use Rattle.fv_datum.specs.Moments.{IsMoment};
 
 use clap::error::ErrorKind;
 use clap::{Arg, ArgAction, ArgGroup, ArgMatches, Command, Error, value_parser};
@@ -268,7 +270,9 @@ fn command<'a>(alloc: Global) -> Result<Command<'a>, Error> {
 
 /// The clock that stands at a moment; refused by a command where the seconds are none.
 fn clock_at(alloc: Global, seconds: i64, command: Command<'_>) -> Result<FixedClock, Error>
-    ensures { IfOk result (λ clock. clock.moment ≡ seconds) }
+    ensures taken { IfOk result (λ clock. clock.moment ≡ seconds) }
+    ensures refused { IfErr result (λ e. (kind_of e ≡ ErrorKind.OutOfMemory)
+        ⊎ (kind_of e ≡ ErrorKind.ValueValidation) × (IsMoment seconds → ⊥)) }
 {
     if moment_ok(seconds) {
         return Ok(FixedClock::new(seconds));

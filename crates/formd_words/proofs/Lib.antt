@@ -1,2 +1,4 @@
+pub mod Failed
+pub mod Refused
 pub mod Rehearsed
 pub mod Writes

@@ -1,5 +1,5 @@
 -- What is told of a failure, and which failure a fault is.
-use Rattle.std.specs.Prelude.{◌≡◌, ◌≢◌, ◌⊎◌, ◌++◌, ℕ, List, codes}
+use Rattle.std.specs.Prelude.{◌≡◌, ◌≢◌, ◌⊎◌, ◌++◌, ℕ, List, codes, ⊤}
 use Rattle.fv_declare_judging.specs.FaultNames.{decl_fault_code, decl_fault_name}
 use Rattle.fv_declare_judging.specs.declared.fault.DeclFault.{DeclFault}
 use Rattle.fv_declare_judging.specs.declared.fault.DeclFault.TheVariants as decl
@@ -7,15 +7,17 @@ use Rattle.fv_engine.specs.declared.engine.OpenFault.{OpenFault}
 use Rattle.fv_engine.specs.declared.engine.OpenFault.TheVariants as opening
 use Rattle.fv_engine.specs.declared.exporting.ExportFault.{ExportFault}
 use Rattle.fv_engine.specs.declared.exporting.ExportFault.TheVariants as export
-use Rattle.fv_explain.specs.declared.explaining.ExplainFault.{ExplainFault}
-use Rattle.fv_explain.specs.declared.explaining.ExplainFault.TheVariants as explain
 use Rattle.fv_engine_lines.specs.declared.serving.ServeFault.{ServeFault}
 use Rattle.fv_engine_lines.specs.declared.serving.ServeFault.TheVariants as serve
+use Rattle.fv_json_schema.specs.declared.bundle.SchemaFault.{SchemaFault}
+use Rattle.fv_json_schema.specs.declared.bundle.SchemaFault.TheVariants as schema
 use Rattle.fv_store.specs.FaultNames.{open_store_fault_name}
 use Rattle.fv_store.specs.declared.fault.OpenStoreFault.{OpenStoreFault}
 use Rattle.fv_store.specs.declared.fault.OpenStoreFault.TheVariants as stored
 use Rattle.formd_task.specs.declared.files.FileFault.{FileFault}
 use Rattle.formd_task.specs.declared.files.FileFault.TheVariants as file
+use Rattle.formd_task.specs.declared.made.NotOpened.{NotOpened}
+use Rattle.formd_task.specs.declared.made.NotOpened.TheVariants as unopened
 use Rattle.formd_words.specs.declared.failure.Failure.{Failure}
 use Rattle.formd_words.specs.declared.failure.Failure.TheVariants as failure
 
@@ -43,16 +45,21 @@ abbrev pub file_failure : FileFault → Failure
 file_failure file.Unreadable = failure.Unreadable
 file_failure file.Memory = failure.Memory
 
+-- the failure to open a database
+abbrev pub opening_failure : NotOpened → Failure
+opening_failure unopened.Memory = failure.Memory
+opening_failure unopened.Refused = failure.CannotOpen
+
 -- the failure to serve
 abbrev pub serve_failure : ServeFault → Failure
 serve_failure serve.Read = failure.Read
 serve_failure serve.Write = failure.Write
 serve_failure serve.Memory = failure.Memory
 
--- the failure to write what declarations declare
-abbrev pub explain_failure : ExplainFault → Failure
-explain_failure explain.Write = failure.Write
-explain_failure explain.Memory = failure.Memory
+-- the failure to make a schema
+abbrev pub schema_failure : SchemaFault → Failure
+schema_failure schema.UnknownForm = failure.UnknownForm
+schema_failure schema.Memory = failure.Memory
 
 -- the failure to export
 abbrev pub export_failure : ExportFault → Failure
@@ -73,3 +80,24 @@ abbrev pub IsOfOpening : OpenFault → Failure → Type 0
 IsOfOpening (opening.Declarations fault) told = IsOfDeclarations fault told
 IsOfOpening (opening.Store fault) told = told ≡ failure.Store fault
 IsOfOpening opening.Memory told = told ≡ failure.Memory
+
+-- Writing failed: want of memory, where this holds, or a write or the flush, where that does. No other failure is told.
+abbrev pub IsUnwritten : Type 0 → Type 0 → Failure → Type 0
+IsUnwritten none broke failure.Memory = none
+IsUnwritten none broke failure.Write = broke
+IsUnwritten none broke _ = ⊥
+
+-- Declarations were refused by a fault of which this holds, or writing failed, where that does; want of memory is told at any place.
+abbrev pub IsRefused : (DeclFault → Type 0) → Type 0 → Failure → Type 0
+IsRefused faulty broke (failure.Declarations fault) = faulty fault
+IsRefused faulty broke failure.Write = broke
+IsRefused faulty broke failure.Memory = ⊤
+IsRefused faulty broke _ = ⊥
+
+-- Serving lines failed: a read, where this holds; a write or the flush, where that does; or before, where the last does. Words and forms aren't asked.
+abbrev pub IsUnserved : Type 0 → Type 0 → Type 0 → Failure → Type 0
+IsUnserved unread broke none failure.Read = unread
+IsUnserved unread broke none failure.Write = broke
+IsUnserved unread broke none failure.NotUtf8 = ⊥
+IsUnserved unread broke none failure.UnknownForm = ⊥
+IsUnserved unread broke none _ = none

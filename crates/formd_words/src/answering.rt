@@ -1,6 +1,7 @@
 //! Answering: lines at the clock's moments, or all at one.
-ghost use Rattle.std.specs.Prelude.{◌≡◌, OnOk, Some, None};
-ghost use Rattle.fv_engine_lines.specs.Reads.{ReadsThen};
+ghost use Rattle.std.specs.Prelude.{◌≡◌, ℕ, IsErrOf, List, OnOk, Some, None};
+ghost use Rattle.fv_engine_lines.specs.Reads.{ReadFails, ReadsThen};
+ghost use Rattle.fv_engine_lines.specs.Writes.{Breaks};
 ghost use Rattle.formd_words.specs.Answering.{Ends, Stands};
 
 use fv_engine_lines::{Clock, FixedClock, Input, Output, Responder, ServeFault, answer_lines};
@@ -18,6 +19,10 @@ pub(crate) fn answer_at<P: Responder, I: Input, W: Output, C: Clock>(
     clock: &mut C,
 ) -> Result<(), ServeFault>
     ensures ended { OnOk result (ReadsThen I.gives I.ends 4294967296 reader.old reader.new) }
+    ensures unread { IsErrOf result ServeFault.Read → ReadFails I.gives I.fails 4294967296 reader.old reader.new }
+    ensures broke { IsErrOf result ServeFault.Write
+        → (mid : W) × (bs : List ℕ) × Breaks W.contents W.takes W.fails mid output.new bs }
+    ensures none { IsErrOf result ServeFault.Memory → (reader.new ≡ reader.old) × (output.new ≡ output.old) }
     ensures ticking { fixed ≡ None → Ends P.step C.ticks W.contents W.takes W.flushes W.fails
         (I.remaining reader.old) (I.remaining reader.new) result
         (responder.old, clock.old, output.old) (responder.new, clock.new, output.new) }

@@ -1,7 +1,8 @@
 //! Declarations of a file: whether they are taken.
-ghost use Rattle.std.specs.Prelude.{◌≡◌, ℕ, codes, Err, IfErr, List, Ok, OnOk};
+ghost use Rattle.std.specs.Prelude.{codes, Err, IfErr, Ok, OnOk};
 ghost use Rattle.fv_declare_judging.specs.Declares.{Declares};
 ghost use Rattle.fv_engine_lines.specs.Writes.{Breaks, Sends};
+ghost use Rattle.formd_words.specs.Failures.{IsRefused};
 
 use crate::failure::Failure;
 use formd_task::read_file;
@@ -22,10 +23,8 @@ fn check_declarations<R: RuleSet, W: Output>(
 ) -> Result<(), Failure>
     ensures taken { OnOk result ((ds : _) × Declares (R.known registry.now) text.now (Ok ds)) }
     ensures said { OnOk result (Sends W.contents W.takes W.flushes output.old output.new (codes "ok\n")) }
-    ensures refused { IfErr result (λ failure. (fault : _) → failure ≡ Failure.Declarations fault
-        → Declares (R.known registry.now) text.now (Err fault)) }
-    ensures unwritten { IfErr result (λ failure. failure ≡ Failure.Write
-        → Breaks W.contents W.takes W.fails output.old output.new (codes "ok\n")) }
+    ensures refused { IfErr result (IsRefused (λ fault. Declares (R.known registry.now) text.now (Err fault))
+        (Breaks W.contents W.takes W.fails output.old output.new (codes "ok\n"))) }
 {
     let _ = read_schema(alloc, registry, text)?;
     Ok(write_line(output, b"ok\n")?)

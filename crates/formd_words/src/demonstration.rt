@@ -1,6 +1,8 @@
 //! The demonstration: declarations of one form of one type, with three constraints.
-ghost use Rattle.std.specs.Prelude.{◌≡◌, OnOk};
-ghost use Rattle.fv_engine_lines.specs.Reads.{ReadsThen};
+ghost use Rattle.std.specs.Prelude.{◌≡◌, ℕ, IfErr, List, OnOk, ⊤};
+ghost use Rattle.fv_engine_lines.specs.Reads.{ReadFails, ReadsThen};
+ghost use Rattle.fv_engine_lines.specs.Writes.{Breaks};
+ghost use Rattle.formd_words.specs.Failures.{IsUnserved};
 
 use crate::failure::Failure;
 use fv_engine::{Engine, FixedClock, serve};
@@ -19,6 +21,7 @@ pub(crate) fn in_memory<R: RuleSet + Drop>(
     declarations: &[u8],
 ) -> Result<Engine<R, MemStore>, Failure>
     requires { R.means registry }
+    ensures { IfErr result (IsUnserved ⊥ ⊥ ⊤) }
 {
     let Ok(connection) = Connection::open_in_memory(alloc) else {
         return Err(Failure::Memory);
@@ -38,6 +41,10 @@ pub(crate) fn serve_demonstration<R: RuleSet + Drop, I: Input, W: Output>(
 ) -> Result<(), Failure>
     requires { R.means registry }
     ensures ended { OnOk result (ReadsThen I.gives I.ends 4294967296 reader.old reader.new) }
+    // A read failed, or a write; or nothing was read or written.
+    ensures failed { IfErr result (IsUnserved (ReadFails I.gives I.fails 4294967296 reader.old reader.new)
+        ((mid : W) × (bs : List ℕ) × Breaks W.contents W.takes W.fails mid output.new bs)
+        ((reader.new ≡ reader.old) × (output.new ≡ output.old))) }
 {
     let mut engine = in_memory(alloc, registry, DECLARATIONS)?;
     serve(alloc, &mut engine, reader, output, &mut FixedClock::new(0))?;

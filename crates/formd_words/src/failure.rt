@@ -10,7 +10,7 @@ use fv_declare::DeclFault;
 use fv_engine::{OpenFault, ServeFault};
 use fv_engine_lines::{Output, WriteFailed, write_bytes};
 use fv_store::OpenStoreFault;
-use std::alloc::AllocFailed;
+use std::alloc::{AllocError, AllocFailed};
 use thiserror::Error;
 
 /// The text for words that aren't UTF-8, in the form of the other refusals of words.
@@ -51,6 +51,17 @@ pub enum Failure {
     /// An allocation was refused.
     #[error("out of memory")]
     Memory,
+}
+
+impl From<AllocError> for Failure {
+    ghost use Rattle.std.specs.Prelude.{◌≡◌};
+    ghost use Rattle.formd_words.specs.declared.failure.Failure.TheVariants.{Memory};
+
+    ghost from_gives = { λ _ told. told ≡ Memory };
+
+    fn from(_e: AllocError) -> Failure {
+        Failure::Memory
+    }
 }
 
 impl<T: Drop> From<AllocFailed<T>> for Failure {

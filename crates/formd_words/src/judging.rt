@@ -1,6 +1,8 @@
 //! Judging: lines answered without records.
-ghost use Rattle.std.specs.Prelude.{◌≡◌, OnOk};
-ghost use Rattle.fv_engine_lines.specs.Reads.{ReadsThen};
+ghost use Rattle.std.specs.Prelude.{◌≡◌, ℕ, IfErr, List, OnOk};
+ghost use Rattle.fv_engine_lines.specs.Reads.{ReadFails, ReadsThen};
+ghost use Rattle.fv_engine_lines.specs.Writes.{Breaks};
+ghost use Rattle.formd_words.specs.Failures.{IsUnserved};
 
 use crate::answering::answer_at;
 use crate::failure::Failure;
@@ -24,6 +26,10 @@ pub(crate) fn judge_file<R: RuleSet + Drop, I: Input, W: Output, C: Clock>(
 ) -> Result<(), Failure>
     requires { R.means registry }
     ensures ended { OnOk result (ReadsThen I.gives I.ends 4294967296 reader.old reader.new) }
+    // A read failed, or a write; or nothing was read or written.
+    ensures failed { IfErr result (IsUnserved (ReadFails I.gives I.fails 4294967296 reader.old reader.new)
+        ((mid : W) × (bs : List ℕ) × Breaks W.contents W.takes W.fails mid output.new bs)
+        ((reader.new ≡ reader.old) × (output.new ≡ output.old))) }
 {
     let alloc = rt.alloc();
     let declarations = read_file(alloc, rt, service.declarations)?;

@@ -17,6 +17,7 @@ mod schemas;
 mod serving;
 mod standing;
 mod telling;
+mod writing;
 
 pub use failure::Failure;
 pub use given::given_words;

@@ -1,5 +1,5 @@
 //! Rehearsing: lines answered over a database in memory, and in words where they are refused.
-ghost use Rattle.std.specs.Prelude.{◌≡◌, ℕ, List, OnOk, ⊤};
+ghost use Rattle.std.specs.Prelude.{◌≡◌, ℕ, List, OnOk};
 ghost use Rattle.fv_datum.specs.Moments.{IsMoment};
 ghost use Rattle.fv_engine_lines.specs.Reads.{ReadsThen};
 ghost use Rattle.formd_words.specs.Rehearsals.{Asks, Rehearses};
@@ -12,7 +12,7 @@ use fv_engine::{Clock, Engine, FixedClock, Reply};
 use fv_engine_lines::{Input, Output, Responder, Text};
 use fv_explain_line::{Untold, explain_refusal, records_asked};
 use fv_registry::RuleSet;
-use sqlite::MemStore;
+use sqlite::{Alter, MemStore};
 use std::alloc::Global;
 use std::io::Write;
 
@@ -29,7 +29,7 @@ pub(crate) trait Explains: Responder {
     ) -> Result<String, Untold>;
 }
 
-impl<R: RuleSet + Drop> Explains for Engine<R, MemStore> {
+impl<R: RuleSet + Drop, S: Alter> Explains for Engine<R, S> {
     fn refusal_words(
         &self,
         alloc: Global,
@@ -41,15 +41,15 @@ impl<R: RuleSet + Drop> Explains for Engine<R, MemStore> {
     }
 }
 
-/// An engine in memory, and where it tells in words why it refuses a line.
-pub(crate) struct Rehearsal<'e, R: RuleSet, E: Write> {
-    engine: Engine<R, MemStore>,
+/// An engine, and where it tells in words why it refuses a line.
+pub(crate) struct Rehearsal<'e, R: RuleSet, S: Alter, E: Write> {
+    engine: Engine<R, S>,
     error: &'e mut E,
     /// How many lines were answered.
     lines: u64,
 }
 
-impl<'e, R: RuleSet + Drop, E: Write> Drop for Rehearsal<'e, R, E> {
+impl<'e, R: RuleSet + Drop, S: Alter + Drop, E: Write> Drop for Rehearsal<'e, R, S, E> {
     fn drop(self) {
         let Rehearsal {
             engine: _,
@@ -59,7 +59,7 @@ impl<'e, R: RuleSet + Drop, E: Write> Drop for Rehearsal<'e, R, E> {
     }
 }
 
-impl<'e, R: RuleSet + Drop, E: Write> Rehearsal<'e, R, E> {
+impl<'e, R: RuleSet + Drop, E: Write> Rehearsal<'e, R, MemStore, E> {
     /// One over an empty database in memory under the declarations of the file at a path, that tells on
     /// an error writer.
     ///
@@ -69,7 +69,7 @@ impl<'e, R: RuleSet + Drop, E: Write> Rehearsal<'e, R, E> {
         path: &str,
         registry: R,
         error: &'e mut E,
-    ) -> Result<Rehearsal<'e, R, E>, Failure>
+    ) -> Result<Rehearsal<'e, R, MemStore, E>, Failure>
         requires { R.means registry }
     {
         let alloc = rt.alloc();
@@ -126,7 +126,7 @@ fn words<P: Explains>(
     engine.refusal_words(alloc, line, reply, &records)
 }
 
-/// The reply to a line. Why the line was refused is written behind it, but where there is nothing to tell, or no
+/// The reply to a line. Why the line was refused is written first, but where there is nothing to tell, or no
 /// memory to tell it with.
 fn answered<P: Explains, E: Write>(
     alloc: Global,
@@ -146,11 +146,15 @@ fn answered<P: Explains, E: Write>(
     reply
 }
 
-impl<'e, R: RuleSet + Drop, E: Write> Responder for Rehearsal<'e, R, E> {
+impl<'e, R: RuleSet + Drop, S: Alter + Drop, E: Write> Responder for Rehearsal<'e, R, S, E> {
     type Reply = Reply;
 
-    // What is promised is `answered`'s.
-    ghost step = { λ old line moment text new. ⊤ };
+    ghost use Rattle.fv_engine.specs.Steps.{AnswersLine};
+    ghost use Rattle.fv_store.specs.Stock.{stock_state};
+
+    // The engine answers the line, and is then asked for records.
+    ghost step = { λ old line moment text new.
+        Rehearses (AnswersLine (stock_state S.Store) R.meaning) old.engine line moment text new.engine };
 
     fn answer_line(&mut self, alloc: Global, line: &[u8], now: i64) -> Reply {
         self.lines = self.lines.saturating_add(1);
@@ -158,9 +162,9 @@ impl<'e, R: RuleSet + Drop, E: Write> Responder for Rehearsal<'e, R, E> {
         answered(alloc, &mut self.engine, self.error, number, line, now)
     }
 
-    fn answer_long(&mut self, _now: i64) -> Reply {
+    fn answer_long(&mut self, now: i64) -> Reply {
         self.lines = self.lines.saturating_add(1);
-        Reply::line_too_long()
+        self.engine.answer_long(now)
     }
 }
 
@@ -169,9 +173,17 @@ impl<'e, R: RuleSet + Drop, E: Write> Responder for Rehearsal<'e, R, E> {
 /// each line with C2 to C9, C13 or C14 was refused. Nothing is kept.
 ///
 /// Refused as not read or not written, or for want of memory.
-pub(crate) fn rehearse<'e, R: RuleSet + Drop, I: Input, W: Output, E: Write, C: Clock>(
+pub(crate) fn rehearse<
+    'e,
+    R: RuleSet + Drop,
+    S: Alter + Drop,
+    I: Input,
+    W: Output,
+    E: Write,
+    C: Clock,
+>(
     alloc: Global,
-    mut rehearsal: Rehearsal<'e, R, E>,
+    mut rehearsal: Rehearsal<'e, R, S, E>,
     fixed: Option<FixedClock>,
     reader: &mut I,
     output: &mut W,

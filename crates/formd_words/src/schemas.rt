@@ -1,16 +1,23 @@
 //! Schemas: a form's bundles as JSON Schema.
-ghost use Rattle.std.specs.Prelude.{ℕ, List, Ok, OnOk};
-ghost use Rattle.std.specs.Io.KnownBytes.{Appends};
+ghost use Rattle.std.specs.Prelude.{◌≡◌, ℕ, Err, IfErr, List, Ok, OnOk};
 ghost use Rattle.fv_declare_judging.specs.Declares.{Declares};
+ghost use Rattle.fv_engine_lines.specs.Lines.{ended};
+ghost use Rattle.fv_engine_lines.specs.Writes.{Sends};
 
 use crate::failure::Failure;
 use crate::telling::schema_of;
-use fv_engine_lines::{write_bytes, write_line};
+use crate::writing::write_as_is;
+use fv_engine_lines::Output;
 use fv_json_schema::{SchemaFault, schema_text};
 use fv_registry::RuleSet;
-use std::io::Write;
+use std::alloc::Global;
 
 impl From<SchemaFault> for Failure {
+    ghost use Rattle.std.specs.Prelude.{◌≡◌};
+    ghost use Rattle.formd_words.specs.Failures.{schema_failure};
+
+    ghost from_gives = { λ fault told. told ≡ schema_failure fault };
+
     fn from(fault: SchemaFault) -> Failure {
         match fault {
             SchemaFault::UnknownForm => Failure::UnknownForm,
@@ -23,18 +30,19 @@ impl From<SchemaFault> for Failure {
 ///
 /// Refused by the fault of the declarations, as `schema_of` refuses them; then as a form that isn't declared, then as
 /// not written; for want of memory at any place.
-pub(crate) fn write_schema<R: RuleSet, W: Write>(
-    rt: &HostRuntime,
+pub(crate) fn write_schema<R: RuleSet, W: Output>(
+    alloc: Global,
     text: &[u8],
     form: &str,
     registry: &R,
     output: &mut W,
 ) -> Result<(), Failure>
     ensures taken { OnOk result ((ds : _) × Declares (R.known registry.now) text.now (Ok ds)) }
-    ensures written { OnOk result ((bs : List ℕ) × Appends (W.contents output.old) (W.contents output.new) bs) }
+    ensures written { OnOk result ((line : List ℕ)
+        × Sends W.contents W.takes W.flushes output.old output.new (ended line)) }
 {
-    let schema = schema_of(rt, text, false, registry, output)?;
-    let told = schema_text(rt.alloc(), &schema, form)?;
-    write_bytes(output, told.as_bytes())?;
-    Ok(write_line(output, b"\n")?)
+    let schema = schema_of(alloc, text, false, registry, output)?;
+    let mut told = schema_text(alloc, &schema, form)?;
+    told.push('\n')?;
+    write_as_is(told.as_bytes(), output)
 }

@@ -1,6 +1,8 @@
 //! Serving: declarations from a file, over a database.
-ghost use Rattle.std.specs.Prelude.{◌≡◌, OnOk};
-ghost use Rattle.fv_engine_lines.specs.Reads.{ReadsThen};
+ghost use Rattle.std.specs.Prelude.{◌≡◌, ℕ, IfErr, IsErrOf, List, OnOk, ⊤};
+ghost use Rattle.fv_engine_lines.specs.Reads.{ReadFails, ReadsThen};
+ghost use Rattle.fv_engine_lines.specs.Writes.{Breaks};
+ghost use Rattle.formd_words.specs.Failures.{IsUnserved};
 
 use crate::failure::Failure;
 use formd_task::{NotOpened, Service, absent_at, close_refused, open_database, read_file};
@@ -11,6 +13,11 @@ use sqlite::{Alter, File, FileStore};
 use std::alloc::Global;
 
 impl From<NotOpened> for Failure {
+    ghost use Rattle.std.specs.Prelude.{◌≡◌};
+    ghost use Rattle.formd_words.specs.Failures.{opening_failure};
+
+    ghost from_gives = { λ fault told. told ≡ opening_failure fault };
+
     fn from(refused: NotOpened) -> Failure {
         match refused {
             NotOpened::Memory => Failure::Memory,
@@ -30,6 +37,7 @@ fn open_engine<R: RuleSet + Drop>(
     registry: R,
 ) -> Result<Engine<R, FileStore<File>>, Failure>
     requires { R.means registry }
+    ensures { IfErr result (IsUnserved ⊥ ⊥ ⊤) }
 {
     let alloc = rt.alloc();
     let declarations = read_file(alloc, rt, service.declarations)?;
@@ -54,6 +62,10 @@ fn serve_at<R: RuleSet + Drop, S: Alter, I: Input, W: Output, C: Clock>(
     clock: &mut C,
 ) -> Result<(), ServeFault>
     ensures ended { OnOk result (ReadsThen I.gives I.ends 4294967296 reader.old reader.new) }
+    ensures unread { IsErrOf result ServeFault.Read → ReadFails I.gives I.fails 4294967296 reader.old reader.new }
+    ensures broke { IsErrOf result ServeFault.Write
+        → (mid : W) × (bs : List ℕ) × Breaks W.contents W.takes W.fails mid output.new bs }
+    ensures none { IsErrOf result ServeFault.Memory → (reader.new ≡ reader.old) × (output.new ≡ output.old) }
 {
     match fixed {
         None => serve(alloc, engine, reader, output, clock),
@@ -77,6 +89,10 @@ pub(crate) fn serve_files<R: RuleSet + Drop, I: Input, W: Output, C: Clock>(
 ) -> Result<(), Failure>
     requires { R.means registry }
     ensures ended { OnOk result (ReadsThen I.gives I.ends 4294967296 reader.old reader.new) }
+    // A read failed, or a write; or nothing was read or written.
+    ensures failed { IfErr result (IsUnserved (ReadFails I.gives I.fails 4294967296 reader.old reader.new)
+        ((mid : W) × (bs : List ℕ) × Breaks W.contents W.takes W.fails mid output.new bs)
+        ((reader.new ≡ reader.old) × (output.new ≡ output.old))) }
 {
     let mut engine = open_engine(rt, &service, registry)?;
     let served = serve_at(

@@ -1,44 +1,42 @@
 //! Telling: what declarations declare, or where they are wrong.
 ghost use Rattle.std.specs.Prelude.{◌≡◌, ℕ, Err, IfErr, IfOk, List, Ok, OnOk};
-ghost use Rattle.std.specs.Io.KnownBytes.{Appends};
+ghost use Rattle.std.specs.List.{flat_map};
 ghost use Rattle.fv_declare_judging.specs.Declares.{Declares};
+ghost use Rattle.fv_engine_lines.specs.Lines.{ended};
+ghost use Rattle.fv_engine_lines.specs.Writes.{Breaks, Sends};
+ghost use Rattle.fv_explain.specs.Explained.{TellsFault, TellsLimits};
+ghost use Rattle.formd_words.specs.Failures.{IsRefused};
 
 use crate::failure::Failure;
+use crate::writing::write_lines;
 use fv_declare::{DeclFault, Schema, read_schema};
-use fv_explain::{ExplainFault, explain};
+use fv_engine_lines::Output;
+use fv_explain::explain;
 use fv_registry::RuleSet;
-use std::io::Write;
-
-impl From<ExplainFault> for Failure {
-    ghost use Rattle.std.specs.Prelude.{◌≡◌};
-    ghost use Rattle.formd_words.specs.Failures.{explain_failure};
-
-    ghost from_gives = { λ fault told. told ≡ explain_failure fault };
-
-    fn from(fault: ExplainFault) -> Failure {
-        match fault {
-            ExplainFault::Write => Failure::Write,
-            ExplainFault::Memory => Failure::Memory,
-        }
-    }
-}
+use std::alloc::Global;
 
 /// Writes what declarations declare, or where their first fault is.
 ///
 /// Refused as not written, then by the fault of the declarations; for want of memory at any place.
-pub(crate) fn tell<R: RuleSet, W: Write>(
-    rt: &HostRuntime,
+pub(crate) fn tell<R: RuleSet, W: Output>(
+    alloc: Global,
     text: &[u8],
     as_json: bool,
     registry: &R,
     output: &mut W,
 ) -> Result<(), Failure>
-    ensures taken { OnOk result ((ds : _) × Declares (R.known registry.now) text.now (Ok ds)) }
-    ensures written { OnOk result ((bs : List ℕ) × Appends (W.contents output.old) (W.contents output.new) bs) }
-    ensures refused { IfErr result (λ failure. (fault : _) → failure ≡ Failure.Declarations fault
-        → Declares (R.known registry.now) text.now (Err fault)) }
+    // Their lines were written, at the end the limits that they use.
+    ensures taken { OnOk result ((ds : _) × Declares (R.known registry.now) text.now (Ok ds) × ((lines : List (List ℕ))
+        × TellsLimits as_json ds lines × Sends W.contents W.takes W.flushes output.old output.new (flat_map ended lines))) }
+    // The line of their fault was.
+    ensures refused { IfErr result (IsRefused (λ fault. Declares (R.known registry.now) text.now (Err fault)
+        × ((lines : List (List ℕ)) × TellsFault as_json fault lines
+        × Sends W.contents W.takes W.flushes output.old output.new (flat_map ended lines)))
+        ((lines : List (List ℕ)) × Breaks W.contents W.takes W.fails output.old output.new (flat_map ended lines))) }
 {
-    match explain(rt.alloc(), registry, text, as_json, output)? {
+    let told = explain(alloc, registry, text, as_json)?;
+    write_lines(alloc, &told.lines, output)?;
+    match told.fault {
         None => Ok(()),
         Some(fault) => Err(Failure::from(fault)),
     }
@@ -46,8 +44,8 @@ pub(crate) fn tell<R: RuleSet, W: Write>(
 
 /// The schema of declarations. Refused by their fault, where it is written what `tell` writes of them, or as that
 /// isn't written; for want of memory at any place.
-pub(crate) fn schema_of<R: RuleSet, W: Write>(
-    rt: &HostRuntime,
+pub(crate) fn schema_of<R: RuleSet, W: Output>(
+    alloc: Global,
     text: &[u8],
     as_json: bool,
     registry: &R,
@@ -55,14 +53,15 @@ pub(crate) fn schema_of<R: RuleSet, W: Write>(
 ) -> Result<Schema, Failure>
     ensures taken { IfOk result (λ schema. Declares (R.known registry.now) text.now (Ok schema)) }
     ensures unwritten { OnOk result (output.new ≡ output.old) }
-    ensures refused { IfErr result (λ failure. (fault : _) → failure ≡ Failure.Declarations fault
-        → Declares (R.known registry.now) text.now (Err fault)) }
+    ensures refused { IfErr result (IsRefused (λ fault. Declares (R.known registry.now) text.now (Err fault)
+        × ((lines : List (List ℕ)) × Sends W.contents W.takes W.flushes output.old output.new (flat_map ended lines)))
+        ((lines : List (List ℕ)) × Breaks W.contents W.takes W.fails output.old output.new (flat_map ended lines))) }
 {
-    match read_schema(rt.alloc(), registry, text) {
+    match read_schema(alloc, registry, text) {
         Ok(schema) => Ok(schema),
         Err(DeclFault::Memory) => Err(Failure::Memory),
         Err(fault) => {
-            tell(rt, text, as_json, registry, output)?;
+            tell(alloc, text, as_json, registry, output)?;
             Err(Failure::from(fault))
         }
     }

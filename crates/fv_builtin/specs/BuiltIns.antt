@@ -2,7 +2,7 @@
 use Rattle.std.specs.Prelude.{ℕ, ℤ, Bool, true, false}
 use Rattle.regex.specs.Patterns.{Re}
 
--- a built-in constraint. Bounds of numbers are in units of 10^-9, counts of digits and sizes are plain
+-- a built-in constraint: bounds in units of 10^-9, true where the bound itself passes; most digits before and behind the point; least and most size
 pub data BuiltIn : Type 0 where
   null : BuiltIn
   not_null : BuiltIn

@@ -49,7 +49,7 @@ somewhere test type_use j = option_map_or (λ u. anywhere test u j) type_use fal
 abbrev pub is_other : List ℕ → Option (List ℕ) → Bool
 is_other type own = option_map_or (λ t. not (bytes_eq type t)) own false
 
--- a reference that is found by a test of its type and of its name
+-- a reference passes a test of the type that it is to and of the name that it is
 abbrev pub referring : (List ℕ → List ℕ → Bool) → TypeUse → json.Data → Bool
 referring test (references type) j = option_map_or (test type) (as_str j) false
 referring test _ j = false

@@ -13,7 +13,7 @@ pub data Subject : Type 0 where
   of_object : Thing → Subject
 
 -- A test with attributes holds of a subject at a moment. `nothing`, the test of a constraint that only has parts, holds of every subject, and so
--- does a test of the other sort of subject: where a constraint stands at subjects of that sort, its declarations are refused before that.
+-- does a test of the other sort of subject: declarations where a constraint stands at such subjects are refused.
 abbrev pub test_says : Meanings → ℤ → Attributes → Test → Subject → Bool
 test_says m now attributes (built_in b) (of_datum d) = builtin.says b d now
 test_says m now attributes (by_rule rule) (of_datum d) = m.decides rule d attributes

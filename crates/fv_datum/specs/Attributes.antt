@@ -26,7 +26,7 @@ abbrev pub boolean_in : AttributeValue → Option Bool
 boolean_in (boolean b) = Some b
 boolean_in _ = None
 
--- a finite map from names, ascending by their bytes
+-- names with values: a finite map where the names ascend by their bytes, which `ascends` tests
 abbrev pub Attributes : Type 0
 Attributes = List (List ℕ × AttributeValue)
 

@@ -5,7 +5,7 @@ use Rattle.serde_json.specs.Data as json
 use Rattle.serde_json.specs.Find.{as_array, as_object, get}
 use Rattle.fv_datum.specs.Members.{pairs, listed, has_only, each_some}
 
--- an object whose members have these names and no others, read so
+-- an object that has no member of another name than these, read so: it need not have them all
 abbrev pub only : {X : Type 0} → List (List ℕ) → (json.Data → Option X) → json.Data → Option X
 only names f j = if has_only names j then f j else None
 
@@ -21,11 +21,11 @@ optional x f name j = option_map_or f (get name j) (Some x)
 abbrev pub maybe : {X : Type 0} → (json.Data → Option X) → List ℕ → json.Data → Option (Option X)
 maybe f = optional None (λ j. option_map (λ x. Some x) (f j))
 
--- each member of an object, its name with its value
+-- what the members of an object are read as, each its name with its value: none of what is no object or where one isn't read
 abbrev pub each_member : {X : Type 0} → (List ℕ × json.Data → Option X) → json.Data → Option (List X)
 each_member f j = option_and_then (λ ms. each_some f (pairs ms)) (as_object j)
 
--- each item of an array
+-- what the items of an array are read as: none of what is no array or where one isn't read
 abbrev pub each_item : {X : Type 0} → (json.Data → Option X) → json.Data → Option (List X)
 each_item f j = option_and_then (λ js. each_some f (listed js)) (as_array j)
 

@@ -27,7 +27,7 @@ is_of_64_bits (negsuc n) = nat_lt n (2 ^ 63)
 abbrev pub passing : {X : Type 0} → (X → Bool) → X → Option X
 passing test x = if test x then Some x else None
 
--- the whole number of 64 bits that a JSON number is: one with a fraction or an exponent is none
+-- the whole number of 64 bits that a JSON number is: one with a fraction or an exponent is none, and so is `-0`
 abbrev pub whole_of : json.Num → Option ℤ
 whole_of n = option_and_then (passing is_of_64_bits) (as_integer n)
 

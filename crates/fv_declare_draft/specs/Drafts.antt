@@ -27,7 +27,7 @@ pub record TypeDraft : Type 0 where
   pub uses : List UseDraft
   pub sequence : Option (List (List ℕ))
 
--- a form: its name, that of its root's type, and those of its groups; no names stand for `Default`
+-- a form: its name, that of its root's type, and those of its groups. Where it names no group, `Default` is meant
 pub record FormDraft : Type 0 where
   pub name : List ℕ
   pub root : List ℕ

@@ -9,7 +9,7 @@ use Rattle.fv_declare_definition.specs.Written.{message_of}
 use Rattle.fv_datum.specs.NameLists.{names_of}
 
 -- a use of a constraint, with the attributes that it gives, the names of its groups, and the template of its message, if it has one of its
--- own; no names stand for `Default`
+-- own. Where it names no group, `Default` is meant
 pub record UseDraft : Type 0 where
   pub constraint : List ℕ
   pub given : Attributes

@@ -33,7 +33,7 @@ unknown_name d = unknown_constraint d || composes_unknown d.definitions || has_u
 abbrev pub used_in : Drafted → List flat.Use
 used_in d = map used (uses_in d.types)
 
--- more than 256 forms, declared constraints or groups, more than 32 that a group inherits directly, or more than 32 members of a sequence
+-- more than 256 forms, declared constraints or groups (with `Default`), more than 32 that a group inherits directly, or more than 32 members of a sequence
 abbrev pub has_many : Drafted → Bool
 has_many d =
     nat_lt 256 (length d.forms) || nat_lt 256 (length d.definitions) || are_too_large (groups_in d) || list_any is_long_sequence d.types

@@ -3,3 +3,4 @@ pub mod Exports
 pub mod FaultNames
 pub mod Laws
 pub mod Openings
+pub mod Steps

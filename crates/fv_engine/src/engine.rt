@@ -14,6 +14,7 @@ ghost use Rattle.fv_engine_machine.specs.Services.{GoesOn, ServiceKeeps, Respond
 ghost use Rattle.fv_bundle.specs.Types.{FieldsApart, has_deep};
 ghost use Rattle.fv_bundle.specs.TypesView.{types_view};
 ghost use Rattle.fv_engine.specs.FaultNames.{open_fault_name};
+ghost use Rattle.fv_engine.specs.Steps.{AnswersLine};
 ghost use Rattle.fv_engine_reply.specs.Answers.{refused};
 ghost use Rattle.fv_engine_reply.specs.Texts.{answer_text};
 
@@ -333,8 +334,7 @@ impl<R: RuleSet + Drop, S: Alter> Engine<R, S> {
 impl<R: RuleSet + Drop, S: Alter> Responder for Engine<R, S> {
     type Reply = Reply;
 
-    ghost step = { λ old line moment text new. GoesOn (stock_state S.Store) old new
-        (λ x y. Responds R.meaning x line moment text y) };
+    ghost step = { AnswersLine (stock_state S.Store) R.meaning };
 
     fn answer_line(&mut self, alloc: Global, line: &[u8], now: i64) -> Reply {
         self.run(alloc, line, now)

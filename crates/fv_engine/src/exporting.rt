@@ -6,6 +6,7 @@ ghost use Rattle.serde_json.specs.Written.{compact_text, has_float};
 ghost use Rattle.sqlite.specs.State.{HasCleanDisk};
 ghost use Rattle.fv_engine.specs.Exports.{Exports, ExportsFront, IsSameService, declarations_line, put_json, record_line, redeclare_json};
 ghost use Rattle.fv_engine.specs.ExportSteps.{AllDone, AllFails, FirstDone, FirstFails, Grows, NextDone, NextFails, OneDone, OneFails, PageDone, PageFails, StoreDone, StoreFails, TellsWrite, WritesLine, of_json, of_store};
+ghost use Rattle.fv_engine.specs.FaultNames.{export_fault_name};
 ghost use Rattle.fv_engine.specs.declared.exporting.ExportFault.TheVariants.{Memory};
 ghost use Rattle.fv_engine_pending.specs.Passes.{OnlyReads, last_of};
 ghost use Rattle.fv_engine_pending.specs.Rejudging.{HasFewIds};
@@ -50,6 +51,19 @@ pub enum ExportFault {
     /// An allocation was refused.
     #[error("out of memory")]
     Memory,
+}
+
+impl ExportFault {
+    /// The fault's name.
+    pub fn name(&self) -> &str
+        ensures { result.now ≡ export_fault_name self.now }
+    {
+        match self {
+            ExportFault::Store => "Store",
+            ExportFault::Write => "Write",
+            ExportFault::Memory => "Memory",
+        }
+    }
 }
 
 impl From<StoreFault> for ExportFault {

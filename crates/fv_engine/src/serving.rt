@@ -1,4 +1,4 @@
-ghost use Rattle.std.specs.Prelude.{◌≡◌, ℕ, List, OnOk, IsErrOf};
+ghost use Rattle.std.specs.Prelude.{◌≡◌, ◌⊎◌, ℕ, List, OnOk, IsErrOf};
 ghost use Rattle.fv_engine_machine.specs.Services.{GoesOn, Responds, Turned, reign_of};
 ghost use Rattle.fv_store.specs.Stock.{stock_state};
 ghost use Rattle.fv_engine_lines.specs.Lines.{WholeLines, AllLines};
@@ -56,6 +56,9 @@ pub fn serve<R: RuleSet + Drop, S: Alter, I: Input, O: Output, C: Clock>(
     // A call of the output failed, or a write took nothing, whatever the database holds.
     ensures write_cause { IsErrOf result ServeFault.Write
         → (mid : O) × (bs : List ℕ) × Breaks O.contents O.takes O.fails mid writer.new bs }
+    // Each read gave bytes, but perhaps the last, which may have given nothing.
+    ensures write_reads { IsErrOf result ServeFault.Write
+        → ReadsThen I.gives (λ x y. I.gives x y ⊎ I.ends x y) 4294967296 reader.old reader.new }
     // The same runs, however they ended: each step with what the connection to the database has to
     // do with it.
     ensures causes { OnOk result (GoesOn (stock_state S.Store) engine.old engine.new

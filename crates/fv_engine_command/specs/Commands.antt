@@ -118,7 +118,7 @@ abbrev pub list_request : json.Data → Option Request
 list_request = only (codes "do" ∷ codes "form" ∷ codes "after" ∷ codes "limit" ∷ []) (λ j.
     map3 list (required as_str (codes "form") j) (maybe id_in (codes "after") j) (optional 100 limit_in (codes "limit") j))
 
--- the commands by their names, among them `{"do":"batch","parts":[PART,..]}`, `{"do":"get","id":ID}` and `{"do":"check","id":ID,"groups":[NAME,..]}`,
+-- the commands on records by their names, among them `{"do":"batch","parts":[PART,..]}`, `{"do":"get","id":ID}` and `{"do":"check","id":ID,"groups":[NAME,..]}`,
 -- where the groups may be missing
 abbrev pub forms : List (List ℕ × (json.Data → Option Request))
 forms =
@@ -142,7 +142,7 @@ abbrev pub of_json : Option json.Data → Request
 of_json None = not_json
 of_json (Some j) = unwrap_or (command_of j) shape
 
--- what a line asks for by its JSON value, other declarations left out; one of more than 1,048,576 bytes asks for nothing
+-- what a line asks of the records: what its JSON value does, or too much where it has more than 1,048,576 bytes
 unfoldable pub asked : List ℕ → Request
 asked line = if nat_lt 1048576 (length line) then too_long else of_json (json_of line)
 
@@ -164,6 +164,6 @@ abbrev pub asks_json : Option json.Data → Asked
 asks_json None = of_records not_json
 asks_json (Some j) = option_map_or redeclare (redeclare_of j) (of_records (of_json (Some j)))
 
--- what a line asks for: one of more than 1,048,576 bytes nothing
+-- what a line asks of the service: what its JSON value does, or too much where it has more than 1,048,576 bytes
 unfoldable pub asks : List ℕ → Asked
 asks line = if nat_lt 1048576 (length line) then of_records too_long else asks_json (json_of line)

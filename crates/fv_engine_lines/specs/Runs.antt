@@ -34,7 +34,7 @@ Run {P} {C} {O} step ticks sends old (line ∷ lines) new =
 abbrev pub Served : {P C O : Type 0} → Steps P → Ticks C → Writing O → (List (List ℕ) → Type 0) → Session P C O → Session P C O → Type 0
 Served step ticks sends Are old new = (lines : List (List ℕ)) × Are lines × Run step ticks sends old lines new
 
--- some lines were answered, then one of which a write or the flush failed or a write took nothing: its reply was written whole, in part or not at all
+-- some lines were answered, then one of which a write or the flush failed or a write took nothing: its reply may be there in part; `others` were only read
 pub record Stopped {P C O : Type 0} (step : Steps P) (ticks : Ticks C) (sends breaks : Writing O) (r q : Option (List ℕ))
     (old new : Session P C O) : Type 0 where
   pub lines : List (List ℕ)

@@ -1,4 +1,4 @@
-ghost use Rattle.std.specs.Prelude.{◌≡◌, ◌<◌, ℕ, IfOk, List, MatchResult, OnOk, OnErr, Option};
+ghost use Rattle.std.specs.Prelude.{◌≡◌, ◌<◌, ℕ, IfOk, List, MatchResult, OnOk, OnErr, Option, codes};
 ghost use Rattle.std.specs.Io.{WritesAtMost};
 ghost use Rattle.std.specs.Io.KnownBytes.{Appends, Keeps, WriteAppends};
 ghost use Rattle.fv_engine_lines.specs.Reads.{Times};
@@ -6,6 +6,7 @@ ghost use Rattle.fv_engine_lines.specs.Writes.{AppendsFront, Breaks, Sends};
 
 use std::io;
 use std::io::Write;
+use thiserror::Error;
 
 /// What replies are written to. Each writer of std is one.
 pub trait Output {
@@ -55,9 +56,19 @@ impl<W: Write> Output for W {
     }
 }
 
-/// A write failed, or took nothing.
-#[derive(Clone, Copy, Debug, PartialEq, Eq)]
+/// A write or a flush failed, or a write took nothing.
+#[derive(Clone, Copy, Debug, PartialEq, Eq, Error)]
+#[error("a write failed")]
 pub struct WriteFailed;
+
+impl WriteFailed {
+    /// The fault's name.
+    pub fn name(&self) -> &str
+        ensures { result.now ≡ codes "Write" }
+    {
+        "Write"
+    }
+}
 
 /// Writes all of the bytes, by its own loop. Nothing is flushed.
 pub fn write_bytes<W: Output>(writer: &mut W, bytes: &[u8]) -> Result<(), WriteFailed>

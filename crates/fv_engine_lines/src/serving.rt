@@ -1,4 +1,4 @@
-ghost use Rattle.std.specs.Prelude.{◌≡◌, ◌≢◌, ℕ, List, [], ◌++◌, Option, OnOk, OnErr, IsErrOf, ◌<◌, length};
+ghost use Rattle.std.specs.Prelude.{◌≡◌, ◌≢◌, ◌⊎◌, ℕ, List, [], ◌++◌, Option, OnOk, OnErr, IsErrOf, ◌<◌, length};
 ghost use Rattle.std.specs.Io.KnownBytes.{Consumes, IsAtEnd};
 ghost use Rattle.fv_datum.specs.Moments.{IsMoment};
 ghost use Rattle.fv_engine_lines.specs.Buffering.{kept, Buffered, Broken, Taken};
@@ -168,6 +168,7 @@ fn read_once<P: Responder, R: Input, W: Output, C: Clock>(
 ) -> Turn
     ensures read { R.reads reader.old reader.new }
     ensures gave { result ≡ Turn.More → R.gives reader.old reader.new }
+    ensures gave_last { result ≡ Turn.WriteFailed → R.gives reader.old reader.new }
     ensures failed { result ≡ Turn.ReadFailed → R.fails reader.old reader.new }
     ensures end { result ≡ Turn.End → IsAtEnd (R.remaining reader.new) }
     ensures ended { result ≡ Turn.End → R.ends reader.old reader.new }
@@ -216,6 +217,8 @@ fn serve_lines<P: Responder, R: Input, W: Output, C: Clock>(
     ensures write { IsErrOf result ServeFault.Write
         → Stopped P.step C.ticks (Sends W.contents W.takes W.flushes) (Breaks W.contents W.takes W.fails) (R.remaining reader.old) (R.remaining reader.new)
         (responder.old, clock.old, writer.old) (responder.new, clock.new, writer.new) }
+    ensures write_reads { IsErrOf result ServeFault.Write
+        → ReadsThen R.gives (λ x y. R.gives x y ⊎ R.ends x y) 4294967296 reader.old reader.new }
     ensures memory { IsErrOf result ServeFault.Memory → ⊥ }
 {
     for _turn in 0..READS {
@@ -265,6 +268,9 @@ pub fn answer_lines<P: Responder, R: Input, W: Output, C: Clock>(
     ensures write { IsErrOf result ServeFault.Write
         → Stopped P.step C.ticks (Sends W.contents W.takes W.flushes) (Breaks W.contents W.takes W.fails) (R.remaining reader.old) (R.remaining reader.new)
         (responder.old, clock.old, writer.old) (responder.new, clock.new, writer.new) }
+    // Each read gave bytes, but perhaps the last, which may have given nothing.
+    ensures write_reads { IsErrOf result ServeFault.Write
+        → ReadsThen R.gives (λ x y. R.gives x y ⊎ R.ends x y) 4294967296 reader.old reader.new }
     // Nothing was read.
     ensures memory { IsErrOf result ServeFault.Memory → (reader.new ≡ reader.old) × (writer.new ≡ writer.old)
         × (responder.new ≡ responder.old) × (clock.new ≡ clock.old) }

@@ -6,6 +6,7 @@ ghost use Rattle.serde_json.specs.Read.{read};
 ghost use Rattle.sqlite.specs.State.{HasCleanDisk};
 ghost use Rattle.fv_datum.specs.Moments.{IsMoment};
 ghost use Rattle.fv_declare_schema.specs.Declarations.{Declarations};
+ghost use Rattle.fv_engine_pending.specs.FaultNames.{rejudge_fault_name};
 ghost use Rattle.fv_engine_pending.specs.Judging.{AreListingsOf};
 ghost use Rattle.fv_engine_pending.specs.Passes.{AreKnown, AreSo, FirstFails, IsReread, NextDone, NextFails, OneFails, OnlyReads, PageFails, Reaches, Sure, WrittenFails, all_reread, last_of, of_json, of_store};
 ghost use Rattle.fv_engine_pending.specs.Records.{AreJudged, OneIsOver, with_some};
@@ -52,6 +53,20 @@ pub enum RejudgeFault {
     Store,
     /// An allocation was refused.
     Memory,
+}
+
+impl RejudgeFault {
+    /// The fault's name.
+    pub fn name(&self) -> &str
+        ensures { result.now ≡ rejudge_fault_name self.now }
+    {
+        match self {
+            RejudgeFault::Unfit { .. } => "Unfit",
+            RejudgeFault::TooManyVisits => "TooManyVisits",
+            RejudgeFault::Store => "Store",
+            RejudgeFault::Memory => "Memory",
+        }
+    }
 }
 
 impl From<StoreFault> for RejudgeFault {

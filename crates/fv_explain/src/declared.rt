@@ -1,4 +1,8 @@
 //! The lines of what is declared: constraints where they are used, groups and forms; and of the limits that are used.
+ghost use Rattle.std.specs.Prelude.{◌≡◌};
+ghost use Rattle.fv_explain.specs.Lines.{limits_text};
+ghost use Rattle.fv_explain.specs.Explained.{IsLimits};
+
 use crate::lines::{
     Attributes, ExplainedLine, FormLine, Limit, LimitsLine, Lines, PartLine, UseLine,
 };
@@ -145,7 +149,10 @@ pub(crate) fn add_forms(lines: &mut Lines, schema: &Schema) -> Written {
 }
 
 /// How much is used of what may be.
-fn limit(used: usize, most: usize) -> Limit {
+fn limit(used: usize, most: usize) -> Limit
+    ensures used { result.used ≡ used }
+    ensures most { result.most ≡ most }
+{
     Limit { used, most }
 }
 
@@ -163,12 +170,14 @@ fn fields(schema: &Schema) -> usize {
     fields.map(|fields| fields.len()).max().unwrap_or(0)
 }
 
-/// The line of the limits that are used.
-pub(crate) fn limits_line(schema: &Schema) -> ExplainedLine<'static> {
-    ExplainedLine::Limits(LimitsLine {
+/// The limits that are used.
+pub(crate) fn limits(schema: &Schema) -> LimitsLine
+    ensures { IsLimits schema.now (limits_text result) }
+{
+    LimitsLine {
         constraints: limit(constraints(schema), 1024),
         fields: limit(fields(schema), 256),
         forms: limit(schema.forms().len(), 256),
         groups: limit(schema.groups().count(), 256),
-    })
+    }
 }

@@ -1,37 +1,26 @@
-ghost use Rattle.std.specs.Prelude.{◌≡◌, ℕ, None, Ok, Err, IfOk, IfSome, List, OnOk};
-ghost use Rattle.std.specs.Io.KnownBytes.{Appends};
+ghost use Rattle.std.specs.Prelude.{◌≡◌, false, None, Ok, Err, IfOk, IfSome, map, string_bytes};
 ghost use Rattle.fv_declare_judging.specs.Declares.{Declares};
 ghost use Rattle.fv_declare_schema.specs.Declarations.{Declarations};
+ghost use Rattle.fv_explain.specs.Explained.{IsFaultLine, TellsFault, TellsLimits};
 
-use crate::declared::{add_constraints, add_forms, add_groups, limits_line};
-use crate::lines::{ExplainedLine, Lines};
+use crate::declared::{add_constraints, add_forms, add_groups, limits};
+use crate::lines::{ExplainedLine, Lines, text_of};
 use fv_datum::read_json;
-use fv_declare::{DeclFault, read_placed};
+use fv_declare::{DeclFault, PlacedFault, read_placed};
 use fv_declare_draft::{Draft, draft_of, uses_in};
 use fv_declare_schema::Schema;
 use fv_explain_faults::{Found, Told, Untold, Written, locate, to_use};
 use fv_explain_warnings::warnings;
 use fv_registry::RuleSet;
-use std::alloc::Global;
-use std::io::Write;
-use thiserror::Error;
+use std::alloc::{AllocError, Global};
 
-/// Why an explanation ends early.
-#[derive(Clone, Copy, Debug, PartialEq, Eq, Error)]
-pub enum ExplainFault {
-    /// A write or a flush failed.
-    #[error("a write failed")]
-    Write,
-    /// An allocation was refused.
-    #[error("out of memory")]
-    Memory,
-}
-
-/// Each place of declarations that are taken is there.
-impl From<Untold> for ExplainFault {
-    fn from(_e: Untold) -> ExplainFault {
-        ExplainFault::Memory
-    }
+/// Declarations explained.
+#[derive(Drop)]
+pub struct Explained {
+    /// The lines, each without its end.
+    pub lines: Vec<String>,
+    /// The first fault, where they are refused.
+    pub fault: Option<DeclFault>,
 }
 
 /// The places of all uses of constraints in a draft.
@@ -46,7 +35,7 @@ fn places_of(alloc: Global, draft: &Draft) -> Told<Vec<String>> {
     Ok(places)
 }
 
-/// Adds the lines of a draft that is taken, of its warnings, and of the limits that it uses.
+/// Adds the lines of a draft that is taken, and of its warnings.
 fn add_draft<R: RuleSet>(
     lines: &mut Lines,
     rules: &R,
@@ -62,76 +51,82 @@ fn add_draft<R: RuleSet>(
         let (place, text) = (warning.place.as_str(), warning.text.as_str());
         lines.add(&ExplainedLine::Warning { place, text })?;
     }
-    lines.add(&limits_line(schema))
+    Ok(())
 }
 
-/// Adds the lines of declarations that are taken as a schema: those of constraints, of groups and of forms, warnings
+/// The lines of declarations that are taken as a schema: those of constraints, of groups and of forms, warnings
 /// behind them, and at the end the limits that are used.
-fn add_taken<R: RuleSet>(lines: &mut Lines, rules: &R, schema: &Schema, bytes: &[u8]) -> Written {
-    let value = read_json(lines.alloc, bytes).map_err(|_| Untold::Memory)?;
-    let draft = draft_of(lines.alloc, &value)?.ok_or(Untold::Absent)?;
-    add_draft(lines, rules, schema, &draft, bytes)
-}
-
-/// Writes a line with its end.
-fn write_one<W: Write>(output: &mut W, line: &str) -> Result<(), ExplainFault>
-    ensures { OnOk result ((bs : List ℕ) × Appends (W.contents output.old) (W.contents output.new) bs) }
+fn taken_lines<R: RuleSet>(
+    alloc: Global,
+    rules: &R,
+    schema: &Schema,
+    bytes: &[u8],
+    json: bool,
+) -> Told<Vec<String>>
+    ensures { IfOk result (λ lines. TellsLimits json schema.now (map string_bytes lines.items)) }
 {
-    match writeln!(output, "{line}") {
-        Ok(()) => Ok(()),
-        Err(_) => Err(ExplainFault::Write),
-    }
+    let value = read_json(alloc, bytes).map_err(|_| Untold::Memory)?;
+    let draft = draft_of(alloc, &value)?.ok_or(Untold::Absent)?;
+    let texts = Vec::new(alloc);
+    let mut lines = Lines { alloc, json, texts };
+    add_draft(&mut lines, rules, schema, &draft, bytes)?;
+    let mut texts = lines.texts;
+    texts.push(text_of(alloc, json, &ExplainedLine::Limits(limits(schema)))?)?;
+    Ok(texts)
 }
 
-/// Writes lines, each with its end, and flushes.
-fn write_lines<W: Write>(output: &mut W, lines: &[String]) -> Result<(), ExplainFault>
-    ensures { OnOk result ((bs : List ℕ) × Appends (W.contents output.old) (W.contents output.new) bs) }
+/// The line of a fault: its place, and what is wrong there.
+fn fault_line<R: RuleSet>(
+    alloc: Global,
+    rules: &R,
+    bytes: &[u8],
+    placed: PlacedFault,
+    json: bool,
+) -> Told<String>
+    ensures { IfOk result (λ line. json ≡ false → IsFaultLine placed.fault (string_bytes line)) }
 {
-    'lines: for line in lines {
-        write_one(output, line.as_str())?;
-    }
-    match output.flush() {
-        Ok(()) => Ok(()),
-        Err(_) => Err(ExplainFault::Write),
-    }
+    let found = locate(alloc, rules, bytes, placed)?;
+    let line = ExplainedLine::Fault {
+        code: placed.fault.code(),
+        name: placed.fault.name(),
+        place: found.place.as_str(),
+        text: found.text.as_str(),
+    };
+    text_of(alloc, json, &line)
 }
 
-/// Writes what declarations declare with some rules, a line each, plain or with `json` as a JSON object, and warnings
+/// What declarations declare with some rules, a line each, plain or with `json` as a JSON object, and warnings
 /// behind it; or, where they are refused, one line: the place of the first fault, and what is wrong there.
-/// Answers that fault, which is the one of `read_schema`.
+/// That fault is the one of `read_schema`.
 ///
-/// `Write` where a write or the flush at the end fails; `Memory` at any place.
-pub fn explain<R: RuleSet, W: Write>(
+/// Refused for want of memory at any place.
+pub fn explain<R: RuleSet>(
     alloc: Global,
     rules: &R,
     bytes: &[u8],
     json: bool,
-    output: &mut W,
-) -> Result<Option<DeclFault>, ExplainFault>
-    // What a write fails to take is told.
-    ensures written { OnOk result ((bs : List ℕ) × Appends (W.contents output.old) (W.contents output.new) bs) }
-    ensures taken { IfOk result (λ o. o ≡ None → ((s : Declarations) × Declares (R.known rules.now) bytes.now (Ok s))) }
-    ensures refused { IfOk result (λ o. IfSome o (λ f. Declares (R.known rules.now) bytes.now (Err f))) }
+) -> Result<Explained, AllocError>
+    ensures taken { IfOk result (λ e. e.fault ≡ None
+        → ((s : Declarations) × Declares (R.known rules.now) bytes.now (Ok s))) }
+    ensures refused { IfOk result (λ e. IfSome e.fault (λ f. Declares (R.known rules.now) bytes.now (Err f))) }
+    // At the end are the limits that the declarations use.
+    ensures limits { IfOk result (λ e. e.fault ≡ None
+        → ((s : Declarations) × Declares (R.known rules.now) bytes.now (Ok s)
+        × TellsLimits json s (map string_bytes e.lines.items))) }
+    // A fault is told in one line.
+    ensures told { IfOk result (λ e. IfSome e.fault (λ f. TellsFault json f (map string_bytes e.lines.items))) }
 {
-    let texts = Vec::new(alloc);
-    let mut lines = Lines { alloc, json, texts };
     match read_placed(alloc, rules, bytes) {
-        Ok(schema) => {
-            add_taken(&mut lines, rules, &schema, bytes)?;
-            write_lines(output, &lines.texts)?;
-            Ok(None)
-        }
-        Err(placed) if matches!(placed.fault, DeclFault::Memory) => Err(ExplainFault::Memory),
+        Ok(schema) => match taken_lines(alloc, rules, &schema, bytes, json) {
+            Ok(lines) => Ok(Explained { lines, fault: None }),
+            Err(_) => Err(AllocError),
+        },
+        Err(placed) if matches!(placed.fault, DeclFault::Memory) => Err(AllocError),
         Err(placed) => {
-            let found = locate(alloc, rules, bytes, placed)?;
-            lines.add(&ExplainedLine::Fault {
-                code: placed.fault.code(),
-                name: placed.fault.name(),
-                place: found.place.as_str(),
-                text: found.text.as_str(),
-            })?;
-            write_lines(output, &lines.texts)?;
-            Ok(Some(placed.fault))
+            let line = fault_line(alloc, rules, bytes, placed, json);
+            let lines = vec![in alloc; line.map_err(|_| AllocError)?]?;
+            let fault = Some(placed.fault);
+            Ok(Explained { lines, fault })
         }
     }
 }

@@ -6,4 +6,4 @@ mod declared;
 mod explaining;
 mod lines;
 
-pub use explaining::{ExplainFault, explain};
+pub use explaining::{Explained, explain};

@@ -1,6 +1,9 @@
 //! The lines of an explanation, as plain text or as JSON objects.
+ghost use Rattle.std.specs.Prelude.{◌≡◌, false, IfOk, IfSome, string_bytes};
+ghost use Rattle.fv_explain.specs.Lines.{line_text};
+
 use fv_datum::{Attribute, Attrs};
-use fv_explain_faults::{Quoted, Untold, Written};
+use fv_explain_faults::{Quoted, Told, Untold, Written};
 use serde::{Described, Serialize, Serializer};
 use std::alloc::Global;
 use std::fmt;
@@ -64,6 +67,11 @@ pub(crate) struct Limit {
 }
 
 impl fmt::Display for Limit {
+    ghost use Rattle.std.specs.Prelude.{Some};
+    ghost use Rattle.fv_explain.specs.Lines.{limit_text};
+
+    ghost output = { λ limit. Some (limit_text limit.used limit.most) };
+
     fn fmt<W: fmt::Write>(&self, f: &mut fmt::Formatter<W>) -> fmt::Result {
         write!(f, "{} of {}", self.used, self.most)
     }
@@ -171,6 +179,10 @@ fn write_part<W: fmt::Write>(f: &mut fmt::Formatter<W>, line: &PartLine) -> fmt:
 }
 
 impl fmt::Display for ExplainedLine<'_> {
+    ghost use Rattle.fv_explain.specs.Lines.{line_text};
+
+    ghost output = { line_text };
+
     fn fmt<W: fmt::Write>(&self, f: &mut fmt::Formatter<W>) -> fmt::Result {
         match self {
             ExplainedLine::Constraint(line) => {
@@ -193,13 +205,23 @@ impl fmt::Display for ExplainedLine<'_> {
                 place,
                 text,
             } => { write!(f, "{place}: {code} {name}: {text}") }
-            ExplainedLine::Limits(line) => {
-                write!(f, "limits: {} constraints", line.constraints)?;
-                write!(f, ", {} fields of a type", line.fields)?;
-                write!(f, ", {} forms", line.forms)?;
-                write!(f, ", {} groups with Default", line.groups)
-            }
+            ExplainedLine::Limits(line) => write!(
+                f,
+                "limits: {} constraints, {} fields of a type, {} forms, {} groups with Default",
+                line.constraints, line.fields, line.forms, line.groups,
+            ),
         }
+    }
+}
+
+/// A line as plain text, or with `json` as a JSON object.
+pub(crate) fn text_of(alloc: Global, json: bool, line: &ExplainedLine) -> Told<String>
+    ensures { IfOk result (λ s. json ≡ false → IfSome (line_text line.now) (λ text. string_bytes s ≡ text)) }
+{
+    if json {
+        serde_json::to_string(alloc, line).map_err(|_| Untold::Memory)
+    } else {
+        Ok(format!(in alloc; "{line}")?)
     }
 }
 
@@ -212,13 +234,8 @@ pub(crate) struct Lines {
 }
 
 impl Lines {
-    /// Adds a line as plain text, or as a JSON object.
+    /// Adds a line.
     pub(crate) fn add(&mut self, line: &ExplainedLine) -> Written {
-        let text = if self.json {
-            serde_json::to_string(self.alloc, line).map_err(|_| Untold::Memory)?
-        } else {
-            format!(in self.alloc; "{line}")?
-        };
-        Ok(self.texts.push(text)?)
+        Ok(self.texts.push(text_of(self.alloc, self.json, line)?)?)
     }
 }

@@ -1,4 +1,7 @@
 //! A fault in words.
+ghost use Rattle.std.specs.Prelude.{◌≡◌};
+ghost use Rattle.fv_explain_faults.specs.FaultNames.{untold_name};
+
 use crate::shown::Named;
 use fv_datum::is_name;
 use std::alloc::{AllocError, AllocFailed, Global};
@@ -19,6 +22,18 @@ pub enum Untold {
     Absent,
     /// An allocation was refused.
     Memory,
+}
+
+impl Untold {
+    /// The fault's name.
+    pub fn name(&self) -> &str
+        ensures { result.now ≡ untold_name self.now }
+    {
+        match self {
+            Untold::Absent => "Absent",
+            Untold::Memory => "Memory",
+        }
+    }
 }
 
 /// What stands at a place, or why it isn't told.

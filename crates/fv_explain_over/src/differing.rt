@@ -1,7 +1,7 @@
 //! Where two JSON documents of declarations differ.
-use crate::lines::{OverFault, OverLine, OverLines, Written, inside, item};
+use crate::lines::{OverLine, Written, inside, item, text_of};
 use serde_json::{Map, Value};
-use std::alloc::Global;
+use std::alloc::{AllocError, Global};
 use std::collections::BTreeMap;
 
 /// How many members lead to a place at most that is told: `types.Order.fields.pieces.type` is the deepest.
@@ -130,7 +130,11 @@ fn same_back(old: &[Value], new: &[Value]) -> usize {
 }
 
 /// The changes of a document over another.
-fn changes(alloc: Global, old: &Value, new: &Value) -> Result<BTreeMap<String, Change>, OverFault> {
+fn changes(
+    alloc: Global,
+    old: &Value,
+    new: &Value,
+) -> Result<BTreeMap<String, Change>, AllocError> {
     let (found, next) = (BTreeMap::new(alloc), Vec::new(alloc));
     let mut differing = Differing { alloc, found, next };
     differing.go_on(String::new(alloc), old, new)?;
@@ -147,16 +151,22 @@ fn changes(alloc: Global, old: &Value, new: &Value) -> Result<BTreeMap<String, C
     Ok(differing.found)
 }
 
-/// Adds a line for each place at which a document differs from another, in the order of the places.
-pub(crate) fn add_changes(lines: &mut OverLines, old: &Value, new: &Value) -> Written {
-    let found = changes(lines.alloc, old, new)?;
-    for (place, change) in found.iter() {
+/// A line for each place at which a document differs from another, in the order of the places.
+pub(crate) fn changed_lines(
+    alloc: Global,
+    json: bool,
+    old: &Value,
+    new: &Value,
+) -> Result<Vec<String>, AllocError> {
+    let mut lines = Vec::new(alloc);
+    for (place, change) in changes(alloc, old, new)?.iter() {
         let place = place.as_str();
-        lines.add(&match change {
+        let line = match change {
             Change::Added => OverLine::Added { place },
             Change::Changed => OverLine::Changed { place },
             Change::Removed => OverLine::Removed { place },
-        })?;
+        };
+        lines.push(text_of(alloc, json, &line)?)?;
     }
-    Ok(())
+    Ok(lines)
 }

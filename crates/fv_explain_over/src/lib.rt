@@ -7,5 +7,4 @@ mod lines;
 mod narrowed;
 mod telling;
 
-pub use lines::OverFault;
-pub use telling::{Declared, tell_over};
+pub use telling::{Compared, Declared, tell_over};

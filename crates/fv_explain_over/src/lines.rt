@@ -1,35 +1,14 @@
 //! The lines of a comparison, as plain text or as JSON objects.
+ghost use Rattle.std.specs.Prelude.{◌≡◌, false, IfOk, string_bytes};
+ghost use Rattle.fv_explain_over.specs.Lines.{line_text};
+
 use fv_datum::is_name;
 use serde::Serialize;
-use std::alloc::{AllocError, AllocFailed, Global};
+use std::alloc::{AllocError, Global};
 use std::fmt;
-use thiserror::Error;
-
-/// Why a comparison ends early.
-#[derive(Clone, Copy, Debug, PartialEq, Eq, Error)]
-pub enum OverFault {
-    /// A write or a flush failed.
-    #[error("a write failed")]
-    Write,
-    /// An allocation was refused.
-    #[error("out of memory")]
-    Memory,
-}
-
-impl From<AllocError> for OverFault {
-    fn from(_e: AllocError) -> OverFault {
-        OverFault::Memory
-    }
-}
-
-impl<T: Drop> From<AllocFailed<T>> for OverFault {
-    fn from(_e: AllocFailed<T>) -> OverFault {
-        OverFault::Memory
-    }
-}
 
 /// Whether something was added.
-pub(crate) type Written = Result<(), OverFault>;
+pub(crate) type Written = Result<(), AllocError>;
 
 /// A text as a JSON string in which no character ends a line.
 #[derive(Clone, Copy)]
@@ -60,23 +39,23 @@ impl fmt::Display for Quoted<'_> {
 
 /// The place of a member of what stands at a place. A name that is none stands in brackets, another behind a dot,
 /// unless it is the first.
-pub(crate) fn inside(alloc: Global, place: &str, name: &str) -> Result<String, OverFault> {
+pub(crate) fn inside(alloc: Global, place: &str, name: &str) -> Result<String, AllocError> {
     if !is_name(name) {
-        return Ok(format!(in alloc; "{place}[{}]", Quoted(name))?);
+        return format!(in alloc; "{place}[{}]", Quoted(name));
     }
     if place.is_empty() {
-        return Ok(format!(in alloc; "{name}")?);
+        return format!(in alloc; "{name}");
     }
-    Ok(format!(in alloc; "{place}.{name}")?)
+    format!(in alloc; "{place}.{name}")
 }
 
 /// The place of an item of the array that stands at a place.
-pub(crate) fn item(alloc: Global, place: &str, index: usize) -> Result<String, OverFault> {
-    Ok(format!(in alloc; "{place}[{index}]")?)
+pub(crate) fn item(alloc: Global, place: &str, index: usize) -> Result<String, AllocError> {
+    format!(in alloc; "{place}[{index}]")
 }
 
 /// The place that members lead to.
-pub(crate) fn place_of(alloc: Global, names: &[&str]) -> Result<String, OverFault> {
+pub(crate) fn place_of(alloc: Global, names: &[&str]) -> Result<String, AllocError> {
     let mut place = String::new(alloc);
     for name in names {
         place = inside(alloc, place.as_str(), name)?;
@@ -112,6 +91,11 @@ pub(crate) enum OverLine<'a> {
 }
 
 impl fmt::Display for OverLine<'_> {
+    ghost use Rattle.std.specs.Prelude.{Some};
+    ghost use Rattle.fv_explain_over.specs.Lines.{line_text};
+
+    ghost output = { λ line. Some (line_text line) };
+
     fn fmt<W: fmt::Write>(&self, f: &mut fmt::Formatter<W>) -> fmt::Result {
         match self {
             OverLine::Added { place } => write!(f, "added: {place}"),
@@ -128,22 +112,13 @@ impl fmt::Display for OverLine<'_> {
     }
 }
 
-/// OverLines as they are written.
-#[derive(Drop)]
-pub(crate) struct OverLines {
-    pub(crate) alloc: Global,
-    pub(crate) json: bool,
-    pub(crate) texts: Vec<String>,
-}
-
-impl OverLines {
-    /// Adds a line as plain text, or as a JSON object.
-    pub(crate) fn add(&mut self, line: &OverLine) -> Written {
-        let text = if self.json {
-            serde_json::to_string(self.alloc, line).map_err(|_| OverFault::Memory)?
-        } else {
-            format!(in self.alloc; "{line}")?
-        };
-        Ok(self.texts.push(text)?)
+/// A line as plain text, or with `json` as a JSON object.
+pub(crate) fn text_of(alloc: Global, json: bool, line: &OverLine) -> Result<String, AllocError>
+    ensures plain { IfOk result (λ s. json ≡ false → string_bytes s ≡ line_text line.now) }
+{
+    if json {
+        serde_json::to_string(alloc, line).map_err(|_| AllocError)
+    } else {
+        format!(in alloc; "{line}")
     }
 }

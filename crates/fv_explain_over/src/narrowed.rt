@@ -1,8 +1,11 @@
 //! What declarations narrow of others, in words.
-use crate::lines::{OverLine, OverLines, Written, place_of};
+ghost use Rattle.fv_explain_over.specs.Lines.{IsMisfit, line_text};
+
+use crate::lines::{OverLine, place_of};
 use crate::telling::Declared;
 use fv_bundle::{TypeId, TypeUse, use_in};
 use fv_widening::Narrowed;
+use std::alloc::{AllocError, Global};
 
 /// What two type uses hold, as far as both are lists, maps or optionals alike.
 fn innermost<'a>(own: &'a TypeUse, other: &'a TypeUse) -> (&'a TypeUse, &'a TypeUse) {
@@ -23,24 +26,58 @@ fn innermost<'a>(own: &'a TypeUse, other: &'a TypeUse) -> (&'a TypeUse, &'a Type
     }
 }
 
-/// Adds that a place is narrowed.
-fn add_at(lines: &mut OverLines, names: &[&str], fault: &str, name: &str, text: &str) -> Written {
-    let place = place_of(lines.alloc, names)?;
-    lines.add(&OverLine::Narrowed {
-        place: place.as_str(),
-        fault,
-        name,
-        text,
-    })
+/// A place that is narrowed, by which fault a redeclare tells it, and why.
+#[derive(Drop)]
+pub(crate) struct NarrowedPlace {
+    place: String,
+    fault: &'static str,
+    name: &'static str,
+    text: &'static str,
 }
 
-/// Adds that a field's type use is another.
-fn add_use(lines: &mut OverLines, names: &[&str], own: &TypeUse, other: &TypeUse) -> Written {
+impl NarrowedPlace {
+    /// What is narrowed at the place that members lead to.
+    fn at(
+        alloc: Global,
+        names: &[&str],
+        fault: &'static str,
+        name: &'static str,
+        text: &'static str,
+    ) -> Result<NarrowedPlace, AllocError> {
+        let place = place_of(alloc, names)?;
+        Ok(NarrowedPlace {
+            place,
+            fault,
+            name,
+            text,
+        })
+    }
+
+    /// Its line.
+    pub(crate) fn line(&self) -> OverLine<'_>
+        ensures { IsMisfit (line_text result) }
+    {
+        OverLine::Narrowed {
+            place: self.place.as_str(),
+            fault: self.fault,
+            name: self.name,
+            text: self.text,
+        }
+    }
+}
+
+/// That a field's type use is another.
+fn use_misfit(
+    alloc: Global,
+    names: &[&str],
+    own: &TypeUse,
+    other: &TypeUse,
+) -> Result<NarrowedPlace, AllocError> {
     let (own, other) = innermost(own, other);
     let refers = other.target().is_some();
     if refers && own.target().is_some() {
-        return add_at(
-            lines,
+        return NarrowedPlace::at(
+            alloc,
             names,
             "B7",
             "RefType",
@@ -52,34 +89,37 @@ fn add_use(lines: &mut OverLines, names: &[&str], own: &TypeUse, other: &TypeUse
     } else {
         "it holds something else: a record may not fit in which it isn't null"
     };
-    add_at(lines, names, "B5", "WrongKind", text)
+    NarrowedPlace::at(alloc, names, "B5", "WrongKind", text)
 }
 
-/// Adds what is narrowed of a field: that it isn't there, or that it holds something else.
-fn add_field(
-    lines: &mut OverLines,
+/// What is narrowed of a field: that it isn't there, or that it holds something else.
+fn field_misfit(
+    alloc: Global,
     old: Declared,
     new: Declared,
     type_number: usize,
     number: usize,
-) -> Written {
+) -> Result<NarrowedPlace, AllocError> {
     let id = TypeId { index: type_number };
     let type_name = old.types.name(id);
-    let fields = old.types.fields_at(id);
-    let Some((field, own)) = fields.and_then(|fields| fields.get_index(number)) else {
-        return Ok(());
-    };
-    let field = field.as_str();
-    let there = new.types.fields(type_name);
-    match there.and_then(|fields| use_in(fields, field)) {
-        Some(other) => add_use(
-            lines,
+    let own = old
+        .types
+        .fields_at(id)
+        .and_then(|fields| fields.get_index(number));
+    let field = own.map_or("", |(field, _)| field.as_str());
+    let there = new
+        .types
+        .fields(type_name)
+        .and_then(|fields| use_in(fields, field));
+    match (own, there) {
+        (Some((_, own)), Some(other)) => use_misfit(
+            alloc,
             &["types", type_name, "fields", field, "type"],
             own,
             other,
         ),
-        None => add_at(
-            lines,
+        _ => NarrowedPlace::at(
+            alloc,
             &["types", type_name, "fields", field],
             "B4",
             "UnknownField",
@@ -88,51 +128,45 @@ fn add_field(
     }
 }
 
-/// Adds what is narrowed of a form: that it isn't there, or that its root is of another type.
-fn add_form(lines: &mut OverLines, old: Declared, number: usize, is_there: bool) -> Written {
-    let Some((form, _)) = old.forms.get_index(number) else {
-        return Ok(());
-    };
-    if !is_there {
-        return add_at(
-            lines,
-            &["forms", form],
-            "C4",
-            "UnknownForm",
-            "the form isn't there: no record of it fits",
-        );
+/// The name of the form of a number.
+fn form_name<'a>(declared: Declared<'a>, number: usize) -> &'a str {
+    match declared.forms.get_index(number) {
+        Some((name, _)) => name,
+        None => "",
     }
-    add_at(
-        lines,
-        &["forms", form, "root"],
-        "B9",
-        "RootType",
-        "its root is of another type: no record of it fits",
-    )
 }
 
-/// Adds where a record may not fit any more, and by which fault a redeclare tells it.
-pub(crate) fn add_narrowed(
-    lines: &mut OverLines,
+/// Where a record may not fit any more, and by which fault a redeclare tells it.
+pub(crate) fn misfit_of(
+    alloc: Global,
     old: Declared,
     new: Declared,
     narrowed: Narrowed,
-) -> Written {
+) -> Result<NarrowedPlace, AllocError> {
     match narrowed {
-        Narrowed::Type(number) => {
-            let name = old.types.name(TypeId { index: number });
-            add_at(
-                lines,
-                &["types", name],
-                "B3",
-                "UnknownType",
-                "the type isn't there: no record fits with an object of it",
-            )
-        }
+        Narrowed::Type(number) => NarrowedPlace::at(
+            alloc,
+            &["types", old.types.name(TypeId { index: number })],
+            "B3",
+            "UnknownType",
+            "the type isn't there: no record fits with an object of it",
+        ),
         Narrowed::Field(type_number, number) | Narrowed::Use(type_number, number) => {
-            add_field(lines, old, new, type_number, number)
+            field_misfit(alloc, old, new, type_number, number)
         }
-        Narrowed::Form(number) => add_form(lines, old, number, false),
-        Narrowed::Root(number) => add_form(lines, old, number, true),
+        Narrowed::Form(number) => NarrowedPlace::at(
+            alloc,
+            &["forms", form_name(old, number)],
+            "C4",
+            "UnknownForm",
+            "the form isn't there: no record of it fits",
+        ),
+        Narrowed::Root(number) => NarrowedPlace::at(
+            alloc,
+            &["forms", form_name(old, number), "root"],
+            "B9",
+            "RootType",
+            "its root is of another type: no record of it fits",
+        ),
     }
 }

@@ -1,19 +1,18 @@
 //! What declarations change over others, in lines.
-ghost use Rattle.std.specs.Prelude.{◌≡◌, ◌↔◌, ℕ, [], IsTrue, IfOk, List, OnOk};
-ghost use Rattle.std.specs.Io.KnownBytes.{Appends};
+ghost use Rattle.std.specs.Prelude.{◌≡◌, ◌↔◌, ◌++◌, ℕ, [], false, All, IsTrue, IfOk, List, OnOk, length, map, string_bytes};
 ghost use Rattle.fv_bundle.specs.Names.{object_types_view};
 ghost use Rattle.fv_bundle.specs.TypesView.{types_view};
+ghost use Rattle.fv_explain_over.specs.Lines.{IsMisfit, IsTold, records_text};
 ghost use Rattle.fv_widening.specs.Narrowed.{narrowed};
 ghost use Rattle.fv_widening.specs.Widens.{Widens};
 
-use crate::differing::add_changes;
-use crate::lines::{OverFault, OverLine, OverLines};
-use crate::narrowed::add_narrowed;
+use crate::differing::changed_lines;
+use crate::lines::{OverLine, text_of};
+use crate::narrowed::misfit_of;
 use fv_bundle::{TypeNames, Types};
-use fv_widening::narrowings;
+use fv_widening::{Narrowed, narrowings};
 use serde_json::Value;
-use std::alloc::Global;
-use std::io::Write;
+use std::alloc::{AllocError, Global};
 
 /// Declarations, by what is compared of them.
 #[derive(Clone, Copy)]
@@ -25,78 +24,73 @@ pub struct Declared<'a> {
     pub forms: &'a TypeNames<'a>,
 }
 
-/// The words for declarations under which each record of others is read again.
-const ALL_FIT: &str =
-    "every record of the old declarations is well-typed under these: a redeclare is never C14; no comparison tells violations (C10)";
+/// What declarations change over others.
+#[derive(Drop)]
+pub struct Compared {
+    /// The lines, each without its end.
+    pub lines: Vec<String>,
+    /// Whether each record of the others is read again.
+    pub fit: bool,
+}
 
-/// The words for others.
-const MAY_NOT_FIT: &str =
-    "a record of the old declarations may not be well-typed under these: a redeclare may be C14 at the places above";
-
-/// Writes a line with its end.
-fn write_one<W: Write>(output: &mut W, line: &str) -> Result<(), OverFault>
-    ensures { OnOk result ((bs : List ℕ) × Appends (W.contents output.old) (W.contents output.new) bs) }
+/// The words on whether each record of others is read again.
+fn records_text(fit: bool) -> &'static str
+    ensures { result.now ≡ records_text fit }
 {
-    match writeln!(output, "{line}") {
-        Ok(()) => Ok(()),
-        Err(_) => Err(OverFault::Write),
+    if fit {
+        "every record of the old declarations is well-typed under these: a redeclare is never C14; no comparison tells violations (C10)"
+    } else {
+        "a record of the old declarations may not be well-typed under these: a redeclare may be C14 at the places above"
     }
 }
 
-/// Writes lines, each with its end, and flushes.
-fn write_lines<W: Write>(output: &mut W, lines: &[String]) -> Result<(), OverFault>
-    ensures { OnOk result ((bs : List ℕ) × Appends (W.contents output.old) (W.contents output.new) bs) }
+/// Adds a line for each place where records may not fit any more.
+fn add_misfits(
+    lines: &mut Vec<String>,
+    alloc: Global,
+    json: bool,
+    old: Declared,
+    new: Declared,
+    found: &[Narrowed],
+) -> Result<(), AllocError>
+    ensures { OnOk result ((told : List (List ℕ)) × (map string_bytes lines.new.items
+        ≡ map string_bytes lines.old.items ++ told) × (length told ≡ length found.now) × (json ≡ false → All IsMisfit told)) }
 {
-    'lines: for line in lines {
-        write_one(output, line.as_str())?;
+    for narrowed in found {
+        let misfit = misfit_of(alloc, old, new, *narrowed)?;
+        lines.push(text_of(alloc, json, &misfit.line())?)?;
     }
-    match output.flush() {
-        Ok(()) => Ok(()),
-        Err(_) => Err(OverFault::Write),
-    }
+    Ok(())
 }
 
-/// Adds where records may not fit any more, and at the end whether they all do.
-fn add_records(lines: &mut OverLines, new: Declared, old: Declared) -> Result<bool, OverFault>
-    ensures widens { IfOk result (λ fit. IsTrue fit → Widens (types_view old.entry.types.now)
-        (object_types_view old.entry.forms.now) (types_view new.entry.types.now) (object_types_view new.entry.forms.now)) }
-    ensures exact { IfOk result (λ fit. IsTrue fit ↔ (narrowed (types_view old.entry.types.now)
-        (object_types_view old.entry.forms.now) (types_view new.entry.types.now) (object_types_view new.entry.forms.now) ≡ [])) }
-{
-    let found = narrowings(lines.alloc, old.types, old.forms, new.types, new.forms)?;
-    for narrowed in &found {
-        add_narrowed(lines, old, new, *narrowed)?;
-    }
-    let fit = found.is_empty();
-    let text = if fit { ALL_FIT } else { MAY_NOT_FIT };
-    lines.add(&OverLine::Records { fit, text })?;
-    Ok(fit)
-}
-
-/// Writes what declarations add, change and remove over others, a line each, plain or with `json` as a JSON object;
+/// What declarations add, change and remove over others, a line each, plain or with `json` as a JSON object;
 /// then where a record of the others may not be read again under them, and by which fault; at the end whether each is.
-/// Answers that, exactly where nothing is narrowed: then they have all types, fields and forms of the others, as these
-/// are.
+/// Each is exactly where nothing is narrowed: then they have all types, fields and forms of the others, as these are.
 ///
-/// `Write` where a write or the flush at the end fails; `Memory` at any place.
-pub fn tell_over<W: Write>(
+/// Refused for want of memory at any place.
+pub fn tell_over(
     alloc: Global,
     new: Declared,
     old: Declared,
     json: bool,
-    output: &mut W,
-) -> Result<bool, OverFault>
-    // What a write fails to take is told.
-    ensures written { OnOk result ((bs : List ℕ) × Appends (W.contents output.old) (W.contents output.new) bs) }
-    ensures widens { IfOk result (λ fit. IsTrue fit → Widens (types_view old.entry.types.now)
-        (object_types_view old.entry.forms.now) (types_view new.entry.types.now) (object_types_view new.entry.forms.now)) }
-    ensures exact { IfOk result (λ fit. IsTrue fit ↔ (narrowed (types_view old.entry.types.now)
-        (object_types_view old.entry.forms.now) (types_view new.entry.types.now) (object_types_view new.entry.forms.now) ≡ [])) }
+) -> Result<Compared, AllocError>
+    ensures widens { IfOk result (λ told. IsTrue told.fit
+        → Widens (types_view old.entry.types.now) (object_types_view old.entry.forms.now)
+        (types_view new.entry.types.now) (object_types_view new.entry.forms.now)) }
+    ensures exact { IfOk result (λ told. IsTrue told.fit
+        ↔ (narrowed (types_view old.entry.types.now) (object_types_view old.entry.forms.now)
+        (types_view new.entry.types.now) (object_types_view new.entry.forms.now) ≡ [])) }
+    // The changes, a line for each narrowing, and whether all fit.
+    ensures lines { IfOk result (λ told. IsTold json told.fit
+        (narrowed (types_view old.entry.types.now) (object_types_view old.entry.forms.now)
+        (types_view new.entry.types.now) (object_types_view new.entry.forms.now))
+        (map string_bytes told.lines.items)) }
 {
-    let texts = Vec::new(alloc);
-    let mut lines = OverLines { alloc, json, texts };
-    add_changes(&mut lines, old.value, new.value)?;
-    let fit = add_records(&mut lines, new, old)?;
-    write_lines(output, &lines.texts)?;
-    Ok(fit)
+    let mut lines = changed_lines(alloc, json, old.value, new.value)?;
+    let found = narrowings(alloc, old.types, old.forms, new.types, new.forms)?;
+    add_misfits(&mut lines, alloc, json, old, new, &found)?;
+    let fit = found.is_empty();
+    let text = records_text(fit);
+    lines.push(text_of(alloc, json, &OverLine::Records { fit, text })?)?;
+    Ok(Compared { lines, fit })
 }

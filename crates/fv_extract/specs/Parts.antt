@@ -16,17 +16,17 @@ pub data LocusPart : Type 0 where
 abbrev pub Locus : Type 0
 Locus = List LocusPart
 
--- the items of a list, the first of which has an index
+-- the items of a list, each at its index, which goes up from that of the first
 abbrev pub items_from : ℕ → Items → List (Locus × Data)
 items_from i no_items = []
 items_from i (item d ds) = (at_index i ∷ [], d) ∷ items_from (i + 1) ds
 
--- the keys of a map
+-- the keys of a map, each at its key
 abbrev pub keys_in : Entries → List (Locus × Data)
 keys_in no_entries = []
 keys_in (entry k d es) = (at_key (key_of k) ∷ [], k) ∷ keys_in es
 
--- the values of a map
+-- the values of a map, each at its key
 abbrev pub values_in : Entries → List (Locus × Data)
 values_in no_entries = []
 values_in (entry k d es) = (at_key (key_of k) ∷ [], d) ∷ values_in es

@@ -51,7 +51,7 @@ tree_conditions k ds us ts =
     ∷ (unexpected_type k us ts, UnexpectedType)
     ∷ []
 
--- a pattern that isn't built, in the tree of a use; of one of the right syntax which is built is the regex crate's to answer
+-- a pattern that isn't built, in the tree of a use. Which of those of the right syntax are built is the regex crate's to answer
 pub record HasBadPattern (us : List Use) (ts : List (Tree Planned)) : Type 0 where
   pub used : Use
   pub composed : Tree Planned

@@ -6,7 +6,7 @@ use Rattle.fv_builtin.specs.Given.{drafted}
 use Rattle.fv_builtin.specs.Table.{takes}
 use Rattle.fv_datum.specs.Attributes.{Attributes}
 use Rattle.fv_datum.specs.Lookup.{at_name}
-use Rattle.fv_registry.specs.Rules.{Known, rule_takes_kind as rule_takes}
+use Rattle.fv_registry.specs.Rules.{Known, rule_takes_kind}
 use Rattle.fv_constraint_tree.specs.Targets.{Target, on_object, on_data}
 use Rattle.fv_constraint.specs.Composing.{signature_attributes, gives_foreign}
 use Rattle.fv_constraint.specs.Meanings.{Meant, builtin, declared}
@@ -29,7 +29,7 @@ refuses_given (declared d) given = gives_foreign (signature_attributes (declared
 abbrev pub rule_refuses : Known → Option Rule → Target → Bool
 rule_refuses k None place = false
 rule_refuses k (Some (of_data rule)) on_object = true
-rule_refuses k (Some (of_data rule)) (on_data kind) = not (rule_takes rule kind k)
+rule_refuses k (Some (of_data rule)) (on_data kind) = not (rule_takes_kind rule kind k)
 rule_refuses k (Some (of_objects rule)) on_object = false
 rule_refuses k (Some (of_objects rule)) (on_data kind) = true
 

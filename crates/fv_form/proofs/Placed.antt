@@ -18,7 +18,6 @@ use Rattle.fv_declare_definition.specs.Written.{message_of}
 use Rattle.fv_declare_draft.specs.Cascades.{Conversion, CascadeDraft, conversion_of, cascade_of}
 use Rattle.fv_declare_draft.specs.Places.{Holding, PlaceDraft, place, plain, list as a_list, optional as an_optional, a_map, plain_kinds, place_members, place_of, type_in, held_of, place_in, reference_of}
 use Rattle.fv_declare_draft.specs.Uses.{UseDraft, use_of, uses_of}
-use Rattle.fv_bundle.specs.Types.{references}
 use Rattle.fv_form.specs.Asked.{asked}
 use Rattle.fv_form.specs.Declarations.{of_place, of_use}
 use Rattle.fv_form.specs.Entries.{must, may}
@@ -217,7 +216,7 @@ module _ (ms : json.Members) where
       (may_told asked part.Held (codes "keys") part.Uses [] (each_item use_of) uses_kept ms)
       ∙ swap (is_some (place_in (codes "map") ms)) (is_some keys) ∙ sym (map2_read a_map keys (place_in (codes "map") ms))) in
       let ref_right : asks (object (must (codes "ref") part.Text ∷ [])) ≡ is_some (if a then ref else None) =
-      single (codes "ref") part.Text ref (must_told asked part.Held (codes "ref") part.Text as_str text_kept ms ∙ sym (map_read references (required as_str (codes "ref") j)) ∙ sym (map_read plain (reference_of j))) in
+      single (codes "ref") part.Text ref (must_told asked part.Held (codes "ref") part.Text as_str text_kept ms ∙ sym (map_read _ (required as_str (codes "ref") j)) ∙ sym (map_read plain (reference_of j))) in
       let last : Form FormName = object (must (codes "ref") part.Text ∷ []) in
       let third : Form FormName = if is_some (get_member (codes "map") ms) then object (must (codes "map") part.Place ∷ may (codes "keys") part.Uses ∷ []) else last in
       let second : Form FormName = if is_some (get_member (codes "optional") ms) then object (must (codes "optional") part.Place ∷ []) else third in

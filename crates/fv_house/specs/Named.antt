@@ -1,13 +1,6 @@
--- What the attributes of a constraint on an object name.
+-- The dates and integers that stand in fields.
 use Rattle.std.specs.Prelude.{ℕ, ℤ, List, Option, Some, None, option_and_then}
-use Rattle.fv_datum.specs.Attributes.{text_in, Attributes}
 use Rattle.fv_datum.specs.Data.{Data, date, integer}
-use Rattle.fv_datum.specs.Lookup.{at_name}
-use Rattle.fv_bundle.specs.Bundles.{Thing}
-
--- the datum of the field that the attribute names
-abbrev pub named : Thing → Attributes → List ℕ → Option Data
-named o attrs key = option_and_then (λ t. at_name t o.fields) (option_and_then text_in (at_name key attrs))
 
 -- the text of the date that a datum is
 abbrev pub as_date : Data → Option (List ℕ)

@@ -4,7 +4,8 @@ use Rattle.std.specs.Cmp.Lexicographic.{slice_cmp}
 use Rattle.std.specs.Ordering.{nat_cmp, is_gt, int_eq}
 use Rattle.fv_datum.specs.Attributes.{Attributes}
 use Rattle.fv_bundle.specs.Bundles.{Thing}
-use Rattle.fv_house.specs.Named.{named, date_of, integer_of}
+use Rattle.fv_registry.specs.NamedFields.{named}
+use Rattle.fv_house.specs.Named.{date_of, integer_of}
 
 -- one date is no later than another. A date is four digits of the year, two of the month and two of the day, each with
 -- its zeros and in this order, so texts by their bytes stand as the calendar's days do: `date_order` of fv_datum says so

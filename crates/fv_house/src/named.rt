@@ -2,7 +2,8 @@
 ghost use Rattle.std.specs.Prelude.{◌≡◌, option_map};
 ghost use Rattle.fv_datum.specs.View.{view};
 ghost use Rattle.fv_bundle.specs.Views.{object_view};
-ghost use Rattle.fv_house.specs.Named.{named, date_of, integer_of};
+ghost use Rattle.fv_registry.specs.NamedFields.{named};
+ghost use Rattle.fv_house.specs.Named.{date_of, integer_of};
 
 use fv_bundle::Object;
 use fv_datum::{Attribute, Attrs, Datum};

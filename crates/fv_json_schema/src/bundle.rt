@@ -1,6 +1,7 @@
 //! Bundles of a form, as a schema.
 ghost use Rattle.std.specs.Prelude.{◌≡◌, ◌≢◌, ◌↔◌, IfErr, None, OnOk};
 ghost use Rattle.fv_datum.specs.Lookup.{at_name};
+ghost use Rattle.fv_json_schema.specs.FaultNames.{schema_fault_name};
 
 use crate::effect::in_effect;
 use crate::held::{Made, NAME};
@@ -20,6 +21,18 @@ pub enum SchemaFault {
     /// An allocation was refused.
     #[error("out of memory")]
     Memory,
+}
+
+impl SchemaFault {
+    /// The fault's name.
+    pub fn name(&self) -> &str
+        ensures { result.now ≡ schema_fault_name self.now }
+    {
+        match self {
+            SchemaFault::UnknownForm => "UnknownForm",
+            SchemaFault::Memory => "Memory",
+        }
+    }
 }
 
 impl From<AllocError> for SchemaFault {

@@ -1,4 +1,5 @@
 pub mod FaultNames
 pub mod Meanings
+pub mod NamedFields
 pub mod Rules
 pub mod SameKind

@@ -2,6 +2,7 @@ ghost use Rattle.std.specs.Prelude.{ℕ, Bool};
 ghost use Rattle.fv_datum.specs.Data.{Data};
 ghost use Rattle.fv_datum.specs.Attributes.{Attributes};
 ghost use Rattle.fv_bundle.specs.Bundles.{Thing};
+ghost use Rattle.fv_registry.specs.NamedFields.{NeedsAll};
 
 use fv_datum::Kind;
 
@@ -16,7 +17,9 @@ pub trait Meaning {
 
     /// The attributes of a rule of objects that name fields, each with the kind that the field has to have for
     /// the rule to refuse anything. None, unless the type tells some. Warnings of declarations ask it; no judgement does.
-    fn named_fields(_rule: u32) -> &'static [(&'static str, Kind)] {
+    fn named_fields(rule: u32) -> &'static [(&'static str, Kind)]
+        ensures { NeedsAll (decides_object rule) result.now }
+    {
         &[]
     }
 }

@@ -3,6 +3,7 @@ ghost use Rattle.std.specs.Prelude.{◌≡◌, map};
 ghost use Rattle.fv_datum.specs.View.{view};
 ghost use Rattle.fv_bundle.specs.Views.{object_view};
 ghost use Rattle.fv_registry.specs.Meanings.{Meanings, FieldsMean, ObjectsMean, answered, object_answered};
+ghost use Rattle.fv_registry.specs.NamedFields.{NeedsAll};
 ghost use Rattle.fv_registry.specs.Rules.{Known, knows_field, knows_object, rule_takes_kind};
 
 use crate::meaning::Meaning;
@@ -48,7 +49,9 @@ pub trait RuleSet {
 
     /// The attributes of a rule of objects that name fields, each with the kind that the field has to have for
     /// the rule to refuse anything; none where the rules don't tell. Warnings of declarations ask it; no judgement does.
-    fn named_fields(&self, _rule: u32) -> &'static [(&'static str, Kind)] {
+    fn named_fields(&self, rule: u32) -> &'static [(&'static str, Kind)]
+        ensures { NeedsAll (meaning.decides_object rule) result.now }
+    {
         &[]
     }
 }

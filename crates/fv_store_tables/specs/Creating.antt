@@ -13,11 +13,11 @@ IsBlank db = db.schema ≡ no_schema
 abbrev pub IsBare : List Row → Database → Type 0
 IsBare rows db = (db.schema ≡ bare_schema) × (db.trees 0 ≡ rows)
 
--- and `record`, with none
+-- `about` with these rows, and `record` with none
 abbrev pub IsHalf : List Row → Database → Type 0
 IsHalf rows db = (db.schema ≡ half_schema) × (db.trees 0 ≡ rows) × (db.trees 1 ≡ [])
 
--- and `object`, with none
+-- `about` with these rows, and `record` and `object` with none
 abbrev pub IsMade : List Row → Database → Type 0
 IsMade rows db = (db.schema ≡ store_schema) × (db.trees 0 ≡ rows) × (db.trees 1 ≡ []) × (db.trees 3 ≡ [])
 

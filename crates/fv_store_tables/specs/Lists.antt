@@ -1,4 +1,4 @@
--- Ids in order, page by page.
+-- Ids in the order of their bytes, behind one of them, so many at most.
 use Rattle.std.specs.Prelude.{◌≡◌, ℕ, List, ◌∷◌, [], take}
 use Rattle.std.specs.Ordering.{nat_cmp}
 use Rattle.std.specs.declared.cmp.Ordering.TheVariants.{Less}

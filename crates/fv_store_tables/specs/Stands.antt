@@ -141,7 +141,7 @@ object_texts name (Some k) = part_at name k.objects
 abbrev pub tables_of : TableEntries → Maps
 tables_of m = record { heads = λ id. head_of (m id); parts = λ at. object_texts at.1 (m at.0) }
 
--- the database stands for the records
+-- the database has the tables of version 2, with these rows in `about`, and stands for the records
 abbrev pub TablesStand : Database → List Row → TableEntries → Type 0
 TablesStand db rows m = SpellsTables db rows (record { heads = λ id. head_of (m id); parts = λ at. object_texts at.1 (m at.0) })
 

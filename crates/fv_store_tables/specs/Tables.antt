@@ -40,7 +40,7 @@ words name = column name Text true
 abbrev pub keyed : List ℕ → List Column → List ℕ → Table
 keyed name columns key = record (empty name []) { columns = columns; primary = key; uniques = key ∷ []; orders = (record { digits = 0 }) ∷ [] }
 
--- what the first text defines
+-- what the text that makes `about` defines
 abbrev pub about : Table
 about = record (empty (codes "about") []) {
   columns = column (codes "one") Integer false ∷ column (codes "version") Integer true ∷ column (codes "declarations") Any true ∷ [];
@@ -49,11 +49,11 @@ about = record (empty (codes "about") []) {
   checks = op2 (Compare Eq Binary) (col 1 0) (lit (Int (pos 1))) ∷ [];
 }
 
--- what the second defines
+-- what the text that makes `record` defines
 abbrev pub record_table : Table
 record_table = keyed (codes "record") (words (codes "id") ∷ words (codes "form") ∷ words (codes "root") ∷ []) (1 ∷ [])
 
--- what the third defines: its rows go with the row of `record` that they refer to
+-- what the text that makes `object` defines: its rows go with the row of `record` that they refer to
 abbrev pub object_table : Table
 object_table = record (keyed (codes "object") (words (codes "rec") ∷ words (codes "name") ∷ words (codes "kind") ∷ words (codes "fields") ∷ []) (1 ∷ 2 ∷ [])) {
   references = (record {

@@ -1,4 +1,5 @@
--- Which fault a refusal is.
+-- Which fault a refusal is, and the names of faults.
+use Rattle.std.specs.Prelude.{ℕ, List, codes}
 use Rattle.sqlite.specs.declared.error.Error.{Error}
 use Rattle.sqlite.specs.declared.error.Error.TheVariants.{SqliteFailure}
 use Rattle.sqlite.specs.declared.error.ErrorCode.TheVariants.{OutOfMemory}
@@ -16,3 +17,9 @@ fault_of _ = Database
 abbrev pub json_fault : JsonFault → UpgradeFault
 json_fault json.NotJson = Damaged
 json_fault json.Memory = Memory
+
+-- the name of a fault
+abbrev pub upgrade_fault_name : UpgradeFault → List ℕ
+upgrade_fault_name Damaged = codes "Damaged"
+upgrade_fault_name Database = codes "Database"
+upgrade_fault_name Memory = codes "Memory"

@@ -12,7 +12,7 @@ use Rattle.fv_store_tables.specs.Olds.{AreOlds, Old, Olds}
 use Rattle.fv_store_tables.specs.Stands.{Entry, TableEntries}
 
 -- The text of an object's fields with no space, where each number in it, at any depth, is an integer from - 2 ^ 63 to 2 ^ 64 - 1, written
--- without a point or an exponent and not as `-0`; nothing where one isn't, since such numbers are floats.
+-- without a point or an exponent and not as `-0`. None where one isn't, since such numbers are floats, or where it is no object.
 abbrev pub fields_in : json.Data → Option (List ℕ)
 fields_in j = option_and_then (λ ms. if has_float (json.object ms) then None else Some (compact_text (json.object ms))) (as_object j)
 

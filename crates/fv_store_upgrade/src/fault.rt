@@ -1,29 +1,46 @@
 //! Why a database isn't migrated.
 ghost use Rattle.std.specs.Prelude.{◌≡◌};
-ghost use Rattle.fv_store_upgrade.specs.Faults.{fault_of, json_fault};
+ghost use Rattle.fv_store_upgrade.specs.Faults.{fault_of, json_fault, upgrade_fault_name};
 ghost use Rattle.fv_store_upgrade.specs.declared.fault.UpgradeFault.TheVariants.{Memory};
 
 use fv_datum::JsonFault;
-use sqlite::{Error, ErrorCode};
+use sqlite::ErrorCode;
 use std::alloc::{AllocError, AllocFailed};
+use thiserror::Error;
 
 /// Why a database wasn't migrated. It is as it was.
-#[derive(Clone, Copy, Debug, PartialEq, Eq)]
+#[derive(Clone, Copy, Debug, PartialEq, Eq, Error)]
 pub enum UpgradeFault {
     /// A row isn't the text of a bundle by its form.
+    #[error("a row that is no bundle")]
     Damaged,
     /// The database refused, for another cause than want of memory.
+    #[error("the database refused")]
     Database,
     /// An allocation was refused.
+    #[error("out of memory")]
     Memory,
 }
 
-impl From<Error> for UpgradeFault {
+impl UpgradeFault {
+    /// The fault's name.
+    pub fn name(&self) -> &str
+        ensures { result.now ≡ upgrade_fault_name self.now }
+    {
+        match self {
+            UpgradeFault::Damaged => "Damaged",
+            UpgradeFault::Database => "Database",
+            UpgradeFault::Memory => "Memory",
+        }
+    }
+}
+
+impl From<sqlite::Error> for UpgradeFault {
     ghost from_gives = { λ e fault. fault ≡ fault_of e };
 
-    fn from(error: Error) -> UpgradeFault {
+    fn from(error: sqlite::Error) -> UpgradeFault {
         match error {
-            Error::SqliteFailure(ErrorCode::OutOfMemory) => UpgradeFault::Memory,
+            sqlite::Error::SqliteFailure(ErrorCode::OutOfMemory) => UpgradeFault::Memory,
             _ => UpgradeFault::Database,
         }
     }

@@ -22,7 +22,7 @@ pub record GraphRequest : Type 0 where
   pub ranks : ℕ → List ℕ
   -- the references that an object holds at the places of its type that are valid
   pub ways : ℕ → List Way
-  -- the group that is carried on from an object: by its place, and the group that is carried to the object
+  -- the group that is carried on from a place of an object, by the group that is carried to the object
   pub converted : ℕ → FieldPlace → ℕ → ℕ
   -- the groups that a plain group stands for: itself and those that it inherits
   pub below : ℕ → List ℕ

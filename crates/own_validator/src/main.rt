@@ -22,5 +22,5 @@ fn main(rt: HostRuntime) -> Result<(), Error> {
         },
     ]?;
     let registry = Registry::<Orders>::new(alloc, fields, Vec::new(alloc))?;
-    serve_orders(&rt, registry)
+    serve_orders(alloc, registry, &mut rt.stdin(), &mut rt.stdout())
 }

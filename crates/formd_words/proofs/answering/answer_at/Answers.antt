@@ -1,4 +1,5 @@
 use Rattle.std.proofs.Common.{◌≡◌, refl, subst}
+use Rattle.fv_engine_lines.specs.Lines.{ended}
 use Rattle.fv_engine_lines.specs.declared.fixed_clock.FixedClock.{FixedClock}
 use Rattle.formd_words.specs.Answering.{Ends, Stands}
 use Rattle.formd_words.proofs.answering.answer_at.Goals as goal
@@ -19,3 +20,9 @@ returns-in-Some-clause-standing g c = λ given is.
             }),
       ),
     )
+
+pub returns-in-None-clause-broke : goal.returns-in-None-clause-broke
+returns-in-None-clause-broke g c = λ is. let it = c.answer_lines.ensures.write is in (it.mid.2, ended it.last.0, it.last.4)
+
+pub returns-in-Some-clause-broke : goal.returns-in-Some-clause-broke
+returns-in-Some-clause-broke g c = λ is. let it = c.answer_lines-in-Some.ensures.write is in (it.mid.2, ended it.last.0, it.last.4)

@@ -23,5 +23,11 @@ returns-in-Err-clause-write g c = λ is.
     let other : End ≢ WriteFailed = λ e. cc in
     c.in-Err.ensures.err _ _ _ (c.in-End.ensures.end refl) (c.in-End.ensures.taken other _ _ c.loop-turn.invariant.taken)
 
+pub returns-in-Err-clause-write_reads : goal.returns-in-Err-clause-write_reads
+returns-in-Err-clause-write_reads g c = λ is. (c.loop-turn._turn, c.loop-turn-test.true, _, c.loop-turn.invariant.gave, inr (c.in-End.ensures.ended refl))
+
+pub returns-in-WriteFailed-clause-write_reads : goal.returns-in-WriteFailed-clause-write_reads
+returns-in-WriteFailed-clause-write_reads g c = λ is. (c.loop-turn._turn, c.loop-turn-test.true, _, c.loop-turn.invariant.gave, inl (c.in-WriteFailed.ensures.gave_last refl))
+
 pub returns-clause-read_cause : goal.returns-clause-read_cause
 returns-clause-read_cause g c = λ is. inr (c.loop-turn._turn, omega (arith, c.loop-turn.auto._turn-end, c.loop-turn-test.false), c.loop-turn.invariant.gave)
