@@ -251,6 +251,14 @@ def later_version(folder):
         look(f"{name}, object", rows(file, "object"), objects)
     good.write_text(DECLARATIONS + "\n")
     ended("version 3 under other declarations", serve(good, file), 4, "formd: store: OtherVersion\n")
+    for beside in ("CREATE TABLE more (text TEXT)", "CREATE VIEW ids AS SELECT id FROM record"):
+        base = sqlite3.connect(file)
+        base.execute(beside)
+        base.close()
+        ran = serve(good, file, put(1) + "\n")
+        ended(f"version 3 behind {beside}", ran, 4, "formd: store: OtherVersion\n")
+        look(f"version 3 behind {beside}, replies", ran.stdout, "")
+        look(f"version 3 behind {beside}, record", rows(file, "record"), records)
 
 
 def redeclare(text):
