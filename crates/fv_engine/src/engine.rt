@@ -1,14 +1,14 @@
-ghost use Rattle.std.specs.Prelude.{◌≡◌, ◌≢◌, ◌⊎◌, false, IfOk, IfErr, List, MatchResult, Ok, Err, Some, None, ℕ};
+ghost use Rattle.std.specs.Prelude.{◌≡◌, ◌≢◌, ◌⊎◌, false, IfOk, IfErr, List, MatchResult, Ok, Err, ℕ};
 ghost use Rattle.sqlite.specs.State.{HasCleanDisk};
 ghost use Rattle.sqlite.specs.Held.{state};
 ghost use Rattle.fv_datum.specs.Moments.{IsMoment};
-ghost use Rattle.fv_store.specs.Faults.{about_fault, IsAboutFault};
 ghost use Rattle.fv_store.specs.Causes.{HasFailed};
-ghost use Rattle.fv_store.specs.Stands.{Frame, HoldsRecords, IsLive, Opens, Stays, TellsAbout};
+ghost use Rattle.fv_store.specs.Stands.{Frame, HasOtherAbout, HoldsRecords, IsBlank, IsEither, IsLive, MayBeFirst, Opens, Stays, TellsAbout};
+ghost use Rattle.fv_store.specs.Steps.{FailsByDisk, IsUpgraded};
 ghost use Rattle.fv_store.specs.Stock.{stock_state};
 ghost use Rattle.fv_declare_judging.specs.Declares.{Declares};
 ghost use Rattle.fv_engine.specs.Laws.{ShowsWhatWasPut, ChangesNoGet, ListsSome, MayChangePlaces, LeavesNothingToList, FailsWhereShut, FailsForRoomAlone, ShowsTheSame, LeavesNothingAtAll, FitsWhereAdded};
-ghost use Rattle.fv_engine.specs.Openings.{DeclaresSome, FailsByDisk, IsInForce, IsKept, IsLeft, IsMisdeclared};
+ghost use Rattle.fv_engine.specs.Openings.{DeclaresSome, IsInForce, IsLeft, IsMisdeclared};
 ghost use Rattle.fv_engine_machine.specs.Machines.{contents};
 ghost use Rattle.fv_engine_machine.specs.Services.{GoesOn, ServiceKeeps, Responds, Turned, reign_of};
 ghost use Rattle.fv_bundle.specs.Types.{FieldsApart, has_deep};
@@ -180,16 +180,19 @@ impl<R: RuleSet + Drop, S: Alter + Drop> Engine<R, S> {
             → ServiceKeeps (stock_state S.Store) e m) }
         // What is neither empty nor of version 1 is left as it was; one of version 1 is opened only where the text of
         // each row is a bundle by its form, whatever texts they are.
-        ensures kept { IfOk result (λ e. IsKept (state S.Store connection) (stock_state S.Store e.machine.records)) }
+        ensures still { IfOk result (λ e. (IsBlank (state S.Store connection).now → ⊥)
+            → Stays (state S.Store connection) (stock_state S.Store e.machine.records)
+            ⊎ (HasCleanDisk (stock_state S.Store e.machine.records) → MayBeFirst (state S.Store connection).now)) }
+        ensures upgraded { IfOk result (λ e.
+            IsUpgraded (state S.Store connection) (stock_state S.Store e.machine.records)) }
         // Declarations are told by their first fault; those handed in come first, and nothing is migrated then.
         ensures refused { IfErr result (λ r. (fault : _) → r.0 ≡ OpenFault.Declarations fault
             → IsMisdeclared (R.known rules) (state S.Store connection) (state S.Store r.1) declarations.now fault) }
-        // What `about` tells against an opening, as it tells it.
-        ensures cause { IfErr result (λ r. (fault : _) → r.0 ≡ OpenFault.Store fault → IsAboutFault fault
-            → HasCleanDisk (state S.Store r.1) → (version : _) (d : _)
-            → TellsAbout version d (state S.Store connection).now → about_fault version ≡ Some fault) }
+        // Another version is told only where `about` shows one.
         ensures other_version { IfErr result (λ r. r.0 ≡ OpenFault.Store OpenStoreFault.OtherVersion
-            → HasCleanDisk (state S.Store r.1) → (c : _) → Opens (state S.Store connection) declarations.now c → ⊥) }
+            → HasCleanDisk (state S.Store r.1) → HasOtherAbout (state S.Store connection)
+            × ((version : _) (d : _) → TellsAbout version d (state S.Store connection).now → IsEither version → ⊥)
+            × ((c : _) → Opens (state S.Store connection) declarations.now c → ⊥)) }
         // Want of memory below is told as such.
         ensures memory { IfErr result (λ r. r.0 ≢ OpenFault.Store OpenStoreFault.Memory) }
         // The store fails with a cause, over tables of either version and over an empty database.

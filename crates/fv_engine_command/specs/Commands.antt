@@ -118,8 +118,8 @@ abbrev pub list_request : json.Data → Option Request
 list_request = only (codes "do" ∷ codes "form" ∷ codes "after" ∷ codes "limit" ∷ []) (λ j.
     map3 list (required as_str (codes "form") j) (maybe id_in (codes "after") j) (optional 100 limit_in (codes "limit") j))
 
--- the commands on records by their names, among them `{"do":"batch","parts":[PART,..]}`, `{"do":"get","id":ID}` and `{"do":"check","id":ID,"groups":[NAME,..]}`,
--- where the groups may be missing
+-- the commands on records by their names, among them `{"do":"batch","parts":[PART,..]}`, `{"do":"get","id":ID}`
+-- and `{"do":"check","id":ID,"groups":[NAME,..]}`, where the groups may be missing
 abbrev pub forms : List (List ℕ × (json.Data → Option Request))
 forms =
     (codes "put", λ j. option_map alone (put_of j))

@@ -34,25 +34,23 @@ room_above (row ∷ rows) = min (rowids_from (id_in (rowid row))) (room_above ro
 abbrev pub room_in : Database → ℕ
 room_in db = min (room_above (db.trees 1)) (room_above (db.trees 3))
 
--- the machine over a connection
-abbrev pub over : {H : Type 0} → (H → State) → Declarations → H → Machine H
-over held ds connection = record {
+-- the machine of these declarations and records, of which a connection says the rest
+abbrev pub connected : {R : Type 0} → Declarations → R → State → Machine R
+connected ds records connection = record {
   declared = ds;
-  records = connection;
-  is_open = (held connection).is_open;
-  faults = (held connection).faults;
-  room = room_in (held connection).now;
+  records = records;
+  is_open = connection.is_open;
+  faults = connection.faults;
+  room = room_in connection.now;
 }
 
--- the machine with these records; the connection says the rest
+-- the machine over a connection
+abbrev pub over : {H : Type 0} → (H → State) → Declarations → H → Machine H
+over held ds connection = connected ds connection (held connection)
+
+-- the machine with these records in the place of the connection
 abbrev pub with_map : {H : Type 0} → (H → State) → Machine H → Records → Machine Records
-with_map held machine m = record {
-  declared = machine.declared;
-  records = m;
-  is_open = (held machine.records).is_open;
-  faults = (held machine.records).faults;
-  room = room_in (held machine.records).now;
-}
+with_map held machine m = connected machine.declared m (held machine.records)
 
 -- what a store keeps of declarations of these bytes, and these records
 abbrev pub contents : List ℕ → Declarations → Records → Contents

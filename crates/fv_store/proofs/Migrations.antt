@@ -1,27 +1,30 @@
 -- What an open does to a database that isn't blank: one of version 1 is migrated, and any other stays.
-use Rattle.std.proofs.Common.{◌≡◌, ◌≤◌, ◌&&◌, nat_eq, length, ℕ, ℤ, pos, List, IsTrue, Result, Ok, Err, OnOk, inl, refl, sym, subst, ◌∙◌}
+use Rattle.std.proofs.Common.{◌≡◌, ◌≤◌, ◌&&◌, nat_eq, length, ℕ, ℤ, pos, Bool, true, false, List, [], ◌∷◌, IsTrue, Result, Ok, Err, IfErr, OnOk, inl, inr, refl, sym, subst, ◌∙◌}
 use Rattle.sqlite.specs.Schema.{Schema}
 use Rattle.sqlite_schema.specs.Names.{same_name}
 use Rattle.sqlite.specs.State.{State, HasCleanDisk}
 use Rattle.fv_store_tables.specs.Olds.{Olds}
 use Rattle.fv_store_tables.specs.Olds as first
 use Rattle.fv_store_tables.specs.FirstTables.{old_schema}
+use Rattle.fv_store_tables.specs.Stands.{about_row}
 use Rattle.fv_store_tables.proofs.Steps.{failed_then}
 use Rattle.fv_store_upgrade.specs.Upgraded.{AllShort, AllUpgrade, HasFew, upgraded}
 use Rattle.fv_store_upgrade.specs.declared.fault.UpgradeFault.{UpgradeFault}
 use Rattle.fv_store_upgrade.specs.declared.fault.UpgradeFault.TheVariants.{Damaged, Database, Memory}
+use Rattle.fv_store.specs.declared.fault.OpenStoreFault.{OpenStoreFault}
 use Rattle.fv_store.specs.declared.fault.OpenStoreFault.TheVariants as refusal
 use Rattle.fv_store.specs.Causes.{HasFailed, IsShortAbout}
 use Rattle.fv_store.specs.Faults.{upgrade_fault}
-use Rattle.fv_store.specs.Stands.{Frame, are_first, MayBeFirst, KeepsFirst, Stays, first_rows, first_version, HasFirstTables, TellsAbout}
-use Rattle.fv_store.specs.Steps.{IsOpenExcused, IsTaken, IsTakenAs, IsUpgraded}
+use Rattle.fv_store.specs.Stands.{Frame, are_first, IsBlank, MayBeFirst, KeepsFirst, Stays, first_version, HasFirstTables, TellsAbout}
+use Rattle.fv_store.specs.Steps.{FailsByDisk, IsOpenExcused, IsTaken, IsTakenAs, IsUpgraded}
+use Rattle.fv_store.proofs.Openings.{blank_lacks}
 
 -- what is read leaves the rows of version 1
 pub first_kept : (old mid : State) → Stays old mid → (d : List ℕ) (m : Olds) → KeepsFirst old d m → KeepsFirst mid d m
 first_kept old mid stays d m keeps clean live =
     let it = stays clean live in
     let was = keeps it.0 it.1 in
-    (subst (λ db. first.SpellsFirst db (first_rows d) m) (sym it.2) was.0, subst (λ db. first.SpellsFirst db (first_rows d) m) (sym it.3) was.1)
+    (subst (λ db. first.SpellsFirst db (about_row first_version d ∷ []) m) (sym it.2) was.0, subst (λ db. first.SpellsFirst db (about_row first_version d ∷ []) m) (sym it.3) was.1)
 
 -- the version that was read is that of the row
 pub first_only : (s : State) (number : ℤ) (text : List ℕ) → IsTakenAs s number text → number ≡ pos first_version → (version : ℤ) (stored : List ℕ) → TellsAbout version stored s.now → version ≡ pos first_version
@@ -74,6 +77,28 @@ migration_excused old mid new Damaged clean frame counts stays damaged cause d m
 migration_excused old mid new Database clean frame counts stays damaged cause d m keeps all short rows few is =
     failed_then old mid new clean frame counts (cause refl d m (first_kept old mid stays d m keeps) short rows few)
 migration_excused old mid new Memory clean frame counts stays damaged cause d m keeps all short rows few is = let wrong : refusal.Memory ≡ refusal.Store = is in cc
+
+-- what isn't blank fails as either version does
+pub fails_filled : {X : Type 0} (old new : State) (given : List ℕ) (r : Result X OpenStoreFault) → (IsBlank old.now → ⊥)
+    → IfErr r (λ e. (version : ℤ) (d : List ℕ) → TellsAbout version d old.now → (version ≡ pos first_version → ⊥) → IsOpenExcused old new e)
+    → IfErr r (λ e. (d : List ℕ) (m : Olds) → KeepsFirst old d m → AllUpgrade m → IsShortAbout d → AllShort (upgraded m) → HasFew m → IsOpenExcused old new e)
+    → IfErr r (λ e. FailsByDisk old given → IsOpenExcused old new e)
+fails_filled old new given (Ok x) filled known first = tt
+fails_filled old new given (Err e) filled known first = λ able. elim able [
+  | inl tells ↦ known tells.0 tells.1 tells.2 tells.3
+  | inr (inl it) ↦ first it.0 it.1 it.2 it.3 it.4 it.5 it.6
+  | inr (inr blank) ↦ absurd (filled blank.0)
+]
+
+-- and what is blank has tables of neither
+pub fails_blank : (old new : State) (given : List ℕ) → HasCleanDisk old → IsBlank old.now → (IsShortAbout given → HasFailed old new) → FailsByDisk old given → HasFailed old new
+fails_blank old new given clean blank fails (inl tells) = absurd (blank_lacks old.now blank tells.2.0)
+fails_blank old new given clean blank fails (inr (inr short)) = fails short.1
+fails_blank old new given clean blank fails (inr (inl it)) = go old.is_open refl
+  where
+    go : (b : Bool) → old.is_open ≡ b → HasFailed old new
+    go true live = absurd (blank_lacks old.now blank (inl (it.2 clean live).0.schema))
+    go false shut = inr shut
 
 -- what holds of an answer holds under a premise more
 pub given_more : {X E : Type 0} (P Q : Type 0) (r : Result X E) → OnOk r P → OnOk r (Q → P)

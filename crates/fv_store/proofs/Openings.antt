@@ -6,19 +6,18 @@ use Rattle.sqlite.specs.declared.error.Error.{Error}
 use Rattle.sqlite.specs.Effect.{Database}
 use Rattle.sqlite.specs.Order.{Row, column}
 use Rattle.sqlite.specs.declared.types.Value.TheVariants.{Int, Blob}
-use Rattle.sqlite_rules.specs.Lists.{Has}
-use Rattle.sqlite.specs.State.{State, HasCleanDisk}
+use Rattle.sqlite.specs.State.{State, Begins, HasCleanDisk}
 use Rattle.fv_datum.specs.Outcomes.{Gives, unless_fault}
 use Rattle.fv_store.specs.declared.fault.OpenStoreFault.{OpenStoreFault}
 use Rattle.fv_store.specs.declared.fault.OpenStoreFault.TheVariants.{OtherVersion, Store, Memory}
 use Rattle.fv_store.specs.Faults.{about_fault, open_fault_of, IsAboutFault}
 use Rattle.fv_store.specs.Records.{Kept, Records, Contents, AllFit, no_records, with_records}
-use Rattle.fv_store_tables.specs.About.{HasTables, IsOfAbout, ShowsAbout, shown_about}
+use Rattle.fv_store_tables.specs.About.{HasTables, ShowsAbout, shown_about}
 use Rattle.fv_store_tables.specs.Tables.{store_schema}
 use Rattle.fv_store.specs.declared.about.About.{About}
-use Rattle.fv_store.specs.Stands.{Frame, Stands, StandsFirst, HoldsRecords, HoldsFirst, Opens, HasAbout, IsBlank, KeepsAbout, MayBeFirst, Stays, TellsAbout, about_rows, first_version, olds, tables_version}
+use Rattle.fv_store.specs.Stands.{Frame, Stands, StandsFirst, HoldsRecords, HoldsFirst, Opens, HasAbout, IsBlank, IsEither, IsTakenWith, MayBeFirst, ShowsFirst, Stays, TellsAbout, about_rows, first_version, olds, tables_version}
 use Rattle.fv_store.specs.Steps.{Keeps, IsTaken, IsTakenAs, IsCaused, IsRefusal, IsOpenExcused, IsUpgraded}
-use Rattle.fv_store.specs.Stored.{Told, told}
+use Rattle.fv_store.specs.Stored.{Told, about_view, told}
 use Rattle.fv_store.proofs.Upgraded.{upgraded_olds}
 use Rattle.fv_bundle.specs.Types.{has_deep}
 use Rattle.fv_store_tables.specs.Stands as tables
@@ -26,6 +25,19 @@ use Rattle.fv_store_tables.specs.Stands as tables
 -- a frame says nothing of the limit on steps
 pub unlimited : (old new : State) → Frame (record old { step_limit = None }) new → Frame old new
 unlimited old new f = record { clean = f.clean; was_open = f.was_open; counts = f.counts; closes = f.closes }
+
+-- and so does what a query shows first
+first_unlimited : (s : State) (row : Row) → ShowsFirst (record s { step_limit = None }) row → ShowsFirst s row
+unfolding Begins
+first_unlimited s row h = (h.0, record { is = h.1.is; whole = h.1.whole; given = h.1.given; now = h.1.now }, h.2, h.3, h.4, h.5)
+
+pub taken_unlimited : (s : State) (text : List ℕ) → IsTakenWith text (record s { step_limit = None }) → IsTakenWith text s
+taken_unlimited s text h = (h.0, (h.1.0, (h.1.1.0, first_unlimited s h.1.1.0 h.1.1.1, h.1.1.2, h.1.1.3)), h.2)
+
+pub caused_unlimited : (s : State) (e : OpenStoreFault) → IsCaused (record s { step_limit = None }) e → IsCaused s e
+caused_unlimited s e h = λ fault.
+    let it = h fault in
+    (it.0, it.1, (it.2.0, it.2.1, first_unlimited s it.2.1 it.2.2, it.2.3, it.2.4), it.3)
 
 -- ---- the row of `about`
 
@@ -47,17 +59,11 @@ pub about_never : (rows : List Row) (version : ℤ) (d : List ℕ) → None ≡ 
 about_never [] version d none h = h
 about_never (row ∷ rows) version d none h = absurd cc
 
-first_has : (rows : List Row) (row : Row) → Some row ≡ slice_get rows 0 → Has rows row
-first_has [] row some = absurd cc
-first_has (r ∷ rows) row some = let same : row ≡ r = cc in inl same
-
--- what is read of the first row that is shown is kept in a row of `about`
-pub kept_first : (s : State) (rows : List Row) (row : Row) (r : Answer About) → Some row ≡ slice_get rows 0 → (HasTables s.now → (x : Row) → Has rows x → IsOfAbout s.now x)
-    → IfOk r (λ a. (column row 0 ≡ Int a.version) × (column row 1 ≡ Blob a.declarations.items)) → IfOk r (λ a. KeepsAbout a.version a.declarations.items s.now)
-kept_first s rows row (Err e) first of h = tt
-kept_first s rows row (Ok a) first of h = λ tables.
-    let it = of tables row (first_has rows row first) in
-    (it.0, it.1, sym (ap (λ (x : Row). column x 0) it.2) ∙ h.0, sym (ap (λ (x : Row). column x 1) it.2) ∙ h.1)
+-- what is read of the first row that is shown
+pub about_had : (s : State) (row : Row) (r : Answer About) → ShowsFirst s row → IfOk r (λ a. IsEither a.version × (column row 0 ≡ Int a.version) × (column row 1 ≡ Blob a.declarations.items))
+    → IfOk r (λ a. HasAbout s a.version a.declarations.items)
+about_had s row (Err e) shows h = tt
+about_had s row (Ok a) shows h = (h.0, (row, shows, h.1, h.2))
 
 judges_ok : {X : Type 0} (view : X → Told) (x : X) (o : Option OpenStoreFault) (stored : Told) → Judges view (Ok x) o stored → (o ≡ None) × (view x ≡ stored)
 judges_ok view x None stored h = (refl, let same : stored ≡ view x = cc in sym same)
@@ -72,15 +78,20 @@ is_fault : (e : OpenStoreFault) (o : Option OpenStoreFault) (stored : Told) → 
 is_fault e None stored h = absurd cc
 is_fault e (Some f) stored h = let same : f ≡ e = cc in ap Some same
 
-pub taken_all : {X : Type 0} (view : X → Told) (s : State) (r : Answer X) → JudgesAll view s r → IfOk r (λ x. IsTakenAs s (view x).0 (view x).1)
-taken_all view s (Err e) h = tt
-taken_all view s (Ok x) h = λ version d tells.
-    let it = judges_ok view x (about_fault version) (told version d) (h version d tells) in
-    (it.0, ap (λ (t : Told). t.0) it.1, ap (λ (t : Told). t.1) it.1)
+pub taken_all : (s : State) (row : Row) (r : Answer About) → IfOk r (λ a. IsEither a.version × (column row 0 ≡ Int a.version) × (column row 1 ≡ Blob a.declarations.items)) → JudgesAll about_view s r
+    → IfOk r (λ a. IsTakenAs s a.version a.declarations.items)
+taken_all s row (Err e) of h = tt
+taken_all s row (Ok a) of h = λ version d tells.
+    let it = judges_ok about_view a (about_fault version) (told version d) (h version d tells) in
+    let same = ap (λ (t : Told). t.0) it.1 in
+    (subst IsEither same of.0, same, ap (λ (t : Told). t.1) it.1)
 
-pub caused_all : {X : Type 0} (view : X → Told) (s : State) (r : Answer X) → IsTrue s.is_open → (IsBlank s.now → ⊥) → JudgesAll view s r → IfErr r (IsCaused s)
-caused_all view s (Ok x) live filled h = tt
-caused_all view s (Err e) live filled h = λ fault. (live, filled, λ version d tells. is_fault e (about_fault version) (told version d) (h version d tells (is_not_memory e fault)))
+pub caused_all : {X : Type 0} (view : X → Told) (s : State) (row : Row) (r : Answer X) → IsTrue s.is_open → (IsBlank s.now → ⊥) → ShowsFirst s row
+    → IfErr r (λ e. IsAboutFault e → (version : ℤ) × (column row 0 ≡ Int version) × (IsEither version → ⊥)) → JudgesAll view s r → IfErr r (IsCaused s)
+caused_all view s row (Ok x) live filled shows other h = tt
+caused_all view s row (Err e) live filled shows other h = λ fault.
+    let it = other fault in
+    (live, filled, (it.0, row, shows, it.1, it.2), λ version d tells. is_fault e (about_fault version) (told version d) (h version d tells (is_not_memory e fault)))
 
 never_store : (version : ℤ) → about_fault version ≡ Some Store → ⊥
 never_store version = go (not (int_eq version (pos first_version) || int_eq version (pos tables_version)))
@@ -101,7 +112,11 @@ pub is_refusal : (e : Error) → open_fault_of e ≡ Store → IsRefusal e
 is_refusal e is memory = let wrong : Memory ≡ Store = sym (ap open_fault_of memory) ∙ is in cc
 
 -- a version of the two is taken
-no_version : ◌≡◌ {A = Option OpenStoreFault} None (Some OtherVersion) → ⊥
+pub either_taken : (version : ℤ) → IsEither version → about_fault version ≡ None
+either_taken version (inl is) = ap about_fault is
+either_taken version (inr is) = ap about_fault is
+
+pub no_version : ◌≡◌ {A = Option OpenStoreFault} None (Some OtherVersion) → ⊥
 no_version h = let never : ◌≡◌ {A = Option OpenStoreFault} None (Some OtherVersion) = h in cc
 
 -- ---- a blank database
@@ -115,13 +130,9 @@ never_blank db blank is = zero_is_not_three (ap (λ (s : Schema). length s.table
 zero_is_not_two : ◌≢◌ {A = ℕ} 0 2
 zero_is_not_two e = cc
 
-blank_lacks : (db : Database) → IsBlank db → HasTables db → ⊥
+pub blank_lacks : (db : Database) → IsBlank db → HasTables db → ⊥
 blank_lacks db blank (inl is) = zero_is_not_two (ap (λ (s : Schema). length s.tables) (sym blank ∙ is))
 blank_lacks db blank (inr is) = never_blank db blank is
-
--- it has no row of `about` to look for
-pub blank_kept : (db : Database) (text : List ℕ) → IsBlank db → HasAbout text db
-blank_kept db text blank = (pos first_version, λ tables. absurd (blank_lacks db blank tables))
 
 -- ---- what stands
 
@@ -210,8 +221,8 @@ module _ (old new : State) (frame : Frame old new) where
 -- what is opened isn't of another version
 pub opens_version : (s : State) (given : List ℕ) (k : Contents) → HasCleanDisk s → IsCaused s OtherVersion → Opens s given k → ⊥
 opens_version s given k clean cause (inl blank) = let is = cause tt in is.1 (blank clean is.0).0
-opens_version s given k clean cause (inr (inl holds)) = let is = cause tt in no_version (is.2 (pos tables_version) k.bytes (tells_second k (holds clean is.0).0))
-opens_version s given k clean cause (inr (inr holds)) = let is = cause tt in no_version (is.2 (pos first_version) k.bytes (tells_first k (holds clean is.0).0))
+opens_version s given k clean cause (inr (inl holds)) = let is = cause tt in no_version (is.3 (pos tables_version) k.bytes (tells_second k (holds clean is.0).0))
+opens_version s given k clean cause (inr (inr holds)) = let is = cause tt in no_version (is.3 (pos first_version) k.bytes (tells_first k (holds clean is.0).0))
 
 -- and its declarations are in force, or those given for a blank one
 pub opens_text : (s : State) (given text : List ℕ) → HasCleanDisk s → IsTrue s.is_open → (IsBlank s.now → text ≡ given) → IsTaken s text → (k : Contents) → Opens s given k → text ≡ k.bytes

@@ -1,10 +1,11 @@
 -- The records that a database stands for.
 pub use Rattle.fv_store_tables.specs.Creating.{IsBlank}
 pub use Rattle.fv_store_tables.specs.Stands.{Frame, IsLive, Stays}
-pub use Rattle.fv_store_tables.specs.About.{KeepsAbout, TellsAbout}
+pub use Rattle.fv_store_tables.specs.About.{ShowsFirst, TellsAbout}
 use Rattle.std.specs.Prelude.{◌≡◌, ◌⊎◌, ◌&&◌, ℕ, ℤ, pos, Bool, false, IsTrue, List, [], ◌∷◌, codes, length, nat_eq, option_map}
+use Rattle.sqlite.specs.declared.types.Value.TheVariants.{Int, Blob as Raw}
 use Rattle.sqlite.specs.Effect.{Database}
-use Rattle.sqlite.specs.Order.{Row}
+use Rattle.sqlite.specs.Order.{Row, column}
 use Rattle.sqlite.specs.State.{State, HasCleanDisk}
 use Rattle.sqlite.specs.Table.{Table}
 use Rattle.sqlite_schema.specs.Names.{same_name}
@@ -52,18 +53,15 @@ old_of k = record { form = k.form; bundle = bundle_text k.bundle }
 abbrev pub olds : Records → Olds
 olds m id = option_map (λ k. record { form = k.form; bundle = bundle_text k.bundle }) (m id)
 
--- the one row of `about` in version 1
-abbrev pub first_rows : List ℕ → List Row
-first_rows declarations = tables.about_row first_version declarations ∷ []
-
 -- what a connection outside a transaction keeps in tables of version 1, now and as committed: the declarations, and rows of records
 abbrev pub KeepsFirst : State → List ℕ → Olds → Type 0
 KeepsFirst s declarations m = HasCleanDisk s → IsTrue s.is_open
-    → first.SpellsFirst s.now (first_rows declarations) m × first.SpellsFirst s.committed (first_rows declarations) m
+    → first.SpellsFirst s.now (tables.about_row first_version declarations ∷ []) m
+    × first.SpellsFirst s.committed (tables.about_row first_version declarations ∷ []) m
 
 -- the tables of version 1, with the declarations and a row of `record` for each record, and each record fits
 pub record StandsFirst (db : Database) (c : Contents) : Type 0 where
-  pub spells : first.SpellsFirst db (first_rows c.bytes) (olds c.records)
+  pub spells : first.SpellsFirst db (tables.about_row first_version c.bytes ∷ []) (olds c.records)
   pub fit : AllFit c
 
 -- what a connection to a file of version 1 stands for, as `HoldsRecords` says it of version 2
@@ -92,9 +90,21 @@ MayBeFirst db = HasFirstTables db × ((version : ℤ) (stored : List ℕ) → Te
 
 -- ---- opening
 
--- where the tables are those of either version, a row of `about` keeps these declarations, whatever else is there
-abbrev pub HasAbout : List ℕ → Database → Type 0
-HasAbout declarations db = (version : ℤ) × KeepsAbout version declarations db
+-- the versions of tables that are taken: one is migrated, the other is served
+abbrev pub IsEither : ℤ → Type 0
+IsEither version = (version ≡ pos first_version) ⊎ (version ≡ pos tables_version)
+
+-- whatever the tables are, `about` shows a version first that is taken, and these declarations
+abbrev pub HasAbout : State → ℤ → List ℕ → Type 0
+HasAbout s version declarations = IsEither version × ((row : Row) × ShowsFirst s row × (column row 0 ≡ Int version) × (column row 1 ≡ Raw declarations))
+
+-- whatever the tables are, `about` shows a version first that isn't taken
+abbrev pub HasOtherAbout : State → Type 0
+HasOtherAbout s = (version : ℤ) × (row : Row) × ShowsFirst s row × (column row 0 ≡ Int version) × (IsEither version → ⊥)
+
+-- the declarations of a database that isn't empty: those that `about` shows, and in version 1 tables and columns are named as there
+abbrev pub IsTakenWith : List ℕ → State → Type 0
+IsTakenWith declarations s = (version : ℤ) × HasAbout s version declarations × (version ≡ pos first_version → HasFirstTables s.now)
 
 -- What a database hands to a store that is opened over it, with these declarations for a blank one: no record and these where it is blank, else what
 -- it stands for, under its own, by the tables of either version.

@@ -1,19 +1,19 @@
--- What changes do to a database, and a migration: for private clauses, but for `IsUpgraded` and what `kept_declarations` is stated by.
+-- What changes do to a database, and a migration: for private clauses, but for `IsUpgraded`, `FailsByDisk` and what `kept_declarations` is stated by.
 pub use Rattle.fv_store_tables.specs.Causes.{IsRefusal, IsExcused}
 pub use Rattle.fv_store_tables.specs.Stands.{IsSettled}
 pub use Rattle.fv_store_tables.specs.Steps.{Advances, Inside}
-use Rattle.std.specs.Prelude.{◌≡◌, ℕ, ℤ, IsTrue, List, Some, None}
+use Rattle.std.specs.Prelude.{◌≡◌, ◌≢◌, ◌⊎◌, ℕ, ℤ, pos, IsTrue, List, Some}
 use Rattle.sqlite.specs.Effect.{Database}
 use Rattle.sqlite.specs.State.{State, HasCleanDisk}
 use Rattle.fv_store_tables.specs.Olds.{Olds}
 use Rattle.fv_store_tables.specs.Stands as tables
-use Rattle.fv_store_upgrade.specs.Upgraded.{AllUpgrade, upgraded}
+use Rattle.fv_store_upgrade.specs.Upgraded.{AllShort, AllUpgrade, HasFew, upgraded}
 use Rattle.fv_store.specs.declared.changes.Change.{Change}
 use Rattle.fv_store.specs.Changes.{after_all}
-use Rattle.fv_store.specs.Causes.{HasFailed, LeavesRoom, rows_of_all}
+use Rattle.fv_store.specs.Causes.{HasFailed, IsShortAbout, LeavesRoom, rows_of_all}
 use Rattle.fv_store.specs.Faults.{about_fault, IsAboutFault}
 use Rattle.fv_store.specs.Records.{Records}
-use Rattle.fv_store.specs.Stands.{about_rows, Spells, IsBlank, KeepsFirst, TellsAbout}
+use Rattle.fv_store.specs.Stands.{about_rows, first_version, HasOtherAbout, Spells, IsBlank, IsEither, KeepsFirst, TellsAbout}
 use Rattle.fv_store.specs.Written.{writings, entries}
 use Rattle.fv_store.specs.declared.fault.OpenStoreFault.{OpenStoreFault}
 use Rattle.fv_store.specs.declared.fault.OpenStoreFault.TheVariants as refusal
@@ -33,12 +33,12 @@ MakesAll cs = Makes (rows_of_all cs) (after_all cs)
 
 -- the row of `about`, where there is one, is taken, and these are its declarations
 abbrev pub IsTaken : State → List ℕ → Type 0
-IsTaken s text = (version : ℤ) (stored : List ℕ) → TellsAbout version stored s.now → (about_fault version ≡ None) × (text ≡ stored)
+IsTaken s text = (version : ℤ) (stored : List ℕ) → TellsAbout version stored s.now → IsEither version × (text ≡ stored)
 
 -- the same, with its version
 abbrev pub IsTakenAs : State → ℤ → List ℕ → Type 0
 IsTakenAs s number text =
-    (version : ℤ) (stored : List ℕ) → TellsAbout version stored s.now → (about_fault version ≡ None) × (number ≡ version) × (text ≡ stored)
+    (version : ℤ) (stored : List ℕ) → TellsAbout version stored s.now → IsEither version × (number ≡ version) × (text ≡ stored)
 
 -- Where it was of version 1, each row's text is a bundle by its form, and tables of version 2 keep the same declarations and what those rows
 -- are there.
@@ -46,11 +46,18 @@ abbrev pub IsUpgraded : State → State → Type 0
 IsUpgraded old new =
     (d : List ℕ) (m : Olds) → KeepsFirst old d m → (HasCleanDisk new → AllUpgrade m) × tables.Keeps new (about_rows d) (upgraded m)
 
--- a refusal for the row of `about` comes where that is its fault, and never for a blank database
+-- a refusal for the row of `about` comes where that is its fault, whatever the tables are, and never for a blank database
 abbrev pub IsCaused : State → OpenStoreFault → Type 0
-IsCaused s e = IsAboutFault e → IsTrue s.is_open × (IsBlank s.now → ⊥) × ((version : ℤ) (stored : List ℕ)
+IsCaused s e = IsAboutFault e → IsTrue s.is_open × (IsBlank s.now → ⊥) × HasOtherAbout s × ((version : ℤ) (stored : List ℕ)
     → TellsAbout version stored s.now → about_fault version ≡ Some e)
 
 -- of a refusal to open a store only a failure of the disk or a shut connection is the cause
 abbrev pub IsOpenExcused : State → State → OpenStoreFault → Type 0
 IsOpenExcused old new e = e ≡ refusal.Store → HasFailed old new
+
+-- where Store is told for the disk alone: tables that tell another version than 1; those of 1, of records, short and few; none, for short declarations
+abbrev pub FailsByDisk : State → List ℕ → Type 0
+FailsByDisk old given =
+    ((version : ℤ) × (kept : List ℕ) × TellsAbout version kept old.now × (version ≢ pos first_version))
+    ⊎ ((kept : List ℕ) × (m : Olds) × KeepsFirst old kept m × AllUpgrade m × IsShortAbout kept × AllShort (upgraded m) × HasFew m)
+    ⊎ (IsBlank old.now × IsShortAbout given)

@@ -1,10 +1,10 @@
 //! The row of `about`: the tables' version is judged, and the declarations are read.
-ghost use Rattle.std.specs.Prelude.{◌≡◌, ◌↔◌, pos, IfOk, IsTrue, ℕ, ℤ, List};
+ghost use Rattle.std.specs.Prelude.{◌≡◌, ◌↔◌, pos, IfErr, IfOk, IsTrue, ℕ, ℤ, List};
 ghost use Rattle.sqlite.specs.Order.{column};
 ghost use Rattle.sqlite.specs.declared.types.Value.TheVariants.{Int, Blob as Raw};
 ghost use Rattle.fv_datum.specs.Outcomes.{Gives, unless_fault};
-ghost use Rattle.fv_store.specs.Faults.{about_fault};
-ghost use Rattle.fv_store.specs.Stands.{first_version};
+ghost use Rattle.fv_store.specs.Faults.{IsAboutFault, about_fault};
+ghost use Rattle.fv_store.specs.Stands.{first_version, IsEither};
 ghost use Rattle.fv_store.specs.Stored.{about_view, told};
 ghost use Rattle.fv_store_tables.specs.About.{shown_about};
 
@@ -40,7 +40,10 @@ impl About {
 pub(crate) fn about_in(row: &Row) -> Result<About, OpenStoreFault>
     ensures told { (version : ℤ) (stored : List ℕ) → row.now ≡ shown_about version stored
         → Gives OpenStoreFault.Memory about_view result (unless_fault (about_fault version) (told version stored)) }
-    ensures kept { IfOk result (λ a. (column row.now 0 ≡ Int a.version) × (column row.now 1 ≡ Raw a.declarations.items)) }
+    ensures taken { IfOk result (λ a. IsEither a.version × (column row.now 0 ≡ Int a.version)
+        × (column row.now 1 ≡ Raw a.declarations.items)) }
+    ensures other { IfErr result (λ e. IsAboutFault e
+        → (version : ℤ) × (column row.now 0 ≡ Int version) × (IsEither version → ⊥)) }
 {
     let version: i64 = row.get(0)?;
     if version != FIRST_VERSION && version != VERSION {

@@ -4,8 +4,8 @@ ghost use Rattle.sqlite.specs.State.{HasCleanDisk};
 ghost use Rattle.sqlite.specs.Held.{state};
 ghost use Rattle.fv_store.specs.Causes.{IsShortAbout};
 ghost use Rattle.fv_store.specs.Records.{no_records};
-ghost use Rattle.fv_store.specs.Stands.{are_columns, are_first, first_version, Frame, HasFirstTables, HasAbout, IsBlank, IsLive, KeepsAbout, MayBeFirst, KeepsFirst, Stays, TellsAbout};
-ghost use Rattle.fv_store.specs.Steps.{Keeps, IsSettled, IsTaken, IsTakenAs, IsCaused, IsExcused, IsOpenExcused, IsUpgraded};
+ghost use Rattle.fv_store.specs.Stands.{are_columns, are_first, first_version, Frame, HasFirstTables, HasAbout, IsBlank, IsLive, IsTakenWith, MayBeFirst, KeepsFirst, Stays, TellsAbout};
+ghost use Rattle.fv_store.specs.Steps.{FailsByDisk, Keeps, IsSettled, IsTaken, IsTakenAs, IsCaused, IsExcused, IsOpenExcused, IsUpgraded};
 ghost use Rattle.fv_store_tables.specs.Olds.{Olds};
 ghost use Rattle.fv_store_upgrade.specs.Upgraded.{AllShort, AllUpgrade, HasFew, upgraded};
 
@@ -100,7 +100,7 @@ fn stored<S: Alter>(conn: &mut Connection<S>) -> Result<About, OpenStoreFault>
     ensures taken { HasCleanDisk (state S.Store conn.new)
         → IfOk result (λ a. IsTakenAs (state S.Store conn.old) a.version a.declarations.items) }
     ensures kept { HasCleanDisk (state S.Store conn.new)
-        → IfOk result (λ a. KeepsAbout a.version a.declarations.items (state S.Store conn.old).now) }
+        → IfOk result (λ a. HasAbout (state S.Store conn.old) a.version a.declarations.items) }
     ensures cause { HasCleanDisk (state S.Store conn.new) → (IsBlank (state S.Store conn.old).now → ⊥)
         → IfErr result (IsCaused (state S.Store conn.old)) }
     ensures store_known { HasCleanDisk (state S.Store conn.new) → conn.old.step_limit ≡ None
@@ -127,7 +127,7 @@ pub fn kept_declarations<S: Alter>(conn: &mut Connection<S>) -> Result<Vec<u8>, 
     ensures taken { HasCleanDisk (state S.Store conn.new)
         → IfOk result (λ v. IsTaken (state S.Store conn.old) v.items) }
     ensures kept { HasCleanDisk (state S.Store conn.new)
-        → IfOk result (λ v. HasAbout v.items (state S.Store conn.old).now) }
+        → IfOk result (λ v. (version : _) × HasAbout (state S.Store conn.old) version v.items) }
     ensures cause { HasCleanDisk (state S.Store conn.new) → (IsBlank (state S.Store conn.old).now → ⊥)
         → IfErr result (IsCaused (state S.Store conn.old)) }
     ensures store_known { HasCleanDisk (state S.Store conn.new) → conn.old.step_limit ≡ None
@@ -153,7 +153,7 @@ fn kept<S: Alter>(conn: &mut Connection<S>, alloc: Global) -> Result<Vec<u8>, Op
     ensures taken { HasCleanDisk (state S.Store conn.new)
         → IfOk result (λ v. IsTaken (state S.Store conn.old) v.items) }
     ensures kept { HasCleanDisk (state S.Store conn.new)
-        → IfOk result (λ v. HasAbout v.items (state S.Store conn.old).now) }
+        → IfOk result (λ v. IsTakenWith v.items (state S.Store conn.old)) }
     ensures untouched { OnErr result (Stays (state S.Store conn.old) (state S.Store conn.new)) }
     ensures cause { HasCleanDisk (state S.Store conn.new) → (IsBlank (state S.Store conn.old).now → ⊥)
         → IfErr result (IsCaused (state S.Store conn.old)) }
@@ -196,22 +196,14 @@ pub(crate) fn settle<S: Alter>(
     ensures upgraded { OnOk result (IsUpgraded (state S.Store conn.old) (state S.Store conn.new)) }
     ensures taken { HasCleanDisk (state S.Store conn.new)
         → IfOk result (λ v. IsTaken (state S.Store conn.old) v.items) }
-    ensures kept { HasCleanDisk (state S.Store conn.new)
-        → IfOk result (λ v. HasAbout v.items (state S.Store conn.old).now) }
+    ensures kept { HasCleanDisk (state S.Store conn.new) → (IsBlank (state S.Store conn.old).now → ⊥)
+        → IfOk result (λ v. IsTakenWith v.items (state S.Store conn.old)) }
     ensures untouched { OnErr result (Stays (state S.Store conn.old) (state S.Store conn.new)) }
     ensures cause { HasCleanDisk (state S.Store conn.new)
         → IfErr result (IsCaused (state S.Store conn.old)) }
-    ensures store_known { HasCleanDisk (state S.Store conn.new) → conn.old.in_transaction ≡ false
-        → conn.old.step_limit ≡ None → IfErr result (λ e. (version : _) (d : _)
-        → TellsAbout version d (state S.Store conn.old).now → (version ≡ pos first_version → ⊥)
+    ensures store { HasCleanDisk (state S.Store conn.new) → conn.old.in_transaction ≡ false
+        → conn.old.step_limit ≡ None → IfErr result (λ e. FailsByDisk (state S.Store conn.old) declarations.now
         → IsOpenExcused (state S.Store conn.old) (state S.Store conn.new) e) }
-    ensures store_first { HasCleanDisk (state S.Store conn.new) → conn.old.in_transaction ≡ false
-        → conn.old.step_limit ≡ None → IfErr result (λ e. (d : List ℕ) (m : Olds)
-        → KeepsFirst (state S.Store conn.old) d m → AllUpgrade m → IsShortAbout d → AllShort (upgraded m) → HasFew m
-        → IsOpenExcused (state S.Store conn.old) (state S.Store conn.new) e) }
-    ensures store_blank { HasCleanDisk (state S.Store conn.new) → conn.old.in_transaction ≡ false
-        → conn.old.step_limit ≡ None → IfErr result (λ e. IsBlank (state S.Store conn.old).now
-        → IsShortAbout declarations.now → IsOpenExcused (state S.Store conn.old) (state S.Store conn.new) e) }
 {
     if !conn.is_autocommit() {
         return Err(OpenStoreFault::Store);

@@ -1,5 +1,5 @@
 //! The store.
-ghost use Rattle.std.specs.Prelude.{◌≡◌, ◌⊎◌, false, IfOk, IfErr, IfSome, List, OnOk, OnErr, MatchResult, map, option_map, string_bytes, Some, None, unwrap_or, [], pos, ℕ};
+ghost use Rattle.std.specs.Prelude.{◌≡◌, ◌⊎◌, false, IfOk, IfErr, IfSome, OnOk, OnErr, MatchResult, map, option_map, string_bytes, Some, None, unwrap_or, []};
 ghost use Rattle.sqlite.specs.State.{HasCleanDisk};
 ghost use Rattle.sqlite.specs.Held.{state};
 ghost use Rattle.fv_bundle.specs.Types.{has_deep};
@@ -8,12 +8,9 @@ ghost use Rattle.fv_bundle.specs.Views.{bundle_view};
 ghost use Rattle.fv_bundle.specs.WellTyped.{IsWellTyped};
 ghost use Rattle.fv_store.specs.Causes.{AreShort, HasFailed, HasRooms, IsShortAbout, LeavesRoom, rows_of_all};
 ghost use Rattle.fv_store.specs.Changes.{changed, ChangesFit};
-ghost use Rattle.fv_store.specs.Stands.{first_version, Frame, HasAbout, HoldsRecords, IsBlank, IsLive, MayBeFirst, KeepsFirst, Opens, Stays, TellsAbout};
-ghost use Rattle.fv_store.specs.Steps.{IsUpgraded};
-ghost use Rattle.fv_store_tables.specs.Olds.{Olds};
-ghost use Rattle.fv_store_upgrade.specs.Upgraded.{AllShort, AllUpgrade, HasFew, upgraded};
+ghost use Rattle.fv_store.specs.Stands.{Frame, HasOtherAbout, HoldsRecords, IsBlank, IsEither, IsLive, IsTakenWith, MayBeFirst, Opens, Stays, TellsAbout};
+ghost use Rattle.fv_store.specs.Steps.{FailsByDisk, IsUpgraded};
 ghost use Rattle.fv_store.specs.Stock.{stock_state};
-ghost use Rattle.fv_store.specs.Faults.{about_fault, IsAboutFault};
 ghost use Rattle.fv_store.specs.Lists.{Lists, ListsOf};
 ghost use Rattle.fv_store.specs.Records.{AllFit, Contents};
 ghost use Rattle.fv_store.specs.Stored.{stored_view, text_of, text_view, untyped, written_view};
@@ -97,27 +94,19 @@ impl<S: Alter + Drop> Store<S> {
         // Whatever texts its rows have, one of version 1 is migrated only where each is a bundle by its form.
         ensures upgraded { IfOk result (λ s. IsUpgraded (state S.Store connection) (stock_state S.Store s)) }
         ensures taken { IfOk result (λ s. HasCleanDisk (stock_state S.Store s) → (version : _) (d : _)
-            → TellsAbout version d (state S.Store connection).now
-            → (about_fault version ≡ None) × (s.text ≡ d)) }
-        // Whatever else is there, in tables of either version a row of `about` keeps the declarations in force.
+            → TellsAbout version d (state S.Store connection).now → IsEither version × (s.text ≡ d)) }
+        // Whatever its tables are, a database that isn't blank is taken only by what `about` shows, and refused as one
+        // of another version only by that.
         ensures kept { IfOk result (λ s. HasCleanDisk (stock_state S.Store s)
-            → HasAbout s.text (state S.Store connection).now) }
-        ensures refused { IfErr result (λ e. IsAboutFault e.0 → HasCleanDisk (state S.Store e.1)
-            → (version : _) (d : _) → TellsAbout version d (state S.Store connection).now
-            → about_fault version ≡ Some e.0) }
+            → (IsBlank (state S.Store connection).now → ⊥) → IsTakenWith s.text (state S.Store connection)) }
+        ensures refused { IfErr result (λ e. e.0 ≡ OpenStoreFault.OtherVersion → HasCleanDisk (state S.Store e.1)
+            → HasOtherAbout (state S.Store connection) × ((version : _) (d : _)
+            → TellsAbout version d (state S.Store connection).now → IsEither version → ⊥)) }
         ensures other_version { IfErr result (λ e. e.0 ≡ OpenStoreFault.OtherVersion → HasCleanDisk (state S.Store e.1)
             → (c : _) → Opens (state S.Store connection) declarations.now c → ⊥) }
-        ensures store_known { IfErr result (λ e. e.0 ≡ OpenStoreFault.Store → HasCleanDisk (state S.Store e.1)
-            → connection.in_transaction ≡ false → (version : _) (d : _)
-            → TellsAbout version d (state S.Store connection).now → (version ≡ pos first_version → ⊥)
+        ensures store { IfErr result (λ e. e.0 ≡ OpenStoreFault.Store → HasCleanDisk (state S.Store e.1)
+            → connection.in_transaction ≡ false → FailsByDisk (state S.Store connection) declarations.now
             → HasFailed (state S.Store connection) (state S.Store e.1)) }
-        ensures store_first { IfErr result (λ e. e.0 ≡ OpenStoreFault.Store → HasCleanDisk (state S.Store e.1)
-            → connection.in_transaction ≡ false → (d : List ℕ) (m : Olds) → KeepsFirst (state S.Store connection) d m
-            → AllUpgrade m → IsShortAbout d → AllShort (upgraded m) → HasFew m
-            → HasFailed (state S.Store connection) (state S.Store e.1)) }
-        ensures store_blank { IfErr result (λ e. e.0 ≡ OpenStoreFault.Store → HasCleanDisk (state S.Store e.1)
-            → connection.in_transaction ≡ false → IsBlank (state S.Store connection).now
-            → IsShortAbout declarations.now → HasFailed (state S.Store connection) (state S.Store e.1)) }
         ensures untouched { IfErr result (λ e. Stays (state S.Store connection) (state S.Store e.1)) }
         ensures stays { IfErr result (λ e. (c : _) → Opens (state S.Store connection) declarations.now c
             → Opens (state S.Store e.1) declarations.now c) }

@@ -10,7 +10,8 @@ use Rattle.sqlite_resolve.specs.declared.error.CompileError.TheVariants.{NoSuchT
 use Rattle.sqlite_schema.specs.declared.command.Returning.{Returning}
 use Rattle.sqlite_syntax.specs.declared.statement.Parsed.{Parsed}
 use Rattle.sqlite_tied.specs.Compute.{everything}
-use Rattle.fv_store_tables.proofs.FirstTexts.{read_text, old_rows_text}
+use Rattle.fv_store_tables.specs.About.{about_query}
+use Rattle.fv_store_tables.proofs.FirstTexts.{old_rows_text}
 use Rattle.fv_store_tables.proofs.Texts.{find_text, objects_text}
 
 abbrev Plan : Type 0
@@ -65,12 +66,12 @@ module _ (text : List ℕ) (bare : IsBare (first text)) where
       go true made = listed_bare (compiled listing_schema text) (compiled_bare listing_schema) c made
       go false made = compiled_bare s c made
 
-first_read : IsBare (first read_text)
+first_read : IsBare (first about_query)
 unfolding everything
 first_read = λ s base. refl
 
-pub read_bare : (s : Schema) (c : Compiled) → understood s read_text ≡ Ok c → c.returning ≡ None
-read_bare = text_bare read_text first_read
+pub read_bare : (s : Schema) (c : Compiled) → understood s about_query ≡ Ok c → c.returning ≡ None
+read_bare = text_bare about_query first_read
 
 first_objects : IsBare (first objects_text)
 unfolding everything

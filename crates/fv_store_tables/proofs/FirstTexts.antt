@@ -11,22 +11,20 @@ use Rattle.sqlite.specs.Listing.{understood, reads_listing}
 use Rattle.sqlite.proofs.Callers.{IsPlain, command_of}
 use Rattle.fv_store_tables.specs.Tables.{store_schema}
 use Rattle.fv_store_tables.specs.FirstTables.{old_schema}
+use Rattle.fv_store_tables.specs.About.{about_query}
 use Rattle.fv_store_tables.proofs.Texts.{IsWhole, RenewMeans, one_table}
 
 -- ---- the row of `about`, under either schema
-
-abbrev pub read_text : List ℕ
-read_text = codes "SELECT version, declarations FROM about"
 
 abbrev pub read_query : Query
 read_query = one_table 0 [] (col 1 2 ∷ col 1 3 ∷ [])
 
 -- it shows the version and the declarations, and is accepted
 pub record ReadMeans (schema : Schema) : Type 0 where
-  pub is : command_of (understood schema read_text) ≡ Select (record { lets = []; body = read_query }) (codes "version" ∷ codes "declarations" ∷ [])
-  pub plain : IsPlain (understood schema read_text)
-  pub whole : IsWhole read_text 0 (understood schema read_text)
-  pub unlisted : reads_listing schema read_text ≡ false
+  pub is : command_of (understood schema about_query) ≡ Select (record { lets = []; body = read_query }) (codes "version" ∷ codes "declarations" ∷ [])
+  pub plain : IsPlain (understood schema about_query)
+  pub whole : IsWhole about_query 0 (understood schema about_query)
+  pub unlisted : reads_listing schema about_query ≡ false
   pub accepted : accepts_program schema [] read_query [] ≡ true
 
 pub read_of_old : ReadMeans old_schema

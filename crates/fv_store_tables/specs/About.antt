@@ -1,9 +1,9 @@
 -- What the row of `about` tells of a database of either version.
-use Rattle.std.specs.Prelude.{◌≡◌, ◌⊎◌, pos, ℕ, ℤ, List, [], ◌∷◌}
+use Rattle.std.specs.Prelude.{◌≡◌, ◌⊎◌, pos, ℕ, ℤ, List, [], ◌∷◌, codes}
 use Rattle.sqlite.specs.declared.types.Value.TheVariants.{Int, Null, Blob as Raw}
-use Rattle.sqlite.specs.Order.{Row, column}
-use Rattle.sqlite_rules.specs.Lists.{Has}
+use Rattle.sqlite.specs.Order.{Row}
 use Rattle.sqlite.specs.Effect.{Database}
+use Rattle.sqlite.specs.State.{State, Begins}
 use Rattle.fv_store_tables.specs.Tables.{store_schema}
 use Rattle.fv_store_tables.specs.FirstTables.{old_schema}
 use Rattle.fv_store_tables.specs.Causes.{HasRooms}
@@ -26,13 +26,13 @@ abbrev pub ShowsAbout : List Row → ℤ → List ℕ → Type 0
 ShowsAbout [] version declarations = ⊥
 ShowsAbout (row ∷ rows) version declarations = row ≡ shown_about version declarations
 
--- it is what a query shows of a row of `about`
-abbrev pub IsOfAbout : Database → Row → Type 0
-IsOfAbout db shown = (row : Row) × Has (db.trees 0) row × (shown ≡ column row 2 ∷ column row 3 ∷ [])
+-- that query
+abbrev pub about_query : List ℕ
+about_query = codes "SELECT version, declarations FROM about"
 
--- where the tables are those of either version, a row of `about` keeps this version and these declarations, whatever else is there
-abbrev pub KeepsAbout : ℤ → List ℕ → Database → Type 0
-KeepsAbout version declarations db = HasTables db → (row : Row) × Has (db.trees 0) row × (column row 2 ≡ Int version) × (column row 3 ≡ Raw declarations)
+-- the first row that it shows, whatever tables there are
+abbrev pub ShowsFirst : State → Row → Type 0
+ShowsFirst s row = Begins about_query [] s (row ∷ [])
 
 -- The row of `about` has these declarations since, whatever it had. The version and the records stay, and so does the room for rows.
 abbrev pub Redeclares : List ℕ → Database → Database → Type 0

@@ -1,9 +1,8 @@
 //! The row of `about`: the tables' version and the declarations.
-ghost use Rattle.std.specs.Prelude.{◌≡◌, ◌∷◌, [], false, IsTrue, IfErr, IfOk, List, None, OnOk, ℕ};
+ghost use Rattle.std.specs.Prelude.{◌≡◌, ◌∷◌, [], false, IsTrue, IfErr, IfOk, List, None, OnOk, Some, slice_get, ℕ};
 ghost use Rattle.sqlite.specs.State.{HasCleanDisk, KeepsCommit};
 ghost use Rattle.sqlite.specs.Held.{state};
-ghost use Rattle.sqlite_rules.specs.Lists.{Has};
-ghost use Rattle.fv_store_tables.specs.About.{HasTables, IsOfAbout, Redeclares, ShowsAbout, TellsAbout};
+ghost use Rattle.fv_store_tables.specs.About.{HasTables, Redeclares, ShowsAbout, ShowsFirst, TellsAbout};
 ghost use Rattle.fv_store_tables.specs.Causes.{IsExcused, IsShortAbout};
 ghost use Rattle.fv_store_tables.specs.Stands.{TableEntries, Frame, IsLive, IsSettled, TablesStand, Stays, about_row};
 ghost use Rattle.fv_store_tables.specs.Steps.{Advances, Inside};
@@ -24,8 +23,8 @@ pub fn read_about<S: Alter>(conn: &mut Connection<S>) -> Result<Vec<Row>, Error>
     ensures shown { HasCleanDisk (state S.Store conn.new)
         → IfOk result (λ rows. IsTrue (state S.Store conn.old).is_open
         × ((v : _) (d : _) → TellsAbout v d (state S.Store conn.old).now → ShowsAbout rows.items v d)) }
-    ensures of_rows { HasCleanDisk (state S.Store conn.new) → IfOk result (λ r. HasTables (state S.Store conn.old).now
-        → (row : _) → Has r.items row → IsOfAbout (state S.Store conn.old).now row) }
+    ensures first { HasCleanDisk (state S.Store conn.new) → IfOk result (λ rows. (row : _)
+        → slice_get rows.items 0 ≡ Some row → ShowsFirst (state S.Store conn.old) row) }
     ensures cause { HasCleanDisk (state S.Store conn.new) → conn.old.step_limit ≡ None
         → IfErr result (λ e. HasTables (state S.Store conn.old).now
         → IsExcused (state S.Store conn.old) (state S.Store conn.new) e) }

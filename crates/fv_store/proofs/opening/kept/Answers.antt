@@ -63,7 +63,16 @@ returns-then-not-is_first-clause-upgraded g c =
     (λ first. true≢false (sym (c.is_first.ensures.1 first) ∙ c.if-not-is_first.true))
 
 pub returns-clause-kept : goal.returns-clause-kept
-returns-clause-kept g c clean = (c.in_ok-about.about.version, c.in_ok-about.ensures.kept (c.migrate.ensures.frame.clean clean))
+returns-clause-kept g c clean =
+    let about = c.in_ok-about.about in
+    let late = c.migrate.ensures.frame.clean clean in (
+      about.version,
+      c.in_ok-about.ensures.kept late,
+      λ first.
+          (first_tables (state g.S.Store c.args.conn.now) (state g.S.Store c.stored.new.conn) about.version about.declarations.items late (c.in_ok-about.ensures.open late) (c.stored.ensures.untouched c.requires.settled) (c.has_first_tables.ensures.0 c.if-not-has_first_tables.false)
+          (c.in_ok-about.ensures.taken late) first).0,
+    )
 
 pub returns-then-not-is_first-clause-kept : goal.returns-then-not-is_first-clause-kept
-returns-then-not-is_first-clause-kept g c clean = (c.in_ok-about.about.version, c.in_ok-about.ensures.kept clean)
+returns-then-not-is_first-clause-kept g c clean =
+    (c.in_ok-about.about.version, c.in_ok-about.ensures.kept clean, λ first. absurd (true≢false (sym (c.is_first.ensures.1 first) ∙ c.if-not-is_first.true)))

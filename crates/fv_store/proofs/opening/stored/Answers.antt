@@ -1,18 +1,20 @@
+use Rattle.std.proofs.Common.{sym}
 use Rattle.sqlite.specs.Held.{state}
 use Rattle.fv_store.specs.Faults.{open_fault_of}
-use Rattle.fv_store.proofs.Openings.{kept_first, about_first, about_never, taken_all, caused_all, excused_all, is_refusal}
+use Rattle.fv_store.proofs.Openings.{about_had, about_first, about_never, taken_all, caused_all, excused_all, is_refusal}
 use Rattle.fv_store.proofs.Refusals.{handed_on}
 use Rattle.fv_store.specs.Stored.{about_view}
 use Rattle.fv_store.proofs.opening.stored.Goals as goal
 
 pub returns-in-Some-clause-taken : goal.returns-in-Some-clause-taken
 returns-in-Some-clause-taken g c clean =
-    taken_all about_view (state g.S.Store c.args.conn.now) c.about_in.result
+    taken_all (state g.S.Store c.args.conn.now) c.in-Some.row.now c.about_in.result c.about_in.ensures.taken
     (λ version d tells. c.about_in.ensures.told version d (about_first _ version d c.in-Some.row.now (rw (c.in-Some.is, c.deref.ensures.value) at c.first.ensures.value) ((c.in_ok-rows.ensures.shown clean).1 version d tells)))
 
 pub returns-in-Some-clause-cause : goal.returns-in-Some-clause-cause
 returns-in-Some-clause-cause g c clean filled =
-    caused_all about_view (state g.S.Store c.args.conn.now) c.about_in.result (c.in_ok-rows.ensures.shown clean).0 filled
+    caused_all about_view (state g.S.Store c.args.conn.now) c.in-Some.row.now c.about_in.result (c.in_ok-rows.ensures.shown clean).0 filled
+    (c.in_ok-rows.ensures.first clean c.in-Some.row.now (sym (rw (c.in-Some.is, c.deref.ensures.value) at c.first.ensures.value))) c.about_in.ensures.other
     (λ version d tells. c.about_in.ensures.told version d (about_first _ version d c.in-Some.row.now (rw (c.in-Some.is, c.deref.ensures.value) at c.first.ensures.value) ((c.in_ok-rows.ensures.shown clean).1 version d tells)))
 
 pub returns-in_err-rows-clause-store_known : goal.returns-in_err-rows-clause-store_known
@@ -31,5 +33,5 @@ returns-clause-store_known g c clean none version d tells is =
 
 pub returns-in-Some-clause-kept : goal.returns-in-Some-clause-kept
 returns-in-Some-clause-kept g c clean =
-    kept_first (state g.S.Store c.args.conn.now) _ c.in-Some.row.now c.about_in.result (rw (c.in-Some.is, c.deref.ensures.value) at c.first.ensures.value)
-    (c.in_ok-rows.ensures.of_rows clean) c.about_in.ensures.kept
+    about_had (state g.S.Store c.args.conn.now) c.in-Some.row.now c.about_in.result
+    (c.in_ok-rows.ensures.first clean c.in-Some.row.now (sym (rw (c.in-Some.is, c.deref.ensures.value) at c.first.ensures.value))) c.about_in.ensures.taken

@@ -3,30 +3,26 @@ use Rattle.sqlite.specs.Held.{state}
 use Rattle.sqlite.specs.State.{HasCleanDisk}
 use Rattle.fv_declare_schema.specs.Declarations.{Declarations}
 use Rattle.fv_bundle.specs.Types.{Declared, has_deep}
-use Rattle.fv_store.specs.Faults.{IsAboutFault, about_fault}
 use Rattle.fv_store.specs.Records.{Contents}
 use Rattle.fv_store.specs.Stands.{Opens}
+use Rattle.fv_store.specs.Stock.{stock_state}
 use Rattle.fv_store.specs.Steps.{IsUpgraded}
-use Rattle.fv_store.specs.declared.fault.OpenStoreFault.{OpenStoreFault}
+use Rattle.fv_store.specs.declared.fault.OpenStoreFault.TheVariants.{OtherVersion}
 use Rattle.fv_engine.proofs.DeclaredOnce.{same_contents}
 use Rattle.fv_engine.specs.Openings.{DeclaresSome, IsLeft}
 use Rattle.fv_engine.proofs.Openings.{left_by, memory_apart, store_alone, store_cause, text_alone, text_told}
 use Rattle.fv_engine.proofs.engine.Engine.open.Goals as goal
 
 pub returns-in-Err-open-clause-other_version : goal.returns-in-Err-open-clause-other_version
-returns-in-Err-open-clause-other_version g c = λ is. c.in-Err-open.ensures.other_version (store_cause c.in-Err-open.fault _ _ c.store_fault.ensures.memory c.store_fault.ensures.other is)
+returns-in-Err-open-clause-other_version g c = λ is clean.
+    let other = store_cause c.in-Err-open.fault _ _ c.store_fault.ensures.memory c.store_fault.ensures.other is in
+    let it = c.in-Err-open.ensures.refused other clean in
+    (it.0, it.1, c.in-Err-open.ensures.other_version other clean)
 
 pub returns-in-Err-open-clause-store : goal.returns-in-Err-open-clause-store
 returns-in-Err-open-clause-store g c = λ is clean outside able.
     let fails = store_cause c.in-Err-open.fault _ _ c.store_fault.ensures.memory c.store_fault.ensures.other is in
-    elim able [
-      | inl tells ↦ c.in-Err-open.ensures.store_known fails clean outside tells.0 tells.1 tells.2 tells.3
-      | inr (inl first) ↦ c.in-Err-open.ensures.store_first fails clean outside first.0 first.1 first.2 first.3 first.4 first.5 first.6
-      | inr (inr blank) ↦ c.in-Err-open.ensures.store_blank fails clean outside blank.0 blank.1
-    ]
-
-pub returns-in-Ok-in_force-clause-kept : goal.returns-in-Ok-in_force-clause-kept
-returns-in-Ok-in_force-clause-kept g c = record { still = c.in-Ok-open.ensures.still; upgraded = c.in-Ok-open.ensures.upgraded }
+    c.in-Err-open.ensures.store fails clean outside able
 
 pub returns-in-Err-open-clause-left : goal.returns-in-Err-open-clause-left
 returns-in-Err-open-clause-left g c = inl c.in-Err-open.ensures.untouched
@@ -40,16 +36,11 @@ returns-in-Err-open-clause-refused g c = λ fault is. absurd (store_alone c.in-E
 pub returns-in-Err-open-clause-memory : goal.returns-in-Err-open-clause-memory
 returns-in-Err-open-clause-memory g c = memory_apart c.in-Err-open.fault _ c.store_fault.ensures.memory c.store_fault.ensures.other
 
-pub returns-in-Err-open-clause-cause : goal.returns-in-Err-open-clause-cause
-returns-in-Err-open-clause-cause g c = λ fault is about clean version d tables.
-    let same : c.in-Err-open.fault ≡ fault = store_cause c.in-Err-open.fault fault _ c.store_fault.ensures.memory c.store_fault.ensures.other is in
-    subst (λ (f : OpenStoreFault). about_fault version ≡ Some f) same
-    (c.in-Err-open.ensures.refused (subst IsAboutFault (sym same) about) clean version d tables)
-
 pub returns-in-Ok-in_force-clause-in_force : goal.returns-in-Ok-in_force-clause-in_force
 returns-in-Ok-in_force-clause-in_force g c = record {
   opened = λ clean k opens. c.in-Ok-open.ensures.in_force clean k opens;
   told = λ clean version d tells. c.in-Ok-open.ensures.taken clean version d tells;
+  shown = λ clean filled. c.in-Ok-open.ensures.kept clean filled;
 }
 
 pub returns-in-Ok-in_force-clause-opened : goal.returns-in-Ok-in_force-clause-opened
@@ -68,7 +59,11 @@ returns-in-Err-in_force-clause-refused g c = λ fault is.
       (_, rw c.in-Ok.ensures at c.in-Ok-read_rulebook.ensures.taken),
       (
         _,
-        record { opened = λ clean k opens. c.in-Ok-open.ensures.in_force (subst (λ s. HasCleanDisk (state g.S.Store s)) c.into_connection.ensures.same clean) k opens; told = λ clean version d tells. c.in-Ok-open.ensures.taken (subst (λ s. HasCleanDisk (state g.S.Store s)) c.into_connection.ensures.same clean) version d tells },
+        record {
+          opened = λ clean k opens. c.in-Ok-open.ensures.in_force (subst (λ s. HasCleanDisk (state g.S.Store s)) c.into_connection.ensures.same clean) k opens;
+          told = λ clean version d tells. c.in-Ok-open.ensures.taken (subst (λ s. HasCleanDisk (state g.S.Store s)) c.into_connection.ensures.same clean) version d tells;
+          shown = λ clean filled. c.in-Ok-open.ensures.kept (subst (λ s. HasCleanDisk (state g.S.Store s)) c.into_connection.ensures.same clean) filled;
+        },
         told,
       ),
       subst (λ s. IsUpgraded old (state g.S.Store s)) (sym c.into_connection.ensures.same) c.in-Ok-open.ensures.upgraded,
@@ -76,6 +71,9 @@ returns-in-Err-in_force-clause-refused g c = λ fault is.
 
 pub returns-in-Err-in_force-clause-stays : goal.returns-in-Err-in_force-clause-stays
 returns-in-Err-in_force-clause-stays g c = λ k shallow opens. inr (inl (c.into_connection.ensures.holds k (c.in-Ok-open.ensures.opened k shallow opens)))
+
+pub returns-in-Err-in_force-clause-other_version : goal.returns-in-Err-in_force-clause-other_version
+returns-in-Err-in_force-clause-other_version g c = λ is. absurd (text_alone _ c.in-Err-in_force.fault OtherVersion c.in-Err-in_force.ensures.refused.1 is)
 
 pub returns-in-Err-in_force-clause-left : goal.returns-in-Err-in_force-clause-left
 returns-in-Err-in_force-clause-left g c =
@@ -85,5 +83,5 @@ returns-in-Err-in_force-clause-left g c =
     let known = g.R.RuleSet.known c.args.rules in
     let some : DeclaresSome known c.args.declarations.now = (_, rw c.in-Ok.ensures at c.in-Ok-read_rulebook.ensures.taken) in
     subst (λ s. IsLeft known c.args.declarations.now old (state g.S.Store s) fault) (sym c.into_connection.ensures.same)
-    (left_by known c.args.declarations.now old _ fault some (c.in-Ok-open.ensures.still (λ blank. told.0 (c.declarations.ensures ∙ c.in-Ok-open.ensures.fresh blank))) c.in-Ok-open.ensures.upgraded
+    (left_by known c.args.declarations.now old (stock_state g.S.Store c.in-Ok-open.store) fault some (c.in-Ok-open.ensures.still (λ blank. told.0 (c.declarations.ensures ∙ c.in-Ok-open.ensures.fresh blank))) c.in-Ok-open.ensures.upgraded
     (λ f is. text_alone _ fault f told.1 is))

@@ -1,6 +1,7 @@
-use Rattle.std.proofs.Common.{refl}
+use Rattle.std.proofs.Common.{refl, sym, ◌∙◌}
 use Rattle.sqlite.specs.Held.{state}
-use Rattle.fv_store.proofs.Openings.{unlimited, opens_ok, opens_err, opens_text, opens_version}
+use Rattle.fv_store.specs.declared.fault.OpenStoreFault.TheVariants.{OtherVersion}
+use Rattle.fv_store.proofs.Openings.{caused_unlimited, either_taken, no_version, taken_unlimited, unlimited, opens_ok, opens_err, opens_text, opens_version}
 use Rattle.fv_store.proofs.store.Store.open.Goals as goal
 
 pub returns-in-Ok-clause-frame : goal.returns-in-Ok-clause-frame
@@ -28,12 +29,15 @@ pub returns-in-Ok-clause-taken : goal.returns-in-Ok-clause-taken
 returns-in-Ok-clause-taken g c clean = rw c.set_step_limit.ensures at (c.in-Ok.ensures.taken clean)
 
 pub returns-in-Err-clause-refused : goal.returns-in-Err-clause-refused
-returns-in-Err-clause-refused g c fault clean = (rw c.set_step_limit.ensures at (c.in-Err.ensures.cause clean fault)).2
+returns-in-Err-clause-refused g c is clean =
+    let it = caused_unlimited (state g.S.Store c.args.connection) OtherVersion (rw is at (rw c.set_step_limit.ensures at (c.in-Err.ensures.cause clean))) tt in
+    (it.2, λ version d tells either. no_version (sym (either_taken version either) ∙ it.3 version d tells))
 
 pub returns-in-Err-clause-other_version : goal.returns-in-Err-clause-other_version
 returns-in-Err-clause-other_version g c is clean k =
     let same = c.set_step_limit.ensures in
-    opens_version (state g.S.Store c.args.connection) c.args.declarations.now k ((rw same at c.settle.ensures.frame).clean clean) (rw is at (rw same at (c.in-Err.ensures.cause clean)))
+    opens_version (state g.S.Store c.args.connection) c.args.declarations.now k ((rw same at c.settle.ensures.frame).clean clean)
+    (caused_unlimited (state g.S.Store c.args.connection) OtherVersion (rw is at (rw same at (c.in-Err.ensures.cause clean))))
 
 pub returns-in-Err-clause-untouched : goal.returns-in-Err-clause-untouched
 returns-in-Err-clause-untouched g c = rw c.set_step_limit.ensures at c.in-Err.ensures.untouched
@@ -43,23 +47,13 @@ returns-in-Err-clause-stays g c =
     let is = c.set_step_limit.ensures in
     opens_err (state g.S.Store c.args.connection) (state g.S.Store c.settle.new.conn) (unlimited _ _ (rw is at c.settle.ensures.frame)) (rw is at c.in-Err.ensures.untouched) c.args.declarations.now
 
-pub returns-in-Err-clause-store_known : goal.returns-in-Err-clause-store_known
-returns-in-Err-clause-store_known g c is clean outside version d tells second =
+pub returns-in-Err-clause-store : goal.returns-in-Err-clause-store
+returns-in-Err-clause-store g c is clean outside able =
     let same = c.set_step_limit.ensures in
-    (rw same at (c.in-Err.ensures.store_known clean)) outside refl version d tells second is
-
-pub returns-in-Err-clause-store_first : goal.returns-in-Err-clause-store_first
-returns-in-Err-clause-store_first g c is clean outside d m keeps all short rows few =
-    let same = c.set_step_limit.ensures in
-    (rw same at (c.in-Err.ensures.store_first clean)) outside refl d m keeps all short rows few is
+    (rw same at (c.in-Err.ensures.store clean)) outside refl able is
 
 pub returns-in-Ok-clause-upgraded : goal.returns-in-Ok-clause-upgraded
 returns-in-Ok-clause-upgraded g c = rw c.set_step_limit.ensures at c.in-Ok.ensures.upgraded
-
-pub returns-in-Err-clause-store_blank : goal.returns-in-Err-clause-store_blank
-returns-in-Err-clause-store_blank g c is clean outside blank short =
-    let same = c.set_step_limit.ensures in
-    (rw same at (c.in-Err.ensures.store_blank clean)) outside refl blank short is
 
 pub returns-in-Ok-clause-fresh : goal.returns-in-Ok-clause-fresh
 returns-in-Ok-clause-fresh g c blank = ((rw c.set_step_limit.ensures at c.in-Ok.ensures.fresh) blank).0
@@ -68,4 +62,5 @@ pub returns-in-Ok-clause-still : goal.returns-in-Ok-clause-still
 returns-in-Ok-clause-still g c = rw c.set_step_limit.ensures at c.in-Ok.ensures.still
 
 pub returns-in-Ok-clause-kept : goal.returns-in-Ok-clause-kept
-returns-in-Ok-clause-kept g c clean = rw c.set_step_limit.ensures at (c.in-Ok.ensures.kept clean)
+returns-in-Ok-clause-kept g c clean filled =
+    taken_unlimited (state g.S.Store c.args.connection) c.in-Ok.declarations.items ((rw c.set_step_limit.ensures at (c.in-Ok.ensures.kept clean)) filled)
