@@ -260,6 +260,22 @@ def later_version(folder):
         look(f"version 3 behind {beside}, replies", ran.stdout, "")
         look(f"version 3 behind {beside}, record", rows(file, "record"), records)
 
+    def about(version, declarations):
+        base = sqlite3.connect(file)
+        base.execute("UPDATE about SET version = ?, declarations = ?", (version, declarations))
+        base.commit()
+        base.close()
+
+    about(3, "kept in another way")
+    ended("version 3 whose declarations are text", serve(good, file), 4, "formd: store: OtherVersion\n")
+    about(2, DECLARATIONS)
+    ended("version 2 whose declarations are text", serve(good, file), 4, "formd: store: Store\n")
+    about(2, DECLARATIONS.encode())
+    ran = serve(good, file, '{"do":"get","id":"r0"}\n')
+    ended("version 2 with a table and a view more", ran, 0, "")
+    shown = '{"bundle":{"objects":{"a":{"fields":{"t":"x"},"type":"T"}},"root":"a"},"form":"f","id":"r0","ok":"get"}\n'
+    look("version 2 with a table and a view more, replies", ran.stdout, shown)
+
 
 def redeclare(text):
     return json.dumps({"do": "redeclare", "text": text})

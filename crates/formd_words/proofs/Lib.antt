@@ -1,4 +1,5 @@
 pub mod Failed
+pub mod Formed
 pub mod Refused
 pub mod Rehearsed
 pub mod Writes

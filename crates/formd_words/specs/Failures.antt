@@ -29,7 +29,8 @@ failure_status _ = 4
 
 -- the text on standard error
 abbrev pub failure_text : Failure → List ℕ
-failure_text failure.NotUtf8 = codes "error: invalid UTF-8 was detected in one or more arguments\n\nUsage: formd [COMMAND]\n\nFor more information, try '--help'.\n"
+failure_text failure.NotUtf8 = codes "error: invalid UTF-8 was detected in one or more arguments\n\n"
+    ++ codes "Usage: formd [COMMAND]\n\nFor more information, try '--help'.\n"
 failure_text failure.Unreadable = codes "formd: cannot read declarations\n"
 failure_text failure.CannotOpen = codes "formd: cannot open database\n"
 failure_text (failure.Declarations fault) =
@@ -93,6 +94,11 @@ IsRefused faulty broke (failure.Declarations fault) = faulty fault
 IsRefused faulty broke failure.Write = broke
 IsRefused faulty broke failure.Memory = ⊤
 IsRefused faulty broke _ = ⊥
+
+-- the same, or no form of that name is declared, where this holds
+abbrev pub IsRefusedForForm : (DeclFault → Type 0) → Type 0 → Type 0 → Failure → Type 0
+IsRefusedForForm faulty unknown broke failure.UnknownForm = unknown
+IsRefusedForForm faulty unknown broke other = IsRefused faulty broke other
 
 -- Serving lines failed: a read, where this holds; a write or the flush, where that does; or before, where the last does. Words and forms aren't asked.
 abbrev pub IsUnserved : Type 0 → Type 0 → Type 0 → Failure → Type 0

@@ -1,4 +1,5 @@
 pub mod Answering
 pub mod FaultNames
 pub mod Failures
+pub mod Refused
 pub mod Rehearsals

@@ -28,7 +28,8 @@ impl From<ExportFault> for Failure {
 }
 
 /// Writes the declarations in force and the records of the database at a path, as command lines. It is
-/// opened as it is to be served, so that nobody else has it meanwhile, and not changed.
+/// opened as it is to be served, so that nobody else has it meanwhile; that migrates one of version 1, and
+/// nothing else is changed.
 ///
 /// Refused as a database not opened, also where no file is there or it is empty, then by the fault of
 /// the database, then by that of the declarations that it keeps, then as not written or as a store that

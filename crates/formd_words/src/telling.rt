@@ -4,7 +4,8 @@ ghost use Rattle.std.specs.List.{flat_map};
 ghost use Rattle.fv_declare_judging.specs.Declares.{Declares};
 ghost use Rattle.fv_engine_lines.specs.Lines.{ended};
 ghost use Rattle.fv_engine_lines.specs.Writes.{Breaks, Sends};
-ghost use Rattle.fv_explain.specs.Explained.{TellsFault, TellsLimits};
+ghost use Rattle.fv_explain.specs.Explained.{TellsFault, TellsLines};
+ghost use Rattle.formd_words.specs.Refused.{TellsRefused};
 ghost use Rattle.formd_words.specs.Failures.{IsRefused};
 
 use crate::failure::Failure;
@@ -25,9 +26,9 @@ pub(crate) fn tell<R: RuleSet, W: Output>(
     registry: &R,
     output: &mut W,
 ) -> Result<(), Failure>
-    // Their lines were written, at the end the limits that they use.
+    // Their lines were written.
     ensures taken { OnOk result ((ds : _) × Declares (R.known registry.now) text.now (Ok ds) × ((lines : List (List ℕ))
-        × TellsLimits as_json ds lines × Sends W.contents W.takes W.flushes output.old output.new (flat_map ended lines))) }
+        × TellsLines as_json ds lines × Sends W.contents W.takes W.flushes output.old output.new (flat_map ended lines))) }
     // The line of their fault was.
     ensures refused { IfErr result (IsRefused (λ fault. Declares (R.known registry.now) text.now (Err fault)
         × ((lines : List (List ℕ)) × TellsFault as_json fault lines
@@ -54,7 +55,8 @@ pub(crate) fn schema_of<R: RuleSet, W: Output>(
     ensures taken { IfOk result (λ schema. Declares (R.known registry.now) text.now (Ok schema)) }
     ensures unwritten { OnOk result (output.new ≡ output.old) }
     ensures refused { IfErr result (IsRefused (λ fault. Declares (R.known registry.now) text.now (Err fault)
-        × ((lines : List (List ℕ)) × Sends W.contents W.takes W.flushes output.old output.new (flat_map ended lines)))
+        × ((lines : List (List ℕ)) × TellsRefused (R.known registry.now) text.now as_json fault lines
+        × Sends W.contents W.takes W.flushes output.old output.new (flat_map ended lines)))
         ((lines : List (List ℕ)) × Breaks W.contents W.takes W.fails output.old output.new (flat_map ended lines))) }
 {
     match read_schema(alloc, registry, text) {

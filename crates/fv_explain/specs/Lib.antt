@@ -1,2 +1,3 @@
+pub mod Adding
 pub mod Explained
 pub mod Lines

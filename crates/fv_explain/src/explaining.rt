@@ -1,7 +1,9 @@
-ghost use Rattle.std.specs.Prelude.{◌≡◌, false, None, Ok, Err, IfOk, IfSome, map, string_bytes};
+ghost use Rattle.std.specs.Prelude.{◌≡◌, ℕ, List, false, None, Ok, Err, All, IfOk, IfSome, OnOk, map, string_bytes};
 ghost use Rattle.fv_declare_judging.specs.Declares.{Declares};
 ghost use Rattle.fv_declare_schema.specs.Declarations.{Declarations};
-ghost use Rattle.fv_explain.specs.Explained.{IsFaultLine, TellsFault, TellsLimits};
+ghost use Rattle.fv_explain.specs.Adding.{Adds};
+ghost use Rattle.fv_explain.specs.Lines.{line_text};
+ghost use Rattle.fv_explain.specs.Explained.{IsFaultLine, IsWarning, TellsDeclared, TellsFault, TellsLimits, TellsLines};
 
 use crate::declared::{add_constraints, add_forms, add_groups, limits};
 use crate::lines::{ExplainedLine, Lines, text_of};
@@ -35,6 +37,28 @@ fn places_of(alloc: Global, draft: &Draft) -> Told<Vec<String>> {
     Ok(places)
 }
 
+/// The line of a warning.
+fn warning_line(warning: &Found) -> ExplainedLine
+    ensures { IsWarning (line_text result) }
+{
+    ExplainedLine::Warning {
+        place: warning.place.as_str(),
+        text: warning.text.as_str(),
+    }
+}
+
+/// Adds the lines of warnings.
+fn add_warnings(lines: &mut Lines, warned: &[Found]) -> Written
+    ensures { OnOk result ((more : List (List ℕ)) × Adds lines.old more lines.new
+        × (lines.old.json ≡ false → All IsWarning more)) }
+{
+    for warning in warned {
+        let line = warning_line(warning);
+        lines.add(&line)?;
+    }
+    Ok(())
+}
+
 /// Adds the lines of a draft that is taken, and of its warnings.
 fn add_draft<R: RuleSet>(
     lines: &mut Lines,
@@ -42,15 +66,18 @@ fn add_draft<R: RuleSet>(
     schema: &Schema,
     draft: &Draft,
     bytes: &[u8],
-) -> Written {
+) -> Written
+    ensures { OnOk result ((more : List (List ℕ)) × Adds lines.old more lines.new
+        × TellsDeclared lines.old.json schema.now more) }
+{
     let places = places_of(lines.alloc, draft)?;
     add_constraints(lines, schema, &draft.messages, &places)?;
     add_groups(lines, schema.groups())?;
     add_forms(lines, schema)?;
-    for warning in &warnings(lines.alloc, rules, schema, bytes, draft, &places)? {
-        let (place, text) = (warning.place.as_str(), warning.text.as_str());
-        lines.add(&ExplainedLine::Warning { place, text })?;
-    }
+    add_warnings(
+        lines,
+        &warnings(lines.alloc, rules, schema, bytes, draft, &places)?,
+    )?;
     Ok(())
 }
 
@@ -63,7 +90,8 @@ fn taken_lines<R: RuleSet>(
     bytes: &[u8],
     json: bool,
 ) -> Told<Vec<String>>
-    ensures { IfOk result (λ lines. TellsLimits json schema.now (map string_bytes lines.items)) }
+    ensures lines { IfOk result (λ lines. TellsLines json schema.now (map string_bytes lines.items)) }
+    ensures limits { IfOk result (λ lines. TellsLimits json schema.now (map string_bytes lines.items)) }
 {
     let value = read_json(alloc, bytes).map_err(|_| Untold::Memory)?;
     let draft = draft_of(alloc, &value)?.ok_or(Untold::Absent)?;
@@ -109,6 +137,10 @@ pub fn explain<R: RuleSet>(
     ensures taken { IfOk result (λ e. e.fault ≡ None
         → ((s : Declarations) × Declares (R.known rules.now) bytes.now (Ok s))) }
     ensures refused { IfOk result (λ e. IfSome e.fault (λ f. Declares (R.known rules.now) bytes.now (Err f))) }
+    // Each use of a constraint has its lines, each declared group and each form has one, and warnings are behind.
+    ensures lines { IfOk result (λ e. e.fault ≡ None
+        → ((s : Declarations) × Declares (R.known rules.now) bytes.now (Ok s)
+        × TellsLines json s (map string_bytes e.lines.items))) }
     // At the end are the limits that the declarations use.
     ensures limits { IfOk result (λ e. e.fault ≡ None
         → ((s : Declarations) × Declares (R.known rules.now) bytes.now (Ok s)

@@ -1,6 +1,7 @@
 //! The lines of an explanation, as plain text or as JSON objects.
-ghost use Rattle.std.specs.Prelude.{◌≡◌, false, IfOk, IfSome, string_bytes};
+ghost use Rattle.std.specs.Prelude.{◌≡◌, ◌∷◌, [], ℕ, List, false, IfOk, OnOk, string_bytes};
 ghost use Rattle.fv_explain.specs.Lines.{line_text};
+ghost use Rattle.fv_explain.specs.Adding.{Adds};
 
 use fv_datum::{Attribute, Attrs};
 use fv_explain_faults::{Quoted, Told, Untold, Written};
@@ -54,8 +55,21 @@ impl fmt::Display for Attributes<'_> {
 struct Joined<'a>(&'a [&'a str], &'a str);
 
 impl fmt::Display for Joined<'_> {
+    ghost use Rattle.std.specs.Prelude.{Some};
+    ghost use Rattle.fv_explain.specs.Lines.{joined, names_in};
+
+    ghost output = { λ names. Some (joined names.1.now (names_in names.0.now)) };
+
     fn fmt<W: fmt::Write>(&self, f: &mut fmt::Formatter<W>) -> fmt::Result {
-        f.write_joined(self.0.iter().copied(), self.1)
+        let Some((first, others)) = self.0.split_first() else {
+            return Ok(());
+        };
+        f.write_str(first)?;
+        for other in others {
+            f.write_str(self.1)?;
+            f.write_str(other)?;
+        }
+        Ok(())
     }
 }
 
@@ -86,6 +100,12 @@ pub(crate) struct UseLine<'a> {
     pub(crate) attributes: Attributes<'a>,
     pub(crate) groups: Vec<&'a str>,
     pub(crate) message: String,
+    /// The attributes as plain text.
+    #[serde(skip)]
+    pub(crate) in_effect: String,
+    /// The message as plain text.
+    #[serde(skip)]
+    pub(crate) quoted: String,
 }
 
 /// A constraint that a used one is composed of.
@@ -103,6 +123,12 @@ pub(crate) struct PartLine<'a> {
     #[serde(skip)]
     pub(crate) reported_name: &'a str,
     pub(crate) message: String,
+    /// The attributes as plain text.
+    #[serde(skip)]
+    pub(crate) in_effect: String,
+    /// The message as plain text.
+    #[serde(skip)]
+    pub(crate) quoted: String,
 }
 
 /// A form: the types that are validated with the root, and those that only plain references lead to.
@@ -155,49 +181,108 @@ pub(crate) enum ExplainedLine<'a> {
     Limits(LimitsLine),
 }
 
-/// The plain text of a form, but for what only plain references lead to.
-fn write_form<W: fmt::Write>(f: &mut fmt::Formatter<W>, line: &FormLine) -> fmt::Result {
-    let (name, root, groups) = (line.name, line.root, Joined(&line.groups, ", "));
-    let (valid, plain) = (Joined(&line.valid, ", "), Joined(&line.plain, ", "));
-    write!(f, "form {name}: root {root}; groups {groups}")?;
-    write!(f, "; reaches {valid} through valid")?;
-    if line.plain.is_empty() {
-        return Ok(());
+impl fmt::Display for UseLine<'_> {
+    ghost use Rattle.std.specs.Prelude.{Some};
+    ghost use Rattle.fv_explain.specs.Lines.{use_line_text};
+
+    ghost output = { λ line. Some (use_line_text line) };
+
+    fn fmt<W: fmt::Write>(&self, f: &mut fmt::Formatter<W>) -> fmt::Result {
+        let (groups, message) = (Joined(&self.groups, ", "), self.quoted.as_str());
+        write!(f, "{} {} {}", self.number, self.place, self.constraint)?;
+        write!(f, "{} groups {groups} message {message}", self.in_effect)
     }
-    write!(f, "; may hold {plain} by plain references")
 }
 
-/// The plain text of a constraint that another is composed of.
-fn write_part<W: fmt::Write>(f: &mut fmt::Formatter<W>, line: &PartLine) -> fmt::Result {
-    let (number, message) = (line.number, Quoted(line.message.as_str()));
-    write!(f, "  {number} {}{}", line.constraint, line.attributes)?;
-    match line.reported {
-        None => f.write_str(" asks nothing itself"),
-        Some(other) if other == number => write!(f, " message {message}"),
-        Some(other) => write!(f, " reported as {other} {}", line.reported_name),
+/// As which constraint one is reported that a used one is composed of, or with which message.
+#[derive(Clone, Copy)]
+struct Reported<'a>(&'a PartLine<'a>);
+
+impl fmt::Display for Reported<'_> {
+    ghost use Rattle.std.specs.Prelude.{Some};
+    ghost use Rattle.fv_explain.specs.Lines.{reported_text};
+
+    ghost output = { λ line. Some (reported_text line.0.now) };
+
+    fn fmt<W: fmt::Write>(&self, f: &mut fmt::Formatter<W>) -> fmt::Result {
+        let line = self.0;
+        match line.reported {
+            None => f.write_str(" asks nothing itself"),
+            Some(other) if other == line.number => { write!(f, " message {}", line.quoted) }
+            Some(other) => write!(f, " reported as {other} {}", line.reported_name),
+        }
+    }
+}
+
+impl fmt::Display for PartLine<'_> {
+    ghost use Rattle.std.specs.Prelude.{Some};
+    ghost use Rattle.fv_explain.specs.Lines.{part_line_text};
+
+    ghost output = { λ line. Some (part_line_text line) };
+
+    fn fmt<W: fmt::Write>(&self, f: &mut fmt::Formatter<W>) -> fmt::Result {
+        write!(
+            f,
+            "  {} {}{}{}",
+            self.number,
+            self.constraint,
+            self.in_effect,
+            Reported(self)
+        )
+    }
+}
+
+/// What only plain references lead to; nothing where there is none.
+#[derive(Clone, Copy)]
+struct Held<'a>(&'a [&'a str]);
+
+impl fmt::Display for Held<'_> {
+    ghost use Rattle.std.specs.Prelude.{Some};
+    ghost use Rattle.fv_explain.specs.Lines.{held_text, names_in};
+
+    ghost output = { λ held. Some (held_text (names_in held.0.now)) };
+
+    fn fmt<W: fmt::Write>(&self, f: &mut fmt::Formatter<W>) -> fmt::Result {
+        if self.0.is_empty() {
+            return Ok(());
+        }
+        write!(f, "; may hold {} by plain references", Joined(self.0, ", "))
+    }
+}
+
+impl fmt::Display for FormLine<'_> {
+    ghost use Rattle.std.specs.Prelude.{Some};
+    ghost use Rattle.fv_explain.specs.Lines.{form_line_text};
+
+    ghost output = { λ line. Some (form_line_text line) };
+
+    fn fmt<W: fmt::Write>(&self, f: &mut fmt::Formatter<W>) -> fmt::Result {
+        let (name, root, groups) = (self.name, self.root, Joined(&self.groups, ", "));
+        let (valid, plain) = (Joined(&self.valid, ", "), Held(&self.plain));
+        write!(
+            f,
+            "form {name}: root {root}; groups {groups}; reaches {valid} through valid{plain}"
+        )
     }
 }
 
 impl fmt::Display for ExplainedLine<'_> {
+    ghost use Rattle.std.specs.Prelude.{Some};
     ghost use Rattle.fv_explain.specs.Lines.{line_text};
 
-    ghost output = { line_text };
+    ghost output = { λ line. Some (line_text line) };
 
     fn fmt<W: fmt::Write>(&self, f: &mut fmt::Formatter<W>) -> fmt::Result {
         match self {
-            ExplainedLine::Constraint(line) => {
-                let (groups, message) = (Joined(&line.groups, ", "), Quoted(line.message.as_str()));
-                write!(f, "{} {} {}", line.number, line.place, line.constraint)?;
-                write!(f, "{} groups {groups} message {message}", line.attributes)
-            }
-            ExplainedLine::Part(line) => write_part(f, line),
+            ExplainedLine::Constraint(line) => line.fmt(f),
+            ExplainedLine::Part(line) => line.fmt(f),
             ExplainedLine::Group { name, inherits } => {
                 write!(f, "group {name}: {}", Joined(inherits, ", "))
             }
             ExplainedLine::Sequence { name, sequence } => {
                 write!(f, "group {name}: first {}", Joined(sequence, ", then "))
             }
-            ExplainedLine::Form(line) => write_form(f, line),
+            ExplainedLine::Form(line) => line.fmt(f),
             ExplainedLine::Warning { place, text } => write!(f, "warning: {place}: {text}"),
             ExplainedLine::Fault {
                 code,
@@ -216,7 +301,7 @@ impl fmt::Display for ExplainedLine<'_> {
 
 /// A line as plain text, or with `json` as a JSON object.
 pub(crate) fn text_of(alloc: Global, json: bool, line: &ExplainedLine) -> Told<String>
-    ensures { IfOk result (λ s. json ≡ false → IfSome (line_text line.now) (λ text. string_bytes s ≡ text)) }
+    ensures { IfOk result (λ s. json ≡ false → string_bytes s ≡ line_text line.now) }
 {
     if json {
         serde_json::to_string(alloc, line).map_err(|_| Untold::Memory)
@@ -235,7 +320,10 @@ pub(crate) struct Lines {
 
 impl Lines {
     /// Adds a line.
-    pub(crate) fn add(&mut self, line: &ExplainedLine) -> Written {
+    pub(crate) fn add(&mut self, line: &ExplainedLine) -> Written
+        ensures { OnOk result ((told : List ℕ) × Adds self.old (told ∷ []) self.new
+            × (self.old.json ≡ false → told ≡ line_text line.now)) }
+    {
         Ok(self.texts.push(text_of(self.alloc, self.json, line)?)?)
     }
 }

@@ -1,0 +1,7 @@
+mod AddLemmas
+mod Fronts
+mod ItemLemmas
+mod MemberLemmas
+mod Sames
+mod ToldLemmas
+mod Zips

@@ -1,1 +1,6 @@
+pub mod Adding
+pub mod Changes
 pub mod Lines
+pub mod Misfits
+pub mod Places
+pub mod Same

@@ -5,6 +5,7 @@
 mod differing;
 mod lines;
 mod narrowed;
+mod same;
 mod telling;
 
 pub use telling::{Compared, Declared, tell_over};

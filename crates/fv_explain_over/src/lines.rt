@@ -1,6 +1,8 @@
 //! The lines of a comparison, as plain text or as JSON objects.
-ghost use Rattle.std.specs.Prelude.{◌≡◌, false, IfOk, string_bytes};
+ghost use Rattle.std.specs.Prelude.{◌≡◌, false, IfOk, map, string_bytes};
+ghost use Rattle.std.specs.Fmt.{WritesOnOk};
 ghost use Rattle.fv_explain_over.specs.Lines.{line_text};
+ghost use Rattle.fv_explain_over.specs.Places.{inside, item, place_of, quoted, quoted_character};
 
 use fv_datum::is_name;
 use serde::Serialize;
@@ -15,7 +17,9 @@ pub(crate) type Written = Result<(), AllocError>;
 struct Quoted<'a>(&'a str);
 
 /// Writes a character of a JSON string.
-fn write_character<W: fmt::Write>(f: &mut fmt::Formatter<W>, character: char) -> fmt::Result {
+fn write_character<W: fmt::Write>(f: &mut fmt::Formatter<W>, character: char) -> fmt::Result
+    ensures { WritesOnOk W.write_str_gives f.old result (quoted_character character) f.new }
+{
     match character {
         '"' => f.write_str("\\\""),
         '\\' => f.write_str("\\\\"),
@@ -27,19 +31,34 @@ fn write_character<W: fmt::Write>(f: &mut fmt::Formatter<W>, character: char) ->
     }
 }
 
+/// Writes a text as a JSON string.
+fn write_quoted<W: fmt::Write>(f: &mut fmt::Formatter<W>, text: &str) -> fmt::Result
+    ensures { WritesOnOk W.write_str_gives f.old result (quoted text.now) f.new }
+{
+    f.write_char('"')?;
+    for character in text.chars() {
+        write_character(f, character)?;
+    }
+    f.write_char('"')
+}
+
 impl fmt::Display for Quoted<'_> {
+    ghost use Rattle.std.specs.Prelude.{Some};
+    ghost use Rattle.fv_explain_over.specs.Lines.{line_text};
+    ghost use Rattle.fv_explain_over.specs.Places.{quoted};
+
+    ghost output = { λ text. Some (quoted text.0.now) };
+
     fn fmt<W: fmt::Write>(&self, f: &mut fmt::Formatter<W>) -> fmt::Result {
-        f.write_char('"')?;
-        for character in self.0.chars() {
-            write_character(f, character)?;
-        }
-        f.write_char('"')
+        write_quoted(f, self.0)
     }
 }
 
 /// The place of a member of what stands at a place. A name that is none stands in brackets, another behind a dot,
 /// unless it is the first.
-pub(crate) fn inside(alloc: Global, place: &str, name: &str) -> Result<String, AllocError> {
+pub(crate) fn inside(alloc: Global, place: &str, name: &str) -> Result<String, AllocError>
+    ensures { IfOk result (λ s. string_bytes s ≡ inside place.now name.now) }
+{
     if !is_name(name) {
         return format!(in alloc; "{place}[{}]", Quoted(name));
     }
@@ -50,12 +69,16 @@ pub(crate) fn inside(alloc: Global, place: &str, name: &str) -> Result<String, A
 }
 
 /// The place of an item of the array that stands at a place.
-pub(crate) fn item(alloc: Global, place: &str, index: usize) -> Result<String, AllocError> {
+pub(crate) fn item(alloc: Global, place: &str, index: usize) -> Result<String, AllocError>
+    ensures { IfOk result (λ s. string_bytes s ≡ item place.now index) }
+{
     format!(in alloc; "{place}[{index}]")
 }
 
 /// The place that members lead to.
-pub(crate) fn place_of(alloc: Global, names: &[&str]) -> Result<String, AllocError> {
+pub(crate) fn place_of(alloc: Global, names: &[&str]) -> Result<String, AllocError>
+    ensures { IfOk result (λ s. string_bytes s ≡ place_of (map (λ name. name.now) names.now)) }
+{
     let mut place = String::new(alloc);
     for name in names {
         place = inside(alloc, place.as_str(), name)?;

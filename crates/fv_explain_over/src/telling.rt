@@ -1,8 +1,11 @@
 //! What declarations change over others, in lines.
-ghost use Rattle.std.specs.Prelude.{◌≡◌, ◌↔◌, ◌++◌, ℕ, [], false, All, IsTrue, IfOk, List, OnOk, length, map, string_bytes};
+ghost use Rattle.std.specs.Prelude.{◌≡◌, ◌↔◌, ◌++◌, ℕ, [], false, IsTrue, IfOk, List, OnOk, length, map, string_bytes};
+ghost use Rattle.std.specs.List.{AllZip};
 ghost use Rattle.fv_bundle.specs.Names.{object_types_view};
 ghost use Rattle.fv_bundle.specs.TypesView.{types_view};
-ghost use Rattle.fv_explain_over.specs.Lines.{IsMisfit, IsTold, records_text};
+ghost use Rattle.fv_explain_over.specs.Lines.{IsTold, records_text};
+ghost use Rattle.fv_explain_over.specs.Misfits.{IsMisfit};
+ghost use Rattle.serde_json.specs.View.{view};
 ghost use Rattle.fv_widening.specs.Narrowed.{narrowed};
 ghost use Rattle.fv_widening.specs.Widens.{Widens};
 
@@ -54,7 +57,9 @@ fn add_misfits(
     found: &[Narrowed],
 ) -> Result<(), AllocError>
     ensures { OnOk result ((told : List (List ℕ)) × (map string_bytes lines.new.items
-        ≡ map string_bytes lines.old.items ++ told) × (length told ≡ length found.now) × (json ≡ false → All IsMisfit told)) }
+        ≡ map string_bytes lines.old.items ++ told) × (length told ≡ length found.now)
+        × (json ≡ false → AllZip (IsMisfit (types_view old.entry.types.now) (object_types_view old.entry.forms.now)
+        (types_view new.entry.types.now)) found.now told)) }
 {
     for narrowed in found {
         let misfit = misfit_of(alloc, old, new, *narrowed)?;
@@ -80,8 +85,9 @@ pub fn tell_over(
     ensures exact { IfOk result (λ told. IsTrue told.fit
         ↔ (narrowed (types_view old.entry.types.now) (object_types_view old.entry.forms.now)
         (types_view new.entry.types.now) (object_types_view new.entry.forms.now) ≡ [])) }
-    // The changes, a line for each narrowing, and whether all fit.
-    ensures lines { IfOk result (λ told. IsTold json told.fit
+    // The changes, the line of each narrowing, and whether all fit.
+    ensures lines { IfOk result (λ told. IsTold json (view old.entry.value.now) (view new.entry.value.now)
+        (types_view old.entry.types.now) (object_types_view old.entry.forms.now) (types_view new.entry.types.now) told.fit
         (narrowed (types_view old.entry.types.now) (object_types_view old.entry.forms.now)
         (types_view new.entry.types.now) (object_types_view new.entry.forms.now))
         (map string_bytes told.lines.items)) }
