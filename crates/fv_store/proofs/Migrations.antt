@@ -15,8 +15,8 @@ use Rattle.fv_store.specs.declared.fault.OpenStoreFault.{OpenStoreFault}
 use Rattle.fv_store.specs.declared.fault.OpenStoreFault.TheVariants as refusal
 use Rattle.fv_store.specs.Causes.{HasFailed, IsShortAbout}
 use Rattle.fv_store.specs.Faults.{upgrade_fault}
-use Rattle.fv_store.specs.Stands.{Frame, are_first, IsBlank, MayBeFirst, KeepsFirst, Stays, first_version, HasFirstTables, TellsAbout}
-use Rattle.fv_store.specs.Steps.{FailsByDisk, IsOpenExcused, IsTaken, IsTakenAs, IsUpgraded}
+use Rattle.fv_store.specs.Stands.{Frame, are_first, HasAbout, IsBlank, MayBeFirst, KeepsFirst, Stays, first_version, HasFirstTables, TellsAbout}
+use Rattle.fv_store.specs.Steps.{FailsByDisk, IsOpenExcused, IsTaken, IsTakenAs, IsUnread, IsUnreadOrFirst, IsUpgraded}
 use Rattle.fv_store.proofs.Openings.{blank_lacks}
 
 -- what is read leaves the rows of version 1
@@ -31,8 +31,10 @@ pub first_only : (s : State) (number : ℤ) (text : List ℕ) → IsTakenAs s nu
 first_only s number text taken first version stored tells = sym (taken version stored tells).1 ∙ first
 
 -- and the tables that were counted are those that were there before the row was read
-pub first_tables : (old mid : State) (number : ℤ) (text : List ℕ) → HasCleanDisk mid → IsTrue mid.is_open → Stays old mid → HasFirstTables mid.now → IsTakenAs old number text → number ≡ pos first_version → MayBeFirst old.now
-first_tables old mid number text clean live stays two taken first = (subst HasFirstTables (stays clean live).2 two, first_only old number text taken first)
+pub first_tables : (old mid : State) (number : ℤ) (text : List ℕ) → HasCleanDisk mid → IsTrue mid.is_open → Stays old mid → HasFirstTables mid.now → IsTakenAs old number text → HasAbout old number text → number ≡ pos first_version
+    → MayBeFirst old
+first_tables old mid number text clean live stays two taken has first =
+    (subst HasFirstTables (stays clean live).2 two, (text, subst (λ (n : ℤ). HasAbout old n text) first has), first_only old number text taken first)
 
 first_shape : IsTrue (are_first old_schema.tables && (nat_eq (length old_schema.indexes) 1 && nat_eq (length old_schema.views) 0))
 unfolding same_name
@@ -90,7 +92,21 @@ fails_filled old new given (Err e) filled known first = λ able. elim able [
   | inr (inr blank) ↦ absurd (filled blank.0)
 ]
 
--- and what is blank has tables of neither
+-- what can't be read, or has been read as version 1
+pub unread_or_first : {X : Type 0} (old new : State) (r : Result X OpenStoreFault) → IfErr r (λ e. e ≡ refusal.Store → IsUnread old new)
+    → IfErr r (λ e. e ≡ refusal.Store → IsUnreadOrFirst old new)
+unread_or_first old new (Ok x) h = tt
+unread_or_first old new (Err e) h = λ is. inl (h is)
+
+pub as_first : (old new : State) (number : ℤ) (text : List ℕ) → HasAbout old number text → number ≡ pos first_version → IsUnreadOrFirst old new
+as_first old new number text has first = inr (text, subst (λ (n : ℤ). HasAbout old n text) first has)
+
+-- what holds of a refusal for the store holds over a database that isn't blank
+pub if_filled : {X : Type 0} (P Q : Type 0) (r : Result X OpenStoreFault) → IfErr r (λ e. e ≡ refusal.Store → P) → IfErr r (λ e. e ≡ refusal.Store → Q → P)
+if_filled P Q (Ok x) h = tt
+if_filled P Q (Err e) h = λ is q. h is
+
+-- what is blank has tables of neither version
 pub fails_blank : (old new : State) (given : List ℕ) → HasCleanDisk old → IsBlank old.now → (IsShortAbout given → HasFailed old new) → FailsByDisk old given → HasFailed old new
 fails_blank old new given clean blank fails (inl tells) = absurd (blank_lacks old.now blank tells.2.0)
 fails_blank old new given clean blank fails (inr (inr short)) = fails short.1

@@ -6,17 +6,18 @@ use Rattle.sqlite.specs.declared.error.Error.{Error}
 use Rattle.sqlite.specs.Effect.{Database}
 use Rattle.sqlite.specs.Order.{Row, column}
 use Rattle.sqlite.specs.declared.types.Value.TheVariants.{Int, Blob}
-use Rattle.sqlite.specs.State.{State, Begins, HasCleanDisk}
+use Rattle.sqlite.specs.State.{State, Begins, HasCleanDisk, Shown}
 use Rattle.fv_datum.specs.Outcomes.{Gives, unless_fault}
 use Rattle.fv_store.specs.declared.fault.OpenStoreFault.{OpenStoreFault}
 use Rattle.fv_store.specs.declared.fault.OpenStoreFault.TheVariants.{OtherVersion, Store, Memory}
+use Rattle.fv_store.specs.Causes.{HasFailed}
 use Rattle.fv_store.specs.Faults.{about_fault, open_fault_of, IsAboutFault}
 use Rattle.fv_store.specs.Records.{Kept, Records, Contents, AllFit, no_records, with_records}
-use Rattle.fv_store_tables.specs.About.{HasTables, ShowsAbout, shown_about}
+use Rattle.fv_store_tables.specs.About.{HasTables, ShowsAbout, about_query, shown_about}
 use Rattle.fv_store_tables.specs.Tables.{store_schema}
 use Rattle.fv_store.specs.declared.about.About.{About}
 use Rattle.fv_store.specs.Stands.{Frame, Stands, StandsFirst, HoldsRecords, HoldsFirst, Opens, HasAbout, IsBlank, IsEither, IsTakenWith, MayBeFirst, ShowsFirst, Stays, TellsAbout, about_rows, first_version, olds, tables_version}
-use Rattle.fv_store.specs.Steps.{Keeps, IsTaken, IsTakenAs, IsCaused, IsRefusal, IsOpenExcused, IsUpgraded}
+use Rattle.fv_store.specs.Steps.{CausesStore, FailsByDisk, Keeps, IsTaken, IsTakenAs, IsCaused, IsRefusal, IsOpenExcused, IsUnread, IsUnreadOrFirst, IsUpgraded}
 use Rattle.fv_store.specs.Stored.{Told, about_view, told}
 use Rattle.fv_store.proofs.Upgraded.{upgraded_olds}
 use Rattle.fv_bundle.specs.Types.{has_deep}
@@ -31,13 +32,35 @@ first_unlimited : (s : State) (row : Row) → ShowsFirst (record s { step_limit 
 unfolding Begins
 first_unlimited s row h = (h.0, record { is = h.1.is; whole = h.1.whole; given = h.1.given; now = h.1.now }, h.2, h.3, h.4, h.5)
 
+pub about_unlimited : (s : State) (version : ℤ) (text : List ℕ) → HasAbout (record s { step_limit = None }) version text → HasAbout s version text
+about_unlimited s version text h = (h.0, (h.1.0, first_unlimited s h.1.0 h.1.1, h.1.2, h.1.3))
+
 pub taken_unlimited : (s : State) (text : List ℕ) → IsTakenWith text (record s { step_limit = None }) → IsTakenWith text s
-taken_unlimited s text h = (h.0, (h.1.0, (h.1.1.0, first_unlimited s h.1.1.0 h.1.1.1, h.1.1.2, h.1.1.3)), h.2)
+taken_unlimited s text h = (h.0, about_unlimited s h.0 text h.1, h.2)
+
+pub still_unlimited : (s new : State) → ((IsBlank s.now → ⊥) → Stays (record s { step_limit = None }) new ⊎ (HasCleanDisk new → MayBeFirst (record s { step_limit = None })))
+    → (IsBlank s.now → ⊥) → Stays s new ⊎ (HasCleanDisk new → MayBeFirst s)
+still_unlimited s new still filled = elim (still filled) [
+  | inl stays ↦ inl stays
+  | inr first ↦ inr (λ clean. let it = first clean in (it.0, (it.1.0, about_unlimited s (pos first_version) it.1.0 it.1.1), it.2))
+]
 
 pub caused_unlimited : (s : State) (e : OpenStoreFault) → IsCaused (record s { step_limit = None }) e → IsCaused s e
 caused_unlimited s e h = λ fault.
     let it = h fault in
     (it.0, it.1, (it.2.0, it.2.1, first_unlimited s it.2.1 it.2.2, it.2.3, it.2.4), it.3)
+
+-- why an open tells Store, by what is known where the steps have no limit
+pub causes_store : (old new : State) (given : List ℕ) → (FailsByDisk old given → HasFailed old new) → ((IsBlank old.now → ⊥) → IsUnreadOrFirst (record old { step_limit = None }) new) → CausesStore old new given
+causes_store old new given fails unread = record {
+  second = λ version kept tells other. fails (inl (version, kept, tells, other));
+  first = λ kept m keeps all short rows few. fails (inr (inl (kept, m, keeps, all, short, rows, few)));
+  blank = λ blank short. fails (inr (inr (blank, short)));
+  other = λ filled. elim (unread filled) [
+    | inl unread ↦ inl unread
+    | inr first ↦ inr (first.0, about_unlimited old (pos first_version) first.0 first.1)
+  ];
+}
 
 -- ---- the row of `about`
 
@@ -58,6 +81,18 @@ about_first (r ∷ rows) version d row some h = let same : row ≡ r = cc in sam
 pub about_never : (rows : List Row) (version : ℤ) (d : List ℕ) → None ≡ slice_get rows 0 → ShowsAbout rows version d → ⊥
 about_never [] version d none h = h
 about_never (row ∷ rows) version d none h = absurd cc
+
+-- a row that isn't read is why it is unread
+pub odd_unread : {X : Type 0} (old new : State) (row : Row) (r : Answer X) → ShowsFirst old row
+    → IfErr r (λ e. e ≡ Store → (version : ℤ) → column row 0 ≡ Int version → IsEither version × ((stored : List ℕ) → column row 1 ≡ Blob stored → ⊥))
+    → IfErr r (λ e. e ≡ Store → IsUnread old new)
+odd_unread old new row (Ok x) shows h = tt
+odd_unread old new row (Err e) shows h = λ is. inr (inr (row, shows, h is))
+
+-- a query that shows no row
+pub none_unread : (old new : State) (rows : List Row) → None ≡ slice_get rows 0 → Shown about_query [] old new rows → IsUnread old new
+none_unread old new [] none shown = inr (inl shown)
+none_unread old new (row ∷ rows) none shown = absurd cc
 
 -- what is read of the first row that is shown
 pub about_had : (s : State) (row : Row) (r : Answer About) → ShowsFirst s row → IfOk r (λ a. IsEither a.version × (column row 0 ≡ Int a.version) × (column row 1 ≡ Blob a.declarations.items))
@@ -170,16 +205,16 @@ module _ (old new : State) (frame : Frame old new) where
   holds_still stays k = holds_after old new k k.records frame (stays k.bytes k.records) (λ fit. fit)
 
   -- what stands by version 2 stays
-  holds_stays : ((IsBlank old.now → ⊥) → Stays old new ⊎ (HasCleanDisk new → MayBeFirst old.now)) → (k : Contents) → HoldsRecords old k → HoldsRecords new k
+  holds_stays : ((IsBlank old.now → ⊥) → Stays old new ⊎ (HasCleanDisk new → MayBeFirst old)) → (k : Contents) → HoldsRecords old k → HoldsRecords new k
   holds_stays still k holds sure live =
       let was = holds (frame.clean sure) (frame.was_open sure live) in
       at was (still (λ blank. never_blank old.now blank was.0.spells.schema))
     where
-      at : Stands old.now k × Stands old.committed k → Stays old new ⊎ (HasCleanDisk new → MayBeFirst old.now) → Stands new.now k × Stands new.committed k
+      at : Stands old.now k × Stands old.committed k → Stays old new ⊎ (HasCleanDisk new → MayBeFirst old) → Stands new.now k × Stands new.committed k
       at was (inl stays) =
           let it = stays sure live in
           (subst (λ db. Stands db k) (sym it.2) was.0, subst (λ db. Stands db k) (sym it.3) was.1)
-      at was (inr first) = absurd (second_is_not_first ((first sure).1 (pos tables_version) k.bytes (tells_second k was.0)))
+      at was (inr first) = absurd (second_is_not_first ((first sure).2 (pos tables_version) k.bytes (tells_second k was.0)))
 
   -- and what stands by version 1 is migrated
   holds_first : IsUpgraded old new → (k : Contents) → has_deep k.types ≡ false → HoldsFirst old k → HoldsRecords new k
@@ -192,7 +227,7 @@ module _ (old new : State) (frame : Frame old new) where
       )
 
   -- what is opened over a blank database, or over one that stands, stands
-  pub opens_ok : (given text : List ℕ) → (IsBlank old.now → (text ≡ given) × Keeps new given no_records) → ((IsBlank old.now → ⊥) → Stays old new ⊎ (HasCleanDisk new → MayBeFirst old.now))
+  pub opens_ok : (given text : List ℕ) → (IsBlank old.now → (text ≡ given) × Keeps new given no_records) → ((IsBlank old.now → ⊥) → Stays old new ⊎ (HasCleanDisk new → MayBeFirst old))
       → IsUpgraded old new → (k : Contents) → has_deep k.types ≡ false → Opens old given k → HoldsRecords new k
   opens_ok given text fresh still made k shallow (inr (inl holds)) = holds_stays still k holds
   opens_ok given text fresh still made k shallow (inr (inr holds)) = holds_first made k shallow holds

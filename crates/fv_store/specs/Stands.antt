@@ -33,8 +33,7 @@ about_rows declarations = tables.about_row tables_version declarations ∷ []
 abbrev pub Spells : Database → List ℕ → Writings → Type 0
 Spells db declarations ws = tables.TablesStand db (about_rows declarations) (entries ws)
 
--- The tables, with the declarations, and with what is written of each record: a row of `record` for it and a row of `object` for each of its
--- objects. Each record fits.
+-- the tables, with the declarations and what is written of each record, a row of `record` and one of `object` for each of its objects, and each fits
 pub record Stands (db : Database) (c : Contents) : Type 0 where
   pub spells : tables.TablesStand db (about_rows c.bytes) (λ id. option_map entry_of (writings c.records id))
   pub fit : AllFit c
@@ -84,25 +83,26 @@ are_first _ = false
 abbrev pub HasFirstTables : Database → Type 0
 HasFirstTables db = IsTrue (are_first db.schema.tables && (nat_eq (length db.schema.indexes) 1 && nat_eq (length db.schema.views) 0))
 
--- it may be of version 1: tables and columns are named as there, and if they are those tables, `about` tells version 1
-abbrev pub MayBeFirst : Database → Type 0
-MayBeFirst db = HasFirstTables db × ((version : ℤ) (stored : List ℕ) → TellsAbout version stored db → version ≡ pos first_version)
-
 -- ---- opening
 
 -- the versions of tables that are taken: one is migrated, the other is served
 abbrev pub IsEither : ℤ → Type 0
 IsEither version = (version ≡ pos first_version) ⊎ (version ≡ pos tables_version)
 
--- whatever the tables are, `about` shows a version first that is taken, and these declarations
+-- whatever the tables are, `about` shows this version, which is taken, and these declarations
 abbrev pub HasAbout : State → ℤ → List ℕ → Type 0
 HasAbout s version declarations = IsEither version × ((row : Row) × ShowsFirst s row × (column row 0 ≡ Int version) × (column row 1 ≡ Raw declarations))
 
--- whatever the tables are, `about` shows a version first that isn't taken
+-- it may be of version 1: tables and columns are named as there, and `about` shows that version, and no other if they are those tables
+abbrev pub MayBeFirst : State → Type 0
+MayBeFirst s = HasFirstTables s.now × ((declarations : List ℕ) × HasAbout s (pos first_version) declarations)
+    × ((version : ℤ) (stored : List ℕ) → TellsAbout version stored s.now → version ≡ pos first_version)
+
+-- whatever the tables are, `about` shows a version that isn't taken
 abbrev pub HasOtherAbout : State → Type 0
 HasOtherAbout s = (version : ℤ) × (row : Row) × ShowsFirst s row × (column row 0 ≡ Int version) × (IsEither version → ⊥)
 
--- the declarations of a database that isn't empty: those that `about` shows, and in version 1 tables and columns are named as there
+-- the declarations of a database that isn't blank: those that `about` shows, and in version 1 tables and columns are named as there
 abbrev pub IsTakenWith : List ℕ → State → Type 0
 IsTakenWith declarations s = (version : ℤ) × HasAbout s version declarations × (version ≡ pos first_version → HasFirstTables s.now)
 

@@ -1,10 +1,16 @@
--- What changes do to a database, and a migration: for private clauses, but for `IsUpgraded`, `FailsByDisk` and what `kept_declarations` is stated by.
+-- What changes do to a database, and a migration: for private clauses, but for `IsUpgraded`, `CausesStore` and what `kept_declarations` is stated by.
 pub use Rattle.fv_store_tables.specs.Causes.{IsRefusal, IsExcused}
 pub use Rattle.fv_store_tables.specs.Stands.{IsSettled}
 pub use Rattle.fv_store_tables.specs.Steps.{Advances, Inside}
-use Rattle.std.specs.Prelude.{◌≡◌, ◌≢◌, ◌⊎◌, ℕ, ℤ, pos, IsTrue, List, Some}
+use Rattle.std.specs.Prelude.{◌≡◌, ◌≢◌, ◌⊎◌, ℕ, ℤ, pos, IsTrue, List, [], None, Some}
+use Rattle.sqlite.specs.declared.error.Error.{Error}
+use Rattle.sqlite.specs.declared.error.Error.TheVariants.{SqliteFailure}
+use Rattle.sqlite.specs.declared.error.ErrorCode.TheVariants.{OutOfMemory}
+use Rattle.sqlite.specs.declared.types.Value.TheVariants.{Int, Blob as Raw}
 use Rattle.sqlite.specs.Effect.{Database}
-use Rattle.sqlite.specs.State.{State, HasCleanDisk}
+use Rattle.sqlite.specs.Order.{Row, column}
+use Rattle.sqlite.specs.State.{State, FailsToQuery, HasCleanDisk, Shown}
+use Rattle.fv_store_tables.specs.About.{ShowsFirst, about_query}
 use Rattle.fv_store_tables.specs.Olds.{Olds}
 use Rattle.fv_store_tables.specs.Stands as tables
 use Rattle.fv_store_upgrade.specs.Upgraded.{AllShort, AllUpgrade, HasFew, upgraded}
@@ -13,7 +19,7 @@ use Rattle.fv_store.specs.Changes.{after_all}
 use Rattle.fv_store.specs.Causes.{HasFailed, IsShortAbout, LeavesRoom, rows_of_all}
 use Rattle.fv_store.specs.Faults.{about_fault, IsAboutFault}
 use Rattle.fv_store.specs.Records.{Records}
-use Rattle.fv_store.specs.Stands.{about_rows, first_version, HasOtherAbout, Spells, IsBlank, IsEither, KeepsFirst, TellsAbout}
+use Rattle.fv_store.specs.Stands.{about_rows, first_version, HasAbout, HasOtherAbout, Spells, IsBlank, IsEither, KeepsFirst, TellsAbout}
 use Rattle.fv_store.specs.Written.{writings, entries}
 use Rattle.fv_store.specs.declared.fault.OpenStoreFault.{OpenStoreFault}
 use Rattle.fv_store.specs.declared.fault.OpenStoreFault.TheVariants as refusal
@@ -61,3 +67,22 @@ FailsByDisk old given =
     ((version : ℤ) × (kept : List ℕ) × TellsAbout version kept old.now × (version ≢ pos first_version))
     ⊎ ((kept : List ℕ) × (m : Olds) × KeepsFirst old kept m × AllUpgrade m × IsShortAbout kept × AllShort (upgraded m) × HasFew m)
     ⊎ (IsBlank old.now × IsShortAbout given)
+
+-- `about` gives nothing, whatever the tables are: the query is refused for them or by the disk; it shows no row; or it shows one without a number of
+-- a version first, or with one that is taken and no bytes behind it
+abbrev pub IsUnread : State → State → Type 0
+IsUnread old new = ((e : Error) × (e ≢ SqliteFailure OutOfMemory) × FailsToQuery about_query [] old new e) ⊎ (Shown about_query [] old new []
+    ⊎ ((row : Row) × ShowsFirst old row
+    × ((version : ℤ) → column row 0 ≡ Int version → IsEither version × ((declarations : List ℕ) → column row 1 ≡ Raw declarations → ⊥))))
+
+-- the same of a database that isn't blank, or it shows version 1
+abbrev pub IsUnreadOrFirst : State → State → Type 0
+IsUnreadOrFirst old new = IsUnread old new ⊎ ((kept : List ℕ) × HasAbout old (pos first_version) kept)
+
+-- Why Store is told outside a transaction: the disk alone, where tables tell another version than 1, where records of 1 are short and few, and for
+-- short declarations over a blank database; and over any other, whatever its tables are, `about` is unread, or shows version 1.
+pub record CausesStore (old new : State) (given : List ℕ) : Type 0 where
+  pub second : (version : ℤ) (kept : List ℕ) → TellsAbout version kept old.now → version ≢ pos first_version → HasFailed old new
+  pub first : (kept : List ℕ) (m : Olds) → KeepsFirst old kept m → AllUpgrade m → IsShortAbout kept → AllShort (upgraded m) → HasFew m → HasFailed old new
+  pub blank : IsBlank old.now → IsShortAbout given → HasFailed old new
+  pub other : (IsBlank old.now → ⊥) → IsUnread (record old { step_limit = None }) new ⊎ ((kept : List ℕ) × HasAbout old (pos first_version) kept)

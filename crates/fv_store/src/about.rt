@@ -44,6 +44,8 @@ pub(crate) fn about_in(row: &Row) -> Result<About, OpenStoreFault>
         × (column row.now 1 ≡ Raw a.declarations.items)) }
     ensures other { IfErr result (λ e. IsAboutFault e
         → (version : ℤ) × (column row.now 0 ≡ Int version) × (IsEither version → ⊥)) }
+    ensures store { IfErr result (λ e. e ≡ OpenStoreFault.Store → (version : ℤ) → column row.now 0 ≡ Int version
+        → IsEither version × ((stored : List ℕ) → column row.now 1 ≡ Raw stored → ⊥)) }
 {
     let version: i64 = row.get(0)?;
     if version != FIRST_VERSION && version != VERSION {

@@ -5,7 +5,7 @@ ghost use Rattle.sqlite.specs.Held.{state};
 ghost use Rattle.fv_store.specs.Causes.{IsShortAbout};
 ghost use Rattle.fv_store.specs.Records.{no_records};
 ghost use Rattle.fv_store.specs.Stands.{are_columns, are_first, first_version, Frame, HasFirstTables, HasAbout, IsBlank, IsLive, IsTakenWith, MayBeFirst, KeepsFirst, Stays, TellsAbout};
-ghost use Rattle.fv_store.specs.Steps.{FailsByDisk, Keeps, IsSettled, IsTaken, IsTakenAs, IsCaused, IsExcused, IsOpenExcused, IsUpgraded};
+ghost use Rattle.fv_store.specs.Steps.{FailsByDisk, Keeps, IsSettled, IsTaken, IsTakenAs, IsCaused, IsExcused, IsOpenExcused, IsUnread, IsUnreadOrFirst, IsUpgraded};
 ghost use Rattle.fv_store_tables.specs.Olds.{Olds};
 ghost use Rattle.fv_store_upgrade.specs.Upgraded.{AllShort, AllUpgrade, HasFew, upgraded};
 
@@ -103,6 +103,8 @@ fn stored<S: Alter>(conn: &mut Connection<S>) -> Result<About, OpenStoreFault>
         → IfOk result (λ a. HasAbout (state S.Store conn.old) a.version a.declarations.items) }
     ensures cause { HasCleanDisk (state S.Store conn.new) → (IsBlank (state S.Store conn.old).now → ⊥)
         → IfErr result (IsCaused (state S.Store conn.old)) }
+    ensures unread { HasCleanDisk (state S.Store conn.new) → IfErr result (λ e. e ≡ OpenStoreFault.Store
+        → IsUnread (state S.Store conn.old) (state S.Store conn.new)) }
     ensures store_known { HasCleanDisk (state S.Store conn.new) → conn.old.step_limit ≡ None
         → IfErr result (λ e. (version : _) (d : _) → TellsAbout version d (state S.Store conn.old).now
         → IsOpenExcused (state S.Store conn.old) (state S.Store conn.new) e) }
@@ -130,6 +132,8 @@ pub fn kept_declarations<S: Alter>(conn: &mut Connection<S>) -> Result<Vec<u8>, 
         → IfOk result (λ v. (version : _) × HasAbout (state S.Store conn.old) version v.items) }
     ensures cause { HasCleanDisk (state S.Store conn.new) → (IsBlank (state S.Store conn.old).now → ⊥)
         → IfErr result (IsCaused (state S.Store conn.old)) }
+    ensures unread { HasCleanDisk (state S.Store conn.new) → IfErr result (λ e. e ≡ OpenStoreFault.Store
+        → IsUnread (state S.Store conn.old) (state S.Store conn.new)) }
     ensures store_known { HasCleanDisk (state S.Store conn.new) → conn.old.step_limit ≡ None
         → IfErr result (λ e. (version : _) (d : _) → TellsAbout version d (state S.Store conn.old).now
         → IsOpenExcused (state S.Store conn.old) (state S.Store conn.new) e) }
@@ -148,7 +152,7 @@ fn kept<S: Alter>(conn: &mut Connection<S>, alloc: Global) -> Result<Vec<u8>, Op
     ensures limit { conn.new.step_limit ≡ conn.old.step_limit }
     ensures open { OnOk result (IsLive (state S.Store conn.new)) }
     ensures still { OnOk result (Stays (state S.Store conn.old) (state S.Store conn.new)
-        ⊎ (HasCleanDisk (state S.Store conn.new) → MayBeFirst (state S.Store conn.old).now)) }
+        ⊎ (HasCleanDisk (state S.Store conn.new) → MayBeFirst (state S.Store conn.old))) }
     ensures upgraded { OnOk result (IsUpgraded (state S.Store conn.old) (state S.Store conn.new)) }
     ensures taken { HasCleanDisk (state S.Store conn.new)
         → IfOk result (λ v. IsTaken (state S.Store conn.old) v.items) }
@@ -157,6 +161,8 @@ fn kept<S: Alter>(conn: &mut Connection<S>, alloc: Global) -> Result<Vec<u8>, Op
     ensures untouched { OnErr result (Stays (state S.Store conn.old) (state S.Store conn.new)) }
     ensures cause { HasCleanDisk (state S.Store conn.new) → (IsBlank (state S.Store conn.old).now → ⊥)
         → IfErr result (IsCaused (state S.Store conn.old)) }
+    ensures unread { HasCleanDisk (state S.Store conn.new) → IfErr result (λ e. e ≡ OpenStoreFault.Store
+        → IsUnreadOrFirst (state S.Store conn.old) (state S.Store conn.new)) }
     ensures store_known { HasCleanDisk (state S.Store conn.new) → conn.old.step_limit ≡ None
         → IfErr result (λ e. (version : _) (d : _) → TellsAbout version d (state S.Store conn.old).now
         → (version ≡ pos first_version → ⊥) → IsOpenExcused (state S.Store conn.old) (state S.Store conn.new) e) }
@@ -192,7 +198,7 @@ pub(crate) fn settle<S: Alter>(
         → (v.items ≡ declarations.now) × Keeps (state S.Store conn.new) declarations.now no_records) }
     ensures still { OnOk result ((IsBlank (state S.Store conn.old).now → ⊥)
         → Stays (state S.Store conn.old) (state S.Store conn.new)
-        ⊎ (HasCleanDisk (state S.Store conn.new) → MayBeFirst (state S.Store conn.old).now)) }
+        ⊎ (HasCleanDisk (state S.Store conn.new) → MayBeFirst (state S.Store conn.old))) }
     ensures upgraded { OnOk result (IsUpgraded (state S.Store conn.old) (state S.Store conn.new)) }
     ensures taken { HasCleanDisk (state S.Store conn.new)
         → IfOk result (λ v. IsTaken (state S.Store conn.old) v.items) }
@@ -201,6 +207,9 @@ pub(crate) fn settle<S: Alter>(
     ensures untouched { OnErr result (Stays (state S.Store conn.old) (state S.Store conn.new)) }
     ensures cause { HasCleanDisk (state S.Store conn.new)
         → IfErr result (IsCaused (state S.Store conn.old)) }
+    ensures unread { HasCleanDisk (state S.Store conn.new) → conn.old.in_transaction ≡ false
+        → IfErr result (λ e. e ≡ OpenStoreFault.Store → (IsBlank (state S.Store conn.old).now → ⊥)
+        → IsUnreadOrFirst (state S.Store conn.old) (state S.Store conn.new)) }
     ensures store { HasCleanDisk (state S.Store conn.new) → conn.old.in_transaction ≡ false
         → conn.old.step_limit ≡ None → IfErr result (λ e. FailsByDisk (state S.Store conn.old) declarations.now
         → IsOpenExcused (state S.Store conn.old) (state S.Store conn.new) e) }

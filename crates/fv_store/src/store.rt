@@ -9,7 +9,7 @@ ghost use Rattle.fv_bundle.specs.WellTyped.{IsWellTyped};
 ghost use Rattle.fv_store.specs.Causes.{AreShort, HasFailed, HasRooms, IsShortAbout, LeavesRoom, rows_of_all};
 ghost use Rattle.fv_store.specs.Changes.{changed, ChangesFit};
 ghost use Rattle.fv_store.specs.Stands.{Frame, HasOtherAbout, HoldsRecords, IsBlank, IsEither, IsLive, IsTakenWith, MayBeFirst, Opens, Stays, TellsAbout};
-ghost use Rattle.fv_store.specs.Steps.{FailsByDisk, IsUpgraded};
+ghost use Rattle.fv_store.specs.Steps.{CausesStore, IsUpgraded};
 ghost use Rattle.fv_store.specs.Stock.{stock_state};
 ghost use Rattle.fv_store.specs.Lists.{Lists, ListsOf};
 ghost use Rattle.fv_store.specs.Records.{AllFit, Contents};
@@ -90,7 +90,7 @@ impl<S: Alter + Drop> Store<S> {
         // What is neither empty nor of version 1 is left as it was.
         ensures still { IfOk result (λ s. (IsBlank (state S.Store connection).now → ⊥)
             → Stays (state S.Store connection) (stock_state S.Store s)
-            ⊎ (HasCleanDisk (stock_state S.Store s) → MayBeFirst (state S.Store connection).now)) }
+            ⊎ (HasCleanDisk (stock_state S.Store s) → MayBeFirst (state S.Store connection))) }
         // Whatever texts its rows have, one of version 1 is migrated only where each is a bundle by its form.
         ensures upgraded { IfOk result (λ s. IsUpgraded (state S.Store connection) (stock_state S.Store s)) }
         ensures taken { IfOk result (λ s. HasCleanDisk (stock_state S.Store s) → (version : _) (d : _)
@@ -105,8 +105,8 @@ impl<S: Alter + Drop> Store<S> {
         ensures other_version { IfErr result (λ e. e.0 ≡ OpenStoreFault.OtherVersion → HasCleanDisk (state S.Store e.1)
             → (c : _) → Opens (state S.Store connection) declarations.now c → ⊥) }
         ensures store { IfErr result (λ e. e.0 ≡ OpenStoreFault.Store → HasCleanDisk (state S.Store e.1)
-            → connection.in_transaction ≡ false → FailsByDisk (state S.Store connection) declarations.now
-            → HasFailed (state S.Store connection) (state S.Store e.1)) }
+            → connection.in_transaction ≡ false
+            → CausesStore (state S.Store connection) (state S.Store e.1) declarations.now) }
         ensures untouched { IfErr result (λ e. Stays (state S.Store connection) (state S.Store e.1)) }
         ensures stays { IfErr result (λ e. (c : _) → Opens (state S.Store connection) declarations.now c
             → Opens (state S.Store e.1) declarations.now c) }

@@ -30,7 +30,7 @@ ShowsAbout (row ∷ rows) version declarations = row ≡ shown_about version dec
 abbrev pub about_query : List ℕ
 about_query = codes "SELECT version, declarations FROM about"
 
--- the first row that it shows, whatever tables there are
+-- a row that an answer to it begins with, whatever tables there are: where `about` has one row, that row
 abbrev pub ShowsFirst : State → Row → Type 0
 ShowsFirst s row = Begins about_query [] s (row ∷ [])
 

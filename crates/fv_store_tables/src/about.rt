@@ -1,8 +1,8 @@
 //! The row of `about`: the tables' version and the declarations.
 ghost use Rattle.std.specs.Prelude.{◌≡◌, ◌∷◌, [], false, IsTrue, IfErr, IfOk, List, None, OnOk, Some, slice_get, ℕ};
-ghost use Rattle.sqlite.specs.State.{HasCleanDisk, KeepsCommit};
+ghost use Rattle.sqlite.specs.State.{FailsToQuery, HasCleanDisk, KeepsCommit, Shown};
 ghost use Rattle.sqlite.specs.Held.{state};
-ghost use Rattle.fv_store_tables.specs.About.{HasTables, Redeclares, ShowsAbout, ShowsFirst, TellsAbout};
+ghost use Rattle.fv_store_tables.specs.About.{HasTables, Redeclares, ShowsAbout, ShowsFirst, TellsAbout, about_query};
 ghost use Rattle.fv_store_tables.specs.Causes.{IsExcused, IsShortAbout};
 ghost use Rattle.fv_store_tables.specs.Stands.{TableEntries, Frame, IsLive, IsSettled, TablesStand, Stays, about_row};
 ghost use Rattle.fv_store_tables.specs.Steps.{Advances, Inside};
@@ -13,15 +13,18 @@ const READ_ABOUT: &str = "SELECT version, declarations FROM about";
 
 const WRITE_ABOUT: &str = "UPDATE about SET declarations = ?1";
 
-/// The rows that show the version and the declarations: one, whichever of the two versions the tables have.
-/// Refused by `OutOfMemory`, and else only where the disk failed or the connection was shut before, if there is one.
+/// The rows that `about_query` shows: the version and the declarations, one row in tables of either version.
+/// Refused by `OutOfMemory`, and else, in such tables, only where the disk failed or the connection was shut before.
 pub fn read_about<S: Alter>(conn: &mut Connection<S>) -> Result<Vec<Row>, Error>
     ensures mode { conn.old.in_transaction ≡ false → conn.new.in_transaction ≡ false }
     ensures frame { Frame (state S.Store conn.old) (state S.Store conn.new) }
     ensures limit { conn.new.step_limit ≡ conn.old.step_limit }
     ensures open { OnOk result (IsLive (state S.Store conn.new)) }
-    ensures shown { HasCleanDisk (state S.Store conn.new)
-        → IfOk result (λ rows. IsTrue (state S.Store conn.old).is_open
+    ensures ok { HasCleanDisk (state S.Store conn.new) → IfOk result (λ rows.
+        Shown about_query [] (state S.Store conn.old) (state S.Store conn.new) rows.items) }
+    ensures err { HasCleanDisk (state S.Store conn.new)
+        → IfErr result (FailsToQuery about_query [] (state S.Store conn.old) (state S.Store conn.new)) }
+    ensures shown { HasCleanDisk (state S.Store conn.new) → IfOk result (λ rows. IsTrue (state S.Store conn.old).is_open
         × ((v : _) (d : _) → TellsAbout v d (state S.Store conn.old).now → ShowsAbout rows.items v d)) }
     ensures first { HasCleanDisk (state S.Store conn.new) → IfOk result (λ rows. (row : _)
         → slice_get rows.items 0 ≡ Some row → ShowsFirst (state S.Store conn.old) row) }

@@ -113,8 +113,7 @@ fn set_version<S: Alter>(tx: &mut Transaction<'_, S>) -> Result<usize, Error>
     ensures frame { Frame (state S.Store tx.old.conn.now) (state S.Store tx.new.conn.now) }
     ensures limit { tx.new.conn.now.step_limit ≡ tx.old.conn.now.step_limit }
     ensures kept { Inside S.Store tx.old.conn.now tx.new.conn.now KeepsCommit }
-    ensures done { Inside S.Store tx.old.conn.now tx.new.conn.now
-        (λ old new. OnOk result (Advances old new Renews)) }
+    ensures done { Inside S.Store tx.old.conn.now tx.new.conn.now (λ old new. OnOk result (Advances old new Renews)) }
     ensures cause { Inside S.Store tx.old.conn.now tx.new.conn.now (λ old new. tx.old.conn.now.step_limit ≡ None
         → IfErr result (λ e. (d : _) → IsMade (about_row 1 d ∷ []) old.now → IsShortAbout d → IsExcused old new e)) }
 {

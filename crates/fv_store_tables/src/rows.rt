@@ -42,8 +42,7 @@ pub(crate) fn delete_record<S: Alter>(tx: &mut Transaction<'_, S>, id: &str) -> 
     ensures done { Inside S.Store tx.old.conn.now tx.new.conn.now (λ old new. OnOk result (Advances old new
         (Makes 0 IsOwned (removed id.now)))) }
     ensures cause { Inside S.Store tx.old.conn.now tx.new.conn.now (λ old new. tx.old.conn.now.step_limit ≡ None
-        → IfErr result (λ e. (d : _) (t : _) → SpellsTables old.now d t → IsOwned t
-        → IsExcused old new e)) }
+        → IfErr result (λ e. (d : _) (t : _) → SpellsTables old.now d t → IsOwned t → IsExcused old new e)) }
 {
     tx.execute(DELETE_RECORD, params![id])
 }

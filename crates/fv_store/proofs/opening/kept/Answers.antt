@@ -1,7 +1,7 @@
 use Rattle.std.proofs.Common.{inr, sym, true≢false, ◌∙◌}
 use Rattle.sqlite.specs.Held.{state}
 use Rattle.fv_store.specs.Faults.{upgrade_fault}
-use Rattle.fv_store.proofs.Migrations.{first_only, first_tables, migration_excused, not_first, only_text, other_tables, then_upgraded}
+use Rattle.fv_store.proofs.Migrations.{as_first, first_only, first_tables, migration_excused, not_first, only_text, other_tables, then_upgraded}
 use Rattle.fv_store.proofs.Refusals.{handed_on}
 use Rattle.fv_store.proofs.opening.kept.Goals as goal
 
@@ -31,7 +31,7 @@ returns-clause-still g c =
     inr (λ clean.
     let late = c.migrate.ensures.frame.clean clean in
     first_tables (state g.S.Store c.args.conn.now) (state g.S.Store c.stored.new.conn) about.version about.declarations.items late (c.in_ok-about.ensures.open late) (c.stored.ensures.untouched c.requires.settled) (c.has_first_tables.ensures.0 c.if-not-has_first_tables.false)
-    (c.in_ok-about.ensures.taken late) (c.is_first.ensures.0 c.if-not-is_first.false))
+    (c.in_ok-about.ensures.taken late) (c.in_ok-about.ensures.kept late) (c.is_first.ensures.0 c.if-not-is_first.false))
 
 pub returns-then-not-has_first_tables-clause-store_known : goal.returns-then-not-has_first_tables-clause-store_known
 returns-then-not-has_first_tables-clause-store_known g c clean none version d tells second is =
@@ -70,9 +70,20 @@ returns-clause-kept g c clean =
       c.in_ok-about.ensures.kept late,
       λ first.
           (first_tables (state g.S.Store c.args.conn.now) (state g.S.Store c.stored.new.conn) about.version about.declarations.items late (c.in_ok-about.ensures.open late) (c.stored.ensures.untouched c.requires.settled) (c.has_first_tables.ensures.0 c.if-not-has_first_tables.false)
-          (c.in_ok-about.ensures.taken late) first).0,
+          (c.in_ok-about.ensures.taken late) (c.in_ok-about.ensures.kept late) first).0,
     )
 
 pub returns-then-not-is_first-clause-kept : goal.returns-then-not-is_first-clause-kept
 returns-then-not-is_first-clause-kept g c clean =
     (c.in_ok-about.about.version, c.in_ok-about.ensures.kept clean, λ first. absurd (true≢false (sym (c.is_first.ensures.1 first) ∙ c.if-not-is_first.true)))
+
+pub returns-in_err-migrate-clause-unread : goal.returns-in_err-migrate-clause-unread
+returns-in_err-migrate-clause-unread g c clean =
+    let about = c.in_ok-about.about in
+    handed_on _ c.from_residual-in_err-migrate.result (upgrade_fault c.in_err-migrate.field-0.0) c.from_residual-in_err-migrate.ensures.1
+    (λ is. as_first (state g.S.Store c.args.conn.now) (state g.S.Store c.migrate.new.conn) about.version about.declarations.items (c.in_ok-about.ensures.kept (c.migrate.ensures.frame.clean clean)) (c.is_first.ensures.0 c.if-not-is_first.false))
+
+pub returns-then-not-has_first_tables-clause-unread : goal.returns-then-not-has_first_tables-clause-unread
+returns-then-not-has_first_tables-clause-unread g c clean is =
+    let about = c.in_ok-about.about in
+    as_first (state g.S.Store c.args.conn.now) (state g.S.Store c.stored.new.conn) about.version about.declarations.items (c.in_ok-about.ensures.kept clean) (c.is_first.ensures.0 c.if-not-is_first.false)

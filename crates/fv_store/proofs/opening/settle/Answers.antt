@@ -1,7 +1,7 @@
 use Rattle.std.proofs.Common.{true≢false, sym, ◌∙◌}
 use Rattle.sqlite.specs.Held.{state}
 use Rattle.fv_store.specs.Faults.{open_fault_of}
-use Rattle.fv_store.proofs.Migrations.{fails_blank, fails_filled, given_more}
+use Rattle.fv_store.proofs.Migrations.{fails_blank, fails_filled, given_more, if_filled}
 use Rattle.fv_store.proofs.Openings.{is_refusal}
 use Rattle.fv_store.proofs.Refusals.{handed_on}
 use Rattle.fv_store.proofs.opening.settle.Goals as goal
@@ -24,3 +24,6 @@ pub returns-clause-store : goal.returns-clause-store
 returns-clause-store g c clean outside none =
     fails_filled (state g.S.Store c.args.conn.now) (state g.S.Store c.kept.new.conn) c.args.declarations.now c.kept.result
     (λ blank. true≢false (sym (c.is_blank.ensures.1 blank) ∙ c.if-is_blank.false)) (c.kept.ensures.store_known clean none) (c.kept.ensures.store_first clean none)
+
+pub returns-clause-unread : goal.returns-clause-unread
+returns-clause-unread g c clean outside = if_filled _ _ c.kept.result (c.kept.ensures.unread clean)

@@ -1,7 +1,7 @@
-use Rattle.std.proofs.Common.{sym}
+use Rattle.std.proofs.Common.{inl, sym}
 use Rattle.sqlite.specs.Held.{state}
 use Rattle.fv_store.specs.Faults.{open_fault_of}
-use Rattle.fv_store.proofs.Openings.{about_had, about_first, about_never, taken_all, caused_all, excused_all, is_refusal}
+use Rattle.fv_store.proofs.Openings.{about_had, about_first, about_never, taken_all, caused_all, excused_all, is_refusal, none_unread, odd_unread}
 use Rattle.fv_store.proofs.Refusals.{handed_on}
 use Rattle.fv_store.specs.Stored.{about_view}
 use Rattle.fv_store.proofs.opening.stored.Goals as goal
@@ -35,3 +35,17 @@ pub returns-in-Some-clause-kept : goal.returns-in-Some-clause-kept
 returns-in-Some-clause-kept g c clean =
     about_had (state g.S.Store c.args.conn.now) c.in-Some.row.now c.about_in.result
     (c.in_ok-rows.ensures.first clean c.in-Some.row.now (sym (rw (c.in-Some.is, c.deref.ensures.value) at c.first.ensures.value))) c.about_in.ensures.taken
+
+pub returns-in_err-rows-clause-unread : goal.returns-in_err-rows-clause-unread
+returns-in_err-rows-clause-unread g c clean =
+    let e = c.in_err-rows.field-0.0 in
+    handed_on _ c.from_residual.result (open_fault_of e) c.from_residual.ensures.1 (λ is. inl (e, is_refusal e is, c.in_err-rows.ensures.err clean))
+
+pub returns-in-Some-clause-unread : goal.returns-in-Some-clause-unread
+returns-in-Some-clause-unread g c clean =
+    odd_unread (state g.S.Store c.args.conn.now) (state g.S.Store c.read_about.new.conn) c.in-Some.row.now c.about_in.result
+    (c.in_ok-rows.ensures.first clean c.in-Some.row.now (sym (rw (c.in-Some.is, c.deref.ensures.value) at c.first.ensures.value))) c.about_in.ensures.store
+
+pub returns-clause-unread : goal.returns-clause-unread
+returns-clause-unread g c clean is =
+    none_unread (state g.S.Store c.args.conn.now) (state g.S.Store c.read_about.new.conn) _ (rw (c.in-None.is, c.deref.ensures.value) at c.first.ensures.value) (c.in_ok-rows.ensures.ok clean)

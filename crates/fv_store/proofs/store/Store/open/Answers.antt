@@ -1,7 +1,7 @@
 use Rattle.std.proofs.Common.{refl, sym, ◌∙◌}
 use Rattle.sqlite.specs.Held.{state}
 use Rattle.fv_store.specs.declared.fault.OpenStoreFault.TheVariants.{OtherVersion}
-use Rattle.fv_store.proofs.Openings.{caused_unlimited, either_taken, no_version, taken_unlimited, unlimited, opens_ok, opens_err, opens_text, opens_version}
+use Rattle.fv_store.proofs.Openings.{caused_unlimited, causes_store, either_taken, no_version, still_unlimited, taken_unlimited, unlimited, opens_ok, opens_err, opens_text, opens_version}
 use Rattle.fv_store.proofs.store.Store.open.Goals as goal
 
 pub returns-in-Ok-clause-frame : goal.returns-in-Ok-clause-frame
@@ -15,7 +15,7 @@ returns-in-Ok-clause-opened g c k shallow opens =
     let is = c.set_step_limit.ensures in
     let old = state g.S.Store c.args.connection in
     let new = state g.S.Store c.settle.new.conn in
-    opens_ok old new (unlimited old new (rw is at c.settle.ensures.frame)) c.args.declarations.now c.in-Ok.declarations.items (rw is at c.in-Ok.ensures.fresh) (rw is at c.in-Ok.ensures.still) (rw is at c.in-Ok.ensures.upgraded) k shallow opens
+    opens_ok old new (unlimited old new (rw is at c.settle.ensures.frame)) c.args.declarations.now c.in-Ok.declarations.items (rw is at c.in-Ok.ensures.fresh) (still_unlimited old new (rw is at c.in-Ok.ensures.still)) (rw is at c.in-Ok.ensures.upgraded) k shallow opens
 
 pub returns-in-Ok-clause-in_force : goal.returns-in-Ok-clause-in_force
 returns-in-Ok-clause-in_force g c clean k opens =
@@ -48,9 +48,10 @@ returns-in-Err-clause-stays g c =
     opens_err (state g.S.Store c.args.connection) (state g.S.Store c.settle.new.conn) (unlimited _ _ (rw is at c.settle.ensures.frame)) (rw is at c.in-Err.ensures.untouched) c.args.declarations.now
 
 pub returns-in-Err-clause-store : goal.returns-in-Err-clause-store
-returns-in-Err-clause-store g c is clean outside able =
+returns-in-Err-clause-store g c is clean outside =
     let same = c.set_step_limit.ensures in
-    (rw same at (c.in-Err.ensures.store clean)) outside refl able is
+    causes_store (state g.S.Store c.args.connection) (state g.S.Store c.settle.new.conn) c.args.declarations.now
+    (λ able. (rw same at (c.in-Err.ensures.store clean)) outside refl able is) ((rw same at (c.in-Err.ensures.unread clean)) outside is)
 
 pub returns-in-Ok-clause-upgraded : goal.returns-in-Ok-clause-upgraded
 returns-in-Ok-clause-upgraded g c = rw c.set_step_limit.ensures at c.in-Ok.ensures.upgraded
@@ -59,7 +60,7 @@ pub returns-in-Ok-clause-fresh : goal.returns-in-Ok-clause-fresh
 returns-in-Ok-clause-fresh g c blank = ((rw c.set_step_limit.ensures at c.in-Ok.ensures.fresh) blank).0
 
 pub returns-in-Ok-clause-still : goal.returns-in-Ok-clause-still
-returns-in-Ok-clause-still g c = rw c.set_step_limit.ensures at c.in-Ok.ensures.still
+returns-in-Ok-clause-still g c = still_unlimited (state g.S.Store c.args.connection) (state g.S.Store c.settle.new.conn) (rw c.set_step_limit.ensures at c.in-Ok.ensures.still)
 
 pub returns-in-Ok-clause-kept : goal.returns-in-Ok-clause-kept
 returns-in-Ok-clause-kept g c clean filled =
