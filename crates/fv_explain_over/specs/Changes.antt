@@ -1,5 +1,5 @@
 -- What changes from a JSON document to another, by places.
-use Rattle.std.specs.Prelude.{◌≡◌, ℕ, zero, suc, ◌-◌, ◌<◌, ◌≤◌, List, [], ◌∷◌, ◌++◌, map, length, reverse, drop, false, Option, Some, None, IsSome, if◌then◌else◌, codes}
+use Rattle.std.specs.Prelude.{◌≡◌, ℕ, zero, suc, ◌-◌, ◌<◌, ◌≤◌, List, [], ◌∷◌, ◌++◌, map, length, reverse, drop, Bool, false, Option, Some, None, IsSome, if◌then◌else◌, codes}
 use Rattle.std.specs.Option.{option_zip}
 use Rattle.serde_json.specs.Data.{Data, Items, Members}
 use Rattle.serde_json.specs.Find.{as_array, as_object, get_member}
@@ -90,6 +90,6 @@ change_text (place, Added) = codes "added: " ++ place
 change_text (place, Changed) = codes "changed: " ++ place
 change_text (place, Removed) = codes "removed: " ++ place
 
--- the changes of a document over another, a line for each, in the order of the places' texts
-abbrev pub AreTold : Data → Data → List (List ℕ) → Type 0
-AreTold d e lines = (told : List (List ℕ × Change)) × (lines ≡ map change_text told) × AreChanges d e told
+-- the changes of a document over another, a line for each, in the order of the places' texts; in plain text these lines
+abbrev pub AreTold : Bool → Data → Data → List (List ℕ) → Type 0
+AreTold json d e lines = (told : List (List ℕ × Change)) × (length lines ≡ length told) × (json ≡ false → lines ≡ map change_text told) × AreChanges d e told

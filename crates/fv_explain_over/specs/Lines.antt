@@ -30,8 +30,8 @@ records_text false = codes "a record of the old declarations may not be well-typ
 -- records fit
 abbrev pub IsTold : Bool → Data → Data → Declared → ObjectTypes → Declared → Bool → List Narrowed → List (List ℕ) → Type 0
 IsTold json d e old forms new fit found lines = (changed told : List (List ℕ)) × (last : List ℕ)
-    × (lines ≡ changed ++ (told ++ (last ∷ []))) × (length told ≡ length found)
-    × (json ≡ false → AreTold d e changed × AllZip (IsMisfit old forms new) found told × (last ≡ records_text fit))
+    × (lines ≡ changed ++ (told ++ (last ∷ []))) × AreTold json d e changed × (length told ≡ length found)
+    × (json ≡ false → AllZip (IsMisfit old forms new) found told × (last ≡ records_text fit))
 
 -- the lines of declarations over others, by the JSON, the types and the forms of both: all records fit exactly where nothing is narrowed
 abbrev pub TellsOver : Bool → Data → Declared → ObjectTypes → Data → Declared → ObjectTypes → List (List ℕ) → Type 0

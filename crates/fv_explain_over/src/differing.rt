@@ -240,7 +240,7 @@ pub(crate) fn changed_lines(
     old: &Value,
     new: &Value,
 ) -> Result<Vec<String>, AllocError>
-    ensures { IfOk result (λ lines. json ≡ false → AreTold (view old.now) (view new.now) (map string_bytes lines.items)) }
+    ensures { IfOk result (λ lines. AreTold json (view old.now) (view new.now) (map string_bytes lines.items)) }
 {
     let mut lines = Vec::new(alloc);
     for (place, change) in changes(alloc, old, new)?.iter() {

@@ -1,4 +1,5 @@
-use Rattle.std.proofs.Common.{◌≡◌, [], ◌++◌, append-nil, map, string_bytes, ap, sym, ◌∙◌, rules}
+use Rattle.std.proofs.Common.{◌≡◌, [], ◌++◌, append-nil, length, map, string_bytes, ap, sym, ◌∙◌, arith, rules}
+use Rattle.std.proofs.lemmas.List.{length-map}
 use Rattle.serde_json.specs.View.{view}
 use Rattle.fv_explain_over.specs.Adding.{found_view}
 use Rattle.fv_explain_over.specs.Changes.{change_text}
@@ -10,9 +11,9 @@ returns c =
     let m = c.in_ok-changes.field-0 in
     let end : c.loop-place.place-iterator ≡ [] = search rules in
     let start : c.into_iter-place-iterator.result ≡ m.entries = search rules in
-    let lines = map string_bytes c.loop-place.lines.items in
-    λ plain. (
+    let lines = map string_bytes c.loop-place.lines.items in (
       found_view m,
-      sym (append-nil lines) ∙ ap (λ es. lines ++ map change_text (map seen es)) (sym end) ∙ c.loop-place.invariant plain ∙ ap (λ es. map change_text (map seen es)) start,
+      omega (arith, c.loop-place.invariant.0, ap length end, ap length start, length-map m.entries seen),
+      λ plain. sym (append-nil lines) ∙ ap (λ es. lines ++ map change_text (map seen es)) (sym end) ∙ c.loop-place.invariant.1 plain ∙ ap (λ es. map change_text (map seen es)) start,
       are_changes (view c.args.old.now) (view c.args.new.now) m c.iter-place-items.ensures.ordered c.in_ok-changes.ensures,
     )

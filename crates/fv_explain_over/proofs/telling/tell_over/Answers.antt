@@ -21,6 +21,7 @@ returns-clause-lines c =
       string_bytes text,
       ap (map string_bytes) c.in_ok-push.ensures.items ∙ map-append string_bytes c.add_misfits.new.lines.items (text ∷ [])
           ∙ ap (λ lines. lines ++ last) more.1 ∙ append_assoc changed more.0 last,
+      c.in_ok-lines.ensures,
       more.2 ∙ ap length found,
-      λ plain. (c.in_ok-lines.ensures plain, subst (λ ns. AllZip (IsMisfit old forms new) ns more.0) found (more.3 plain), c.in_ok-text_of.ensures.plain plain ∙ c.records_text-text.ensures),
+      λ plain. (subst (λ ns. AllZip (IsMisfit old forms new) ns more.0) found (more.3 plain), c.in_ok-text_of.ensures.plain plain ∙ c.records_text-text.ensures),
     )
