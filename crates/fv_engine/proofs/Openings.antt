@@ -63,6 +63,6 @@ differs a b answer is apart same = let never : true ≡ false = sym ((bytes_eq-D
 -- ---- what a refusal leaves
 
 -- a store that was opened has left the database as it was, or migrated it
-pub left_by : (known : Known) (given : List ℕ) (old new : State) (fault : OpenFault) → DeclaresSome known given → Stays old new ⊎ (HasCleanDisk new → MayBeFirst old.now) → IsUpgraded old new → ((f : OpenStoreFault) → fault ≢ opened.Store f) → IsLeft known given old new fault
+pub left_by : (known : Known) (given : List ℕ) (old new : State) (fault : OpenFault) → DeclaresSome known given → Stays old new ⊎ (HasCleanDisk new → MayBeFirst old) → IsUpgraded old new → ((f : OpenStoreFault) → fault ≢ opened.Store f) → IsLeft known given old new fault
 left_by known given old new fault some (inl stays) made other = inl stays
 left_by known given old new fault some (inr first) made other = inr (some, other, first, made)

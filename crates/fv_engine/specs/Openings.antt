@@ -33,4 +33,4 @@ IsMisdeclared known old new given fault =
 -- and the store was opened.
 abbrev pub IsLeft : Known → List ℕ → State → State → OpenFault → Type 0
 IsLeft known given old new fault = Stays old new
-    ⊎ (DeclaresSome known given × ((f : OpenStoreFault) → fault ≢ Store f) × (HasCleanDisk new → MayBeFirst old.now) × IsUpgraded old new)
+    ⊎ (DeclaresSome known given × ((f : OpenStoreFault) → fault ≢ Store f) × (HasCleanDisk new → MayBeFirst old) × IsUpgraded old new)

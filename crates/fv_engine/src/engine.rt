@@ -2,9 +2,8 @@ ghost use Rattle.std.specs.Prelude.{◌≡◌, ◌≢◌, ◌⊎◌, false, IfOk
 ghost use Rattle.sqlite.specs.State.{HasCleanDisk};
 ghost use Rattle.sqlite.specs.Held.{state};
 ghost use Rattle.fv_datum.specs.Moments.{IsMoment};
-ghost use Rattle.fv_store.specs.Causes.{HasFailed};
 ghost use Rattle.fv_store.specs.Stands.{Frame, HasOtherAbout, HoldsRecords, IsBlank, IsEither, IsLive, MayBeFirst, Opens, Stays, TellsAbout};
-ghost use Rattle.fv_store.specs.Steps.{FailsByDisk, IsUpgraded};
+ghost use Rattle.fv_store.specs.Steps.{CausesStore, IsUpgraded};
 ghost use Rattle.fv_store.specs.Stock.{stock_state};
 ghost use Rattle.fv_declare_judging.specs.Declares.{Declares};
 ghost use Rattle.fv_engine.specs.Laws.{ShowsWhatWasPut, ChangesNoGet, ListsSome, MayChangePlaces, LeavesNothingToList, FailsWhereShut, FailsForRoomAlone, ShowsTheSame, LeavesNothingAtAll, FitsWhereAdded};
@@ -182,7 +181,7 @@ impl<R: RuleSet + Drop, S: Alter + Drop> Engine<R, S> {
         // each row is a bundle by its form, whatever texts they are.
         ensures still { IfOk result (λ e. (IsBlank (state S.Store connection).now → ⊥)
             → Stays (state S.Store connection) (stock_state S.Store e.machine.records)
-            ⊎ (HasCleanDisk (stock_state S.Store e.machine.records) → MayBeFirst (state S.Store connection).now)) }
+            ⊎ (HasCleanDisk (stock_state S.Store e.machine.records) → MayBeFirst (state S.Store connection))) }
         ensures upgraded { IfOk result (λ e.
             IsUpgraded (state S.Store connection) (stock_state S.Store e.machine.records)) }
         // Declarations are told by their first fault; those handed in come first, and nothing is migrated then.
@@ -195,11 +194,10 @@ impl<R: RuleSet + Drop, S: Alter + Drop> Engine<R, S> {
             × ((c : _) → Opens (state S.Store connection) declarations.now c → ⊥)) }
         // Want of memory below is told as such.
         ensures memory { IfErr result (λ r. r.0 ≢ OpenFault.Store OpenStoreFault.Memory) }
-        // The store fails with a cause, over tables of either version and over an empty database.
+        // The store fails with a cause, whatever the tables are.
         ensures store { IfErr result (λ r. r.0 ≡ OpenFault.Store OpenStoreFault.Store
             → HasCleanDisk (state S.Store r.1) → connection.in_transaction ≡ false
-            → FailsByDisk (state S.Store connection) declarations.now
-            → HasFailed (state S.Store connection) (state S.Store r.1)) }
+            → CausesStore (state S.Store connection) (state S.Store r.1) declarations.now) }
         // A refusal hands the database back as it was, or migrated.
         ensures left { IfErr result (λ r. IsLeft (R.known rules) declarations.now
             (state S.Store connection) (state S.Store r.1) r.0) }

@@ -33,14 +33,12 @@ abbrev pub HasCause : Meanings → ℤ → Request → Machine Records → Machi
 HasCause means now r old new = StoreHasFailed old new
     ⊎ ((m : Records) × IsTaken means old.declared now r old.records m × (HasRoomFor (batch_parts r) m old → StoreHasFailed old new))
 
--- A taken command of these parts goes by an open connection, which stays open, and gives out as many rowids as they take, at most. Else none
--- is given out.
+-- a taken command goes by an open connection, which stays open, and gives out as many rowids as its parts take, at most; else none is given out
 abbrev pub GivesOut : Answer → List Part → Machine Records → Machine Records → Type 0
 GivesOut (done what) parts old new = IsTrue old.is_open × IsTrue new.is_open × (old.room ≤ new.room + rows_taken parts)
 GivesOut _ parts old new = IsTrue new.is_open → new.room ≡ old.room
 
--- What a step leaves of a connection: what is declared stays, and no failure of the disk is forgotten. A connection that is shut stays shut,
--- and only a failure of the disk shuts it. Where it is shut, a request that looks something up is refused. The store refuses with a cause.
+-- What a step leaves of a connection, which only a failure of the disk shuts: shut, it refuses what looks something up. The store refuses with a cause.
 pub record Causes (means : Meanings) (now : ℤ) (r : Request) (answer : Answer) (old new : Machine Records) : Type 0 where
   pub declared : new.declared ≡ old.declared
   pub counts : old.faults ≤ new.faults

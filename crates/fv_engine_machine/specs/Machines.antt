@@ -9,10 +9,8 @@ use Rattle.fv_declare_schema.specs.Declarations.{Declarations}
 use Rattle.fv_store.specs.Records.{Records, Contents}
 use Rattle.fv_store.specs.Stands.{HoldsRecords}
 
--- What is declared and the records, as a map or as the connection to the database that keeps them; whether the connection is open, which a
--- failure of the disk may shut; how often the disk has failed; and the room for more rows. The rows of records are in one table and those of
--- their objects in another. Each row of a table has a number there, its rowid, which is 2 ^ 63 - 1 at most. Room is how many rowids there are
--- from the highest of a row on, which counts too, in the table that has fewer: 2 ^ 63 in one without rows.
+-- What is declared and the records, as a map or as the connection to the database that keeps them; whether the connection is open; how often the
+-- disk has failed; and the room for more rows: how many rowids there are from the highest of a row on, which counts too, in the table that has fewer.
 pub record Machine (R : Type 0) : Type 0 where
   pub declared : Declarations
   pub records : R

@@ -36,9 +36,8 @@ abbrev pub misfit : PartFault → Misfit
 misfit (part.Bundle fault) = Bundle fault
 misfit _ = UnknownForm
 
--- All records, read again under other declarations, are judged at a moment for the groups of their forms. If one has too many visits, the
--- declarations are refused for that; if none has a violation, they are taken, and are in force over the records so read; else they are
--- refused, with each record that has violations. Where they are refused nothing changes.
+-- All records, read again under other declarations, are judged at a moment for the groups of their forms: the declarations are refused where one has
+-- too many visits; taken, and in force over the records so read, where none has a violation; and else refused with each record that has some.
 abbrev pub JudgesAll : Meanings → Declarations → ℤ → Reign → Answer → Reign → Type 0
 JudgesAll means ds now old answer new =
     (OneIsOverAmong ds (IsAgain ds old.records) × (answer ≡ refused TooManyVisits) × (new ≡ old))

@@ -65,10 +65,8 @@ TellsOfRecords (violated ls) = Unit {0}
 TellsOfRecords (refused TooManyVisits) = Unit {0}
 TellsOfRecords _ = ⊥
 
--- What a redeclare leaves of the service. What is written of each record stays, also where it is read as something else. Of the connection no
--- failure of the disk is forgotten; shut, it stays shut, and only a failure of the disk shuts it; no rowid is given out. What is told of records
--- is told over an open connection, which stays open. The store refuses with a cause: it has failed, the declarations are too long for a row, or
--- there are more ids than are looked at.
+-- What a redeclare leaves of the service: what is written of each record stays, also where it is read as something else, and no rowid is given out.
+-- What is told of records is told over an open connection, which stays open. The store refuses with a cause.
 pub record RedeclareCauses (given : List ℕ) (answer : Answer) (old new : Service Records) : Type 0 where
   pub known : new.known ≡ old.known
   pub text : new.text ≡ text_after answer given old.text

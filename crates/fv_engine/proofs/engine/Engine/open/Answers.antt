@@ -20,9 +20,8 @@ returns-in-Err-open-clause-other_version g c = λ is clean.
     (it.0, it.1, c.in-Err-open.ensures.other_version other clean)
 
 pub returns-in-Err-open-clause-store : goal.returns-in-Err-open-clause-store
-returns-in-Err-open-clause-store g c = λ is clean outside able.
-    let fails = store_cause c.in-Err-open.fault _ _ c.store_fault.ensures.memory c.store_fault.ensures.other is in
-    c.in-Err-open.ensures.store fails clean outside able
+returns-in-Err-open-clause-store g c = λ is clean outside.
+    c.in-Err-open.ensures.store (store_cause c.in-Err-open.fault _ _ c.store_fault.ensures.memory c.store_fault.ensures.other is) clean outside
 
 pub returns-in-Err-open-clause-left : goal.returns-in-Err-open-clause-left
 returns-in-Err-open-clause-left g c = inl c.in-Err-open.ensures.untouched
