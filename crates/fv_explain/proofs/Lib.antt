@@ -1,7 +1,9 @@
 pub mod Adding
+pub mod Attributes
 pub mod Below
 pub mod Fields
 pub mod Forms
 pub mod Joined
 pub mod Names
+pub mod Nodes
 pub mod Uses

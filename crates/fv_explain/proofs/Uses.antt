@@ -1,5 +1,5 @@
 -- Uses of constraints, one after another.
-use Rattle.std.proofs.Common.{◌≡◌, ◌<◌, ◌≤◌, ◌+◌, ◌++◌, ◌∷◌, ◌∙◌, ℕ, zero, suc, Bool, List, [], get_or, length, map, drop, ap, sym, subst, refl, arith}
+use Rattle.std.proofs.Common.{◌≡◌, ◌<◌, ◌≤◌, ◌+◌, ◌∷◌, ◌∙◌, ℕ, zero, suc, Bool, List, [], get_or, length, map, drop, ap, sym, subst, arith}
 use Rattle.std.proofs.lemmas.List.{drop_more, get_or-map, length-map}
 use Rattle.fv_declare_schema.specs.Declarations.{Declarations, Placed, AreNumbered, count_nodes}
 use Rattle.fv_declare_schema.specs.Groups.{Groups}
@@ -7,7 +7,6 @@ use Rattle.fv_declare_schema.specs.Ordered.{AreOrdered}
 use Rattle.fv_declare_schema.specs.PlacedView.{placed_view}
 use Rattle.fv_declare_schema.specs.declared.place.Placed as code
 use Rattle.fv_explain.specs.Explained.{AreUseLines}
-use Rattle.fv_explain.specs.Lines.{use_text}
 
 -- the numbers of a use's nodes are below that of the last of all
 number_fits : (us : List Placed) (n i : ℕ) (d : Placed) → AreNumbered n us → i < length us
@@ -43,11 +42,6 @@ uses_more us i p h is =
     let within : i < length (map placed_view us) = omega (arith, length-map us placed_view) in
     drop_more (map placed_view us) i (placed_view p) within
     ∙ ap (λ (o : Placed). o ∷ drop (i + 1) (map placed_view us)) (at_place us i p h is)
-
--- the line of a use from what it is made of
-pub use_line_is : (number m : ℕ) (place constraint attributes message : List ℕ) (names groups : List (List ℕ)) → number ≡ m → names ≡ groups
-    → use_text number place constraint attributes names message ≡ use_text m place constraint attributes groups message
-use_line_is number m place constraint attributes message names groups ns gs = rw (ns, gs) refl
 
 -- the same lines, as the same sort of text, in the same groups
 pub use_lines_same : (json other : Bool) (gs hs : Groups) (u : Placed) (lines : List (List ℕ)) → json ≡ other → gs ≡ hs → AreUseLines json gs u lines

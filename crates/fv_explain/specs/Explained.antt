@@ -1,12 +1,15 @@
 -- What is told of declarations.
-use Rattle.std.specs.Prelude.{◌≡◌, ◌↔◌, ◌<◌, ◌+◌, ◌-◌, ◌++◌, ◌∷◌, [], ℕ, Bool, true, false, List, length, map, max, zip}
+use Rattle.std.specs.Prelude.{◌≡◌, ◌↔◌, ◌⊎◌, ◌<◌, ◌+◌, ◌-◌, ◌++◌, ◌∷◌, [], ℕ, Bool, true, false, Option, Some, List, codes, length, map, max, slice_get, zip}
 use Rattle.std.specs.List.{All, AllPairs, AllZip, Contains, flat_map}
 use Rattle.fv_bundle.specs.Types.{Declared}
+use Rattle.fv_constraint_tree.specs.Nodes.{Node}
+use Rattle.fv_constraint_tree.specs.Preorder.{nodes}
+use Rattle.fv_constraint_tree.specs.Trees.{root}
 use Rattle.fv_declare_judging.specs.FaultNames.{decl_fault_code, decl_fault_name}
 use Rattle.fv_declare_judging.specs.declared.fault.DeclFault.{DeclFault}
 use Rattle.fv_declare_schema.specs.Declarations.{Declarations, Placed, count_nodes}
 use Rattle.fv_declare_schema.specs.Groups.{Groups, Inherits, is_sequence, name_at, ranks}
-use Rattle.fv_explain.specs.Lines.{all_limits, fault_text, form_text, group_text, limit_text, part_text, sequence_text, use_text, warning_text}
+use Rattle.fv_explain.specs.Lines.{all_limits, fault_text, form_text, group_text, limit_text, part_text, reported_as, sequence_text, use_text, warning_text}
 
 -- the most fields that a type has
 abbrev pub most_fields : Declared → ℕ
@@ -52,14 +55,24 @@ pub record AreGroupLines (json : Bool) (gs : Groups) (lines : List (List ℕ)) :
   pub each : length lines ≡ length gs - 1
   pub are : AreLinesFrom 1 (TellsGroup json gs) lines
 
--- the line of a use: its number and its groups, and some place, constraint and message
-abbrev pub IsUseLine : Groups → Placed → List ℕ → Type 0
-IsUseLine gs u line = (place constraint attributes message : List ℕ)
-    × (line ≡ use_text u.number place constraint attributes (group_names gs u.groups) message)
+-- a message is shown as it is, unless it is a key alone, in its braces
+abbrev pub IsShown : List ℕ → List ℕ → Type 0
+IsShown message shown = ((key : List ℕ) × (message ≡ codes "{" ++ (key ++ codes "}"))) ⊎ (shown ≡ message)
 
--- the line of the n-th constraint behind a use, one that it is composed of: its number, and some text on it
+-- the line of a use: its number, its constraint with the attributes in effect, its groups and its message, and some place
+abbrev pub IsUseLine : Groups → Placed → List ℕ → Type 0
+IsUseLine gs u line = (place message : List ℕ) × IsShown (root u.tree).message message
+    × (line ≡ use_text u.number place (root u.tree).constraint (root u.tree).attributes (group_names gs u.groups) message)
+
+-- the line of a constraint that a used one is composed of: its number, its name, the attributes in effect and its message, and as what
+-- it is reported
+abbrev pub IsNodeLine : ℕ → Node → List ℕ → Type 0
+IsNodeLine number node line = (other : Option ℕ) × (name message : List ℕ) × IsShown node.message message
+    × (line ≡ part_text number node.constraint node.attributes (reported_as number other name message))
+
+-- the line of the n-th constraint behind a use
 abbrev pub IsPartLine : Placed → ℕ → List ℕ → Type 0
-IsPartLine u n line = (constraint attributes reported : List ℕ) × (line ≡ part_text (u.number + n) constraint attributes reported)
+IsPartLine u n line = (node : Node) × (slice_get (nodes u.tree) n ≡ Some node) × IsNodeLine (u.number + n) node line
 
 -- the same, in plain text
 abbrev pub TellsPart : Bool → Placed → ℕ → List ℕ → Type 0
@@ -106,11 +119,6 @@ pub record TellsDeclared (json : Bool) (s : Declarations) (lines : List (List �
   pub groups_are : AreGroupLines json s.groups groups
   pub forms_are : AreFormLines json s forms
   pub warnings_are : json ≡ false → All IsWarning warned
-
--- the last line is that of the limits
-abbrev pub TellsLimits : Bool → Declarations → List (List ℕ) → Type 0
-TellsLimits json s lines =
-    (before : List (List ℕ)) × (last : List ℕ) × (lines ≡ before ++ last ∷ []) × (json ≡ false → IsLimits s last)
 
 -- what is declared, and then the limits
 abbrev pub TellsLines : Bool → Declarations → List (List ℕ) → Type 0

@@ -1,3 +1,4 @@
 pub mod Adding
+pub mod Attributes
 pub mod Explained
 pub mod Lines

@@ -1,7 +1,10 @@
 -- Lines in plain text.
-use Rattle.std.specs.Prelude.{◌==◌, if◌then◌else◌, length, ◌++◌, ℕ, List, [], ◌∷◌, Option, Some, None, codes, decimal, map, string_bytes}
+use Rattle.std.specs.Prelude.{◌==◌, if◌then◌else◌, length, ◌++◌, ℕ, List, [], Option, Some, None, codes, decimal, map, string_bytes}
 use Rattle.std.specs.List.{join_by}
 use Rattle.std.specs.Borrow.{Bor}
+use Rattle.fv_datum.specs.Attributes.{Attributes}
+use Rattle.fv_explain_faults.specs.Quoted.{quoted}
+use Rattle.fv_explain.specs.Attributes.{attributes_text}
 use Rattle.fv_explain.specs.declared.lines.ExplainedLine.{ExplainedLine}
 use Rattle.fv_explain.specs.declared.lines.ExplainedLine.TheVariants.{Constraint, Part, Group, Sequence, Form, Warning, Fault, Limits}
 use Rattle.fv_explain.specs.declared.lines.FormLine.{FormLine}
@@ -48,33 +51,33 @@ abbrev pub warning_text : List ℕ → List ℕ
 warning_text warned = codes "warning: " ++ warned
 
 -- a constraint where it is used: its number, its place, its name, the attributes in effect, its groups and its message
-abbrev pub use_text : (number : ℕ) (place constraint attributes : List ℕ) (groups : List (List ℕ)) (message : List ℕ) → List ℕ
+abbrev pub use_text : (number : ℕ) (place constraint : List ℕ) (attributes : Attributes) (groups : List (List ℕ)) (message : List ℕ) → List ℕ
 use_text number place constraint attributes groups message =
-    decimal number ++ (codes " " ++ (place ++ (codes " " ++ (constraint ++ (attributes
-    ++ (codes " groups " ++ (joined (codes ", ") groups ++ (codes " message " ++ message))))))))
+    decimal number ++ (codes " " ++ (place ++ (codes " " ++ (constraint ++ (attributes_text attributes
+    ++ (codes " groups " ++ (joined (codes ", ") groups ++ (codes " message " ++ quoted message))))))))
 
 -- the same, of a line
 abbrev pub use_line_text : UseLine → List ℕ
-use_line_text l = use_text l.number l.place.now l.constraint.now (string_bytes l.in_effect) (names_in l.groups.items) (string_bytes l.quoted)
+use_line_text l = use_text l.number l.place.now l.constraint.now l.attributes.0.now (names_in l.groups.items) (string_bytes l.message)
 
 -- a constraint that a used one is composed of: its number, its name, the attributes in effect, and as what it is reported
-abbrev pub part_text : (number : ℕ) (constraint attributes reported : List ℕ) → List ℕ
+abbrev pub part_text : (number : ℕ) (constraint : List ℕ) (attributes : Attributes) (reported : List ℕ) → List ℕ
 part_text number constraint attributes reported =
-    codes "  " ++ (decimal number ++ (codes " " ++ (constraint ++ (attributes ++ reported))))
+    codes "  " ++ (decimal number ++ (codes " " ++ (constraint ++ (attributes_text attributes ++ reported))))
 
 -- whether a constraint asks nothing itself, is reported with its message, or is reported as another
 abbrev pub reported_as : (number : ℕ) (reported : Option ℕ) (name message : List ℕ) → List ℕ
 reported_as number None name message = codes " asks nothing itself"
 reported_as number (Some other) name message =
-    if other == number then (codes " message " ++ message) else (codes " reported as " ++ (decimal other ++ (codes " " ++ name)))
+    if other == number then (codes " message " ++ quoted message) else (codes " reported as " ++ (decimal other ++ (codes " " ++ name)))
 
 -- the same, of a line
 abbrev pub reported_text : PartLine → List ℕ
-reported_text l = reported_as l.number l.reported l.reported_name.now (string_bytes l.quoted)
+reported_text l = reported_as l.number l.reported l.reported_name.now (string_bytes l.message)
 
 -- a line of a constraint that a used one is composed of
 abbrev pub part_line_text : PartLine → List ℕ
-part_line_text l = part_text l.number l.constraint.now (string_bytes l.in_effect) (reported_text l)
+part_line_text l = part_text l.number l.constraint.now l.attributes.0.now (reported_text l)
 
 -- a fault at a place, with its code and its name, and what is wrong there
 abbrev pub fault_text : (place code name text : List ℕ) → List ℕ

@@ -1,13 +1,13 @@
 //! The lines of what is declared: constraints where they are used, groups and forms; and of the limits that are used.
-ghost use Rattle.std.specs.Prelude.{◌≡◌, ◌<◌, ◌≤◌, ◌+◌, ◌∷◌, [], ℕ, List, length, map, IfOk, OnOk};
+ghost use Rattle.std.specs.Prelude.{◌≡◌, ◌<◌, ◌≤◌, ◌+◌, ◌++◌, ◌∷◌, [], ℕ, List, codes, length, map, string_bytes, IfOk, IfSome, OnOk};
 ghost use Rattle.fv_bundle.specs.Types.{fields_at, name_at as type_name};
 ghost use Rattle.fv_bundle.specs.TypesView.{types_view};
 ghost use Rattle.fv_declare_schema.specs.Declarations.{count_nodes};
 ghost use Rattle.fv_declare_schema.specs.PlacedView.{placed_view};
 ghost use Rattle.fv_declare_schema.specs.Tables.{indices};
 ghost use Rattle.fv_explain.specs.Adding.{Adds};
-ghost use Rattle.fv_explain.specs.Explained.{AreFormLines, AreGroupLines, AreInherited, AreLinesOfUses, AreUseLines, IsFormLine, IsGroupLine, IsLimits, IsPartLine, IsUseLine, group_names, most_fields};
-ghost use Rattle.fv_explain.specs.Lines.{limits_text, line_text, names_in};
+ghost use Rattle.fv_explain.specs.Explained.{AreFormLines, AreGroupLines, AreInherited, AreLinesOfUses, AreUseLines, IsFormLine, IsGroupLine, IsLimits, IsPartLine, IsShown, IsUseLine, group_names, most_fields};
+ghost use Rattle.fv_explain.specs.Lines.{limits_text, line_text, names_in, part_line_text};
 
 use crate::lines::{
     Attributes, ExplainedLine, FormLine, Limit, LimitsLine, Lines, PartLine, UseLine,
@@ -16,7 +16,7 @@ use fv_bundle::{TypeId, Types};
 use fv_datum::Attrs;
 use fv_declare_draft::MessageDraft;
 use fv_declare_schema::{Form, GroupId, Groups, Placed, Schema};
-use fv_explain_faults::{Quoted, Told, Untold, Written, built_in_key, find_message, reported};
+use fv_explain_faults::{Told, Untold, Written, built_in_key, find_message, reported};
 use fv_explain_warnings::{reached, validated};
 use fv_message::Messages;
 use indexmap::IndexMap;
@@ -34,14 +34,21 @@ fn names_of<'a>(alloc: Global, groups: &'a Groups, numbers: &[GroupId]) -> Told<
     Ok(names)
 }
 
+/// The key that a template is alone, in its braces.
+fn key_alone(text: &str) -> Option<&str>
+    ensures { IfSome result (λ key. text.now ≡ codes "{" ++ (key.now ++ codes "}")) }
+{
+    text.strip_prefix("{")?.strip_suffix("}")
+}
+
 /// A message's template as it is shown: where it is a key alone, the key's text.
-fn shown(
-    alloc: Global,
-    (built_in, user): (&Messages, &[MessageDraft]),
-    text: &str,
-) -> Told<String> {
-    let inside = text.strip_prefix("{");
-    let key = inside.and_then(|rest| rest.strip_suffix("}")).unwrap_or("");
+fn shown(alloc: Global, messages: (&Messages, &[MessageDraft]), text: &str) -> Told<String>
+    ensures { IfOk result (λ s. IsShown text.now (string_bytes s)) }
+{
+    let Some(key) = key_alone(text) else {
+        return Ok(String::from_str(alloc, text)?);
+    };
+    let (built_in, user) = messages;
     let number = find_message(user, key);
     match number.and_then(|number| user.get(number)) {
         Some(message) => Ok(String::from_str(alloc, message.template)?),
@@ -67,19 +74,14 @@ fn use_line<'a>(
         return Err(Untold::Absent);
     };
     let groups = names_of(alloc, groups, placed.groups())?;
-    let attributes = Attributes(&node.attributes);
     let message = shown(alloc, messages, node.message())?;
-    let in_effect = format!(in alloc; "{attributes}")?;
-    let quoted = format!(in alloc; "{}", Quoted(message.as_str()))?;
     Ok(ExplainedLine::Constraint(UseLine {
         number: placed.number(),
         place,
         constraint: node.constraint(),
-        attributes,
+        attributes: Attributes(&node.attributes),
         groups,
         message,
-        in_effect,
-        quoted,
     }))
 }
 
@@ -92,27 +94,22 @@ fn part_of<'a>(
     reported: (Option<usize>, &'a str),
 ) -> Told<PartLine<'a>>
     requires { (placed_view placed.now).number + number ≤ 1024 }
-    ensures { IfOk result (λ part. part.number ≡ (placed_view placed.now).number + number) }
+    ensures { IfOk result (λ part. IsPartLine (placed_view placed.now) number (part_line_text part)) }
 {
     let Some(node) = placed.occurrence().node(number) else {
         return Err(Untold::Absent);
     };
-    let attributes = Attributes(&node.attributes);
     let message = shown(alloc, messages, node.message())?;
-    let in_effect = format!(in alloc; "{attributes}")?;
-    let quoted = format!(in alloc; "{}", Quoted(message.as_str()))?;
     let (by, reported_name) = reported;
     let used = placed.number();
     Ok(PartLine {
         number: used + number,
         used,
         constraint: node.constraint(),
-        attributes,
+        attributes: Attributes(&node.attributes),
         reported: by.map(|by| used.saturating_add(by)),
         reported_name,
         message,
-        in_effect,
-        quoted,
     })
 }
 

@@ -3,7 +3,7 @@ ghost use Rattle.fv_declare_judging.specs.Declares.{Declares};
 ghost use Rattle.fv_declare_schema.specs.Declarations.{Declarations};
 ghost use Rattle.fv_explain.specs.Adding.{Adds};
 ghost use Rattle.fv_explain.specs.Lines.{line_text};
-ghost use Rattle.fv_explain.specs.Explained.{IsFaultLine, IsWarning, TellsDeclared, TellsFault, TellsLimits, TellsLines};
+ghost use Rattle.fv_explain.specs.Explained.{IsFaultLine, IsWarning, TellsDeclared, TellsFault, TellsLines};
 
 use crate::declared::{add_constraints, add_forms, add_groups, limits};
 use crate::lines::{ExplainedLine, Lines, text_of};
@@ -90,8 +90,7 @@ fn taken_lines<R: RuleSet>(
     bytes: &[u8],
     json: bool,
 ) -> Told<Vec<String>>
-    ensures lines { IfOk result (λ lines. TellsLines json schema.now (map string_bytes lines.items)) }
-    ensures limits { IfOk result (λ lines. TellsLimits json schema.now (map string_bytes lines.items)) }
+    ensures { IfOk result (λ lines. TellsLines json schema.now (map string_bytes lines.items)) }
 {
     let value = read_json(alloc, bytes).map_err(|_| Untold::Memory)?;
     let draft = draft_of(alloc, &value)?.ok_or(Untold::Absent)?;
@@ -137,14 +136,11 @@ pub fn explain<R: RuleSet>(
     ensures taken { IfOk result (λ e. e.fault ≡ None
         → ((s : Declarations) × Declares (R.known rules.now) bytes.now (Ok s))) }
     ensures refused { IfOk result (λ e. IfSome e.fault (λ f. Declares (R.known rules.now) bytes.now (Err f))) }
-    // Each use of a constraint has its lines, each declared group and each form has one, and warnings are behind.
+    // Each use of a constraint has its lines, each declared group and each form has one, warnings are behind, and at the
+    // end are the limits that the declarations use.
     ensures lines { IfOk result (λ e. e.fault ≡ None
         → ((s : Declarations) × Declares (R.known rules.now) bytes.now (Ok s)
         × TellsLines json s (map string_bytes e.lines.items))) }
-    // At the end are the limits that the declarations use.
-    ensures limits { IfOk result (λ e. e.fault ≡ None
-        → ((s : Declarations) × Declares (R.known rules.now) bytes.now (Ok s)
-        × TellsLimits json s (map string_bytes e.lines.items))) }
     // A fault is told in one line.
     ensures told { IfOk result (λ e. IfSome e.fault (λ f. TellsFault json f (map string_bytes e.lines.items))) }
 {

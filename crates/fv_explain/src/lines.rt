@@ -1,7 +1,10 @@
 //! The lines of an explanation, as plain text or as JSON objects.
-ghost use Rattle.std.specs.Prelude.{◌≡◌, ◌∷◌, [], ℕ, List, false, IfOk, OnOk, string_bytes};
-ghost use Rattle.fv_explain.specs.Lines.{line_text};
+ghost use Rattle.std.specs.Prelude.{◌≡◌, ◌∷◌, [], ℕ, List, false, IfOk, OnOk, map, string_bytes};
+ghost use Rattle.std.specs.Fmt.{WritesOnOk};
+ghost use Rattle.fv_datum.specs.Attributes.{attribute_view};
 ghost use Rattle.fv_explain.specs.Adding.{Adds};
+ghost use Rattle.fv_explain.specs.Attributes.{texts_text, value_text};
+ghost use Rattle.fv_explain.specs.Lines.{line_text};
 
 use fv_datum::{Attribute, Attrs};
 use fv_explain_faults::{Quoted, Told, Untold, Written};
@@ -31,20 +34,42 @@ impl Serialize for Attributes<'_> {
     }
 }
 
+/// Writes texts as an array of JSON strings.
+fn write_texts<W: fmt::Write>(f: &mut fmt::Formatter<W>, texts: &[String]) -> fmt::Result
+    ensures { WritesOnOk W.write_str_gives f.old result (texts_text (map string_bytes texts.now)) f.new }
+{
+    let Some((first, others)) = texts.split_first() else {
+        return f.write_str("[]");
+    };
+    write!(f, "[{}", Quoted(first.as_str()))?;
+    for other in others {
+        write!(f, ",{}", Quoted(other.as_str()))?;
+    }
+    f.write_char(']')
+}
+
+/// Writes the value of an attribute.
+fn write_value<W: fmt::Write>(f: &mut fmt::Formatter<W>, value: &Attribute) -> fmt::Result
+    ensures { WritesOnOk W.write_str_gives f.old result (value_text (attribute_view value.now)) f.new }
+{
+    match value {
+        Attribute::Integer(number) => write!(f, "{number}"),
+        Attribute::Text(text) => write!(f, "{}", Quoted(text.as_str())),
+        Attribute::Boolean(flag) => write!(f, "{flag}"),
+        Attribute::Texts(texts) => write_texts(f, texts),
+    }
+}
+
 impl fmt::Display for Attributes<'_> {
+    ghost use Rattle.std.specs.Prelude.{Some};
+    ghost use Rattle.fv_explain.specs.Attributes.{attributes_text};
+
+    ghost output = { λ attributes. Some (attributes_text attributes.0.now) };
+
     fn fmt<W: fmt::Write>(&self, f: &mut fmt::Formatter<W>) -> fmt::Result {
         for (name, value) in self.0.entries().iter() {
             write!(f, " {name}=")?;
-            match value {
-                Attribute::Integer(number) => write!(f, "{number}")?,
-                Attribute::Text(text) => write!(f, "{}", Quoted(text.as_str()))?,
-                Attribute::Boolean(flag) => write!(f, "{flag}")?,
-                Attribute::Texts(texts) => {
-                    f.write_char('[')?;
-                    f.write_joined(texts.iter().map(|text| Quoted(text.as_str())), ",")?;
-                    f.write_char(']')?;
-                }
-            }
+            write_value(f, value)?;
         }
         Ok(())
     }
@@ -100,12 +125,6 @@ pub(crate) struct UseLine<'a> {
     pub(crate) attributes: Attributes<'a>,
     pub(crate) groups: Vec<&'a str>,
     pub(crate) message: String,
-    /// The attributes as plain text.
-    #[serde(skip)]
-    pub(crate) in_effect: String,
-    /// The message as plain text.
-    #[serde(skip)]
-    pub(crate) quoted: String,
 }
 
 /// A constraint that a used one is composed of.
@@ -123,12 +142,6 @@ pub(crate) struct PartLine<'a> {
     #[serde(skip)]
     pub(crate) reported_name: &'a str,
     pub(crate) message: String,
-    /// The attributes as plain text.
-    #[serde(skip)]
-    pub(crate) in_effect: String,
-    /// The message as plain text.
-    #[serde(skip)]
-    pub(crate) quoted: String,
 }
 
 /// A form: the types that are validated with the root, and those that only plain references lead to.
@@ -188,9 +201,9 @@ impl fmt::Display for UseLine<'_> {
     ghost output = { λ line. Some (use_line_text line) };
 
     fn fmt<W: fmt::Write>(&self, f: &mut fmt::Formatter<W>) -> fmt::Result {
-        let (groups, message) = (Joined(&self.groups, ", "), self.quoted.as_str());
+        let (groups, message) = (Joined(&self.groups, ", "), Quoted(self.message.as_str()));
         write!(f, "{} {} {}", self.number, self.place, self.constraint)?;
-        write!(f, "{} groups {groups} message {message}", self.in_effect)
+        write!(f, "{} groups {groups} message {message}", self.attributes)
     }
 }
 
@@ -208,7 +221,9 @@ impl fmt::Display for Reported<'_> {
         let line = self.0;
         match line.reported {
             None => f.write_str(" asks nothing itself"),
-            Some(other) if other == line.number => { write!(f, " message {}", line.quoted) }
+            Some(other) if other == line.number => {
+                write!(f, " message {}", Quoted(line.message.as_str()))
+            }
             Some(other) => write!(f, " reported as {other} {}", line.reported_name),
         }
     }
@@ -226,7 +241,7 @@ impl fmt::Display for PartLine<'_> {
             "  {} {}{}{}",
             self.number,
             self.constraint,
-            self.in_effect,
+            self.attributes,
             Reported(self)
         )
     }

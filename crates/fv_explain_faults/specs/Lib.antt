@@ -1,1 +1,2 @@
 pub mod FaultNames
+pub mod Quoted

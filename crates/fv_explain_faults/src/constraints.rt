@@ -147,8 +147,7 @@ fn default_at(refused: &Refused, out: &mut Found, number: usize, index: usize) -
 fn meant_in<'a>(refused: &Refused<'a>, part: &'a Composing) -> Told<(Who<'a>, Meant<'a>)> {
     let constraint = part.constraint.as_str();
     let meant = meant_by(&refused.draft.definitions, constraint).ok_or(Untold::Absent)?;
-    let used = None;
-    Ok((Who { constraint, used }, meant))
+    Ok((Who::in_tree(constraint, 0, constraint), meant))
 }
 
 /// An attribute that a composing constraint is given.
@@ -166,6 +165,7 @@ fn overridden_at(
     overridden: usize,
 ) -> Written {
     let (owner, definition) = entry_at(&refused.draft.definitions, number)?;
+    let owner = Who::in_tree(owner, 0, owner);
     let (name, outer) = entry_at(&part.overrides, overridden)?;
     let (who, meant) = meant_in(refused, part)?;
     out.path(&["override", name])?;
@@ -174,13 +174,7 @@ fn overridden_at(
     }
     match definition.attributes.get(outer.as_str()) {
         Some(attribute) => foreign(out, (who, meant), name, attribute.kind),
-        None => {
-            let owner = Who {
-                constraint: owner,
-                used: None,
-            };
-            unknown_attribute(out, (owner, Meant::Declared(definition)), outer.as_str())
-        }
+        None => unknown_attribute(out, (owner, Meant::Declared(definition)), outer.as_str()),
     }
 }
 

@@ -1,4 +1,7 @@
 //! Values, constraints and kinds as they are shown in a line; as which constraint each is reported; keys of messages.
+ghost use Rattle.std.specs.Fmt.{WritesOnOk};
+ghost use Rattle.fv_explain_faults.specs.Quoted.{quoted, quoted_character};
+
 use crate::told::{Told, Untold};
 use fv_builtin::{BuiltinName, builtin_named};
 use fv_constraint_tree::{Node, Occurrence, Test};
@@ -10,23 +13,17 @@ use std::fmt;
 /// The most characters of a value that are shown.
 const MOST_SHOWN: usize = 60;
 
-/// Whether a character isn't shown as it is: it may end a line, or move what stands in it.
-fn is_control(character: char) -> bool {
-    matches!(
-        character,
-        '\u{0}'..='\u{1f}' | '\u{7f}'..='\u{9f}' | '\u{2028}' | '\u{2029}'
-    )
-}
-
-/// Writes a character of a JSON string.
-fn write_character<W: fmt::Write>(f: &mut fmt::Formatter<W>, character: char) -> fmt::Result {
+/// Writes a character of a JSON string. One isn't shown as it is that may end a line, or move what stands in it.
+fn write_character<W: fmt::Write>(f: &mut fmt::Formatter<W>, character: char) -> fmt::Result
+    ensures { WritesOnOk W.write_str_gives f.old result (quoted_character character) f.new }
+{
     match character {
         '"' => f.write_str("\\\""),
         '\\' => f.write_str("\\\\"),
         '\n' => f.write_str("\\n"),
         '\r' => f.write_str("\\r"),
         '\t' => f.write_str("\\t"),
-        _ if is_control(character) => {
+        '\u{0}'..='\u{1f}' | '\u{7f}'..='\u{9f}' | '\u{2028}' | '\u{2029}' => {
             let code = character as u32;
             write!(f, "\\u{code:04x}")
         }
@@ -34,17 +31,29 @@ fn write_character<W: fmt::Write>(f: &mut fmt::Formatter<W>, character: char) ->
     }
 }
 
+/// Writes a text as a JSON string.
+fn write_quoted<W: fmt::Write>(f: &mut fmt::Formatter<W>, text: &str) -> fmt::Result
+    ensures { WritesOnOk W.write_str_gives f.old result (quoted text.now) f.new }
+{
+    f.write_char('"')?;
+    for character in text.chars() {
+        write_character(f, character)?;
+    }
+    f.write_char('"')
+}
+
 /// A text as a JSON string in which no character ends a line.
 #[derive(Clone, Copy)]
 pub struct Quoted<'a>(pub &'a str);
 
 impl fmt::Display for Quoted<'_> {
+    ghost use Rattle.std.specs.Prelude.{Some};
+    ghost use Rattle.fv_explain_faults.specs.Quoted.{quoted};
+
+    ghost output = { λ text. Some (quoted text.0.now) };
+
     fn fmt<W: fmt::Write>(&self, f: &mut fmt::Formatter<W>) -> fmt::Result {
-        f.write_char('"')?;
-        for character in self.0.chars() {
-            write_character(f, character)?;
-        }
-        f.write_char('"')
+        write_quoted(f, self.0)
     }
 }
 
@@ -151,15 +160,12 @@ pub(crate) fn attribute_word(kind: AttributeKind) -> &'static str {
 
 /// The built-in constraint whose message a key is.
 pub fn built_in_key(key: &str) -> Option<BuiltinName> {
-    let name = key
-        .strip_prefix("jakarta.validation.constraints.")?
-        .strip_suffix(".message")?;
-    builtin_named(name)
+    let name = key.strip_prefix("jakarta.validation.constraints.")?;
+    builtin_named(name.strip_suffix(".message")?)
 }
 
 /// The number of the user's message of a key.
 pub fn find_message(messages: &[MessageDraft], key: &str) -> Option<usize> {
-    messages
-        .binary_search_by(|message| message.key.cmp(key))
-        .ok()
+    let found = messages.binary_search_by(|message| message.key.cmp(key));
+    found.ok()
 }

@@ -2,8 +2,8 @@ use Rattle.std.proofs.Common.{[], ◌∷◌, ◌++◌, ◌∙◌, ℕ, List, Str
 use Rattle.std.proofs.lemmas.List.{map-append}
 use Rattle.fv_explain.proofs.explaining.taken_lines.Goals as goal
 
-pub returns-clause-lines : goal.returns-clause-lines
-returns-clause-lines g c =
+pub returns : goal.returns
+returns g c =
     let text = c.in_ok-text_of.field-0 in
     let told = c.in_ok-add_draft.ensures in
     let last = string_bytes text ∷ [] in (
@@ -15,6 +15,3 @@ returns-clause-lines g c =
       λ plain. c.in_ok-text_of.ensures plain ∙ c.limits.ensures,
       told.2,
     )
-
-pub returns-clause-limits : goal.returns-clause-limits
-returns-clause-limits g c = let all = returns-clause-lines g c in (all.0, all.1, all.2, all.3)
