@@ -1,11 +1,19 @@
-use Rattle.std.proofs.Common.{Err, ap}
+use Rattle.std.proofs.Common.{inl, inr}
 use Rattle.std.proofs.lemmas.Result.{err_from_is_err_and}
-use Rattle.formd_words.proofs.Failed.{serving_failed}
+use Rattle.formd_words.proofs.Opened.{undeclared, unread}
 use Rattle.formd_words.proofs.judging.judge_file.Goals as goal
 
-pub returns-in_err-answer_at-clause-failed : goal.returns-in_err-answer_at-clause-failed
-returns-in_err-answer_at-clause-failed g c =
-    let p = err_from_is_err_and c.from_residual-in_err-answer_at.result c.from_residual-in_err-answer_at.ensures.1 in
-    let of_it = c.in_err-answer_at.ensures in
-    rw p.1 (serving_failed _ _ _ c.in_err-answer_at.field-0.0 p.0 p.2 (λ is. of_it.unread (ap (λ f. Err f) is)) (λ is. of_it.broke (ap (λ f. Err f) is))
-    (λ is. of_it.none (ap (λ f. Err f) is)))
+pub returns-in_err-declarations-clause-judged : goal.returns-in_err-declarations-clause-judged
+returns-in_err-declarations-clause-judged g c =
+    let p = err_from_is_err_and c.from_residual.result c.from_residual.ensures.1 in
+    rw p.1 (inl (unread _ c.in_err-declarations.field-0.0 p.0 p.2))
+
+pub returns-in_err-judge-clause-judged : goal.returns-in_err-judge-clause-judged
+returns-in_err-judge-clause-judged g c =
+    let p = err_from_is_err_and c.from_residual-in_err-judge.result c.from_residual-in_err-judge.ensures.1 in
+    rw (p.1, p.2) (inl (undeclared _ _ c.in_err-judge.field-0.0 c.in_err-judge.ensures.refused))
+
+pub returns-clause-judged : goal.returns-clause-judged
+returns-clause-judged g c =
+    let it = c.answer_told.ensures.ends in
+    inr (_, c.in_ok-judge.judge, c.answer_told.new.responder, it.0, c.in_ok-judge.ensures.rules, c.in_ok-judge.ensures.declared, it.1, it.2)
