@@ -1,1 +1,3 @@
 pub mod Absent
+pub mod Adding
+pub mod Walk

@@ -1,4 +1,8 @@
 //! Bounds: of whole numbers as numbers, of decimals, which are texts, as patterns.
+ghost use Rattle.std.specs.Prelude.{◌≡◌, ◌-◌, ◌^◌, ◌≤◌, ◌≤ℤ◌, ℤ, pos, None, IfSome, FitsSigned};
+ghost use Rattle.std.specs.Int.{w64};
+ghost use Rattle.fv_json_schema.specs.Bounds.{units_of, IsLeastFrom, IsGreatestUpTo};
+
 use std::alloc::{AllocError, Global};
 
 /// 10^9, the units of 1.
@@ -8,29 +12,52 @@ const ONE: i128 = 1_000_000_000;
 pub(crate) const DECIMAL: &str = "^-?(?:0|[1-9][0-9]{0,17})(?:\\.[0-9]{1,9})?$";
 
 /// The least whole number that isn't below a bound in units of 10^-9.
-pub(crate) fn whole_from(units: i128) -> Option<i64> {
+fn rounded_up(units: i128) -> i128
+    ensures { IsLeastFrom units result }
+{
     let whole = units / ONE;
-    let least = if units % ONE > 0 {
+    if units % ONE > 0 {
         whole.saturating_add(1)
     } else {
         whole
-    };
-    i64::try_from(least).ok()
+    }
 }
 
 /// The greatest whole number that isn't above a bound in units of 10^-9.
-pub(crate) fn whole_up_to(units: i128) -> Option<i64> {
+fn rounded_down(units: i128) -> i128
+    ensures { IsGreatestUpTo units result }
+{
     let whole = units / ONE;
-    let most = if units % ONE < 0 {
+    if units % ONE < 0 {
         whole.saturating_sub(1)
     } else {
         whole
-    };
-    i64::try_from(most).ok()
+    }
+}
+
+/// The least whole number that isn't below a bound, if it has 64 bits.
+pub(crate) fn whole_from(units: i128) -> Option<i64>
+    ensures found { IfSome result (IsLeastFrom units) }
+    ensures none { result ≡ None → (n : ℤ) → IsLeastFrom units n → ¬ (FitsSigned w64 n) }
+    ensures alike { result ≡ None → (m n : ℤ) → FitsSigned w64 m → FitsSigned w64 n → units ≤ℤ units_of m → units ≤ℤ units_of n }
+{
+    i64::try_from(rounded_up(units)).ok()
+}
+
+/// The greatest whole number that isn't above a bound, if it has 64 bits.
+pub(crate) fn whole_up_to(units: i128) -> Option<i64>
+    ensures found { IfSome result (IsGreatestUpTo units) }
+    ensures none { result ≡ None → (n : ℤ) → IsGreatestUpTo units n → ¬ (FitsSigned w64 n) }
+    ensures alike { result ≡ None → (m n : ℤ) → FitsSigned w64 m → FitsSigned w64 n → units_of m ≤ℤ units → units_of n ≤ℤ units }
+{
+    i64::try_from(rounded_down(units)).ok()
 }
 
 /// The greatest whole number of so many digits, if it has 64 bits.
-pub(crate) fn most_of_digits(count: u32) -> Option<i64> {
+pub(crate) fn most_of_digits(count: u32) -> Option<i64>
+    ensures found { IfSome result (λ most. most ≡ pos (10 ^ count - 1)) }
+    ensures none { result ≡ None → 2 ^ 63 ≤ 10 ^ count - 1 }
+{
     if count > 18 {
         return None;
     }

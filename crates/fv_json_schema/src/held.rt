@@ -1,4 +1,6 @@
 //! What a field holds, as a schema.
+ghost use Rattle.std.specs.Prelude.{◌*◌, ◌≤◌, ℕ};
+
 use crate::asked::Asked;
 use crate::bound::DECIMAL;
 use fv_bundle::TypeUse;
@@ -101,7 +103,10 @@ fn put_size(
 }
 
 /// The least number of characters of a text of so many UTF-16 code units: a character has one or two.
-fn characters(units: u32) -> u32 {
+fn characters(units: u32) -> u32
+    ensures enough { units ≤ 2 * result }
+    ensures fewest { (n : ℕ) → units ≤ 2 * n → result ≤ n }
+{
     units / 2 + units % 2
 }
 

@@ -80,7 +80,7 @@ abbrev pub IsUnreadOrFirst : State → State → Type 0
 IsUnreadOrFirst old new = IsUnread old new ⊎ ((kept : List ℕ) × HasAbout old (pos first_version) kept)
 
 -- Why Store is told outside a transaction: the disk alone, where tables tell another version than 1, where records of 1 are short and few, and for
--- short declarations over a blank database; and over any other, whatever its tables are, `about` is unread, or shows version 1.
+-- short declarations over a blank database; and over one that isn't blank, whatever its tables are, `about` is unread, or shows version 1.
 pub record CausesStore (old new : State) (given : List ℕ) : Type 0 where
   pub second : (version : ℤ) (kept : List ℕ) → TellsAbout version kept old.now → version ≢ pos first_version → HasFailed old new
   pub first : (kept : List ℕ) (m : Olds) → KeepsFirst old kept m → AllUpgrade m → IsShortAbout kept → AllShort (upgraded m) → HasFew m → HasFailed old new
